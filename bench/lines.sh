@@ -1,0 +1,97 @@
+#!/usr/bin/env bash
+# Measures `avrogate transcode` on payload lines of mixed flat records, in one go:
+#   the time on 100,000 and on 1,000,000 lines and their ratio, which should be near 10 (11 at most),
+#   the peak memory on 1,000,000 lines as a multiple of input and output together (4 at most),
+#   and lines per second beside Apache Avro for Python (Debian's package python3-avro) on the same 100,000 lines.
+# Usage: bench/lines.sh PROGRAM   (PROGRAM is the built avrogate: crates/avrogate/out/avrogate after `rt run`)
+set -euo pipefail
+program=$(realpath "$1")
+folder=$(mktemp -d)
+trap 'rm -rf "$folder"' EXIT
+export program folder
+exec /usr/bin/python3 - <<'PYTHON'
+import io, os, random, resource, subprocess, sys, time
+
+try:
+    import avro.io, avro.schema
+except ImportError:
+    sys.exit("bench/lines.sh needs Debian's package python3-avro")
+
+program, folder = os.environ["program"], os.environ["folder"]
+writer = '{"type":"record","name":"Order","fields":[{"name":"id","type":"long"},{"name":"count","type":"int"},{"name":"item","type":"string"},{"name":"note","type":"string"}]}'
+reader = writer.replace('"type":"int"', '"type":"long"')
+
+
+def number(n):
+    n = (n << 1) ^ (n >> 63)
+    out = bytearray()
+    while n > 127:
+        out.append(n & 127 | 128)
+        n >>= 7
+    return bytes(out) + bytes([n])
+
+
+def text(s):
+    b = s.encode()
+    return number(len(b)) + b
+
+
+def payload(rng):
+    note = rng.choice(["", "gift", "left at the door", "größer als gedacht"])
+    return number(rng.randrange(-2**40, 2**40)) + number(rng.randrange(0, 1000)) + text("item-%d" % rng.randrange(10**6)) + text(note)
+
+
+def lines_file(count):
+    rng = random.Random(count)
+    path = os.path.join(folder, "%d.in" % count)
+    with open(path, "w") as out:
+        out.write(writer + "\n" + reader + "\n")
+        for _ in range(count):
+            out.write(payload(rng).hex() + "\n")
+    return path
+
+
+def run(path):
+    best, peak, size = None, 0, 0
+    for _ in range(3):
+        with open(path, "rb") as given, open(path + ".out", "wb") as taken:
+            start = time.perf_counter()
+            child = subprocess.Popen([program, "transcode"], stdin=given, stdout=taken)
+            _, status, usage = os.wait4(child.pid, 0)
+            took = time.perf_counter() - start
+        assert status == 0, status
+        best = took if best is None else min(best, took)
+        peak = max(peak, usage.ru_maxrss * 1024)
+        size = os.path.getsize(path) + os.path.getsize(path + ".out")
+    return best, peak / size
+
+
+def python_avro(path):
+    w, r = avro.schema.parse(writer), avro.schema.parse(reader)
+    read, write = avro.io.DatumReader(w, r), avro.io.DatumWriter(r)
+    with open(path) as given:
+        given.readline(), given.readline()
+        start = time.perf_counter()
+        answers = []
+        for line in given:
+            datum = read.read(avro.io.BinaryDecoder(io.BytesIO(bytes.fromhex(line.strip()))))
+            out = io.BytesIO()
+            write.write(datum, avro.io.BinaryEncoder(out))
+            answers.append("done " + out.getvalue().hex())
+        took = time.perf_counter() - start
+    with open(path + ".out") as ours:
+        assert ours.read().split("\n")[:-1] == answers, "the answers differ"
+    return took
+
+
+small, large = lines_file(100_000), lines_file(1_000_000)
+short, _ = run(small)
+long, memory = run(large)
+peer = python_avro(small)
+print("100,000 lines: %.3f s" % short)
+print("1,000,000 lines: %.3f s" % long)
+print("ratio: %.2f (11 at most)" % (long / short))
+print("peak memory: %.2f times input and output (4 at most)" % memory)
+print("lines per second: %.1f times those of python3-avro" % (peer / short))
+sys.exit(0 if long / short <= 11 and memory <= 4 else 1)
+PYTHON

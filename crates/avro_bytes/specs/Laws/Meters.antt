@@ -1,0 +1,55 @@
+-- Opening a record: when it is refused, and what is inside, both ways.
+use Rattle.std.proofs.Common.{◌≡◌, ℕ, ◌+◌, ◌<◌, ◌≤◌, Result, Ok, Err, Bool, true, false, cond, refl, sym, ap, ◌∙◌, arith, inl, inr, ◌⊎◌}
+use Rattle.std.specs.Prelude.{nat_le}
+use Rattle.std.proofs.lemmas.Bool.{leb-true, leb-false, le-leb, lt-leb}
+use Rattle.avro_bytes.specs.declared.meter.Meter.{Meter}
+use Rattle.avro_bytes.specs.declared.fault.Fault.{Fault}
+use Rattle.avro_bytes.specs.declared.fault.Fault.TheVariants.{Malformed}
+use Rattle.avro_bytes.specs.declared.fault.MalformedKind.TheVariants.{TooDeep, TooMany}
+use Rattle.avro_bytes.specs.Decoding.{Decoding, Complete, Invalid, Incomplete, inside}
+use Rattle.avro_bytes.specs.Fault.{Defect, Broken, CutShort, HasDefect, failing}
+use Rattle.avro_bytes.specs.Meter.{opened_record, OpensRecord, RefusesRecord}
+
+abbrev within_record : Meter → Meter
+within_record m = record { depth = m.depth + 1; units = m.units + 1 }
+
+opens : (b c : Bool) (at : ℕ) (m within : Meter) → cond b (Err (Malformed TooDeep at)) (cond c (Err (Malformed TooMany at)) (Ok m)) ≡ Ok within → (b ≡ false) × (c ≡ false) × (m ≡ within)
+opens true c at m within e = absurd cc
+opens false true at m within e = absurd cc
+opens false false at m within e = (refl, refl, cc)
+
+pub was_opened : (at : ℕ) (m within : Meter) → opened_record at m ≡ Ok within → OpensRecord m within
+was_opened at m within h =
+    let o = opens (nat_le 1000 m.depth) (nat_le 1048576 m.units) at (within_record m) within h in
+    record { shallow = leb-false 1000 m.depth o.0; few = leb-false 1048576 m.units o.1; deeper = sym (ap (λ (x : Meter). x.depth) o.2); counted = sym (ap (λ (x : Meter). x.units) o.2) }
+
+pub same_meter : (a b : Meter) → a.depth ≡ b.depth → a.units ≡ b.units → a ≡ b
+same_meter a b p q = ap (λ (k : ℕ). record { depth = k; units = a.units }) p ∙ ap (λ (k : ℕ). record { depth = b.depth; units = k }) q
+
+pub opened_again : (at : ℕ) (m within : Meter) → OpensRecord m within → opened_record at m ≡ Ok within
+opened_again at m within o =
+    let deep : m.depth < 1000 = o.shallow in
+    let few : m.units < 1048576 = o.few in
+    rw (lt-leb 1000 m.depth deep, lt-leb 1048576 m.units few) (ap Ok (sym (same_meter within (within_record m) o.deeper o.counted)))
+
+record_cases : {V : Type 0} (b c : Bool) (f : Meter → Decoding V) (at : ℕ) (m : Meter) (P : Defect → Type 0) → nat_le 1000 m.depth ≡ b → nat_le 1048576 m.units ≡ c
+    → ((d : Defect) → RefusesRecord m d → P d) → ((within : Meter) → OpensRecord m within → HasDefect (f within) at P)
+    → HasDefect (inside (cond b (Err (Malformed TooDeep at)) (cond c (Err (Malformed TooMany at)) (Ok (within_record m)))) f) at P
+record_cases true c f at m P deep many refused opened = (0, omega arith, refused (Broken TooDeep 0) (inl (leb-true 1000 m.depth deep, refl)))
+record_cases false true f at m P deep many refused opened = (0, omega arith, refused (Broken TooMany 0) (inr (leb-false 1000 m.depth deep, leb-true 1048576 m.units many, refl)))
+record_cases false false f at m P deep many refused opened = opened (within_record m) (record { shallow = leb-false 1000 m.depth deep; few = leb-false 1048576 m.units many; deeper = refl; counted = refl })
+
+pub record_defect : {V : Type 0} (f : Meter → Decoding V) (at : ℕ) (m : Meter) (P : Defect → Type 0) → ((d : Defect) → RefusesRecord m d → P d) → ((within : Meter) → OpensRecord m within → HasDefect (f within) at P) → HasDefect (inside (opened_record at m) f) at P
+record_defect f at m P refused opened = record_cases (nat_le 1000 m.depth) (nat_le 1048576 m.units) f at m P refl refl refused opened
+
+place : (at : ℕ) → at ≡ at + 0
+place at = omega arith
+
+pub refused_told : {V : Type 0} (f : Meter → Decoding V) (at : ℕ) (m : Meter) (d : Defect) → RefusesRecord m d → inside (opened_record at m) f ≡ failing at d
+refused_told f at m d (inl r) =
+    let deep : 1000 ≤ m.depth = r.0 in
+    rw (le-leb 1000 m.depth deep) (ap (Invalid TooDeep) (place at)) ∙ ap (failing at) (sym r.1)
+refused_told f at m d (inr r) =
+    let shallow : m.depth < 1000 = r.0 in
+    let many : 1048576 ≤ m.units = r.1 in
+    rw (lt-leb 1000 m.depth shallow, le-leb 1048576 m.units many) (ap (Invalid TooMany) (place at)) ∙ ap (failing at) (sym r.2)

@@ -1,0 +1,10 @@
+pub mod Contract
+pub mod Decoding
+pub mod Fault
+pub mod Laws
+pub mod MalformedKind
+pub mod Meter
+pub mod Number
+pub mod NumberDecoding
+pub mod Shortest
+pub mod Text

@@ -1,0 +1,39 @@
+-- The limits of a message: how deep it nests, and how many units it has.
+use Rattle.std.specs.Prelude.{◌≡◌, ◌≤◌, ◌<◌, ◌⊎◌, ℕ, ◌+◌, ◌-◌, nat_le, if◌then◌else◌, Result, Ok, Err}
+use Rattle.avro_bytes.specs.declared.meter.Meter.{Meter}
+use Rattle.avro_bytes.specs.declared.meter.TheConstants.{MOST_DEPTH, MOST_UNITS}
+use Rattle.avro_bytes.specs.declared.fault.Fault.{Fault}
+use Rattle.avro_bytes.specs.declared.fault.Fault.TheVariants.{Malformed}
+use Rattle.avro_bytes.specs.declared.fault.MalformedKind.TheVariants.{TooDeep, TooMany}
+use Rattle.avro_bytes.specs.Fault.{Defect, Broken}
+
+-- before a message
+abbrev pub start : Meter
+start = record { depth = 0; units = 0 }
+
+-- inside a record that begins at a place: one deeper, and one unit more
+abbrev pub opened_record : ℕ → Meter → Result Meter Fault
+opened_record at m =
+    if nat_le MOST_DEPTH m.depth then Err (Malformed TooDeep at)
+    else if nat_le MOST_UNITS m.units then Err (Malformed TooMany at)
+    else Ok (record { depth = m.depth + 1; units = m.units + 1 })
+
+-- So many levels and units more stay within the limits behind a meter, and the meter behind them.
+pub record Counts (depth units : ℕ) (m after : Meter) : Type 0 where
+  pub deep : depth ≤ MOST_DEPTH - m.depth
+  pub many : units ≤ MOST_UNITS - m.units
+  pub same_depth : after.depth ≡ m.depth
+  pub counted : after.units ≡ m.units + units
+
+-- ---- the same as relations, sharing nothing with the function above
+
+-- a record begins, and the meter inside it
+pub record OpensRecord (m within : Meter) : Type 0 where
+  pub shallow : m.depth < MOST_DEPTH
+  pub few : m.units < MOST_UNITS
+  pub deeper : within.depth ≡ m.depth + 1
+  pub counted : within.units ≡ m.units + 1
+
+-- the record would be too deep; or it would not, and be one too many
+abbrev pub RefusesRecord : Meter → Defect → Type 0
+RefusesRecord m d = ((MOST_DEPTH ≤ m.depth) × (d ≡ Broken TooDeep 0)) ⊎ ((m.depth < MOST_DEPTH) × (MOST_UNITS ≤ m.units) × (d ≡ Broken TooMany 0))

@@ -1,0 +1,86 @@
+ghost use Rattle.std.specs.Prelude.{◌≡◌};
+
+use std::alloc::{AllocError, AllocFailed};
+use thiserror::Error;
+
+/// What is wrong with malformed bytes.
+#[derive(Clone, Copy, Debug, PartialEq, Eq)]
+pub enum MalformedKind {
+    /// A number that is too long, or whose last byte is too great. Told at its first byte.
+    BadNumber,
+    /// A boolean above 1. Told at it.
+    BadBoolean,
+    /// A length below 0 or above the greatest. Told at the length.
+    BadLength,
+    /// A string or a key that is no UTF-8, once it is all there. Told at its first content byte.
+    BadText,
+    /// A position that is no symbol's. Told at the position.
+    BadEnum,
+    /// A position that is no branch's. Told at the position.
+    BadBranch,
+    /// A block whose size is not that of its items. Told at the block's count.
+    BadBlock,
+    /// A record, array or map inside too many others. Told where it begins.
+    TooDeep,
+    /// A record, item or pair too many. Told where it begins.
+    TooMany,
+    /// A payload that ends inside a part. Told at the payload's length.
+    Truncated,
+    /// Bytes after the datum. Told at the first of them.
+    Trailing,
+}
+
+impl MalformedKind {
+    ghost use Rattle.avro_bytes.specs.MalformedKind.{name_of};
+
+    /// Its name, as programs print it.
+    pub fn name(self) -> &'static str
+        ensures { result.now ≡ name_of self }
+    {
+        match self {
+            MalformedKind::BadNumber => "BadNumber",
+            MalformedKind::BadBoolean => "BadBoolean",
+            MalformedKind::BadLength => "BadLength",
+            MalformedKind::BadText => "BadText",
+            MalformedKind::BadEnum => "BadEnum",
+            MalformedKind::BadBranch => "BadBranch",
+            MalformedKind::BadBlock => "BadBlock",
+            MalformedKind::TooDeep => "TooDeep",
+            MalformedKind::TooMany => "TooMany",
+            MalformedKind::Truncated => "Truncated",
+            MalformedKind::Trailing => "Trailing",
+        }
+    }
+}
+
+/// Why bytes could not be read.
+#[derive(Clone, Copy, Debug, PartialEq, Eq, Error)]
+pub enum Fault {
+    #[error("the bytes end inside the spelling")]
+    Need,
+    /// The first fault, and its offset in the bytes.
+    #[error("malformed {} at {at}", .kind.name())]
+    Malformed { kind: MalformedKind, at: usize },
+    #[error("out of memory")]
+    NoMemory,
+}
+
+impl From<AllocError> for Fault {
+    ghost use Rattle.avro_bytes.specs.declared.fault.Fault.TheVariants.{NoMemory};
+
+    ghost from_gives = { λ _ e. e ≡ NoMemory };
+
+    fn from(_error: AllocError) -> Fault {
+        Fault::NoMemory
+    }
+}
+
+impl<T: Drop> From<AllocFailed<T>> for Fault {
+    ghost use Rattle.avro_bytes.specs.declared.fault.Fault.TheVariants.{NoMemory};
+
+    ghost from_gives = { λ _ e. e ≡ NoMemory };
+
+    fn from(_error: AllocFailed<T>) -> Fault {
+        Fault::NoMemory
+    }
+}

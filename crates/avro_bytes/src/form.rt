@@ -1,0 +1,90 @@
+ghost use Rattle.std.specs.Prelude.{◌≡◌, ◌≢◌, ◌≤◌, ◌+◌, ◌++◌, ℕ, List, length, drop, IfOk};
+ghost use Rattle.avro_bytes.specs.declared.meter.Meter.{Meter};
+ghost use Rattle.avro_bytes.specs.Contract.{AnswersAlike, Reads, skipped};
+ghost use Rattle.avro_bytes.specs.Decoding.{Complete, Decoding, Incomplete, Stands};
+ghost use Rattle.avro_bytes.specs.Fault.{Defect, HasDefect, failing};
+
+use crate::fault::Fault;
+use crate::meter::Meter;
+
+/// A way of spelling values as bytes. Places are offsets from the start of the bytes.
+pub trait WireForm {
+    type Value;
+
+    /// What a value is, wherever it lies in memory.
+    ghost Meaning: { Type 0 };
+
+    ghost meaning: { Self.Value → Meaning };
+
+    /// Which bytes spell a value.
+    ghost spells: { Self → Meaning → List ℕ → Type 0 };
+
+    /// Which bytes, from a place with a meter on, begin no spelling, and what is the first fault of them.
+    ghost faulty: { Self → List ℕ → Meter → Defect → Type 0 };
+
+    /// That a value stays within the limits behind a meter, and the meter behind it.
+    ghost counts: { Meaning → Meter → Meter → Type 0 };
+
+    /// What decoding gives at a place of the bytes.
+    ghost decoding: { Self → List ℕ → ℕ → Meter → Decoding Meaning };
+
+    /// The value at a place, the place behind its spelling, and the meter there; else the first fault.
+    fn read(&self, bytes: &[u8], at: usize, m: Meter) -> Result<(Self::Value, usize, Meter), Fault>
+        requires { at ≤ length bytes.now }
+        ensures reads { Reads meaning result (decoding self.now bytes.now at m) }
+        ensures within { IfOk result (λ r. r.1 ≤ length bytes.now) }
+        ensures depth { IfOk result (λ r. r.2.depth ≡ m.depth) }
+        ensures units { IfOk result (λ r. m.units ≤ r.2.units) };
+
+    /// What `read` answers, less the value. It takes no memory.
+    fn skip(&self, bytes: &[u8], at: usize, m: Meter) -> Result<(usize, Meter), Fault>
+        requires { at ≤ length bytes.now }
+        ensures skips { result ≡ skipped (decoding self.now bytes.now at m) }
+        ensures within { IfOk result (λ r. r.0 ≤ length bytes.now) }
+        ensures depth { IfOk result (λ r. r.1.depth ≡ m.depth) }
+        ensures units { IfOk result (λ r. m.units ≤ r.1.units) };
+
+    /// What is decoded is spelled so, within the limits.
+    ghost sound: { (form : Self) (bytes : List ℕ) (at : ℕ) (m : Meter) (v : Meaning) (to : ℕ) (after : Meter) →
+        decoding form bytes at m ≡ Complete v to after → Stands (spells form v) bytes at to × counts v m after };
+
+    /// What is spelled so within the limits is decoded, whatever stands before and behind it.
+    ghost complete: { (form : Self) (before spelling rest : List ℕ) (m : Meter) (v : Meaning) (after : Meter) →
+        spells form v spelling → counts v m after →
+        decoding form (before ++ (spelling ++ rest)) (length before) m ≡ Complete v (length before + length spelling) after };
+
+    /// No spelling begins another, and each spells one value.
+    ghost one_form: { (form : Self) (a b x y : List ℕ) (v w : Meaning) →
+        spells form v a → spells form w b → a ++ x ≡ b ++ y → (a ≡ b) × (v ≡ w) };
+
+    /// What is decided stays so when more bytes come.
+    ghost steady: { (form : Self) (bytes more : List ℕ) (at : ℕ) (m : Meter) →
+        at ≤ length bytes → decoding form bytes at m ≢ Incomplete → decoding form (bytes ++ more) at m ≡ decoding form bytes at m };
+
+    /// A fault that is told is the first one.
+    ghost defect: { (form : Self) (bytes : List ℕ) (at : ℕ) (m : Meter) →
+        at ≤ length bytes → HasDefect (decoding form bytes at m) at (faulty form (drop at bytes) m) };
+
+    /// The first fault is told.
+    ghost told: { (form : Self) (before bytes : List ℕ) (m : Meter) (d : Defect) →
+        faulty form bytes m d → decoding form (before ++ bytes) (length before) m ≡ failing (length before) d };
+}
+
+/// The law that skipping answers what reading answers, less the value: what both answer of the same bytes.
+pub fn read_and_skip<F: WireForm>(
+    form: &F,
+    bytes: &[u8],
+    at: usize,
+    m: Meter,
+) -> (
+    Result<(F::Value, usize, Meter), Fault>,
+    Result<(usize, Meter), Fault>,
+)
+    requires { at ≤ length bytes.now }
+    ensures reads { Reads F.meaning result.0 (F.decoding form.now bytes.now at m) }
+    ensures alike { AnswersAlike result.0 result.1 }
+{
+    let read = form.read(bytes, at, m);
+    let skip = form.skip(bytes, at, m);
+    (read, skip)
+}

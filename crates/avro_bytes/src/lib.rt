@@ -1,0 +1,21 @@
+//! The parts of Avro's binary encoding, each read, skipped and written on its own (Avro 1.11 Specification,
+//! "Binary Encoding").
+#![tactic(auto)]
+
+mod fault;
+mod form;
+mod laws;
+mod meter;
+mod number;
+mod put;
+#[cfg(test)]
+mod tests;
+mod text;
+
+pub use fault::{Fault, MalformedKind};
+pub use form::{WireForm, read_and_skip};
+pub use laws::shortest_spelling_is_shortest;
+pub use meter::{MOST_DEPTH, MOST_UNITS, Meter};
+pub use number::{Int, Long};
+pub use put::{long_len, put_long};
+pub use text::{LONGEST, Text};

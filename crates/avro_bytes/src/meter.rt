@@ -1,0 +1,46 @@
+ghost use Rattle.std.specs.Prelude.{◌≡◌};
+
+use crate::fault::{Fault, MalformedKind};
+
+/// How many records, arrays and maps may lie inside each other.
+pub const MOST_DEPTH: u32 = 1_000;
+
+/// How many records, array items and map pairs a message may have.
+pub const MOST_UNITS: u32 = 1_048_576;
+
+/// How much of a message was read: the records, arrays and maps that are open, and the units so far, which are
+/// records, array items and map pairs.
+#[derive(Clone, Copy, Debug, PartialEq, Eq)]
+pub struct Meter {
+    pub depth: u32,
+    pub units: u32,
+}
+
+impl Meter {
+    ghost use Rattle.avro_bytes.specs.Meter.{start, opened_record};
+
+    /// The meter before a message.
+    pub const START: Meter = Meter { depth: 0, units: 0 };
+
+    /// The meter inside a record that begins at a place. A record that is both too deep and one too many is too deep.
+    pub fn enter_record(self, at: usize) -> Result<Meter, Fault>
+        ensures { result ≡ opened_record at self }
+    {
+        if self.depth >= MOST_DEPTH {
+            return Err(Fault::Malformed {
+                kind: MalformedKind::TooDeep,
+                at,
+            });
+        }
+        if self.units >= MOST_UNITS {
+            return Err(Fault::Malformed {
+                kind: MalformedKind::TooMany,
+                at,
+            });
+        }
+        Ok(Meter {
+            depth: self.depth + 1,
+            units: self.units + 1,
+        })
+    }
+}

@@ -1,0 +1,161 @@
+ghost use Rattle.std.specs.Prelude.{◌≡◌, ◌≤◌, ◌<◌, ◌+◌, ◌-◌, ◌*◌, ◌^◌, ℤ, length, drop, IfOk};
+ghost use Rattle.std.proofs.Common.{lit<};
+ghost use Rattle.avro_bytes.specs.Contract.{Finds};
+ghost use Rattle.avro_bytes.specs.Fault.{FaultyNumber};
+ghost use Rattle.avro_bytes.specs.Number.{IsNumber32, IsNumber64, int_limit, long_limit};
+ghost use Rattle.avro_bytes.specs.NumberDecoding.{GivesGroups, from_zigzag, number_at, number_front};
+ghost use Rattle.avro_bytes.specs.Laws.Defects.{number_defect, number_told};
+ghost use Rattle.avro_bytes.specs.Laws.Numbers.{number_complete, number_one_form, number_sound, number_steady};
+
+use crate::fault::{Fault, MalformedKind};
+use crate::form::WireForm;
+use crate::meter::Meter;
+
+/// A number of 32 bits: an int, or a position.
+#[derive(Clone, Copy, Debug)]
+pub struct Int;
+
+/// A number of 64 bits.
+#[derive(Clone, Copy, Debug)]
+pub struct Long;
+
+/// The groups of seven bits of the number at a place, put together, and the place behind it.
+fn read_groups(bytes: &[u8], at: usize, most: usize, top: u8) -> Result<(u64, usize), Fault>
+    requires in_bounds { at ≤ length bytes.now }
+    requires some { 0 < most }
+    requires most { most ≤ 10 }
+    requires fits { most ≡ 10 → top ≤ 1 }
+    requires below { top < 128 }
+    ensures groups { GivesGroups result at (number_front most top (drop at bytes.now)) }
+    ensures below { IfOk result (λ r. r.0 < (top + 1) * 2 ^ (7 * (most - 1))) }
+    ensures within { IfOk result (λ r. r.1 ≤ length bytes.now) }
+{
+    let mut value = 0u64;
+    let mut shift = 0u32;
+    for i in 0..most {
+        if at + i >= bytes.len() {
+            return Err(Fault::Need);
+        }
+        let byte = bytes[at + i];
+        if i + 1 == most && byte > top {
+            return Err(Fault::Malformed {
+                kind: MalformedKind::BadNumber,
+                at,
+            });
+        }
+        value += u64::from(byte & 127) << shift;
+        if byte < 128 {
+            return Ok((value, at + i + 1));
+        }
+        shift += 7;
+    }
+    unreachable!()
+}
+
+/// The number that groups of 64 bits stand for.
+fn signed(groups: u64) -> i64
+    ensures { result ≡ from_zigzag groups }
+{
+    let half = (groups / 2) as i64;
+    if groups % 2 == 0 { half } else { -half - 1 }
+}
+
+/// The number that groups of 32 bits stand for.
+fn signed_32(groups: u64) -> i32
+    requires { groups < 2 ^ 32 }
+    ensures { result ≡ from_zigzag groups }
+{
+    let half = (groups / 2) as i32;
+    if groups % 2 == 0 { half } else { -half - 1 }
+}
+
+/// The number of 64 bits at a place. It takes no memory.
+#[tactic(auto, unfolding(crate::specs::NumberDecoding::number_at))]
+pub(crate) fn read_long(bytes: &[u8], at: usize, m: Meter) -> Result<(i64, usize, Meter), Fault>
+    requires { at ≤ length bytes.now }
+    ensures finds { Finds (λ n. n) result (number_at long_limit bytes.now at m) }
+    ensures within { IfOk result (λ r. r.1 ≤ length bytes.now) }
+    ensures depth { IfOk result (λ r. r.2.depth ≡ m.depth) }
+    ensures units { IfOk result (λ r. m.units ≤ r.2.units) }
+{
+    let (groups, to) = read_groups(bytes, at, 10, 1)?;
+    Ok((signed(groups), to, m))
+}
+
+impl WireForm for Long {
+    type Value = i64;
+
+    ghost Meaning = { ℤ };
+
+    ghost meaning = { λ n. n };
+
+    ghost spells = { λ _ n bytes. IsNumber64 n bytes };
+
+    ghost faulty = { λ _ bytes m d. FaultyNumber long_limit bytes d };
+
+    ghost counts = { λ _ m after. m ≡ after };
+
+    ghost decoding = { λ _ bytes at m. number_at long_limit bytes at m };
+
+    ghost sound = { λ _ bytes at m n to after e. number_sound long_limit bytes at m n to after (lit< tt) e };
+
+    ghost complete = { λ _ before spelling rest m n after s e. number_complete long_limit before spelling rest n m after s e };
+
+    ghost one_form = { λ _ a b x y m n s t e. number_one_form long_limit a b x y m n s t e };
+
+    ghost steady = { λ _ bytes more at m le c. number_steady long_limit bytes more at m le c };
+
+    ghost defect = { λ _ bytes at m le. number_defect 9 1 bytes at m };
+
+    ghost told = { λ _ before bytes m d f. number_told long_limit before bytes m d f };
+
+    fn read(&self, bytes: &[u8], at: usize, m: Meter) -> Result<(i64, usize, Meter), Fault> {
+        read_long(bytes, at, m)
+    }
+
+    #[tactic(auto, unfolding(crate::specs::NumberDecoding::number_at))]
+    fn skip(&self, bytes: &[u8], at: usize, m: Meter) -> Result<(usize, Meter), Fault> {
+        let (_, to) = read_groups(bytes, at, 10, 1)?;
+        Ok((to, m))
+    }
+}
+
+impl WireForm for Int {
+    type Value = i32;
+
+    ghost Meaning = { ℤ };
+
+    ghost meaning = { λ n. n };
+
+    ghost spells = { λ _ n bytes. IsNumber32 n bytes };
+
+    ghost faulty = { λ _ bytes m d. FaultyNumber int_limit bytes d };
+
+    ghost counts = { λ _ m after. m ≡ after };
+
+    ghost decoding = { λ _ bytes at m. number_at int_limit bytes at m };
+
+    ghost sound = { λ _ bytes at m n to after e. number_sound int_limit bytes at m n to after (lit< tt) e };
+
+    ghost complete = { λ _ before spelling rest m n after s e. number_complete int_limit before spelling rest n m after s e };
+
+    ghost one_form = { λ _ a b x y m n s t e. number_one_form int_limit a b x y m n s t e };
+
+    ghost steady = { λ _ bytes more at m le c. number_steady int_limit bytes more at m le c };
+
+    ghost defect = { λ _ bytes at m le. number_defect 4 15 bytes at m };
+
+    ghost told = { λ _ before bytes m d f. number_told int_limit before bytes m d f };
+
+    #[tactic(auto, unfolding(crate::specs::NumberDecoding::number_at))]
+    fn read(&self, bytes: &[u8], at: usize, m: Meter) -> Result<(i32, usize, Meter), Fault> {
+        let (groups, to) = read_groups(bytes, at, 5, 15)?;
+        Ok((signed_32(groups), to, m))
+    }
+
+    #[tactic(auto, unfolding(crate::specs::NumberDecoding::number_at))]
+    fn skip(&self, bytes: &[u8], at: usize, m: Meter) -> Result<(usize, Meter), Fault> {
+        let (_, to) = read_groups(bytes, at, 5, 15)?;
+        Ok((to, m))
+    }
+}

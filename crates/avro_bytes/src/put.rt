@@ -1,0 +1,67 @@
+ghost use Rattle.std.specs.Prelude.{◌≡◌, ◌≤◌, ◌++◌, length, OnOk, OnErr};
+ghost use Rattle.avro_bytes.specs.Number.{zigzag};
+ghost use Rattle.avro_bytes.specs.Shortest.{Extends, shortest, shortest_groups};
+
+use std::alloc::AllocError;
+
+/// 0, -1, 1, -2, 2 .. as 0, 1, 2, 3, 4 ..
+fn zigzag_of(n: i64) -> u64
+    ensures { result ≡ zigzag n }
+{
+    if n >= 0 {
+        n as u64 * 2
+    } else {
+        -(n + 1) as u64 * 2 + 1
+    }
+}
+
+/// Writes seven bits a byte, the least first. An `Err` leaves a beginning of them.
+fn put_groups(out: &mut Vec<u8>, n: u64) -> Result<(), AllocError>
+    ensures ok { OnOk result (out.new.items ≡ out.old.items ++ shortest_groups 10 n) }
+    ensures err { OnErr result (Extends out.old.items out.new.items) }
+{
+    let mut rest = n;
+    while rest >= 128 {
+        out.push((rest % 128) as u8 + 128)?;
+        rest /= 128;
+    }
+    out.push(rest as u8)?;
+    Ok(())
+}
+
+/// How many bytes the groups of a number take.
+fn groups_len(n: u64) -> usize
+    ensures len { result ≡ length (shortest_groups 10 n) }
+    ensures most { result ≤ 10 }
+{
+    let mut rest = n;
+    let mut len = 1;
+    while rest >= 128 {
+        rest /= 128;
+        len += 1;
+    }
+    len
+}
+
+/// How many bytes the shortest spelling of a number has.
+#[tactic(auto, unfolding(crate::specs::Shortest::shortest))]
+pub fn long_len(n: i64) -> usize
+    ensures len { result ≡ length (shortest n) }
+    ensures most { result ≤ 10 }
+{
+    groups_len(zigzag_of(n))
+}
+
+/// Writes the shortest spelling of a number. An `Err` leaves the vector as it was.
+#[tactic(auto, unfolding(crate::specs::Shortest::shortest))]
+pub fn put_long(out: &mut Vec<u8>, n: i64) -> Result<(), AllocError>
+    ensures ok { OnOk result (out.new.items ≡ out.old.items ++ shortest n) }
+    ensures err { OnErr result (out.new.items ≡ out.old.items) }
+{
+    let len = out.len();
+    let put = put_groups(out, zigzag_of(n));
+    if put.is_err() {
+        out.truncate(len);
+    }
+    put
+}

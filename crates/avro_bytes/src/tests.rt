@@ -1,0 +1,154 @@
+//! Worked spellings of the Avro 1.11 Specification ("Binary Encoding"), and each fault from outside data.
+
+use crate::{
+    Fault, Int, LONGEST, Long, MOST_DEPTH, MOST_UNITS, MalformedKind, Meter, Text, WireForm,
+    long_len, put_long, read_and_skip, shortest_spelling_is_shortest,
+};
+use std::test::Fail;
+
+const START: Meter = Meter { depth: 0, units: 0 };
+
+fn malformed(kind: MalformedKind, at: usize) -> Fault {
+    Fault::Malformed { kind, at }
+}
+
+#[test]
+fn numbers_of_the_specification(rt: HostRuntime) -> Result<(), Fail> {
+    shortest_spelling_is_shortest();
+    let table: [(i64, &[u8]); 10] = [
+        (0, &[0x00]),
+        (-1, &[0x01]),
+        (1, &[0x02]),
+        (-2, &[0x03]),
+        (2, &[0x04]),
+        (-64, &[0x7f]),
+        (64, &[0x80, 0x01]),
+        (27, &[0x36]),
+        (
+            i64::MAX,
+            &[0xfe, 0xff, 0xff, 0xff, 0xff, 0xff, 0xff, 0xff, 0xff, 0x01],
+        ),
+        (
+            i64::MIN,
+            &[0xff, 0xff, 0xff, 0xff, 0xff, 0xff, 0xff, 0xff, 0xff, 0x01],
+        ),
+    ];
+    for (n, bytes) in table {
+        let mut out = Vec::new(rt.alloc());
+        put_long(&mut out, n)?;
+        assert_eq!(rt; out.as_slice(), bytes, "{n}");
+        assert_eq!(rt; long_len(n), bytes.len(), "{n}");
+        let (read, skip) = read_and_skip(&Long, bytes, 0, START);
+        assert_eq!(rt; read, Ok((n, bytes.len(), START)), "{n}");
+        assert_eq!(rt; skip, Ok((bytes.len(), START)), "{n}");
+    }
+    Ok(())
+}
+
+#[test]
+fn longer_spellings_are_numbers_too(rt: HostRuntime) {
+    assert_eq!(rt; Int.read(&[0x80, 0x00], 0, START), Ok((0, 2, START)));
+    assert_eq!(rt;
+        Int.read(&[0xff, 0xff, 0xff, 0xff, 0x0f], 0, START),
+        Ok((i32::MIN, 5, START))
+    );
+    assert_eq!(rt; Int.skip(&[0x82, 0x80, 0x00], 0, START), Ok((3, START)));
+    assert_eq!(rt; Long.read(&[0xff, 0x36], 1, START), Ok((27, 2, START)));
+}
+
+#[test]
+fn numbers_too_long_or_too_great(rt: HostRuntime) {
+    let bad = malformed(MalformedKind::BadNumber, 0);
+    let int = [0xff, 0xff, 0xff, 0xff, 0x1f];
+    assert_eq!(rt; Int.read(&int, 0, START), Err(bad));
+    assert_eq!(rt; Int.skip(&int, 0, START), Err(bad));
+    let long = [0xff, 0xff, 0xff, 0xff, 0xff, 0xff, 0xff, 0xff, 0xff, 0x02];
+    assert_eq!(rt; Long.read(&long, 0, START), Err(bad));
+    assert_eq!(rt; Long.skip(&long, 0, START), Err(bad));
+}
+
+#[test]
+fn numbers_cut_short(rt: HostRuntime) {
+    assert_eq!(rt;
+        Int.read(&[0x80, 0x80, 0x80, 0x80], 0, START),
+        Err(Fault::Need)
+    );
+    assert_eq!(rt; Long.read(&[], 0, START), Err(Fault::Need));
+    assert_eq!(rt; Long.skip(&[0x80], 0, START), Err(Fault::Need));
+}
+
+/// What a text answers, read again where memory ran out the first time.
+fn read_text(rt: &HostRuntime, bytes: &[u8]) -> Result<(String, usize, Meter), Fault> {
+    let form = Text { alloc: rt.alloc() };
+    match form.read(bytes, 0, START) {
+        Err(Fault::NoMemory) => form.read(bytes, 0, START),
+        answer => answer,
+    }
+}
+
+#[test]
+fn texts(rt: HostRuntime) -> Result<(), Fail> {
+    let (text, to, after) = read_text(&rt, &[0x06, 0x66, 0x6f, 0x6f, 0x00])?;
+    assert_eq!(rt; text.as_str(), "foo");
+    assert_eq!(rt; (to, after), (4, START));
+    let form = Text { alloc: rt.alloc() };
+    assert_eq!(rt;
+        form.skip(&[0x06, 0x66, 0x6f, 0x6f, 0x00], 0, START),
+        Ok((4, START))
+    );
+    Ok(())
+}
+
+#[test]
+fn faults_of_texts(rt: HostRuntime) {
+    let too_long = (LONGEST as i64 + 1) * 2;
+    let groups = [
+        (too_long % 128) as u8 + 128,
+        (too_long / 128 % 128) as u8 + 128,
+        (too_long / 16384 % 128) as u8 + 128,
+        (too_long / 2097152) as u8,
+    ];
+    let table: [(&[u8], Fault); 7] = [
+        (&[0x02, 0xff], malformed(MalformedKind::BadText, 1)),
+        (&[0x04, 0xc3, 0x28], malformed(MalformedKind::BadText, 1)),
+        (&[0x04, 0xff], Fault::Need),
+        (&[0x01], malformed(MalformedKind::BadLength, 0)),
+        (&groups, malformed(MalformedKind::BadLength, 0)),
+        (&[0x80], Fault::Need),
+        (&[], Fault::Need),
+    ];
+    let form = Text { alloc: rt.alloc() };
+    for (bytes, fault) in table {
+        assert_eq!(rt; form.skip(bytes, 0, START), Err(fault), "{bytes:?}");
+        assert_eq!(rt; read_text(&rt, bytes).err(), Some(fault), "{bytes:?}");
+    }
+}
+
+#[test]
+fn records_too_deep_or_too_many(rt: HostRuntime) {
+    assert_eq!(rt; START.enter_record(5), Ok(Meter { depth: 1, units: 1 }));
+    let deep = Meter {
+        depth: MOST_DEPTH,
+        units: MOST_UNITS,
+    };
+    assert_eq!(rt;
+        deep.enter_record(5),
+        Err(malformed(MalformedKind::TooDeep, 5))
+    );
+    let many = Meter {
+        depth: 0,
+        units: MOST_UNITS,
+    };
+    assert_eq!(rt;
+        many.enter_record(5),
+        Err(malformed(MalformedKind::TooMany, 5))
+    );
+}
+
+#[test]
+fn faults_are_told_in_words(rt: HostRuntime) -> Result<(), Fail> {
+    assert_eq!(rt; MalformedKind::BadText.name(), "BadText");
+    let text = format!(in rt.alloc(); "{}", malformed(MalformedKind::TooDeep, 7))?;
+    assert_eq!(rt; text.as_str(), "malformed TooDeep at 7");
+    Ok(())
+}

@@ -1,0 +1,102 @@
+ghost use Rattle.std.specs.Prelude.{◌≡◌, ◌≤◌, ◌<◌, ℕ, List, length, string_bytes, IfOk};
+ghost use Rattle.avro_bytes.specs.Contract.{Finds};
+ghost use Rattle.avro_bytes.specs.Fault.{FaultyText};
+ghost use Rattle.avro_bytes.specs.Text.{IsText, content_at, text_at};
+ghost use Rattle.avro_bytes.specs.Laws.Texts.{text_complete, text_one_form, text_sound, text_steady};
+ghost use Rattle.avro_bytes.specs.Laws.TextDefects.{text_defect, text_told};
+
+use crate::fault::{Fault, MalformedKind};
+use crate::form::WireForm;
+use crate::meter::Meter;
+use crate::number::read_long;
+use std::alloc::Global;
+
+/// How many bytes the content of a text may have.
+pub const LONGEST: usize = 16_777_216;
+
+/// UTF-8 behind its length.
+#[derive(Clone, Copy, Debug)]
+pub struct Text {
+    pub alloc: Global,
+}
+
+/// The content behind the length at a place.
+#[tactic(auto, unfolding(crate::specs::Text::content_at))]
+fn content(bytes: &[u8], at: usize, m: Meter) -> Result<(&[u8], usize, Meter), Fault>
+    requires { at ≤ length bytes.now }
+    ensures finds { Finds (λ content. content.now) result (content_at bytes.now at m) }
+    ensures before { IfOk result (λ r. length r.0.now ≤ r.1) }
+    ensures within { IfOk result (λ r. r.1 ≤ length bytes.now) }
+    ensures depth { IfOk result (λ r. r.2.depth ≡ m.depth) }
+    ensures units { IfOk result (λ r. m.units ≤ r.2.units) }
+{
+    let (len, to, m) = read_long(bytes, at, m)?;
+    if len < 0 || len > LONGEST as i64 {
+        return Err(Fault::Malformed {
+            kind: MalformedKind::BadLength,
+            at,
+        });
+    }
+    let len = len as usize;
+    if bytes.len() - to < len {
+        return Err(Fault::Need);
+    }
+    Ok((&bytes[to..to + len], to + len, m))
+}
+
+/// The text at a place, in the bytes themselves.
+#[tactic(auto, using(crate::specs::Laws::Texts::text_complete_is, crate::specs::Laws::Texts::text_bad), unfolding(crate::specs::Text::text_at))]
+fn valid_text(bytes: &[u8], at: usize, m: Meter) -> Result<(&str, usize, Meter), Fault>
+    requires { at ≤ length bytes.now }
+    ensures finds { Finds (λ text. text.now) result (text_at bytes.now at m) }
+    ensures within { IfOk result (λ r. r.1 ≤ length bytes.now) }
+    ensures depth { IfOk result (λ r. r.2.depth ≡ m.depth) }
+    ensures units { IfOk result (λ r. m.units ≤ r.2.units) }
+{
+    let (content, to, m) = content(bytes, at, m)?;
+    let Ok(text) = simdutf8::compat::from_utf8(content) else {
+        return Err(Fault::Malformed {
+            kind: MalformedKind::BadText,
+            at: to - content.len(),
+        });
+    };
+    Ok((text, to, m))
+}
+
+impl WireForm for Text {
+    type Value = String;
+
+    ghost Meaning = { List ℕ };
+
+    ghost meaning = { string_bytes };
+
+    ghost spells = { λ _ text bytes. IsText text bytes };
+
+    ghost faulty = { λ _ bytes m d. FaultyText bytes d };
+
+    ghost counts = { λ _ m after. m ≡ after };
+
+    ghost decoding = { λ _ bytes at m. text_at bytes at m };
+
+    ghost sound = { λ _ bytes at m text to after e. text_sound bytes at m text to after e };
+
+    ghost complete = { λ _ before spelling rest m text after s e. text_complete before spelling rest text m after s e };
+
+    ghost one_form = { λ _ a b x y v w s t e. text_one_form a b x y v w s t e };
+
+    ghost steady = { λ _ bytes more at m le c. text_steady bytes more at m le c };
+
+    ghost defect = { λ _ bytes at m le. text_defect bytes at m };
+
+    ghost told = { λ _ before bytes m d f. text_told before bytes m d f };
+
+    fn read(&self, bytes: &[u8], at: usize, m: Meter) -> Result<(String, usize, Meter), Fault> {
+        let (text, to, m) = valid_text(bytes, at, m)?;
+        Ok((String::from_str(self.alloc, text)?, to, m))
+    }
+
+    fn skip(&self, bytes: &[u8], at: usize, m: Meter) -> Result<(usize, Meter), Fault> {
+        let (_, to, m) = valid_text(bytes, at, m)?;
+        Ok((to, m))
+    }
+}

@@ -1,0 +1,5 @@
+use Rattle.avro_datum.proofs.ShortestForm.{spelled_conforms}
+use Rattle.avro_datum.proofs.laws.spelled_datum_conforms.Goals as goal
+
+pub returns : goal.returns
+returns c = spelled_conforms

@@ -1,0 +1,7 @@
+use Rattle.std.proofs.Common.{◌≡◌, ◌+◌, length, drop}
+use Rattle.avro_schema.specs.Datum.{data_of}
+use Rattle.avro_datum.specs.Writing.{written_data}
+use Rattle.avro_datum.proofs.writing.+measure.Given as goal
+
+abbrev pub invariant-measure_each-loop-datum : goal.invariant-measure_each-loop-datum
+invariant-measure_each-loop-datum l = l.left + length (written_data (data_of l.data)) ≡ l.room + length (written_data (data_of (drop l.datum-index l.data)))

@@ -1,0 +1,34 @@
+ghost use Rattle.std.specs.Prelude.{◌≡◌, ◌≤◌, ◌⊎◌, ℕ, List, length};
+ghost use Rattle.avro_bytes.specs.declared.fault.MalformedKind.{MalformedKind};
+ghost use Rattle.avro_schema.specs.Node.{Node};
+ghost use Rattle.avro_schema.specs.Datum as datum;
+ghost use Rattle.avro_datum.specs.Conforming.{Conforms, HasShortTexts};
+ghost use Rattle.avro_datum.specs.Fault.{FirstFault};
+ghost use Rattle.avro_datum.specs.Payload.{IsPayload};
+ghost use Rattle.avro_datum.specs.Spelling.{Spells};
+ghost use Rattle.avro_datum.specs.Writing.{written};
+
+/// The law that a payload spells one datum or has one first fault, and never both.
+pub fn payload_is_spelled_or_faulty()
+    ensures either { (nodes : List Node) (payload : List ℕ) →
+        ((d : datum.Datum) × IsPayload nodes d payload) ⊎ ((kind : MalformedKind) × (at : ℕ) × FirstFault nodes payload kind at) }
+    ensures one_datum { (nodes : List Node) (payload : List ℕ) (d e : datum.Datum) →
+        IsPayload nodes d payload → IsPayload nodes e payload → d ≡ e }
+    ensures one_fault { (nodes : List Node) (payload : List ℕ) (kind other : MalformedKind) (at place : ℕ) →
+        FirstFault nodes payload kind at → FirstFault nodes payload other place → (kind ≡ other) × (at ≡ place) }
+    ensures never_both { (nodes : List Node) (payload : List ℕ) (d : datum.Datum) (kind : MalformedKind) (at : ℕ) →
+        IsPayload nodes d payload → ¬ (FirstFault nodes payload kind at) }
+{}
+
+/// The law that the written form of a node's datum is a spelling of it, and that no spelling is shorter.
+pub fn written_form_is_the_shortest_spelling()
+    ensures spelled { (nodes : List Node) (node : ℕ) (d : datum.Datum) →
+        Conforms nodes node d → HasShortTexts d → Spells nodes node d (written d) }
+    ensures none_shorter { (nodes : List Node) (node : ℕ) (d : datum.Datum) (bytes : List ℕ) →
+        Spells nodes node d bytes → length (written d) ≤ length bytes }
+{}
+/// The law that a datum that is spelled is of its node's type, so that it can be written again.
+pub fn spelled_datum_conforms()
+    ensures { (nodes : List Node) (node : ℕ) (d : datum.Datum) (bytes : List ℕ) →
+        Spells nodes node d bytes → Conforms nodes node d × HasShortTexts d }
+{}

@@ -1,0 +1,18 @@
+//! Data by a schema: reading, skipping and writing them (Avro 1.11 Specification, "Binary Encoding").
+#![tactic(auto)]
+
+mod form;
+mod laws;
+mod payload;
+mod reading;
+mod skipping;
+#[cfg(test)]
+mod tests;
+mod writing;
+
+pub use form::NodeForm;
+pub use laws::{
+    payload_is_spelled_or_faulty, spelled_datum_conforms, written_form_is_the_shortest_spelling,
+};
+pub use payload::read_all;
+pub use writing::{MOST_OUTPUT, WriteError, write};

@@ -1,0 +1,10 @@
+pub mod DatumOf
+pub mod Declared
+pub mod FieldList
+pub mod Members
+pub mod NameRule
+pub mod OneNode
+pub mod Records
+pub mod Runs
+pub mod Sound
+pub mod WellFormed

@@ -1,0 +1,119 @@
+-- What is found in a value: its walk, and how deep it is.
+use Rattle.std.proofs.Common.{◌≡◌, ℕ, zero, suc, max, ◌<◌, ◌≤◌, List, [], ◌∷◌, length, get_or, Option, Some, None, option_map, true, refl, arith, codes, is_some, Bool, false, rules, ◌⊎◌, inl, inr}
+use Rattle.std.specs.Ordering.{nat_cmp, match_ordering}
+use Rattle.std.specs.Cmp.Lexicographic.{slice_cmp}
+use Rattle.std.specs.declared.cmp.Ordering.{Ordering}
+use Rattle.std.specs.declared.cmp.Ordering.TheVariants.{Less, Equal, Greater}
+use Rattle.serde_json.specs.Data.{Data, null, boolean, number, string, array, object, Items, Members, no_members, member, depth, items_depth, members_depth}
+use Rattle.serde_json.specs.Find.{get, get_member, as_array, as_object}
+use Rattle.serde_json.specs.View.{view, number_view, items_view}
+use Rattle.serde_json.specs.declared.number.Number.{Number}
+use Rattle.serde_json.specs.declared.value.Value as json
+use Rattle.serde_json.specs.declared.value.Value.{Value, the_lemmas}
+use Rattle.avro_schema.specs.declared.error.SchemaError.TheVariants.{Unknown}
+use Rattle.avro_schema.specs.Contract.{object_walk, field_walk}
+use Rattle.avro_schema.specs.Walk.{walk, walk_member, walk_fields, fields, fields_after, field, fault}
+
+at_order : {A B : Type 0} (f : A → B) (o : Ordering) (a : A) (r : Option A) (s : Option B) → s ≡ option_map f r → match_ordering o s (Some (f a)) s ≡ option_map f (match_ordering o r (Some a) r)
+at_order f Less a r s e = e
+at_order f Equal a r s e = refl
+at_order f Greater a r s e = e
+
+-- what is walked at a key is what is found there
+walk_member-get : (ms : Members) (k : List ℕ) → walk_member ms k ≡ option_map walk (get_member k ms)
+unfolding walk
+walk_member-get no_members k = refl
+walk_member-get (member l d ms) k = at_order walk (slice_cmp nat_cmp k l) d (get_member k ms) (walk_member ms k) (walk_member-get ms k)
+
+walk_fields-get : (ms : Members) (k : List ℕ) → walk_fields ms k ≡ option_map fields (get_member k ms)
+unfolding walk
+walk_fields-get no_members k = refl
+walk_fields-get (member l d ms) k = at_order fields (slice_cmp nat_cmp k l) d (get_member k ms) (walk_fields ms k) (walk_fields-get ms k)
+
+pub walk-object : (ms : Members) → walk (object ms) ≡ object_walk (object ms)
+unfolding walk object_walk
+walk-object ms = rw (walk_fields-get ms _)
+
+pub field-object : (d : Data) (before : List (List ℕ)) → true ≡ is_some (as_object d) → field d before ≡ field_walk d before
+unfolding walk field_walk
+field-object (object ms) before e = rw (walk_member-get ms (codes "type")) refl
+field-object null before e = absurd (let h : ⊥ = cc in h)
+field-object (boolean b) before e = absurd (let h : ⊥ = cc in h)
+field-object (number n) before e = absurd (let h : ⊥ = cc in h)
+field-object (string s) before e = absurd (let h : ⊥ = cc in h)
+field-object (array ds) before e = absurd (let h : ⊥ = cc in h)
+
+pub field-other : (d : Data) (before : List (List ℕ)) → false ≡ is_some (as_object d) → field d before ≡ fault Unknown
+unfolding walk
+field-other null before e = refl
+field-other (boolean b) before e = refl
+field-other (number n) before e = refl
+field-other (string s) before e = refl
+field-other (array ds) before e = refl
+field-other (object ms) before e = absurd (let h : ⊥ = cc in h)
+
+pub fields-none : (d : Data) → None ≡ as_array d → fields d ≡ fault Unknown
+unfolding walk
+fields-none null e = refl
+fields-none (boolean b) e = refl
+fields-none (number n) e = refl
+fields-none (string s) e = refl
+fields-none (array ds) e = absurd (let h : ⊥ = cc in h)
+fields-none (object ms) e = refl
+
+pub fields-some : (d : Data) (ds : Items) → Some ds ≡ as_array d → fields d ≡ fields_after ds []
+unfolding walk
+fields-some null ds e = absurd (let h : ⊥ = cc in h)
+fields-some (boolean b) ds e = absurd (let h : ⊥ = cc in h)
+fields-some (number n) ds e = absurd (let h : ⊥ = cc in h)
+fields-some (string s) ds e = absurd (let h : ⊥ = cc in h)
+fields-some (array es) ds e = let same : es ≡ ds = cc in rw same refl
+fields-some (object ms) ds e = absurd (let h : ⊥ = cc in h)
+
+-- a value that is no schema
+pub walk-scalar : (v : json.Value) → (v ≡ json.Null) ⊎ ((x : Bool) × (v ≡ json.Bool x)) ⊎ ((x : Number) × (v ≡ json.Number x)) → walk (view v) ≡ fault Unknown
+unfolding walk
+walk-scalar v (inl e) = let seen : null ≡ view v = rw e (search (rules, the_lemmas)) in rw (← seen) refl
+walk-scalar v (inr (inl (x, e))) = let seen : boolean x ≡ view v = rw e (search (rules, the_lemmas)) in rw (← seen) refl
+walk-scalar v (inr (inr (x, e))) = let seen : number (number_view x) ≡ view v = rw e (search (rules, the_lemmas)) in rw (← seen) refl
+
+-- ---- how deep
+
+-- one more than the depth of what is there
+abbrev pub option_depth : Option Data → ℕ
+option_depth None = 0
+option_depth (Some d) = suc (depth d)
+
+at_depth : (o : Ordering) (d : Data) (r : Option Data) (n : ℕ) → option_depth r ≤ suc n → option_depth (match_ordering o r (Some d) r) ≤ suc (max (depth d) n)
+at_depth Less d r n le = omega arith
+at_depth Equal d r n le = omega arith
+at_depth Greater d r n le = omega arith
+
+member-depth : (ms : Members) (k : List ℕ) → option_depth (get_member k ms) ≤ suc (members_depth ms)
+member-depth no_members k = omega arith
+member-depth (member l d ms) k = at_depth (slice_cmp nat_cmp k l) d (get_member k ms) (members_depth ms) (member-depth ms k)
+
+get-depth : (k : List ℕ) (d : Data) → option_depth (get k d) ≤ depth d
+get-depth k null = omega arith
+get-depth k (boolean b) = omega arith
+get-depth k (number n) = omega arith
+get-depth k (string s) = omega arith
+get-depth k (array ds) = omega arith
+get-depth k (object ms) = member-depth ms k
+
+-- what is found in a value is less deep
+pub found-depth : (k : List ℕ) (o : Option Data) (d : Data) → o ≡ get k d → option_depth o ≤ depth d
+found-depth k o d e = rw e (get-depth k d)
+
+pub item-depth : (vs : List Value) (i : ℕ) (v : Value) → i < length vs → depth (view (get_or vs i v)) ≤ items_depth (items_view vs)
+item-depth [] i v lt = absurd (omega arith)
+item-depth (x ∷ vs) zero v lt = omega arith
+item-depth (x ∷ vs) (suc i) v lt = omega (arith, item-depth vs i v (omega arith))
+
+pub listed-depth : (d : Data) (ds : Items) → Some ds ≡ as_array d → suc (items_depth ds) ≤ depth d
+listed-depth null ds e = absurd (let h : ⊥ = cc in h)
+listed-depth (boolean b) ds e = absurd (let h : ⊥ = cc in h)
+listed-depth (number n) ds e = absurd (let h : ⊥ = cc in h)
+listed-depth (string s) ds e = absurd (let h : ⊥ = cc in h)
+listed-depth (array es) ds e = let same : es ≡ ds = cc in rw same (omega arith)
+listed-depth (object ms) ds e = absurd (let h : ⊥ = cc in h)

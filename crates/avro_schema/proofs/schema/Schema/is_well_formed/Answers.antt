@@ -1,0 +1,5 @@
+use Rattle.avro_schema.proofs.WellFormed.{declared-well_formed}
+use Rattle.avro_schema.proofs.schema.Schema.is_well_formed.Goals as goal
+
+pub returns : goal.returns
+returns c = let h = declared-well_formed _ _ c.self.invariant in rw (← c.self.view_is) h

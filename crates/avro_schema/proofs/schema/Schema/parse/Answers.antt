@@ -1,0 +1,39 @@
+use Rattle.std.proofs.Common.{◌≡◌, ◌∙◌, sym, refl, arith, Some, string_bytes}
+use Rattle.std.proofs.lemmas.Result.{err_from_is_err_and}
+use Rattle.serde_json.specs.Read.{read}
+use Rattle.serde_json.specs.View.{view}
+use Rattle.avro_schema.proofs.Declared.{too-large, small, no-json, some-json, a-float, walked}
+use Rattle.avro_schema.proofs.schema.Schema.parse.Goals as goal
+
+pub returns-then-text-gt-MOST_TEXT : goal.returns-then-text-gt-MOST_TEXT
+returns-then-text-gt-MOST_TEXT c = λ _. too-large c.args.text.now (omega arith)
+
+pub returns-in_err-value : goal.returns-in_err-value
+returns-in_err-value c =
+    let p = err_from_is_err_and c.from_residual.result c.from_residual.ensures.1 in
+    rw (p.1, p.2) (λ known. small c.args.text.now (omega arith) ∙ no-json (read c.args.text.now) _ (c.in_err-value.ensures.value known))
+
+pub returns-then-has_float : goal.returns-then-has_float
+returns-then-has_float c =
+    let is = some-json (read c.args.text.now) (view c.in_ok-value.value) c.in_ok-value.ensures.value in
+    λ _. small c.args.text.now (omega arith) ∙ a-float c.args.text.now (view c.in_ok-value.value) is c.if-has_float.ensures
+
+pub returns-in_err-walk : goal.returns-in_err-walk
+returns-in_err-walk c =
+    let p = err_from_is_err_and c.from_residual-in_err-walk.result c.from_residual-in_err-walk.ensures.1 in
+    let is = some-json (read c.args.text.now) (view c.in_ok-value.value) c.in_ok-value.ensures.value in
+    rw (p.1, p.2) (λ known. small c.args.text.now (omega arith) ∙ walked c.args.text.now (view c.in_ok-value.value) is c.if-has_float.ensures ∙ rw (rw c.new-nodes.ensures.items at (c.in_err-walk.ensures known)) refl)
+
+pub invariant_of-result : goal.invariant_of-result
+invariant_of-result c =
+    let back : read (string_bytes c.in_ok-text.text) ≡ Some (view c.in_ok-value.value) = c.in_ok-text.ensures.reads_back c.in_ok-value.ensures.nests in
+    record { nodes_are = walked (string_bytes c.in_ok-text.text) (view c.in_ok-value.value) back c.if-has_float.ensures ∙ rw (rw c.new-nodes.ensures.items at c.in_ok-walk.ensures) refl }
+
+pub returns : goal.returns
+returns c =
+    let is = some-json (read c.args.text.now) (view c.in_ok-value.value) c.in_ok-value.ensures.value in (
+      small c.args.text.now (omega arith) ∙ walked c.args.text.now (view c.in_ok-value.value) is c.if-has_float.ensures ∙ rw (rw c.new-nodes.ensures.items at c.in_ok-walk.ensures) refl,
+      view c.in_ok-value.value,
+      is,
+      c.in_ok-text.ensures.text (sym c.if-has_float.ensures),
+    )

@@ -1,0 +1,36 @@
+use Rattle.std.proofs.Common.{◌≡◌, ◌+◌, ◌*◌, drop, option_map, []}
+use Rattle.serde_json.specs.Data.{depth, items_depth}
+use Rattle.serde_json.specs.View.{view, items_view}
+use Rattle.avro_schema.specs.Contract.{run, names_of}
+use Rattle.avro_schema.specs.Node.{nodes_of, fields_of}
+use Rattle.avro_schema.specs.Walk.{fields_after, null_namespace}
+use Rattle.avro_schema.proofs.FieldList.{behind}
+use Rattle.avro_schema.proofs.Members.{option_depth}
+use Rattle.avro_schema.proofs.walk.+walk.Given as goal
+
+-- Each level of the value takes eight steps: a field, its type, an object, a record, its list of fields.
+abbrev pub decreases-walk : goal.decreases-walk
+decreases-walk l = 8 * depth (view l.value.now) + 5
+
+abbrev pub decreases-walk_at : goal.decreases-walk_at
+decreases-walk_at l = 8 * option_depth (option_map (λ v. view v.now) l.value)
+
+abbrev pub decreases-walk_object : goal.decreases-walk_object
+decreases-walk_object l = 8 * depth (view l.value.now) + 4
+
+abbrev pub decreases-walk_record : goal.decreases-walk_record
+decreases-walk_record l = 8 * depth (view l.value.now) + 3
+
+abbrev pub decreases-walk_fields : goal.decreases-walk_fields
+decreases-walk_fields l = 8 * option_depth (option_map (λ v. view v.now) l.value) + 2
+
+abbrev pub decreases-walk_listed : goal.decreases-walk_listed
+decreases-walk_listed l = 8 * items_depth (items_view l.items.now) + 8
+
+abbrev pub decreases-walk_field : goal.decreases-walk_field
+decreases-walk_field l = 8 * depth (view l.value.now) + 7
+
+abbrev pub invariant-walk_listed-loop-item : goal.invariant-walk_listed-loop-item
+invariant-walk_listed-loop-item l =
+    behind (fields_of l.fields.items) (run (fields_after (items_view (drop l.item-index l.items)) (names_of l.fields.items)) null_namespace (nodes_of l.nodes.items))
+    ≡ run (fields_after (items_view l.items) []) null_namespace (nodes_of l.initial.nodes.items)

@@ -1,0 +1,9 @@
+pub mod Contract
+pub mod Datum
+pub mod Fault
+pub mod Names
+pub mod Node
+pub mod Schema
+pub mod SchemaError
+pub mod Walk
+pub mod Word

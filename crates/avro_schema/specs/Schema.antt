@@ -1,0 +1,34 @@
+-- What a text declares.
+use Rattle.std.specs.Prelude.{◌≡◌, ◌≢◌, ℕ, List, [], length, nat_le, if◌then◌else◌, Option, Some, None, Result, Ok, Err}
+use Rattle.serde_json.specs.Data.{Data}
+use Rattle.serde_json.specs.Read.{read}
+use Rattle.serde_json.specs.Written.{has_float, compact_text}
+use Rattle.avro_schema.specs.declared.error.SchemaError.{SchemaError}
+use Rattle.avro_schema.specs.declared.error.SchemaError.TheVariants.{TooLarge, NotJson, BadNumber, NoMemory}
+use Rattle.avro_schema.specs.Fault.{◌>>=◌}
+use Rattle.avro_schema.specs.Node.{Node, Declaration}
+use Rattle.avro_schema.specs.Walk.{walk, null_namespace}
+
+-- the nodes of a JSON value, or its first fault
+abbrev pub nodes_in : Data → Result (List Node) SchemaError
+nodes_in d = if has_float d then Err BadNumber else (walk d null_namespace [] >>= λ p. Ok p.1)
+
+abbrev pub nodes_in_read : Option Data → Result (List Node) SchemaError
+nodes_in_read None = Err NotJson
+nodes_in_read (Some d) = nodes_in d
+
+abbrev pub most_text : ℕ
+most_text = 262144
+
+-- the nodes of a text, or its first fault
+unfoldable pub schema_of : List ℕ → Result (List Node) SchemaError
+schema_of text = if nat_le (length text) most_text then nodes_in_read (read text) else Err TooLarge
+
+-- the nodes are those of the value that the text reads as
+pub record Declares (text : List ℕ) (nodes : List Node) : Type 0 where
+  pub nodes_are : nodes_in_read (read text) ≡ Ok nodes
+
+-- The answer is what the text declares, unless memory ran out. Its own text is the compact one of the value that was read.
+abbrev pub Parses : Result Declaration SchemaError → List ℕ → Type 0
+Parses (Ok s) text = (schema_of text ≡ Ok s.nodes) × (d : Data) × (read text ≡ Some d) × (s.text ≡ compact_text d)
+Parses (Err e) text = e ≢ NoMemory → schema_of text ≡ Err e

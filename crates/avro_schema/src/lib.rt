@@ -1,0 +1,19 @@
+//! Avro schemas, and data by their kinds (Avro 1.11 Specification, "Schema Declaration").
+#![tactic(auto)]
+
+mod datum;
+mod error;
+mod kind;
+mod names;
+mod numbers;
+mod schema;
+mod walk;
+mod word;
+
+pub use datum::Datum;
+pub use error::SchemaError;
+pub use kind::{Field, Kind};
+pub use schema::Schema;
+
+#[cfg(test)]
+mod tests;

@@ -1,0 +1,101 @@
+ghost use Rattle.std.specs.Prelude.{◌≡◌, ◌<◌, ◌≤◌, length, Some, slice_get, IfOk};
+ghost use Rattle.std.specs.Option.{ok_or};
+ghost use Rattle.serde_json.specs.Data.{depth};
+ghost use Rattle.serde_json.specs.Read.{read, max_depth};
+ghost use Rattle.serde_json.specs.View.{view};
+ghost use Rattle.avro_schema.specs.Fault.{Tells};
+ghost use Rattle.avro_schema.specs.Node.{IsWellFormed, NodeIsWellFormed, node_of};
+ghost use Rattle.avro_schema.specs.Schema.{Parses};
+
+use crate::error::SchemaError;
+use crate::kind::Kind;
+use crate::numbers::has_float;
+use crate::walk::walk;
+use serde_json::Value;
+use std::alloc::Global;
+use std::marker::Model;
+
+const MOST_TEXT: usize = 262_144;
+
+/// A schema: its compact text, and its nodes.
+///
+/// Nodes are numbered in order of appearance, a type before its parts, so the root is node 0. Callers see it as a
+/// `Declaration`.
+#[derive(Debug, Drop)]
+pub struct Schema {
+    text: String,
+    nodes: Vec<Kind>,
+}
+
+impl Model for Schema {
+    ghost use Rattle.std.specs.Prelude.{string_bytes};
+    ghost use Rattle.avro_schema.specs.Node.{Declaration, nodes_of};
+    ghost use Rattle.avro_schema.specs.Schema.{Declares};
+
+    ghost Value = { Declaration };
+
+    ghost view = { λ s. record { text = string_bytes s.text; nodes = nodes_of s.nodes.items } };
+
+    ghost invariant = { λ s. Declares (string_bytes s.text) (nodes_of s.nodes.items) };
+}
+
+impl Schema {
+    /// The schema that a text declares, or the first of its faults.
+    pub fn parse(alloc: Global, text: &str) -> Result<Schema, SchemaError>
+        ensures { Parses result text.now }
+    {
+        if text.len() > MOST_TEXT {
+            return Err(SchemaError::TooLarge);
+        }
+        let value = read_json(alloc, text)?;
+        if has_float(&value) {
+            return Err(SchemaError::BadNumber);
+        }
+        let mut nodes = Vec::new(alloc);
+        walk(alloc, &value, &mut nodes)?;
+        let text = value.to_string(alloc)?;
+        Ok(Schema { text, nodes })
+    }
+
+    /// Its compact JSON text: no spaces, the keys of each object sorted.
+    pub fn text(&self) -> &str
+        ensures { result.now ≡ self.now.text }
+    {
+        self.text.as_str()
+    }
+
+    /// How many nodes there are.
+    pub fn len(&self) -> usize
+        ensures { result ≡ length self.now.nodes }
+    {
+        self.nodes.len()
+    }
+
+    /// What a node is.
+    pub fn kind(&self, node: usize) -> &Kind
+        requires { node < length self.now.nodes }
+        ensures kind { slice_get self.now.nodes node ≡ Some (node_of result.now) }
+        ensures well_formed { NodeIsWellFormed (length self.now.nodes) (node_of result.now) }
+    {
+        &self.nodes[node]
+    }
+
+    /// The law that nodes name nodes of the same schema, the root is one, and the fields of a record have distinct names.
+    pub fn is_well_formed(&self)
+        ensures { IsWellFormed self.now.nodes }
+    {
+        let _opened = &self.nodes;
+    }
+}
+
+/// The JSON value of a text.
+fn read_json(alloc: Global, text: &str) -> Result<Value, SchemaError>
+    ensures value { Tells view result (ok_or (read text.now) SchemaError.NotJson) }
+    ensures nests { IfOk result (λ v. depth (view v) ≤ max_depth) }
+{
+    match Value::from_str(alloc, text) {
+        Ok(value) => Ok(value),
+        Err(error) if error.is_memory() => Err(SchemaError::NoMemory),
+        Err(_) => Err(SchemaError::NotJson),
+    }
+}

@@ -1,0 +1,4 @@
+pub mod Answers
+pub mod Schemas
+pub mod Split
+pub mod Traffic

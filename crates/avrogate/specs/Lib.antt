@@ -1,0 +1,5 @@
+pub mod Answer
+pub mod Lines
+pub mod Output
+pub mod Payload
+pub mod Traffic

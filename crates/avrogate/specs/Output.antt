@@ -1,0 +1,44 @@
+-- The output for an input, and the status.
+use Rattle.std.specs.Prelude.{◌≡◌, ℕ, List, [], ◌∷◌, ◌++◌, codes, drop, slice_index_or, if◌then◌else◌, Result, Ok, Err, MatchBool}
+use Rattle.std.specs.Fmt.{decimal}
+use Rattle.std.specs.Str.{is_utf8}
+use Rattle.avro_schema.specs.Node.{Node}
+use Rattle.avro_schema.specs.Schema.{schema_of}
+use Rattle.avro_schema.specs.SchemaError.{name_of}
+use Rattle.avro_schema.specs.declared.error.SchemaError.{SchemaError}
+use Rattle.avro_schema.specs.declared.error.SchemaError.TheVariants.{NotJson}
+use Rattle.resolver.specs.Stage.{differ_in_fields}
+use Rattle.avrogate.specs.Answer.{IsAnswers}
+use Rattle.avrogate.specs.Lines.{lines}
+use Rattle.avrogate.specs.declared.command.Verb.{Verb}
+use Rattle.avrogate.specs.declared.command.Verb.TheVariants.{Transcode}
+
+-- the nodes of a schema line, or its first fault: bytes that are no UTF-8 are no JSON
+abbrev pub schema_of_line : List ℕ → Result (List Node) SchemaError
+schema_of_line line = if is_utf8 line then schema_of line else Err NotJson
+
+-- the output where the schema in the line of a number is bad
+abbrev pub bad_schema : ℕ → SchemaError → List ℕ
+bad_schema number error = codes "bad schema " ++ decimal number ++ codes " " ++ name_of error ++ 10 ∷ []
+
+-- the output and the status for payload lines, between a writer's nodes and a reader's
+abbrev pub IsExchange : List Node → List Node → List (List ℕ) → List ℕ → ℕ → Type 0
+IsExchange W R payloads output status =
+    MatchBool (differ_in_fields W R) ((output ≡ codes "not yet" ++ 10 ∷ []) × (status ≡ 1))
+    (IsAnswers W R payloads output × (status ≡ 0))
+
+-- the same, where either schema may be bad: the writer's is told first
+abbrev pub IsReport : Result (List Node) SchemaError → Result (List Node) SchemaError → List (List ℕ) → List ℕ → ℕ → Type 0
+IsReport (Err error) reader payloads output status = (output ≡ bad_schema 1 error) × (status ≡ 1)
+IsReport (Ok W) (Err error) payloads output status = (output ≡ bad_schema 2 error) × (status ≡ 1)
+IsReport (Ok W) (Ok R) payloads output status = IsExchange W R payloads output status
+
+-- a line of the input, which is the empty text where it is missing
+abbrev pub line_at : List (List ℕ) → ℕ → List ℕ
+line_at inputs i = slice_index_or inputs i []
+
+-- a verb's output for an input, and its status: line 1 is the writer's schema, line 2 the reader's, and each later one a payload
+abbrev pub IsOutput : Verb → List ℕ → List ℕ → ℕ → Type 0
+IsOutput Transcode input output status =
+    let inputs = lines input in
+    IsReport (schema_of_line (line_at inputs 0)) (schema_of_line (line_at inputs 1)) (drop 2 inputs) output status

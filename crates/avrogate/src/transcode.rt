@@ -1,0 +1,89 @@
+ghost use Rattle.std.specs.Prelude.{◌≡◌, ◌≢◌, false, string_bytes, Err, Ok, IfOk, IfErr};
+ghost use Rattle.avro_schema.specs.declared.error.SchemaError.TheVariants.{NoMemory};
+ghost use Rattle.resolver.specs.Stage.{differ_in_fields};
+ghost use Rattle.avrogate.specs.Answer.{IsAnswers};
+ghost use Rattle.avrogate.specs.Lines.{lines};
+ghost use Rattle.avrogate.specs.Output.{IsExchange, IsOutput, bad_schema, schema_of_line};
+ghost use Rattle.avrogate.specs.declared.command.Verb.TheVariants.{Transcode};
+
+use crate::answer::push_answer;
+use crate::lines::{split_line, split_line_or_empty};
+use avro_schema::{Schema, SchemaError};
+use resolver::differ_in_fields;
+use std::alloc::{AllocError, Global};
+
+/// The schema of a line.
+fn schema_of_line(alloc: Global, line: &[u8]) -> Result<Schema, SchemaError>
+    ensures ok { IfOk result (λ schema. schema_of_line line.now ≡ Ok schema.nodes) }
+    ensures err { IfErr result (λ e. e ≢ NoMemory → schema_of_line line.now ≡ Err e) }
+{
+    match std::str::from_utf8(line) {
+        Ok(text) => Schema::parse(alloc, text),
+        Err(_) => Err(SchemaError::NotJson),
+    }
+}
+
+/// The output and the status where the schema in the line of a number is bad. Memory that ran out is no fault of a schema.
+fn bad_schema(alloc: Global, number: u8, error: SchemaError) -> Result<(String, u8), AllocError>
+    ensures memory { IfOk result (λ _. error ≢ NoMemory) }
+    ensures text { IfOk result (λ r. string_bytes r.0 ≡ bad_schema number error) }
+    ensures status { IfOk result (λ r. r.1 ≡ 1) }
+{
+    if error == SchemaError::NoMemory {
+        return Err(AllocError);
+    }
+    let name = error.name();
+    Ok((format!(in alloc; "bad schema {number} {name}\n")?, 1))
+}
+
+/// The answers to payload lines.
+fn answers(
+    alloc: Global,
+    writer: &Schema,
+    reader: &Schema,
+    payloads: &[u8],
+) -> Result<String, AllocError>
+    requires { differ_in_fields writer.now.nodes reader.now.nodes ≡ false }
+    ensures { IfOk result (λ output. IsAnswers writer.now.nodes reader.now.nodes (lines payloads.now) (string_bytes output)) }
+{
+    let mut output = String::new(alloc);
+    let mut rest = payloads;
+    while let Some((line, later)) = split_line(rest) {
+        push_answer(alloc, writer, reader, line, &mut output)?;
+        output.push_str("\n")?;
+        rest = later;
+    }
+    Ok(output)
+}
+
+/// The output and the status for payload lines.
+fn exchange(
+    alloc: Global,
+    writer: &Schema,
+    reader: &Schema,
+    payloads: &[u8],
+) -> Result<(String, u8), AllocError>
+    ensures { IfOk result (λ r. IsExchange writer.now.nodes reader.now.nodes (lines payloads.now) (string_bytes r.0) r.1) }
+{
+    if differ_in_fields(writer, reader) {
+        return Ok((String::from_str(alloc, "not yet\n")?, 1));
+    }
+    Ok((answers(alloc, writer, reader, payloads)?, 0))
+}
+
+/// The output for an input, and the status.
+pub(crate) fn transcode(alloc: Global, input: &[u8]) -> Result<(String, u8), AllocError>
+    ensures { IfOk result (λ r. IsOutput Transcode input.now (string_bytes r.0) r.1) }
+{
+    let (writer_line, rest) = split_line_or_empty(input);
+    let (reader_line, payloads) = split_line_or_empty(rest);
+    let writer = match schema_of_line(alloc, writer_line) {
+        Ok(schema) => schema,
+        Err(error) => return bad_schema(alloc, 1, error),
+    };
+    let reader = match schema_of_line(alloc, reader_line) {
+        Ok(schema) => schema,
+        Err(error) => return bad_schema(alloc, 2, error),
+    };
+    exchange(alloc, &writer, &reader, payloads)
+}

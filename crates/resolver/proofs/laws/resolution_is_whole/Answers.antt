@@ -1,0 +1,6 @@
+-- The law is the lemma `whole`.
+use Rattle.resolver.proofs.Whole.{whole}
+use Rattle.resolver.proofs.laws.resolution_is_whole.Goals as goal
+
+pub returns : goal.returns
+returns c = whole

@@ -1,0 +1,7 @@
+pub mod Conforming
+pub mod Matching
+pub mod MismatchKind
+pub mod Outcome
+pub mod Resolution
+pub mod Stage
+pub mod Steps

@@ -1,0 +1,62 @@
+-- The outcome of a payload, said of the relations and not of what reads it.
+use Rattle.std.specs.Prelude.{◌≡◌, ◌≤◌, ◌<◌, ℕ, List, length, Bool, Option, Some, None, Result, Ok, Err, nat_lt, if◌then◌else◌}
+use Rattle.avro_bytes.specs.declared.fault.MalformedKind.{MalformedKind}
+use Rattle.avro_schema.specs.Datum.{Datum}
+use Rattle.avro_schema.specs.Node.{Node}
+use Rattle.avro_datum.specs.declared.writing.TheConstants.{MOST_OUTPUT}
+use Rattle.avro_datum.specs.Fault.{FirstFault}
+use Rattle.avro_datum.specs.Payload.{IsPayload}
+use Rattle.avro_datum.specs.Writing.{written}
+use Rattle.resolver.specs.declared.mismatch.Mismatch.{Mismatch}
+use Rattle.resolver.specs.declared.outcome.TheConstants.{MOST_PAYLOAD}
+use Rattle.resolver.specs.declared.outcome.Outcome as rust
+use Rattle.resolver.specs.declared.outcome.Outcome.TheVariants as variants
+use Rattle.resolver.specs.declared.outcome.TranscodeError.{TranscodeError}
+use Rattle.resolver.specs.declared.outcome.TranscodeError.TheVariants.{NotYet, TooLarge, NoMemory}
+use Rattle.resolver.specs.Resolution.{resolved}
+use Rattle.resolver.specs.Stage.{differ_in_fields}
+
+-- what becomes of a payload, wherever its bytes lie in memory
+pub data Outcome : Type 0 where
+  Done : List ℕ → Outcome
+  Mismatched : Mismatch → Outcome
+  Malformed : MalformedKind → ℕ → Outcome
+  OutputTooLarge : Outcome
+
+abbrev pub outcome_of : rust.Outcome → Outcome
+outcome_of (variants.Done bytes) = Done bytes.items
+outcome_of (variants.Mismatch m) = Mismatched m
+outcome_of (variants.Malformed kind at) = Malformed kind at
+outcome_of variants.OutputTooLarge = OutputTooLarge
+
+-- The payload is malformed; or it spells a datum of the writer's root which has no place with the reader; or it
+-- spells one of which the reader makes a datum, whose written form passes the limit; or that form is the answer.
+abbrev pub IsOutcome : List Node → List Node → List ℕ → Outcome → Type 0
+IsOutcome W R payload (Malformed kind at) = FirstFault W payload kind at
+IsOutcome W R payload (Mismatched m) = (d : Datum) × IsPayload W d payload × (resolved W R 0 0 d ≡ Err m)
+IsOutcome W R payload OutputTooLarge = (d : Datum) × (e : Datum) × IsPayload W d payload × (resolved W R 0 0 d ≡ Ok e) × (MOST_OUTPUT < length (written e))
+IsOutcome W R payload (Done bytes) = (d : Datum) × (e : Datum) × IsPayload W d payload × (resolved W R 0 0 d ≡ Ok e) × (bytes ≡ written e) × (length (written e) ≤ MOST_OUTPUT)
+
+-- why a payload has no outcome, the first reason
+abbrev pub refusal : List Node → List Node → List ℕ → Option TranscodeError
+refusal W R payload =
+    if differ_in_fields W R then Some NotYet
+    else if nat_lt MOST_PAYLOAD (length payload) then Some TooLarge
+    else None
+
+-- what transcoding answers: the outcome, or the refusal, unless memory ran out
+abbrev pub Transcodes : List Node → List Node → List ℕ → Result rust.Outcome TranscodeError → Type 0
+Transcodes W R payload (Ok outcome) = (refusal W R payload ≡ None) × IsOutcome W R payload (outcome_of outcome)
+Transcodes W R payload (Err NoMemory) = refusal W R payload ≡ None
+Transcodes W R payload (Err NotYet) = refusal W R payload ≡ Some NotYet
+Transcodes W R payload (Err TooLarge) = refusal W R payload ≡ Some TooLarge
+
+-- for a private clause: the outcome of a datum that was resolved
+abbrev pub WritesOutcome : Result rust.Outcome TranscodeError → Datum → Type 0
+WritesOutcome (Ok (variants.Done bytes)) e = (bytes.items ≡ written e) × (length (written e) ≤ MOST_OUTPUT)
+WritesOutcome (Ok variants.OutputTooLarge) e = MOST_OUTPUT < length (written e)
+WritesOutcome (Ok (variants.Mismatch m)) e = ⊥
+WritesOutcome (Ok (variants.Malformed kind at)) e = ⊥
+WritesOutcome (Err NoMemory) e = Unit {0}
+WritesOutcome (Err NotYet) e = ⊥
+WritesOutcome (Err TooLarge) e = ⊥

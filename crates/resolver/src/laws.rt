@@ -1,0 +1,18 @@
+ghost use Rattle.resolver.specs.Conforming.{ResolutionIsWhole};
+ghost use Rattle.std.specs.Prelude.{◌≡◌, ℕ, List};
+ghost use Rattle.avro_schema.specs.Node.{Node};
+ghost use Rattle.resolver.specs.Outcome as outcome;
+
+/// The law that what comes of a writer's datum is a datum of the reader's node, whole and in range.
+pub fn resolution_is_whole()
+    ensures { ResolutionIsWhole }
+{}
+
+/// The law that each payload has just one outcome.
+pub fn payload_has_one_outcome()
+    ensures some { (W R : List Node) (payload : List ℕ) → (o : outcome.Outcome) × outcome.IsOutcome W R payload o }
+    ensures one { (W R : List Node) (payload : List ℕ) (a b : outcome.Outcome) →
+        outcome.IsOutcome W R payload a → outcome.IsOutcome W R payload b → a ≡ b }
+{
+    avro_datum::payload_is_spelled_or_faulty();
+}
