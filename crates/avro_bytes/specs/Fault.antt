@@ -2,7 +2,6 @@
 use Rattle.std.specs.Prelude.{◌≡◌, ◌≤◌, ◌<◌, ℕ, suc, ◌+◌, List, ◌∷◌, ◌++◌, length, ◌⊎◌, ℤ, pos, negsuc}
 use Rattle.std.specs.List.{AllByRecursion}
 use Rattle.std.specs.Str.{IsUtf8}
-use Rattle.avro_bytes.specs.declared.meter.Meter.{Meter}
 use Rattle.avro_bytes.specs.declared.fault.MalformedKind.{MalformedKind}
 use Rattle.avro_bytes.specs.declared.fault.MalformedKind.TheVariants.{BadNumber, BadLength, BadText}
 use Rattle.avro_bytes.specs.declared.text.TheConstants.{LONGEST}

@@ -1,6 +1,6 @@
 -- The shortest spelling of a number (Avro 1.11, "Binary Encoding", int and long).
-use Rattle.std.specs.Prelude.{◌≡◌, ◌<◌, ◌≤◌, ℕ, zero, suc, ◌+◌, ◌-◌, ◌*◌, ◌/◌, ◌%◌, ◌^◌, List, [], ◌∷◌, ◌++◌, length, nat_lt, if◌then◌else◌, ℤ}
-use Rattle.avro_bytes.specs.Number.{Limit, IsNumber, zigzag}
+use Rattle.std.specs.Prelude.{◌≡◌, ◌<◌, ℕ, zero, suc, ◌+◌, ◌-◌, ◌*◌, ◌/◌, ◌%◌, ◌^◌, List, [], ◌∷◌, ◌++◌, nat_lt, if◌then◌else◌, ℤ}
+use Rattle.avro_bytes.specs.Number.{Limit, zigzag}
 
 -- seven bits a byte, the least first, in as few bytes as hold them, of at most so many
 unfoldable pub shortest_groups : ℕ → ℕ → List ℕ

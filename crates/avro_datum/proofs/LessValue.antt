@@ -1,10 +1,10 @@
 -- Skipping answers what reading answers, less the value.
-use Rattle.std.proofs.Common.{◌≡◌, ℕ, zero, suc, ◌+◌, ◌-◌, ◌<◌, ◌≤◌, List, [], ◌∷◌, length, drop, get_or, Option, Some, Result, Ok, Err, refl, sym, ap, ◌∙◌, arith, add-one, subst, slice_get, cond, Bool, true, false}
+use Rattle.std.proofs.Common.{◌≡◌, ℕ, suc, ◌+◌, ◌-◌, ◌<◌, ◌≤◌, List, length, drop, get_or, Some, Result, Ok, Err, refl, sym, ap, ◌∙◌, add-one, subst, slice_get, cond, Bool, true, false}
 use Rattle.std.specs.Prelude.{nat_le}
 use Rattle.avro_bytes.specs.declared.fault.MalformedKind.TheVariants.{TooDeep, TooMany}
 use Rattle.avro_bytes.specs.declared.meter.Meter.{Meter}
 use Rattle.avro_bytes.specs.declared.fault.Fault.{Fault}
-use Rattle.avro_bytes.specs.declared.fault.Fault.TheVariants.{Need, Malformed, NoMemory}
+use Rattle.avro_bytes.specs.declared.fault.Fault.TheVariants.{Malformed}
 use Rattle.avro_bytes.specs.Contract.{skipped}
 use Rattle.avro_bytes.specs.Decoding.{Decoding, Complete, Invalid, Incomplete, ◌>>=◌, inside}
 use Rattle.avro_bytes.specs.Meter.{opened_record}

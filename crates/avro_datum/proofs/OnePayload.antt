@@ -1,20 +1,20 @@
 -- A payload spells one datum or has one first fault: both are read off what decoding gives.
-use Rattle.std.proofs.Common.{◌≡◌, ◌≢◌, ℕ, zero, suc, ◌+◌, ◌-◌, ◌<◌, ◌≤◌, List, [], ◌∷◌, ◌++◌, length, Option, Some, None, refl, sym, ap, ◌∙◌, arith, inl, inr, ◌⊎◌}
+use Rattle.std.proofs.Common.{◌≡◌, ℕ, ◌+◌, ◌<◌, List, [], ◌∷◌, ◌++◌, length, refl, sym, ap, ◌∙◌, arith, inl, inr, ◌⊎◌}
 use Rattle.std.proofs.lemmas.List.{append-nil, length-append}
 use Rattle.std.proofs.lemmas.Bool.{cases_lt}
 use Rattle.avro_bytes.specs.declared.meter.Meter.{Meter}
 use Rattle.avro_bytes.specs.declared.fault.MalformedKind.{MalformedKind}
 use Rattle.avro_bytes.specs.declared.fault.MalformedKind.TheVariants.{Truncated, Trailing}
-use Rattle.avro_bytes.specs.Decoding.{Decoding, Complete, Invalid, Incomplete, Stands}
+use Rattle.avro_bytes.specs.Decoding.{Decoding, Complete, Invalid, Incomplete}
 use Rattle.avro_bytes.specs.Fault.{Broken, CutShort}
-use Rattle.avro_bytes.specs.Meter.{start, Counts}
+use Rattle.avro_bytes.specs.Meter.{start}
 use Rattle.avro_bytes.specs.Laws.Binds.{complete_is, stands_within}
 use Rattle.avro_schema.specs.Node.{Node}
 use Rattle.avro_schema.specs.Datum.{Datum}
 use Rattle.avro_datum.specs.Decoding.{datum_at}
 use Rattle.avro_datum.specs.Fault.{FirstFault, malformed, truncated, trailing}
 use Rattle.avro_datum.specs.Payload.{IsPayload}
-use Rattle.avro_datum.specs.Spelling.{Spells, Fits, depth_of, units_of}
+use Rattle.avro_datum.specs.Spelling.{Spells, Fits, units_of}
 use Rattle.avro_datum.specs.Laws.Complete.{datum_complete}
 use Rattle.avro_datum.specs.Laws.Defects.{datum_told}
 use Rattle.avro_datum.specs.Laws.OneForm.{datum_one_form}

@@ -1,11 +1,11 @@
 -- What a whole payload is, from what decoding gives at its first place.
-use Rattle.std.proofs.Common.{◌≡◌, ◌≢◌, ℕ, ◌+◌, ◌-◌, ◌<◌, ◌≤◌, List, [], ◌∷◌, ◌++◌, length, drop, refl, sym, ap, subst, ◌∙◌, arith}
+use Rattle.std.proofs.Common.{◌≡◌, ◌≢◌, ℕ, List, [], ◌∷◌, ◌++◌, length, refl, sym, ap, subst, ◌∙◌, arith}
 use Rattle.std.proofs.lemmas.List.{append-nil, length-append}
 use Rattle.avro_bytes.specs.declared.meter.Meter.{Meter}
 use Rattle.avro_bytes.specs.declared.fault.MalformedKind.{MalformedKind}
 use Rattle.avro_bytes.specs.declared.fault.MalformedKind.TheVariants.{Truncated, Trailing}
-use Rattle.avro_bytes.specs.Decoding.{Decoding, Complete, Invalid, Incomplete, Stands}
-use Rattle.avro_bytes.specs.Fault.{Broken, CutShort, HasDefect}
+use Rattle.avro_bytes.specs.Decoding.{Decoding, Complete, Invalid, Incomplete}
+use Rattle.avro_bytes.specs.Fault.{Broken, HasDefect}
 use Rattle.avro_bytes.specs.Meter.{start, Counts}
 use Rattle.avro_schema.specs.Node.{Node}
 use Rattle.avro_schema.specs.Datum.{Datum}

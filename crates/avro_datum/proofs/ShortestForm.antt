@@ -1,7 +1,7 @@
 -- The written form is a spelling, none is shorter, and what is spelled is of its node's type.
-use Rattle.std.proofs.Common.{◌≡◌, ℕ, zero, suc, ◌+◌, ◌*◌, ◌^◌, ◌<◌, ◌≤◌, List, [], ◌∷◌, ◌++◌, length, get_or, refl, sym, ap, subst, ◌∙◌, arith, ℤ, pos, negsuc, lit<, lit≤}
+use Rattle.std.proofs.Common.{ℕ, ◌+◌, ◌*◌, ◌^◌, ◌<◌, ◌≤◌, List, [], ◌∷◌, ◌++◌, length, refl, ap, arith, ℤ, pos, negsuc, lit<, lit≤}
 use Rattle.std.proofs.lemmas.List.{length-append}
-use Rattle.avro_bytes.specs.Number.{IsNumber, Limit, groups_sum, int_limit, long_limit, zigzag}
+use Rattle.avro_bytes.specs.Number.{int_limit, long_limit, zigzag}
 use Rattle.avro_bytes.specs.Shortest.{shortest}
 use Rattle.avro_bytes.specs.Text.{IsText}
 use Rattle.avro_bytes.specs.Laws.Numbers.{number_below}

@@ -1,11 +1,11 @@
 -- Writing data one behind another, and counting their bytes.
-use Rattle.std.proofs.Common.{◌≡◌, ℕ, zero, suc, ◌+◌, ◌<◌, ◌≤◌, List, [], ◌∷◌, ◌++◌, length, drop, get_or, refl, sym, ap, ◌∙◌, append_assoc, pos, arith}
+use Rattle.std.proofs.Common.{◌≡◌, ℕ, suc, ◌+◌, ◌<◌, List, ◌++◌, length, drop, get_or, sym, ap, ◌∙◌, pos}
 use Rattle.std.proofs.Math.Seq.{drop-cons}
-use Rattle.std.proofs.lemmas.List.{append-nil, length-append}
+use Rattle.std.proofs.lemmas.List.{length-append}
 use Rattle.std.specs.Global.{Vec}
 use Rattle.avro_bytes.specs.Shortest.{shortest}
 use Rattle.avro_schema.specs.declared.datum.Datum as rust
-use Rattle.avro_schema.specs.Datum.{Datum, Data, TextDatum, datum_of, data_of}
+use Rattle.avro_schema.specs.Datum.{TextDatum, datum_of, data_of}
 use Rattle.avro_schema.proofs.DatumOf.{datum_of-Record}
 use Rattle.avro_datum.specs.Writing.{written, written_data}
 

@@ -1,8 +1,8 @@
 -- Decoding a datum of a node at a place of the bytes (Avro 1.11, "Binary Encoding").
-use Rattle.std.specs.Prelude.{◌≡◌, ℕ, zero, suc, ◌-◌, List, [], ◌∷◌, Option, Some, None, slice_get}
+use Rattle.std.specs.Prelude.{ℕ, zero, suc, ◌-◌, List, [], ◌∷◌, Option, Some, None, slice_get}
 use Rattle.avro_bytes.specs.declared.meter.Meter.{Meter}
 use Rattle.avro_bytes.specs.declared.meter.TheConstants.{MOST_DEPTH}
-use Rattle.avro_bytes.specs.Decoding.{Decoding, Complete, Invalid, Incomplete, ◌>>=◌, map_decoding, inside}
+use Rattle.avro_bytes.specs.Decoding.{Decoding, Complete, Incomplete, ◌>>=◌, map_decoding, inside}
 use Rattle.avro_bytes.specs.Meter.{opened_record}
 use Rattle.avro_bytes.specs.Number.{int_limit, long_limit}
 use Rattle.avro_bytes.specs.NumberDecoding.{number_at}

@@ -47,11 +47,11 @@ fn measure(datum: &Datum, room: usize) -> Option<usize>
 /// What is left of some room behind data.
 #[cycle(measure)]
 #[tactic(auto, using(crate::proofs::Written::record_written, crate::proofs::Written::text_len, crate::proofs::Written::written_from), unfolding(crate::specs::Writing::written))]
-fn measure_each(data: &[Datum], room: usize) -> Option<usize>
-    ensures { MatchOption result (room < length (written_data (data_of data.now))) (λ left. left + length (written_data (data_of data.now)) ≡ room) }
+fn measure_each(each: &[Datum], room: usize) -> Option<usize>
+    ensures { MatchOption result (room < length (written_data (data_of each.now))) (λ left. left + length (written_data (data_of each.now)) ≡ room) }
 {
     let mut left = room;
-    for datum in data {
+    for datum in each {
         left = measure(datum, left)?;
     }
     Some(left)
@@ -78,11 +78,11 @@ fn put_datum(out: &mut Vec<u8>, datum: &Datum) -> Result<(), AllocError>
 /// Writes data at the end, one behind another. An `Err` leaves a beginning of them.
 #[cycle(put)]
 #[tactic(auto, using(crate::proofs::Written::record_written, crate::proofs::Written::text_len, crate::proofs::Written::written_from), unfolding(crate::specs::Writing::written))]
-fn put_each(out: &mut Vec<u8>, data: &[Datum]) -> Result<(), AllocError>
-    ensures ok { OnOk result (out.new.items ≡ out.old.items ++ written_data (data_of data.now)) }
+fn put_each(out: &mut Vec<u8>, each: &[Datum]) -> Result<(), AllocError>
+    ensures ok { OnOk result (out.new.items ≡ out.old.items ++ written_data (data_of each.now)) }
     ensures err { OnErr result (Extends out.old.items out.new.items) }
 {
-    for datum in data {
+    for datum in each {
         put_datum(out, datum)?;
     }
     Ok(())

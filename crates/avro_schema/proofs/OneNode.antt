@@ -1,5 +1,5 @@
 -- What holds of all nodes holds of one.
-use Rattle.std.proofs.Common.{◌≡◌, ℕ, zero, suc, ◌+◌, ◌<◌, List, [], ◌∷◌, length, get_or, sym, ap, refl, arith, subst}
+use Rattle.std.proofs.Common.{◌≡◌, ℕ, zero, suc, ◌<◌, List, [], ◌∷◌, length, get_or, sym, ap, refl, arith, subst}
 use Rattle.std.specs.List.{AllByRecursion}
 use Rattle.avro_schema.specs.declared.kind.Kind.{Kind}
 use Rattle.avro_schema.specs.Node.{Node, node_of, nodes_of, NodeIsWellFormed, IsWellFormed}

@@ -11,10 +11,10 @@ use std::io::{self, ErrorKind, Read, Write};
 use std::process::Abort;
 use std::test::Fail;
 
-/// An input that is answered before any schema is parsed: its first line is no UTF-8.
-const NO_TEXT: &[u8] = b"\xFF\n\"long\"\n02\n";
+/// Two payloads of a long.
+const EXAMPLE: &[u8] = b"\"long\"\n\"long\"\n02\n7f\n";
 
-const NO_TEXT_OUTPUT: &[u8] = b"bad schema 1 NotJson\n";
+const EXAMPLE_OUTPUT: &[u8] = b"done 02\ndone 7f\n";
 
 /// Records with different field names.
 const TWO_NAMES: &str =
@@ -27,6 +27,10 @@ const TWO_NAMES_AND_A_PAYLOAD: &str =
 /// Records of no field, and the empty payload.
 const NO_FIELDS: &str =
     "{\"type\":\"record\",\"name\":\"T\",\"fields\":[]}\n{\"type\":\"record\",\"name\":\"T\",\"fields\":[]}\n\n";
+
+/// A record whose int the reader has as a long.
+const PROMOTED: &str =
+    "{\"type\":\"record\",\"name\":\"P\",\"fields\":[{\"name\":\"n\",\"type\":\"int\"}]}\n{\"type\":\"record\",\"name\":\"P\",\"fields\":[{\"name\":\"n\",\"type\":\"long\"}]}\n03\n";
 
 /// A number of a call that is never reached.
 const NEVER: usize = usize::MAX;
@@ -176,26 +180,26 @@ fn writes_outcomes(rt: HostRuntime) -> Result<(), Fail> {
 
 #[test]
 fn answers_what_is_no_text(rt: HostRuntime) {
-    assert_answers(&rt, NO_TEXT, NO_TEXT_OUTPUT, 1);
+    assert_answers(&rt, b"\xFF\n\"long\"\n02\n", b"bad schema 1 NotJson\n", 1);
 }
 
 #[test]
 fn fails_at_each_read_in_turn(rt: HostRuntime) {
     let mut whole = Trickle {
-        left: NO_TEXT,
+        left: EXAMPLE,
         calls: 0,
         fails_at: NEVER,
     };
     let mut written = Vec::new(rt.alloc());
     let done = run(rt.alloc(), &Verb::Transcode, &mut whole, &mut written);
-    assert_eq!(rt; done, Ok(1));
-    assert_eq!(rt; written.as_slice(), NO_TEXT_OUTPUT);
+    assert_eq!(rt; done, Ok(0));
+    assert_eq!(rt; written.as_slice(), EXAMPLE_OUTPUT);
     for call in 0..whole.calls {
         if call % 3 == 1 {
             continue;
         }
         let mut reader = Trickle {
-            left: NO_TEXT,
+            left: EXAMPLE,
             calls: 0,
             fails_at: call,
         };
@@ -213,12 +217,12 @@ fn fails_at_each_write_in_turn(rt: HostRuntime) {
         calls: 0,
         fails_at: NEVER,
     };
-    let mut reader = NO_TEXT;
+    let mut reader = EXAMPLE;
     let done = run(rt.alloc(), &Verb::Transcode, &mut reader, &mut whole);
-    assert_eq!(rt; done, Ok(1));
-    assert_eq!(rt; whole.taken.as_slice(), NO_TEXT_OUTPUT);
+    assert_eq!(rt; done, Ok(0));
+    assert_eq!(rt; whole.taken.as_slice(), EXAMPLE_OUTPUT);
     for call in 0..whole.calls {
-        let mut reader = NO_TEXT;
+        let mut reader = EXAMPLE;
         let mut writer = Drip {
             taken: Vec::new(rt.alloc()),
             calls: 0,
@@ -226,7 +230,7 @@ fn fails_at_each_write_in_turn(rt: HostRuntime) {
         };
         let done = run(rt.alloc(), &Verb::Transcode, &mut reader, &mut writer);
         assert_eq!(rt; done, Err(RunError::Write), "at {call}");
-        assert!(rt; NO_TEXT_OUTPUT.starts_with(&writer.taken), "at {call}");
+        assert!(rt; EXAMPLE_OUTPUT.starts_with(&writer.taken), "at {call}");
         assert_eq!(rt; writer.taken.len() + (call + 1) / 3, call, "at {call}");
     }
 }
@@ -258,9 +262,9 @@ fn answers_schemas(rt: HostRuntime) {
         ("", "bad schema 1 NotJson\n", 1),
         ("{\n\"long\"\n02\n", "bad schema 1 NotJson\n", 1),
         ("\"long\"", "bad schema 2 NotJson\n", 1),
-        ("\"long\"\n\"nobody\"\n02", "bad schema 2 Unknown\n", 1),
+        ("\"long\"\n\"nobody\"\n02", "bad schema 2 OutOfProfile\n", 1),
         ("{\n\"nobody\"\n", "bad schema 1 NotJson\n", 1),
-        ("\"nobody\"\n{\n", "bad schema 1 Unknown\n", 1),
+        ("\"nobody\"\n{\n", "bad schema 1 OutOfProfile\n", 1),
         ("\"long\"\n\"long\"\n", "", 0),
         ("\"long\"\n\"long\"", "", 0),
         (TWO_NAMES, "not yet\n", 1),
@@ -273,7 +277,7 @@ fn answers_schemas(rt: HostRuntime) {
 
 #[test]
 fn answers_payloads(rt: HostRuntime) {
-    let table: [(&str, &str); 8] = [
+    let table: [(&str, &str); 11] = [
         ("\"long\"\n\"long\"\n02\n", "done 02\n"),
         ("\"long\"\n\"long\"\n02\n7f", "done 02\ndone 7f\n"),
         (
@@ -287,6 +291,12 @@ fn answers_payloads(rt: HostRuntime) {
         ),
         ("\"string\"\n\"string\"\n02ff\n", "malformed BadText at 1\n"),
         ("\"long\"\n\"string\"\n02\n", "mismatch NoMatch 0 0\n"),
+        ("\"string\"\n\"int\"\n0261\n", "mismatch NoMatch 0 0\n"),
+        (PROMOTED, "done 03\n"),
+        (
+            "\"int\"\n\"int\"\n8000\nffffffff1f\n",
+            "done 00\nmalformed BadNumber at 0\n",
+        ),
         (NO_FIELDS, "done -\n"),
     ];
     for (input, output) in table {

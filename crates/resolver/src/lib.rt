@@ -8,6 +8,8 @@ mod mismatch;
 mod outcome;
 mod resolving;
 mod stage;
+#[cfg(test)]
+mod tests;
 mod transcoding;
 
 pub use laws::{payload_has_one_outcome, resolution_is_whole};

@@ -1,10 +1,8 @@
 -- One part behind another: what is complete, what stays as it was decided, and what is faulty.
-use Rattle.std.proofs.Common.{◌≡◌, ◌≢◌, ℕ, ◌+◌, ◌<◌, ◌≤◌, List, ◌++◌, length, drop, Result, Ok, Err, refl, sym, ap, ◌∙◌, arith, add_assoc}
+use Rattle.std.proofs.Common.{◌≡◌, ◌≢◌, ℕ, ◌+◌, ◌≤◌, List, ◌++◌, length, drop, refl, sym, ap, ◌∙◌, arith, add_assoc}
 use Rattle.std.proofs.lemmas.List.{drop_at, drop-drop, length-append, length-drop}
 use Rattle.avro_bytes.specs.declared.meter.Meter.{Meter}
-use Rattle.avro_bytes.specs.declared.fault.Fault.{Fault}
-use Rattle.avro_bytes.specs.declared.fault.Fault.TheVariants.{Need, Malformed, NoMemory}
-use Rattle.avro_bytes.specs.Decoding.{Decoding, Complete, Invalid, Incomplete, Stands, ◌>>=◌, map_decoding, inside}
+use Rattle.avro_bytes.specs.Decoding.{Decoding, Complete, Invalid, Incomplete, Stands, ◌>>=◌, map_decoding}
 use Rattle.avro_bytes.specs.Fault.{Defect, Broken, CutShort, HasDefect, failing, shifted}
 
 pub complete_is : {V : Type 0} {v w : V} {to next : ℕ} {m after : Meter} → Complete v to m ≡ Complete w next after → (v ≡ w) × (to ≡ next) × (m ≡ after)

@@ -1,18 +1,13 @@
 -- The first fault of a number, a content and a text, both ways: what is told is there, and what is there is told.
-use Rattle.std.proofs.Common.{◌≡◌, ◌≢◌, ℕ, zero, suc, ◌+◌, ◌-◌, ◌<◌, ◌≤◌, List, [], ◌∷◌, ◌++◌, length, take, drop, Bool, true, false, cond, ltb, ℤ, pos, negsuc, refl, sym, ap, subst, ◌∙◌, append_assoc, arith, inl, inr, ◌⊎◌, lit<}
-use Rattle.std.specs.Str.{IsUtf8, is_utf8}
-use Rattle.std.proofs.lemmas.Bool.{le-ltb, lt-ltb, cases_lt, ltb-true, ltb-false}
-use Rattle.std.proofs.lemmas.List.{drop_at, take_at, length-append, length-take, length-drop, take-append-drop}
-use Rattle.std.proofs.lemmas.Str.{IsUtf8-from_is_utf8, is_utf8-from_IsUtf8}
+use Rattle.std.proofs.Common.{◌≡◌, ℕ, zero, suc, ◌+◌, ◌<◌, ◌≤◌, List, [], ◌∷◌, ◌++◌, length, drop, refl, sym, ap, ◌∙◌, arith, inl, inr}
+use Rattle.std.proofs.lemmas.Bool.{le-ltb, lt-ltb, cases_lt}
+use Rattle.std.proofs.lemmas.List.{drop_at}
 use Rattle.avro_bytes.specs.declared.meter.Meter.{Meter}
-use Rattle.avro_bytes.specs.declared.fault.MalformedKind.TheVariants.{BadNumber, BadLength, BadText}
-use Rattle.avro_bytes.specs.Decoding.{Decoding, Complete, Invalid, Incomplete, ◌>>=◌}
-use Rattle.avro_bytes.specs.Fault.{Defect, Broken, CutShort, AllHigh, IsTooGreat, IsCutNumber, IsLength, IsBadLength, IsCutContent, IsBadText, FaultyNumber, FaultyContent, FaultyText, HasDefect, failing}
-use Rattle.avro_bytes.specs.Number.{Limit, IsNumber, IsNumber64, long_limit}
+use Rattle.avro_bytes.specs.declared.fault.MalformedKind.TheVariants.{BadNumber}
+use Rattle.avro_bytes.specs.Decoding.{Invalid}
+use Rattle.avro_bytes.specs.Fault.{Defect, Broken, CutShort, AllHigh, IsTooGreat, IsCutNumber, FaultyNumber, HasDefect, failing}
+use Rattle.avro_bytes.specs.Number.{Limit}
 use Rattle.avro_bytes.specs.NumberDecoding.{Front, Ends, TooGreat, Open, longer, number_front, number_of, number_at}
-use Rattle.avro_bytes.specs.Text.{bytes_of_length, content_at, text_at, utf8_only}
-use Rattle.avro_bytes.specs.Laws.Binds.{behind, defect_then, defect_as, failing_then}
-use Rattle.avro_bytes.specs.Laws.Numbers.{number_again, number_sound}
 
 -- ---- numbers
 

@@ -1,13 +1,12 @@
 -- Opening a record: when it is refused, and what is inside, both ways.
-use Rattle.std.proofs.Common.{◌≡◌, ℕ, ◌+◌, ◌<◌, ◌≤◌, Result, Ok, Err, Bool, true, false, cond, refl, sym, ap, ◌∙◌, arith, inl, inr, ◌⊎◌}
+use Rattle.std.proofs.Common.{◌≡◌, ℕ, ◌+◌, ◌<◌, ◌≤◌, Ok, Err, Bool, true, false, cond, refl, sym, ap, ◌∙◌, arith, inl, inr}
 use Rattle.std.specs.Prelude.{nat_le}
 use Rattle.std.proofs.lemmas.Bool.{leb-true, leb-false, le-leb, lt-leb}
 use Rattle.avro_bytes.specs.declared.meter.Meter.{Meter}
-use Rattle.avro_bytes.specs.declared.fault.Fault.{Fault}
 use Rattle.avro_bytes.specs.declared.fault.Fault.TheVariants.{Malformed}
 use Rattle.avro_bytes.specs.declared.fault.MalformedKind.TheVariants.{TooDeep, TooMany}
-use Rattle.avro_bytes.specs.Decoding.{Decoding, Complete, Invalid, Incomplete, inside}
-use Rattle.avro_bytes.specs.Fault.{Defect, Broken, CutShort, HasDefect, failing}
+use Rattle.avro_bytes.specs.Decoding.{Decoding, Invalid, inside}
+use Rattle.avro_bytes.specs.Fault.{Defect, Broken, HasDefect, failing}
 use Rattle.avro_bytes.specs.Meter.{opened_record, OpensRecord, RefusesRecord}
 
 abbrev within_record : Meter → Meter

@@ -1,10 +1,10 @@
 -- A number that is read is spelled so, one that is spelled is read, and what is decided stays so.
-use Rattle.std.proofs.Common.{◌≡◌, ℕ, zero, suc, ◌+◌, ◌-◌, ◌*◌, ◌/◌, ◌%◌, ◌^◌, ◌<◌, ◌≤◌, ◌≢◌, List, [], ◌∷◌, ◌++◌, length, take, drop, get_or, refl, sym, ap, subst, ◌∙◌, append_assoc, arith, inl, inr, ◌⊎◌, cond, Bool, true, false, eqb, nat_lt, ℤ, pos, negsuc}
+use Rattle.std.proofs.Common.{◌≡◌, ℕ, zero, suc, ◌+◌, ◌-◌, ◌*◌, ◌/◌, ◌%◌, ◌^◌, ◌<◌, ◌≤◌, ◌≢◌, List, [], ◌∷◌, ◌++◌, length, drop, get_or, refl, sym, ap, subst, ◌∙◌, arith, inl, inr, cond, Bool, true, false, eqb, ℤ, pos, negsuc}
 use Rattle.std.proofs.lemmas.Bool.{le-ltb, lt-ltb, cases_lt, eqb-true, eqb-false}
-use Rattle.std.proofs.lemmas.List.{length-append, drop_at, drop-append-le}
+use Rattle.std.proofs.lemmas.List.{drop_at, drop-append-le}
 use Rattle.std.proofs.Math.Numerals.{sub-one}
 use Rattle.avro_bytes.specs.declared.meter.Meter.{Meter}
-use Rattle.avro_bytes.specs.Decoding.{Decoding, Complete, Invalid, Incomplete, Stands}
+use Rattle.avro_bytes.specs.Decoding.{Complete, Incomplete, Stands}
 use Rattle.avro_bytes.specs.Number.{groups_sum, IsChained, zigzag, Limit, IsNumber}
 use Rattle.avro_bytes.specs.NumberDecoding.{Front, Ends, TooGreat, Open, longer, number_front, from_zigzag, number_of, number_at}
 use Rattle.avro_bytes.specs.Laws.Binds.{complete_is}

@@ -1,17 +1,16 @@
 -- A text that is read is spelled so, one that is spelled is read, and what is decided stays so.
-use Rattle.std.proofs.Common.{◌≡◌, ◌≢◌, ℕ, ◌+◌, ◌-◌, ◌<◌, ◌≤◌, List, ◌++◌, length, take, drop, Bool, true, false, ap, sym, subst, ◌∙◌, refl, cond, ltb, ℤ, pos, negsuc, arith, append_assoc, inl, inr, lit<}
+use Rattle.std.proofs.Common.{◌≡◌, ◌≢◌, ℕ, ◌+◌, ◌-◌, ◌≤◌, List, ◌++◌, length, take, drop, Bool, true, false, ap, sym, subst, ◌∙◌, refl, cond, ltb, ℤ, pos, negsuc, arith, append_assoc, inl, inr, lit<}
 use Rattle.std.specs.Str.{IsUtf8, is_utf8}
 use Rattle.std.proofs.lemmas.Bool.{cases_lt, le-ltb, lt-ltb, ltb-false}
-use Rattle.std.proofs.lemmas.List.{drop_at, take_at, length-append, length-take, length-drop, take-append-drop, drop-drop, drop-append-le, take-append-le}
+use Rattle.std.proofs.lemmas.List.{drop_at, take_at, length-append, length-take, length-drop, take-append-drop, drop-append-le, take-append-le}
 use Rattle.std.proofs.lemmas.Str.{is_utf8-from_IsUtf8, IsUtf8-from_is_utf8}
 use Rattle.avro_bytes.specs.declared.meter.Meter.{Meter}
-use Rattle.avro_bytes.specs.declared.fault.MalformedKind.{MalformedKind}
 use Rattle.avro_bytes.specs.declared.fault.MalformedKind.TheVariants.{BadLength, BadText}
 use Rattle.avro_bytes.specs.Decoding.{Decoding, Complete, Invalid, Incomplete, Stands, ◌>>=◌}
 use Rattle.avro_bytes.specs.Number.{IsNumber, long_limit}
 use Rattle.avro_bytes.specs.NumberDecoding.{number_at}
 use Rattle.avro_bytes.specs.Text.{IsText, bytes_of_length, content_at, text_at, utf8_only}
-use Rattle.avro_bytes.specs.Laws.Binds.{Then, behind, complete_is, then_complete, then_steady}
+use Rattle.avro_bytes.specs.Laws.Binds.{behind, complete_is, then_complete, then_steady}
 use Rattle.avro_bytes.specs.Laws.Numbers.{number_sound, number_again, number_one_form, number_steady}
 
 not_utf8 : (b : Bool) (content : List ℕ) → is_utf8 content ≡ b → (IsUtf8 content → ⊥) → b ≡ false

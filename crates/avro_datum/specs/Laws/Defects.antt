@@ -1,11 +1,11 @@
 -- The first fault of a datum, both ways: what is told is there, and what is there is told.
-use Rattle.std.proofs.Common.{◌≡◌, ℕ, zero, suc, ◌+◌, ◌-◌, ◌<◌, ◌≤◌, List, [], ◌∷◌, ◌++◌, length, drop, Option, Some, None, Result, Ok, refl, sym, ap, subst, ◌∙◌, append_assoc, arith, slice_get, inl, inr, ◌⊎◌}
+use Rattle.std.proofs.Common.{◌≡◌, ℕ, zero, suc, ◌+◌, ◌-◌, List, [], ◌∷◌, ◌++◌, length, drop, Option, Some, None, Result, refl, sym, ap, subst, ◌∙◌, append_assoc, arith, slice_get}
 use Rattle.std.proofs.lemmas.List.{length-append}
 use Rattle.avro_bytes.specs.declared.meter.Meter.{Meter}
 use Rattle.avro_bytes.specs.declared.fault.Fault.{Fault}
-use Rattle.avro_bytes.specs.Decoding.{Decoding, Complete, Invalid, Incomplete, Stands, ◌>>=◌, map_decoding, inside}
-use Rattle.avro_bytes.specs.Fault.{Defect, Broken, CutShort, FaultyNumber, FaultyText, HasDefect, failing, shifted}
-use Rattle.avro_bytes.specs.Meter.{Counts, OpensRecord, RefusesRecord, opened_record}
+use Rattle.avro_bytes.specs.Decoding.{Decoding, Complete, Incomplete, ◌>>=◌, map_decoding, inside}
+use Rattle.avro_bytes.specs.Fault.{Defect, FaultyNumber, FaultyText, HasDefect, failing}
+use Rattle.avro_bytes.specs.Meter.{OpensRecord}
 use Rattle.avro_bytes.specs.Number.{int_limit, long_limit}
 use Rattle.avro_bytes.specs.NumberDecoding.{number_at}
 use Rattle.avro_bytes.specs.Text.{text_at}
@@ -17,7 +17,6 @@ use Rattle.avro_schema.specs.Node.{Node, FieldNode, IntNode, LongNode, TextNode,
 use Rattle.avro_schema.specs.Datum.{Datum, Data, IntDatum, LongDatum, TextDatum, more}
 use Rattle.avro_datum.specs.Decoding.{Decoder, closed_record, fields_at, record_at, kind_at, node_at, datum_at}
 use Rattle.avro_datum.specs.Fault.{FaultyDatum, faulty_int, faulty_long, faulty_text, refused_record, faulty_record, no_node, FaultyFields, here as first_faulty, behind as later_faulty}
-use Rattle.avro_datum.specs.Spelling.{Spells}
 use Rattle.avro_datum.specs.Laws.Complete.{IsComplete, at_kind, node_complete}
 use Rattle.avro_datum.specs.Laws.Sound.{IsSound, node_sound}
 

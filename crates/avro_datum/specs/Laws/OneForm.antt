@@ -1,5 +1,5 @@
 -- No spelling begins another, and each spells one datum.
-use Rattle.std.proofs.Common.{◌≡◌, ℕ, List, [], ◌∷◌, ◌++◌, length, drop, Some, refl, sym, ap, subst, ◌∙◌, append_assoc, slice_get}
+use Rattle.std.proofs.Common.{◌≡◌, ℕ, List, [], ◌∷◌, ◌++◌, length, drop, Some, refl, sym, ap, subst, ◌∙◌, append_assoc}
 use Rattle.std.proofs.lemmas.List.{drop_at}
 use Rattle.avro_bytes.specs.Number.{int_limit, long_limit}
 use Rattle.avro_bytes.specs.Laws.Numbers.{number_one_form}

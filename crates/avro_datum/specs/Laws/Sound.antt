@@ -1,5 +1,5 @@
 -- What is decoded is spelled so, and stays within the limits.
-use Rattle.std.proofs.Common.{◌≡◌, ℕ, zero, suc, ◌+◌, ◌-◌, ◌<◌, ◌≤◌, List, [], ◌∷◌, ◌++◌, length, drop, Option, Some, None, Result, Ok, Err, refl, sym, ap, subst, ◌∙◌, append_assoc, arith, slice_get, lit<}
+use Rattle.std.proofs.Common.{◌≡◌, ℕ, zero, suc, ◌-◌, List, [], ◌∷◌, ◌++◌, drop, Option, Some, None, Result, Ok, Err, refl, sym, ap, subst, ◌∙◌, append_assoc, arith, slice_get, lit<}
 use Rattle.std.proofs.lemmas.List.{length-append}
 use Rattle.avro_bytes.specs.declared.meter.Meter.{Meter}
 use Rattle.avro_bytes.specs.declared.fault.Fault.{Fault}
@@ -9,12 +9,12 @@ use Rattle.avro_bytes.specs.Meter.{Counts, opened_record}
 use Rattle.avro_bytes.specs.Number.{int_limit, long_limit}
 use Rattle.avro_bytes.specs.NumberDecoding.{number_at}
 use Rattle.avro_bytes.specs.Text.{text_at}
-use Rattle.avro_bytes.specs.Laws.Binds.{Then, behind, complete_is, then_complete}
+use Rattle.avro_bytes.specs.Laws.Binds.{behind, complete_is, then_complete}
 use Rattle.avro_bytes.specs.Laws.Meters.{was_opened}
 use Rattle.avro_bytes.specs.Laws.Numbers.{number_sound}
 use Rattle.avro_bytes.specs.Laws.Texts.{text_sound}
 use Rattle.avro_schema.specs.Node.{Node, FieldNode, IntNode, LongNode, TextNode, RecordNode}
-use Rattle.avro_schema.specs.Datum.{Datum, Data, IntDatum, LongDatum, TextDatum, RecordDatum, no_more, more}
+use Rattle.avro_schema.specs.Datum.{Datum, Data, IntDatum, LongDatum, TextDatum, RecordDatum, more}
 use Rattle.avro_datum.specs.Decoding.{Decoder, closed_record, fields_at, record_at, kind_at, node_at, datum_at}
 use Rattle.avro_datum.specs.Spelling.{Spells, SpellsFields, depth_of, depth_of_data, units_of, units_of_data}
 

@@ -1,5 +1,5 @@
 -- What is decided stays so when more bytes come.
-use Rattle.std.proofs.Common.{◌≡◌, ◌≢◌, ℕ, zero, suc, ◌+◌, ◌-◌, ◌≤◌, List, [], ◌∷◌, ◌++◌, length, Option, Some, None, Result, Ok, Err, refl, sym, ap, ◌∙◌, arith, slice_get}
+use Rattle.std.proofs.Common.{◌≡◌, ◌≢◌, ℕ, zero, suc, ◌-◌, ◌≤◌, List, [], ◌∷◌, ◌++◌, length, Option, Some, None, Result, Ok, Err, refl, sym, ap, ◌∙◌, arith, slice_get}
 use Rattle.avro_bytes.specs.declared.meter.Meter.{Meter}
 use Rattle.avro_bytes.specs.declared.fault.Fault.{Fault}
 use Rattle.avro_bytes.specs.declared.fault.Fault.TheVariants.{Need, Malformed, NoMemory}
@@ -13,7 +13,7 @@ use Rattle.avro_bytes.specs.Laws.Meters.{was_opened}
 use Rattle.avro_bytes.specs.Laws.Numbers.{number_steady}
 use Rattle.avro_bytes.specs.Laws.Texts.{text_steady}
 use Rattle.avro_schema.specs.Node.{Node, FieldNode, IntNode, LongNode, TextNode, RecordNode}
-use Rattle.avro_schema.specs.Datum.{Datum, Data, IntDatum, LongDatum, TextDatum, RecordDatum, more}
+use Rattle.avro_schema.specs.Datum.{Datum, IntDatum, LongDatum, TextDatum, more}
 use Rattle.avro_datum.specs.Decoding.{Decoder, closed_record, fields_at, record_at, kind_at, node_at, datum_at}
 use Rattle.avro_datum.specs.Laws.Sound.{IsSound, node_sound}
 

@@ -1,4 +1,4 @@
-use Rattle.std.proofs.Common.{◌≡◌, ◌≤◌, arith}
+use Rattle.std.proofs.Common.{arith}
 use Rattle.avro_bytes.specs.Laws.Shortests.{counts_from, counts_on, counts_to, length-shortest_groups}
 use Rattle.avro_bytes.proofs.put.groups_len.Goals as goal
 

@@ -1,6 +1,5 @@
-use Rattle.std.proofs.Common.{rules, ◌≡◌, ◌<◌, ◌≤◌, ◌-◌, ◌+◌, ◌*◌, ℕ, List, length, ap, ◌∙◌, sym, refl, arith, Err, Ok}
+use Rattle.std.proofs.Common.{rules, ◌∙◌, sym, arith, Err, Ok}
 use Rattle.std.proofs.lemmas.Result.{err_from_is_err_and}
-use Rattle.avro_schema.specs.Node.{fields_of}
 use Rattle.avro_datum.proofs.Fields.{field_below, goes_on, fails, ends}
 use Rattle.avro_datum.proofs.ByKind.{reads_leaf, at_depth, not_opened, fields_fail, fields_end}
 use Rattle.avro_datum.proofs.reading.+read.Goals as goal

@@ -1,6 +1,5 @@
-use Rattle.std.proofs.Common.{rules, ◌≡◌, ◌<◌, ◌≤◌, ◌-◌, ◌+◌, ◌*◌, ℕ, List, length, ap, ◌∙◌, sym, arith, Err, Ok}
+use Rattle.std.proofs.Common.{rules, ◌∙◌, sym, arith, Err, Ok}
 use Rattle.std.proofs.lemmas.Result.{err_from_is_err_and}
-use Rattle.avro_schema.specs.Node.{fields_of}
 use Rattle.avro_datum.proofs.Fields.{field_below}
 use Rattle.avro_datum.proofs.LessValue.{skips_on, skip_fails, skip_ends, skip_at_depth, skips_leaf, skip_not_opened, skip_fields_fail, skip_fields_end}
 use Rattle.avro_datum.proofs.skipping.+skip.Goals as goal

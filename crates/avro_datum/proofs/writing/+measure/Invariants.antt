@@ -4,4 +4,4 @@ use Rattle.avro_datum.specs.Writing.{written_data}
 use Rattle.avro_datum.proofs.writing.+measure.Given as goal
 
 abbrev pub invariant-measure_each-loop-datum : goal.invariant-measure_each-loop-datum
-invariant-measure_each-loop-datum l = l.left + length (written_data (data_of l.data)) ≡ l.room + length (written_data (data_of (drop l.datum-index l.data)))
+invariant-measure_each-loop-datum l = l.left + length (written_data (data_of l.each)) ≡ l.room + length (written_data (data_of (drop l.datum-index l.each)))

@@ -6,6 +6,6 @@ use Rattle.avro_datum.proofs.writing.+put.Given as goal
 
 abbrev pub invariant-put_each-loop-datum : goal.invariant-put_each-loop-datum
 invariant-put_each-loop-datum l = record {
-  so_far : l.out.items ++ written_data (data_of (drop l.datum-index l.data)) ≡ l.fn.out.items ++ written_data (data_of l.data);
+  so_far : l.out.items ++ written_data (data_of (drop l.datum-index l.each)) ≡ l.fn.out.items ++ written_data (data_of l.each);
   extends : Extends l.fn.out.items l.out.items;
 }

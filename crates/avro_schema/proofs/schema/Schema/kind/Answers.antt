@@ -1,5 +1,5 @@
-use Rattle.std.proofs.Common.{◌≡◌, ◌<◌, length, ap, arith}
-use Rattle.avro_schema.specs.Node.{Declaration, NodeIsWellFormed, node_of}
+use Rattle.std.proofs.Common.{◌<◌, length, ap, arith}
+use Rattle.avro_schema.specs.Node.{Declaration}
 use Rattle.avro_schema.proofs.OneNode.{one_is_well_formed, length-nodes_of}
 use Rattle.avro_schema.proofs.WellFormed.{declared-well_formed}
 use Rattle.avro_schema.proofs.schema.Schema.kind.Goals as goal

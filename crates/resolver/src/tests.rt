@@ -1,0 +1,177 @@
+//! Pairs of records and of primitive types, with the answers of worked examples.
+
+use crate::{
+    MOST_PAYLOAD, Mismatch, MismatchKind, Outcome, Place, ResolveError, TranscodeError,
+    differ_in_fields, matches, payload_has_one_outcome, place_of, resolution_is_whole, resolve,
+    transcode_tree,
+};
+use avro_bytes::MalformedKind;
+use avro_schema::{Datum, Schema, SchemaError};
+use std::alloc::{AllocError, Global};
+use std::test::Fail;
+
+/// A record with two fields.
+const RECORD: &str =
+    "{\"type\":\"record\",\"name\":\"T\",\"fields\":[{\"name\":\"a\",\"type\":\"long\"},{\"name\":\"b\",\"type\":\"string\"}]}";
+
+/// The same in the other order, one that lacks a field, one with a field more, one of another name, and one whose
+/// fields are of other types.
+const REORDERED: &str =
+    "{\"type\":\"record\",\"name\":\"T\",\"fields\":[{\"name\":\"b\",\"type\":\"string\"},{\"name\":\"a\",\"type\":\"long\"}]}";
+
+const SHORTER: &str =
+    "{\"type\":\"record\",\"name\":\"T\",\"fields\":[{\"name\":\"b\",\"type\":\"string\"}]}";
+
+const LONGER: &str =
+    "{\"type\":\"record\",\"name\":\"T\",\"fields\":[{\"name\":\"a\",\"type\":\"long\"},{\"name\":\"b\",\"type\":\"string\"},{\"name\":\"d\",\"type\":\"int\"}]}";
+
+const RENAMED: &str =
+    "{\"type\":\"record\",\"name\":\"U\",\"fields\":[{\"name\":\"a\",\"type\":\"long\"},{\"name\":\"b\",\"type\":\"string\"}]}";
+
+const RETYPED: &str =
+    "{\"type\":\"record\",\"name\":\"T\",\"fields\":[{\"name\":\"a\",\"type\":\"string\"},{\"name\":\"b\",\"type\":\"long\"}]}";
+
+/// A schema, parsed again where memory ran out the first time.
+fn parsed(alloc: Global, text: &str) -> Result<Schema, SchemaError> {
+    match Schema::parse(alloc, text) {
+        Err(SchemaError::NoMemory) => Schema::parse(alloc, text),
+        answer => answer,
+    }
+}
+
+/// The datum `{a: 27, b: "foo"}` of the record.
+fn datum(alloc: Global) -> Result<Datum, AllocError> {
+    let mut fields = Vec::new(alloc);
+    fields.push(Datum::Long(27))?;
+    fields.push(Datum::Text(String::from_str(alloc, "foo")?))?;
+    Ok(Datum::Record(fields))
+}
+
+/// An outcome, asked again where memory ran out the first time.
+fn outcome(
+    alloc: Global,
+    w: &Schema,
+    r: &Schema,
+    payload: &[u8],
+) -> Result<Outcome, TranscodeError> {
+    match transcode_tree(alloc, w, r, payload) {
+        Err(TranscodeError::NoMemory) => transcode_tree(alloc, w, r, payload),
+        answer => answer,
+    }
+}
+
+#[test]
+fn fields_go_by_name(rt: HostRuntime) -> Result<(), Fail> {
+    resolution_is_whole();
+    let alloc = rt.alloc();
+    let writer = parsed(alloc, RECORD)?;
+    let text = Datum::Text(String::from_str(alloc, "foo")?);
+    let reordered = resolve(alloc, &writer, &parsed(alloc, REORDERED)?, datum(alloc)?)?;
+    let Datum::Record(fields) = reordered else {
+        assert!(rt; false, "a record");
+        return Ok(());
+    };
+    assert_eq!(rt; fields.len(), 2);
+    assert!(rt; fields.first() == Some(&text));
+    assert!(rt; fields.last() == Some(&Datum::Long(27)));
+    let shorter = resolve(alloc, &writer, &parsed(alloc, SHORTER)?, datum(alloc)?)?;
+    let Datum::Record(fields) = shorter else {
+        assert!(rt; false, "a record");
+        return Ok(());
+    };
+    assert_eq!(rt; fields.len(), 1);
+    assert!(rt; fields.first() == Some(&text));
+    Ok(())
+}
+
+#[test]
+fn mismatches(rt: HostRuntime) -> Result<(), Fail> {
+    let alloc = rt.alloc();
+    let writer = parsed(alloc, RECORD)?;
+    let table = [
+        (LONGER, MismatchKind::NoDefault, 0, 3),
+        (RENAMED, MismatchKind::NoMatch, 0, 0),
+        (RETYPED, MismatchKind::NoMatch, 1, 1),
+        ("\"long\"", MismatchKind::NoMatch, 0, 0),
+    ];
+    for (text, kind, writer_node, reader_node) in table {
+        let reader = parsed(alloc, text)?;
+        let found = resolve(alloc, &writer, &reader, datum(alloc)?);
+        let expected = Mismatch {
+            kind,
+            writer_node,
+            reader_node,
+        };
+        assert!(rt;
+            found.err() == Some(ResolveError::Mismatch(expected)),
+            "{text}"
+        );
+    }
+    Ok(())
+}
+
+#[test]
+fn promotion_goes_one_way(rt: HostRuntime) -> Result<(), Fail> {
+    let alloc = rt.alloc();
+    let (int, long) = (parsed(alloc, "\"int\"")?, parsed(alloc, "\"long\"")?);
+    int.is_well_formed();
+    long.is_well_formed();
+    assert!(rt; matches(&int, 0, &long, 0));
+    assert!(rt; !matches(&long, 0, &int, 0));
+    assert_eq!(rt; place_of(&int, 0, &long, 0), Place::Straight);
+    assert_eq!(rt; place_of(&long, 0, &int, 0), Place::Unmatched);
+    assert!(rt; resolve(alloc, &int, &long, Datum::Int(-1)) == Ok(Datum::Long(-1)));
+    Ok(())
+}
+
+#[test]
+fn outcomes(rt: HostRuntime) -> Result<(), Fail> {
+    payload_has_one_outcome();
+    let alloc = rt.alloc();
+    let (record, retyped) = (parsed(alloc, RECORD)?, parsed(alloc, RETYPED)?);
+    let payload = [0x36, 0x06, 0x66, 0x6f, 0x6f];
+    let done = outcome(alloc, &record, &record, &payload)?;
+    assert!(rt; done == Outcome::Done(payload.to_vec(alloc)?));
+    let cut = outcome(alloc, &record, &retyped, payload.split_at(3).0)?;
+    let truncated = Outcome::Malformed {
+        kind: MalformedKind::Truncated,
+        at: 3,
+    };
+    assert!(rt;
+        cut == truncated,
+        "the rest is read before a mismatch is told"
+    );
+    let mismatch = Mismatch {
+        kind: MismatchKind::NoMatch,
+        writer_node: 1,
+        reader_node: 1,
+    };
+    let whole = outcome(alloc, &record, &retyped, &payload)?;
+    assert!(rt; whole == Outcome::Mismatch(mismatch));
+    Ok(())
+}
+
+#[test]
+fn refusals(rt: HostRuntime) -> Result<(), Fail> {
+    let alloc = rt.alloc();
+    let (record, reordered) = (parsed(alloc, RECORD)?, parsed(alloc, REORDERED)?);
+    assert!(rt; differ_in_fields(&record, &reordered));
+    assert!(rt; !differ_in_fields(&record, &parsed(alloc, RENAMED)?));
+    let long = vec![in alloc; 0u8; MOST_PAYLOAD + 1]?;
+    let refused = transcode_tree(alloc, &record, &reordered, &long);
+    assert!(rt; refused.err() == Some(TranscodeError::NotYet));
+    let refused = transcode_tree(alloc, &record, &record, &long);
+    assert!(rt; refused.err() == Some(TranscodeError::TooLarge));
+    Ok(())
+}
+
+#[test]
+fn errors_are_told_in_words(rt: HostRuntime) -> Result<(), Fail> {
+    assert_eq!(rt; MismatchKind::BytesNotText.name(), "BytesNotText");
+    let text = format!(in rt.alloc(); "{}", TranscodeError::NotYet)?;
+    assert_eq!(rt;
+        text.as_str(),
+        "records with different fields are not transcoded yet"
+    );
+    Ok(())
+}
