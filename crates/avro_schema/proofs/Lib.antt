@@ -1,9 +1,12 @@
+pub mod Attributes
 pub mod DatumOf
 pub mod Declared
+pub mod DeclaredNodes
 pub mod FieldList
 pub mod Members
 pub mod NameRule
 pub mod OneNode
+pub mod Places
 pub mod Records
 pub mod Runs
 pub mod Sound

@@ -31,7 +31,7 @@ abbrev FieldFits : List (List ℕ) → ℕ → FieldNode → Type 0
 FieldFits before len f = (f.node < len) × (is_used f.name before ≡ false)
 
 -- so with each of the fields
-abbrev FieldsFit : List (List ℕ) → ℕ → List FieldNode → Type 0
+abbrev pub FieldsFit : List (List ℕ) → ℕ → List FieldNode → Type 0
 FieldsFit before len fs = FieldsBelow len fs × (IsDistinct bytes_eq before → IsDistinct bytes_eq (before ++ Names fs))
 
 -- ---- names
@@ -70,7 +70,7 @@ sound-named s = sound-word (word_of s)
 
 -- ---- records
 
-record_fits : (s : List ℕ) (m : ℕ) (fs : List FieldNode) → FieldsFit [] m fs → NodeIsWellFormed m (RecordNode s fs)
+pub record_fits : (s : List ℕ) (m : ℕ) (fs : List FieldNode) → FieldsFit [] m fs → NodeIsWellFormed m (RecordNode s fs)
 unfolding IsDistinct
 record_fits s m fs h = (h.0, h.1 tt)
 
@@ -149,7 +149,7 @@ mutual
   sound-member no_members k = tt
   sound-member (member l d ms) k = if_found Below (slice_cmp nat_cmp k l) (walk_member ms k) (walk d) (sound-member ms k) (sound-walk d)
 
-  sound-fields_in : (ms : Members) (k : List ℕ) → SoundIf (FieldsFit []) (walk_fields ms k)
+  pub sound-fields_in : (ms : Members) (k : List ℕ) → SoundIf (FieldsFit []) (walk_fields ms k)
   sound-fields_in no_members k = tt
   sound-fields_in (member l d ms) k = if_found (FieldsFit []) (slice_cmp nat_cmp k l) (walk_fields ms k) (fields d) (sound-fields_in ms k) (sound-fields d)
 

@@ -1,5 +1,6 @@
 pub mod Contract
 pub mod Datum
+pub mod Declaring
 pub mod Fault
 pub mod Names
 pub mod Node

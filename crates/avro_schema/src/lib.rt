@@ -4,6 +4,7 @@
 mod datum;
 mod error;
 mod kind;
+mod laws;
 mod names;
 mod numbers;
 mod schema;
@@ -13,6 +14,7 @@ mod word;
 pub use datum::Datum;
 pub use error::SchemaError;
 pub use kind::{Field, Kind};
+pub use laws::parsed_schema_is_declared;
 pub use schema::Schema;
 
 #[cfg(test)]

@@ -1,8 +1,9 @@
 ghost use Rattle.std.specs.Prelude.{◌≡◌, ◌<◌, ◌≤◌, length, Some, slice_get, IfOk};
 ghost use Rattle.std.specs.Option.{ok_or};
-ghost use Rattle.serde_json.specs.Data.{depth};
+ghost use Rattle.serde_json.specs.Data.{Data, depth};
 ghost use Rattle.serde_json.specs.Read.{read, max_depth};
 ghost use Rattle.serde_json.specs.View.{view};
+ghost use Rattle.avro_schema.specs.Declaring.{DeclaresNode};
 ghost use Rattle.avro_schema.specs.Fault.{Tells};
 ghost use Rattle.avro_schema.specs.Node.{IsWellFormed, NodeIsWellFormed, node_of};
 ghost use Rattle.avro_schema.specs.Schema.{Parses};
@@ -83,6 +84,13 @@ impl Schema {
     /// The law that nodes name nodes of the same schema, the root is one, and the fields of a record have distinct names.
     pub fn is_well_formed(&self)
         ensures { IsWellFormed self.now.nodes }
+    {
+        let _opened = &self.nodes;
+    }
+
+    /// The law that the root is what the JSON value of its text declares.
+    pub fn is_declared(&self)
+        ensures { (d : Data) × (read self.now.text ≡ Some d) × DeclaresNode d self.now.nodes 0 }
     {
         let _opened = &self.nodes;
     }

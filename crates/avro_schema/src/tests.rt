@@ -1,5 +1,6 @@
 use crate::error::SchemaError;
 use crate::kind::Kind;
+use crate::laws::parsed_schema_is_declared;
 use crate::schema::Schema;
 use std::alloc::Global;
 
@@ -47,9 +48,11 @@ fn reads_primitives(rt: HostRuntime) {
 
 #[test]
 fn reads_a_record(rt: HostRuntime) {
+    parsed_schema_is_declared();
     let text = r#"{ "type": "record", "name": "T", "doc": 7, "aliases": ["U"],
         "fields": [ {"name": "a", "type": "long", "order": "ignore"}, {"name": "int", "type": "string"} ] }"#;
     let schema = Schema::parse(rt.alloc(), text).expect(&rt, "a schema");
+    schema.is_declared();
     assert!(rt; schema.len() == 3);
     assert!(rt; kind_text(schema.kind(0)) == "T");
     assert!(rt; kind_text(schema.kind(1)) == "long");
