@@ -95,11 +95,16 @@ impl Write for Drip {
     }
 }
 
-/// Whether a run on an input writes an output and ends with a status.
+/// Whether a run on an input writes an output and ends with a status, the second time where memory ran out the first.
 fn assert_answers(rt: &(impl Abort + AllocGlobal), input: &[u8], output: &[u8], status: u8) {
     let mut reader = input;
     let mut written = Vec::new(rt.alloc());
-    let done = run(rt.alloc(), &Verb::Transcode, &mut reader, &mut written);
+    let mut done = run(rt.alloc(), &Verb::Transcode, &mut reader, &mut written);
+    if done == Err(RunError::NoMemory) {
+        assert!(rt; written.is_empty(), "at {input:?}");
+        reader = input;
+        done = run(rt.alloc(), &Verb::Transcode, &mut reader, &mut written);
+    }
     assert_eq!(rt; done, Ok(status), "at {input:?}");
     assert_eq!(rt; written.as_slice(), output, "at {input:?}");
 }
