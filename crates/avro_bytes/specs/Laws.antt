@@ -1,4 +1,5 @@
 pub mod Binds
+pub mod Booleans
 pub mod Defects
 pub mod Groups
 pub mod Meters

@@ -1,3 +1,4 @@
+pub mod Boolean
 pub mod Contract
 pub mod Decoding
 pub mod Fault

@@ -2,6 +2,7 @@
 //! "Binary Encoding").
 #![tactic(auto)]
 
+mod boolean;
 mod fault;
 mod form;
 mod laws;
@@ -12,6 +13,7 @@ mod put;
 mod tests;
 mod text;
 
+pub use boolean::Bool;
 pub use fault::{Fault, MalformedKind};
 pub use form::{WireForm, read_and_skip};
 pub use laws::shortest_spelling_is_shortest;

@@ -1,7 +1,7 @@
 //! Worked spellings of the Avro 1.11 Specification ("Binary Encoding"), and each fault from outside data.
 
 use crate::{
-    Fault, Int, LONGEST, Long, MOST_DEPTH, MOST_UNITS, MalformedKind, Meter, Text, WireForm,
+    Bool, Fault, Int, LONGEST, Long, MOST_DEPTH, MOST_UNITS, MalformedKind, Meter, Text, WireForm,
     long_len, put_long, read_and_skip, shortest_spelling_is_shortest,
 };
 use std::test::Fail;
@@ -75,6 +75,22 @@ fn numbers_cut_short(rt: HostRuntime) {
     );
     assert_eq!(rt; Long.read(&[], 0, START), Err(Fault::Need));
     assert_eq!(rt; Long.skip(&[0x80], 0, START), Err(Fault::Need));
+}
+
+#[test]
+fn booleans(rt: HostRuntime) {
+    let table: [(&[u8], Result<bool, Fault>); 5] = [
+        (&[0x00], Ok(false)),
+        (&[0x01], Ok(true)),
+        (&[0x02], Err(malformed(MalformedKind::BadBoolean, 0))),
+        (&[0x80, 0x00], Err(malformed(MalformedKind::BadBoolean, 0))),
+        (&[], Err(Fault::Need)),
+    ];
+    for (bytes, answer) in table {
+        let (read, skip) = read_and_skip(&Bool, bytes, 0, START);
+        assert_eq!(rt; read, answer.map(|value| (value, 1, START)), "{bytes:?}");
+        assert_eq!(rt; skip, answer.map(|_| (1, START)), "{bytes:?}");
+    }
 }
 
 /// What a text answers, read again where memory ran out the first time.
