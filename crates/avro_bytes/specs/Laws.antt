@@ -1,6 +1,8 @@
 pub mod Binds
+pub mod Blobs
 pub mod Booleans
 pub mod Defects
+pub mod Fixeds
 pub mod Groups
 pub mod Meters
 pub mod Numbers

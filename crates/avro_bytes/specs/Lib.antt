@@ -1,3 +1,4 @@
+pub mod Blob
 pub mod Boolean
 pub mod Contract
 pub mod Decoding

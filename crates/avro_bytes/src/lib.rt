@@ -2,6 +2,7 @@
 //! "Binary Encoding").
 #![tactic(auto)]
 
+mod blob;
 mod boolean;
 mod fault;
 mod form;
@@ -13,6 +14,7 @@ mod put;
 mod tests;
 mod text;
 
+pub use blob::{Blob, FixedBytes};
 pub use boolean::Bool;
 pub use fault::{Fault, MalformedKind};
 pub use form::{WireForm, read_and_skip};

@@ -1,8 +1,8 @@
 //! Worked spellings of the Avro 1.11 Specification ("Binary Encoding"), and each fault from outside data.
 
 use crate::{
-    Bool, Fault, Int, LONGEST, Long, MOST_DEPTH, MOST_UNITS, MalformedKind, Meter, Text, WireForm,
-    long_len, put_long, read_and_skip, shortest_spelling_is_shortest,
+    Blob, Bool, Fault, FixedBytes, Int, LONGEST, Long, MOST_DEPTH, MOST_UNITS, MalformedKind,
+    Meter, Text, WireForm, long_len, put_long, read_and_skip, shortest_spelling_is_shortest,
 };
 use std::test::Fail;
 
@@ -138,6 +138,54 @@ fn faults_of_texts(rt: HostRuntime) {
         assert_eq!(rt; form.skip(bytes, 0, START), Err(fault), "{bytes:?}");
         assert_eq!(rt; read_text(&rt, bytes).err(), Some(fault), "{bytes:?}");
     }
+}
+
+/// What a form of bytes answers, read again where memory ran out the first time.
+fn read_bytes<F: WireForm<Value = Vec<u8>>>(
+    form: &F,
+    bytes: &[u8],
+) -> Result<(Vec<u8>, usize, Meter), Fault> {
+    match form.read(bytes, 0, START) {
+        Err(Fault::NoMemory) => form.read(bytes, 0, START),
+        answer => answer,
+    }
+}
+
+#[test]
+fn bytes_behind_their_length(rt: HostRuntime) -> Result<(), Fail> {
+    let form = Blob { alloc: rt.alloc() };
+    let (value, to, after) = read_bytes(&form, &[0x04, 0x01, 0x02, 0x00])?;
+    assert_eq!(rt; value.as_slice(), [0x01, 0x02].as_slice());
+    assert_eq!(rt; (to, after), (3, START));
+    let (value, to, _) = read_bytes(&form, &[0x02, 0xff])?;
+    assert_eq!(rt; (value.as_slice(), to), ([0xff].as_slice(), 2));
+    let table: [(&[u8], Result<(usize, Meter), Fault>); 5] = [
+        (&[0x04, 0x01, 0x02], Ok((3, START))),
+        (&[0x00], Ok((1, START))),
+        (&[0x04, 0x01], Err(Fault::Need)),
+        (&[0x01], Err(malformed(MalformedKind::BadLength, 0))),
+        (&[], Err(Fault::Need)),
+    ];
+    for (bytes, answer) in table {
+        assert_eq!(rt; form.skip(bytes, 0, START), answer, "{bytes:?}");
+        assert_eq!(rt; read_bytes(&form, bytes).err(), answer.err(), "{bytes:?}");
+    }
+    Ok(())
+}
+
+#[test]
+fn so_many_bytes(rt: HostRuntime) -> Result<(), Fail> {
+    let form = FixedBytes {
+        alloc: rt.alloc(),
+        size: 3,
+    };
+    let (value, to, after) = read_bytes(&form, &[0x01, 0x02, 0x03, 0x04])?;
+    assert_eq!(rt; value.as_slice(), [0x01, 0x02, 0x03].as_slice());
+    assert_eq!(rt; (to, after), (3, START));
+    assert_eq!(rt; form.skip(&[0x01, 0x02, 0x03], 0, START), Ok((3, START)));
+    assert_eq!(rt; form.skip(&[0x01, 0x02], 0, START), Err(Fault::Need));
+    assert_eq!(rt; read_bytes(&form, &[0x01, 0x02]).err(), Some(Fault::Need));
+    Ok(())
 }
 
 #[test]

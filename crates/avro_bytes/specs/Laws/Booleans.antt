@@ -1,12 +1,12 @@
 -- A boolean that is read is spelled so, and one that is spelled is read; the first fault of one, both ways.
-use Rattle.std.proofs.Common.{◌≡◌, ◌≢◌, ℕ, ◌+◌, ◌<◌, ◌≤◌, List, [], ◌∷◌, ◌++◌, length, drop, get_or, Bool, true, false, cond, eqb, refl, sym, ap, ◌∙◌, arith, add-one}
+use Rattle.std.proofs.Common.{◌≡◌, ◌≢◌, ℕ, ◌+◌, ◌<◌, ◌≤◌, List, [], ◌∷◌, ◌++◌, length, drop, get_or, Bool, true, false, cond, eqb, refl, sym, ap, ◌∙◌, arith}
 use Rattle.std.proofs.lemmas.Bool.{eqb-true, eqb-false}
 use Rattle.std.proofs.lemmas.Bool.Decides.{nat_tests}
 use Rattle.std.proofs.lemmas.List.{drop_at, drop_all, drop_more, drop-append-le}
 use Rattle.avro_bytes.specs.declared.meter.Meter.{Meter}
 use Rattle.avro_bytes.specs.declared.fault.MalformedKind.TheVariants.{BadBoolean}
 use Rattle.avro_bytes.specs.Boolean.{IsBoolean, IsAboveOne, FaultyBoolean, boolean_at, boolean_byte, boolean_of}
-use Rattle.avro_bytes.specs.Decoding.{Decoding, Complete, Invalid, Incomplete, Stands}
+use Rattle.avro_bytes.specs.Decoding.{Complete, Invalid, Incomplete, Stands}
 use Rattle.avro_bytes.specs.Fault.{Defect, Broken, CutShort, HasDefect, failing}
 use Rattle.avro_bytes.specs.Laws.Binds.{complete_is}
 
