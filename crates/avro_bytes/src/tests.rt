@@ -210,6 +210,34 @@ fn records_too_deep_or_too_many(rt: HostRuntime) {
 }
 
 #[test]
+fn items_too_many_and_blocks_too_deep(rt: HostRuntime) {
+    let last = Meter {
+        depth: MOST_DEPTH - 1,
+        units: MOST_UNITS - 1,
+    };
+    let deep = Meter {
+        depth: MOST_DEPTH,
+        units: MOST_UNITS - 1,
+    };
+    let many = Meter {
+        depth: MOST_DEPTH - 1,
+        units: MOST_UNITS,
+    };
+    assert_eq!(rt; last.enter_blocks(5), Ok(deep));
+    assert_eq!(rt; last.enter_item(5), Ok(many));
+    assert_eq!(rt;
+        deep.enter_blocks(5),
+        Err(malformed(MalformedKind::TooDeep, 5))
+    );
+    assert_eq!(rt;
+        many.enter_item(5),
+        Err(malformed(MalformedKind::TooMany, 5))
+    );
+    assert_eq!(rt; START.enter_blocks(5), Ok(Meter { depth: 1, units: 0 }));
+    assert_eq!(rt; START.enter_item(5), Ok(Meter { depth: 0, units: 1 }));
+}
+
+#[test]
 fn faults_are_told_in_words(rt: HostRuntime) -> Result<(), Fail> {
     assert_eq!(rt; MalformedKind::BadText.name(), "BadText");
     let text = format!(in rt.alloc(); "{}", malformed(MalformedKind::TooDeep, 7))?;
