@@ -9,3 +9,4 @@ pub mod Numbers
 pub mod Shortests
 pub mod TextDefects
 pub mod Texts
+pub mod Walks

@@ -1,4 +1,5 @@
 pub mod Blob
+pub mod BlockDecoding
 pub mod Boolean
 pub mod Contract
 pub mod Decoding

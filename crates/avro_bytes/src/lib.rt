@@ -3,6 +3,7 @@
 #![tactic(auto)]
 
 mod blob;
+mod blocks;
 mod boolean;
 mod fault;
 mod form;
@@ -15,6 +16,7 @@ mod tests;
 mod text;
 
 pub use blob::{Blob, FixedBytes};
+pub use blocks::BlockWalk;
 pub use boolean::Bool;
 pub use fault::{Fault, MalformedKind};
 pub use form::{WireForm, read_and_skip};

@@ -1,8 +1,11 @@
 //! Worked spellings of the Avro 1.11 Specification ("Binary Encoding"), and each fault from outside data.
 
+ghost use Rattle.std.specs.Prelude.{◌≡◌};
+
 use crate::{
-    Blob, Bool, Fault, FixedBytes, Int, LONGEST, Long, MOST_DEPTH, MOST_UNITS, MalformedKind,
-    Meter, Text, WireForm, long_len, put_long, read_and_skip, shortest_spelling_is_shortest,
+    Blob, BlockWalk, Bool, Fault, FixedBytes, Int, LONGEST, Long, MOST_DEPTH, MOST_UNITS,
+    MalformedKind, Meter, Text, WireForm, long_len, put_long, read_and_skip,
+    shortest_spelling_is_shortest,
 };
 use std::test::Fail;
 
@@ -235,6 +238,67 @@ fn items_too_many_and_blocks_too_deep(rt: HostRuntime) {
     );
     assert_eq!(rt; START.enter_blocks(5), Ok(Meter { depth: 1, units: 0 }));
     assert_eq!(rt; START.enter_item(5), Ok(Meter { depth: 0, units: 1 }));
+}
+
+/// The meter inside an array in a message's root, with so many units.
+fn inside(units: u32) -> Meter
+    ensures { result ≡ record { depth = 1; units = units } }
+{
+    Meter { depth: 1, units }
+}
+
+#[test]
+fn blocks_with_and_without_a_size(rt: HostRuntime) -> Result<(), Fail> {
+    let behind = Meter { depth: 0, units: 1 };
+    let (mut walk, m) = BlockWalk::begin(0, START)?;
+    assert_eq!(rt; m, inside(0));
+    let bytes = [0x02, 0x36, 0x00];
+    assert_eq!(rt; walk.next(&bytes, 0, inside(0)), Ok((true, 1, inside(1))));
+    assert_eq!(rt; walk.next(&bytes, 2, inside(1)), Ok((false, 3, behind)));
+    let (mut walk, _) = BlockWalk::begin(0, START)?;
+    let bytes = [0x01, 0x02, 0x36, 0x00];
+    assert_eq!(rt; walk.next(&bytes, 0, inside(0)), Ok((true, 2, inside(1))));
+    assert_eq!(rt; walk.next(&bytes, 3, inside(1)), Ok((false, 4, behind)));
+    let (mut walk, _) = BlockWalk::begin(0, START)?;
+    assert_eq!(rt; walk.next(&[0x00], 0, inside(0)), Ok((false, 1, START)));
+    Ok(())
+}
+
+#[test]
+fn several_blocks_of_several_items(rt: HostRuntime) -> Result<(), Fail> {
+    let bytes = [0x04, 0x36, 0x36, 0x03, 0x04, 0x36, 0x36, 0x00];
+    let (mut walk, _) = BlockWalk::begin(0, START)?;
+    assert_eq!(rt; walk.next(&bytes, 0, inside(0)), Ok((true, 1, inside(1))));
+    assert_eq!(rt; walk.next(&bytes, 2, inside(1)), Ok((true, 2, inside(2))));
+    assert_eq!(rt; walk.next(&bytes, 3, inside(2)), Ok((true, 5, inside(3))));
+    assert_eq!(rt; walk.next(&bytes, 6, inside(3)), Ok((true, 6, inside(4))));
+    let behind = Meter { depth: 0, units: 4 };
+    assert_eq!(rt; walk.next(&bytes, 7, inside(4)), Ok((false, 8, behind)));
+    Ok(())
+}
+
+#[test]
+fn faults_of_blocks(rt: HostRuntime) -> Result<(), Fail> {
+    let (mut walk, _) = BlockWalk::begin(0, START)?;
+    let bytes = [0x01, 0x04, 0x36, 0x00];
+    assert_eq!(rt; walk.next(&bytes, 0, inside(0)), Ok((true, 2, inside(1))));
+    let bad = malformed(MalformedKind::BadBlock, 0);
+    assert_eq!(rt; walk.next(&bytes, 3, inside(1)), Err(bad));
+    assert_eq!(rt; walk.next(&bytes, 3, inside(1)), Err(bad));
+    let (mut walk, _) = BlockWalk::begin(0, START)?;
+    assert_eq!(rt; walk.next(&[0x01, 0x80], 0, inside(0)), Err(Fault::Need));
+    assert_eq!(rt; walk.next(&[], 0, inside(0)), Err(Fault::Need));
+    let full = malformed(MalformedKind::TooMany, 1);
+    assert_eq!(rt; walk.next(&[0x02, 0x36], 0, inside(MOST_UNITS)), Err(full));
+    let deep = Meter {
+        depth: MOST_DEPTH,
+        units: 0,
+    };
+    assert_eq!(rt;
+        BlockWalk::begin(5, deep).err(),
+        Some(malformed(MalformedKind::TooDeep, 5))
+    );
+    Ok(())
 }
 
 #[test]
