@@ -1,5 +1,8 @@
 pub mod Binds
 pub mod Blobs
+pub mod BlockEnds
+pub mod BlockSteps
+pub mod BlocksAgain
 pub mod Booleans
 pub mod Defects
 pub mod Fixeds
