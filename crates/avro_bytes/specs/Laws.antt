@@ -3,6 +3,7 @@ pub mod Blobs
 pub mod BlockEnds
 pub mod BlockSteps
 pub mod BlocksAgain
+pub mod BlocksSame
 pub mod Booleans
 pub mod Defects
 pub mod Fixeds

@@ -1,12 +1,11 @@
 -- Where a walk over blocks ends, their end is spelled; and a walk begins before all of the items.
-use Rattle.std.proofs.Common.{◌≡◌, ℕ, zero, suc, ◌+◌, List, [], ◌∷◌, ◌++◌, length, Option, Some, None, ℤ, pos, negsuc, refl, sym, ap, subst, ◌∙◌, arith, lit<}
+use Rattle.std.proofs.Common.{◌≡◌, ℕ, zero, suc, List, [], ◌∷◌, ◌++◌, length, Option, Some, None, ℤ, pos, negsuc, refl, sym, subst, ◌∙◌, arith, lit<}
 use Rattle.avro_bytes.specs.declared.blocks.BlockSize.{BlockSize}
 use Rattle.avro_bytes.specs.declared.blocks.BlockWalk.{BlockWalk}
 use Rattle.avro_bytes.specs.declared.meter.Meter.{Meter}
 use Rattle.avro_bytes.specs.BlockDecoding.{first_walk, item_at, is_met, sized_block, behind_count, next_block, block_end, next_item}
-use Rattle.avro_bytes.specs.Blocks.{joined, IsBlocks, IsItems, IsMet, Remains}
+use Rattle.avro_bytes.specs.Blocks.{joined, IsBlocks, IsItems, Remains}
 use Rattle.avro_bytes.specs.Decoding.{Complete, Stands}
-use Rattle.avro_bytes.specs.Meter.{closed_blocks}
 use Rattle.avro_bytes.specs.Number.{IsNumber, long_limit}
 use Rattle.avro_bytes.specs.NumberDecoding.{number_at}
 use Rattle.avro_bytes.specs.Laws.Binds.{complete_is, then_complete}

@@ -1,12 +1,12 @@
 -- What a walk over blocks passes is spelled so: from one item to the next, and at the end.
-use Rattle.std.proofs.Common.{◌≡◌, ℕ, zero, suc, ◌+◌, ◌-◌, ◌<◌, List, [], ◌∷◌, ◌++◌, length, drop, Option, Some, None, Bool, true, false, eqb, ℤ, pos, negsuc, refl, sym, ap, subst, ◌∙◌, append_assoc, arith, inl, inr, lit<}
+use Rattle.std.proofs.Common.{◌≡◌, ℕ, zero, suc, ◌+◌, ◌-◌, List, [], ◌∷◌, ◌++◌, length, drop, Option, Some, None, true, ℤ, pos, negsuc, refl, sym, ap, subst, ◌∙◌, append_assoc, arith, inl, inr, lit<}
 use Rattle.std.proofs.lemmas.Bool.{eqb-true}
 use Rattle.std.proofs.lemmas.List.{length-append}
 use Rattle.avro_bytes.specs.declared.blocks.BlockSize.{BlockSize}
 use Rattle.avro_bytes.specs.declared.blocks.BlockWalk.{BlockWalk}
 use Rattle.avro_bytes.specs.declared.meter.Meter.{Meter}
-use Rattle.avro_bytes.specs.BlockDecoding.{first_walk, item_at, is_met, sized_block, behind_count, next_block, block_end, next_item}
-use Rattle.avro_bytes.specs.Blocks.{joined, IsSizedHead, IsBlocks, IsItems, IsMet, Remains}
+use Rattle.avro_bytes.specs.BlockDecoding.{item_at, is_met, sized_block, behind_count, next_block, block_end, next_item}
+use Rattle.avro_bytes.specs.Blocks.{joined, IsSizedHead, IsItems, IsMet, Remains}
 use Rattle.avro_bytes.specs.Decoding.{Complete, Stands}
 use Rattle.avro_bytes.specs.Number.{IsNumber, long_limit}
 use Rattle.avro_bytes.specs.NumberDecoding.{number_at}

@@ -1,5 +1,5 @@
 -- Items that remain to a walk over blocks are come to, one after another, and then the end.
-use Rattle.std.proofs.Common.{◌≡◌, ℕ, zero, suc, ◌+◌, ◌-◌, ◌<◌, ◌⊎◌, List, [], ◌∷◌, ◌++◌, length, Option, Some, None, Bool, true, false, cond, ℤ, pos, negsuc, refl, sym, ap, subst, ◌∙◌, append_assoc, arith, inl, inr}
+use Rattle.std.proofs.Common.{◌≡◌, ℕ, zero, suc, ◌+◌, ◌-◌, List, [], ◌∷◌, ◌++◌, length, Option, Some, None, Bool, true, cond, ℤ, pos, negsuc, refl, sym, ap, subst, ◌∙◌, append_assoc, arith, inl, inr}
 use Rattle.std.proofs.lemmas.Bool.{eq-eqb}
 use Rattle.std.proofs.lemmas.List.{length-append}
 use Rattle.avro_bytes.specs.declared.blocks.BlockSize.{BlockSize}
@@ -7,7 +7,7 @@ use Rattle.avro_bytes.specs.declared.blocks.BlockWalk.{BlockWalk}
 use Rattle.avro_bytes.specs.declared.fault.MalformedKind.TheVariants.{BadBlock}
 use Rattle.avro_bytes.specs.declared.meter.Meter.{Meter}
 use Rattle.avro_bytes.specs.BlockDecoding.{item_at, is_met, sized_block, behind_count, next_block, block_end, next_item}
-use Rattle.avro_bytes.specs.Blocks.{joined, IsSizedHead, IsHead, IsBlocks, IsItems, IsMet, Remains}
+use Rattle.avro_bytes.specs.Blocks.{joined, IsHead, IsBlocks, IsItems, IsMet, Remains}
 use Rattle.avro_bytes.specs.Decoding.{Decoding, Complete, Invalid, ◌>>=◌}
 use Rattle.avro_bytes.specs.Meter.{closed_blocks}
 use Rattle.avro_bytes.specs.Number.{IsNumber, long_limit}
