@@ -1,4 +1,12 @@
-ghost use Rattle.std.specs.Prelude.{ℕ, ℤ, List, ◌≤◌, length};
+ghost use Rattle.std.specs.Prelude.{ℕ, ℤ, List, [], ◌∷◌, ◌++◌, ◌+◌, ◌≡◌, ◌≢◌, ◌≤◌, ◌↔◌, length};
+ghost use Rattle.avro_bytes.specs.BlockDecoding.{first_walk, next_item};
+ghost use Rattle.avro_bytes.specs.Blocks.{IsItems, Remains};
+ghost use Rattle.avro_bytes.specs.Decoding.{Complete, Incomplete, Stands};
+ghost use Rattle.avro_bytes.specs.Meter.{closed_blocks};
+ghost use Rattle.avro_bytes.specs.Laws.BlockSteps.{Leads};
+ghost use Rattle.avro_bytes.specs.Laws.BlocksAgain.{Comes};
+ghost use Rattle.avro_bytes.specs.declared.blocks.BlockWalk.{BlockWalk};
+ghost use Rattle.avro_bytes.specs.declared.meter.Meter.{Meter};
 ghost use Rattle.avro_bytes.specs.Number.{IsNumber32, IsNumber64, int_limit, long_limit};
 ghost use Rattle.avro_bytes.specs.Shortest.{FitsLimit, shortest};
 
@@ -8,4 +16,14 @@ pub fn shortest_spelling_is_shortest()
     ensures int { (n : ℤ) → FitsLimit int_limit n → IsNumber32 n (shortest n) }
     ensures none_shorter { (n : ℤ) (bytes : List ℕ) → IsNumber64 n bytes → length (shortest n) ≤ length bytes }
     ensures no_int_shorter { (n : ℤ) (bytes : List ℕ) → IsNumber32 n bytes → length (shortest n) ≤ length bytes }
+{}
+
+/// The law that a walk over blocks comes to the items that are spelled in them, one after another, and to no others.
+pub fn walks_pass_the_items()
+    ensures first { (at : ℕ) (items : List (List ℕ)) (bytes : List ℕ) → IsItems items bytes ↔ Remains first_walk at items bytes }
+    ensures step_sound { (walk : BlockWalk) (all : List ℕ) (at : ℕ) (m : Meter) (next : BlockWalk) (to : ℕ) (after : Meter) → next_item walk all at m ≡ Complete (Some next) to after → Stands (Leads walk at next to) all at to }
+    ensures end_sound { (walk : BlockWalk) (all : List ℕ) (at : ℕ) (m : Meter) (to : ℕ) (after : Meter) → next_item walk all at m ≡ Complete None to after → Stands (Remains walk at []) all at to }
+    ensures step_complete { (walk : BlockWalk) (at : ℕ) (item : List ℕ) (items : List (List ℕ)) (bytes : List ℕ) → Remains walk at (item ∷ items) bytes → Comes walk at item items bytes }
+    ensures end_complete { (walk : BlockWalk) (before bytes more : List ℕ) (m : Meter) → Remains walk (length before) [] bytes → next_item walk (before ++ (bytes ++ more)) (length before) m ≡ Complete None (length before + length bytes) (closed_blocks m) }
+    ensures steady { (walk : BlockWalk) (all more : List ℕ) (at : ℕ) (m : Meter) → at ≤ length all → next_item walk all at m ≢ Incomplete → next_item walk (all ++ more) at m ≡ next_item walk all at m }
 {}

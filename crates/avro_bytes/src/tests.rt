@@ -250,6 +250,7 @@ fn inside(units: u32) -> Meter
 #[test]
 fn blocks_with_and_without_a_size(rt: HostRuntime) -> Result<(), Fail> {
     let behind = Meter { depth: 0, units: 1 };
+    walks_pass_the_items();
     let (mut walk, m) = BlockWalk::begin(0, START)?;
     assert_eq!(rt; m, inside(0));
     let bytes = [0x02, 0x36, 0x00];
