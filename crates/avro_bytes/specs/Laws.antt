@@ -1,5 +1,6 @@
 pub mod Binds
 pub mod Blobs
+pub mod BlockDefects
 pub mod BlockEnds
 pub mod BlockSteps
 pub mod BlocksAgain

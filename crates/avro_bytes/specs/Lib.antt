@@ -1,5 +1,6 @@
 pub mod Blob
 pub mod BlockDecoding
+pub mod BlockFault
 pub mod Blocks
 pub mod Boolean
 pub mod Contract

@@ -5,7 +5,7 @@ ghost use Rattle.std.specs.Prelude.{◌≡◌};
 use crate::{
     Blob, BlockWalk, Bool, Fault, FixedBytes, Int, LONGEST, Long, MOST_DEPTH, MOST_UNITS,
     MalformedKind, Meter, Text, WireForm, long_len, put_long, read_and_skip,
-    shortest_spelling_is_shortest,
+    shortest_spelling_is_shortest, walks_pass_the_items,
 };
 use std::test::Fail;
 

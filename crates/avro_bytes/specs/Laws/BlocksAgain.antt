@@ -54,19 +54,19 @@ within_block left sized at item items bytes (x ∷ now) later rest many all part
 
 -- ---- at the head of a block
 
-met_is : (size : ℤ) (count_at items_at at : ℕ) → size ≡ pos (at - items_at) → is_met (record { count_at = count_at; items_at = items_at; size = size }) at ≡ true
+pub met_is : (size : ℤ) (count_at items_at at : ℕ) → size ≡ pos (at - items_at) → is_met (record { count_at = count_at; items_at = items_at; size = size }) at ≡ true
 met_is (pos n) count_at items_at at e = eq-eqb n (at - items_at) (pos_is e)
 met_is (negsuc n) count_at items_at at e = absurd cc
 
-met_end : (sized : Option BlockSize) (all : List ℕ) (at : ℕ) (m : Meter) → IsMet sized at → block_end sized all at m ≡ next_block all at m
+pub met_end : (sized : Option BlockSize) (all : List ℕ) (at : ℕ) (m : Meter) → IsMet sized at → block_end sized all at m ≡ next_block all at m
 met_end None all at m met = refl
 met_end (Some said) all at m met = ap (λ (b : Bool). cond b (next_block all at m) (Invalid BadBlock said.count_at)) (met_is said.size said.count_at said.items_at at met)
 
-plain_again : (before head more : List ℕ) (left : ℕ) (m : Meter) → IsNumber long_limit (pos (suc left)) head → next_block (before ++ (head ++ more)) (length before) m ≡ item_at (record { left = left; sized = None }) (length before + length head) m
+pub plain_again : (before head more : List ℕ) (left : ℕ) (m : Meter) → IsNumber long_limit (pos (suc left)) head → next_block (before ++ (head ++ more)) (length before) m ≡ item_at (record { left = left; sized = None }) (length before + length head) m
 unfolding next_block
 plain_again before head more left m n = ap (λ x. x >>= behind_count (before ++ (head ++ more)) (length before)) (number_again long_limit before head more (pos (suc left)) m n)
 
-sized_again : (before count size more : List ℕ) (left : ℕ) (len : ℤ) (m : Meter) → IsNumber long_limit (negsuc left) count → IsNumber long_limit len size
+pub sized_again : (before count size more : List ℕ) (left : ℕ) (len : ℤ) (m : Meter) → IsNumber long_limit (negsuc left) count → IsNumber long_limit len size
     → next_block (before ++ ((count ++ size) ++ more)) (length before) m ≡ item_at (record { left = left; sized = Some (record { count_at = length before; items_at = length before + length (count ++ size); size = len }) }) (length before + length (count ++ size)) m
 unfolding next_block sized_block
 sized_again before count size more left len m c s =
