@@ -5,7 +5,7 @@ ghost use Rattle.std.specs.Prelude.{◌≡◌};
 use crate::{
     Blob, BlockWalk, Bool, Fault, FixedBytes, Int, LONGEST, Long, MOST_DEPTH, MOST_UNITS,
     MalformedKind, Meter, Text, WireForm, long_len, put_long, read_and_skip,
-    shortest_spelling_is_shortest, walks_pass_the_items,
+    shortest_spelling_is_shortest, walks_pass_the_items, walks_tell_the_first_fault,
 };
 use std::test::Fail;
 
@@ -280,6 +280,7 @@ fn several_blocks_of_several_items(rt: HostRuntime) -> Result<(), Fail> {
 
 #[test]
 fn faults_of_blocks(rt: HostRuntime) -> Result<(), Fail> {
+    walks_tell_the_first_fault();
     let (mut walk, _) = BlockWalk::begin(0, START)?;
     let bytes = [0x01, 0x04, 0x36, 0x00];
     assert_eq!(rt; walk.next(&bytes, 0, inside(0)), Ok((true, 2, inside(1))));

@@ -85,7 +85,7 @@ size_told before count rest n m inner d c f place =
     let first : number_at long_limit all (length before) m ≡ Complete (negsuc n) (length before + length count) m = number_again long_limit before count rest (negsuc n) m c in
     let told : number_at long_limit ((before ++ count) ++ rest) (length (before ++ count)) m ≡ failing (length (before ++ count)) inner = number_told long_limit (before ++ count) rest m inner f in
     let second : number_at long_limit all (length before + length count) m ≡ failing (length before + length count) inner =
-        subst (λ (k : ℕ). number_at long_limit all k m ≡ failing k inner) (length-append before count) (subst (λ (b : List ℕ). number_at long_limit b (length (before ++ count)) m ≡ failing (length (before ++ count)) inner) (append_assoc before count rest) told) in
+    subst (λ (k : ℕ). number_at long_limit all k m ≡ failing k inner) (length-append before count) (subst (λ (b : List ℕ). number_at long_limit b (length (before ++ count)) m ≡ failing (length (before ++ count)) inner) (append_assoc before count rest) told) in
     ap (λ x. x >>= behind_count all (length before)) first
     ∙ ap (λ x. x >>= then) second ∙ failing_then (length before + length count) inner then
     ∙ failing_shifted (length before) (length count) inner ∙ ap (failing (length before)) (sym place)
