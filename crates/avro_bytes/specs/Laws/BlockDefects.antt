@@ -5,12 +5,12 @@ use Rattle.avro_bytes.specs.declared.blocks.BlockSize.{BlockSize}
 use Rattle.avro_bytes.specs.declared.blocks.BlockWalk.{BlockWalk}
 use Rattle.avro_bytes.specs.declared.fault.MalformedKind.TheVariants.{BadBlock}
 use Rattle.avro_bytes.specs.declared.meter.Meter.{Meter}
-use Rattle.avro_bytes.specs.BlockDecoding.{item_at, is_met, sized_block, behind_count, next_block, block_end, next_item}
+use Rattle.avro_bytes.specs.BlockDecoding.{item_at, is_met, sized_block, behind_count, next_block, next_item}
 use Rattle.avro_bytes.specs.BlockFault.{BeginsBlock, SaysSize, IsFaultySize, IsRefusedFirst, FaultyHead}
 use Rattle.avro_bytes.specs.Blocks.{IsMet}
-use Rattle.avro_bytes.specs.Decoding.{Decoding, Complete, Invalid, Stands, ◌>>=◌, inside}
+use Rattle.avro_bytes.specs.Decoding.{Decoding, Complete, Invalid, Stands, ◌>>=◌}
 use Rattle.avro_bytes.specs.Fault.{Defect, FaultyNumber, HasDefect, failing, shifted}
-use Rattle.avro_bytes.specs.Meter.{OpensItem, RefusesItem}
+use Rattle.avro_bytes.specs.Meter.{RefusesItem}
 use Rattle.avro_bytes.specs.Number.{IsNumber, long_limit}
 use Rattle.avro_bytes.specs.NumberDecoding.{number_at}
 use Rattle.avro_bytes.specs.Laws.Binds.{behind, defect_as, defect_behind, defect_then, failing_shifted, failing_then}
