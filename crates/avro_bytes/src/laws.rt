@@ -30,6 +30,9 @@ pub fn walks_pass_the_items()
     ensures step_complete { (walk : BlockWalk) (at : ℕ) (item : List ℕ) (items : List (List ℕ)) (bytes : List ℕ) → Remains walk at (item ∷ items) bytes → Comes walk at item items bytes }
     ensures end_complete { (walk : BlockWalk) (before bytes more : List ℕ) (m : Meter) → Remains walk (length before) [] bytes → next_item walk (before ++ (bytes ++ more)) (length before) m ≡ Complete None (length before + length bytes) (closed_blocks m) }
     ensures steady { (walk : BlockWalk) (all more : List ℕ) (at : ℕ) (m : Meter) → at ≤ length all → next_item walk all at m ≢ Incomplete → next_item walk (all ++ more) at m ≡ next_item walk all at m }
+    ensures one_item { (walk : BlockWalk) (at : ℕ) (i j : List ℕ) (is js : List (List ℕ)) (a b x y : List ℕ) (p : Comes walk at i is a) (q : Comes walk at j js b) → a ++ x ≡ b ++ y → (p.next ≡ q.next) × (p.head ≡ q.head) × (i ++ (p.rest ++ x) ≡ j ++ (q.rest ++ y)) }
+    ensures item_or_end { (walk : BlockWalk) (at : ℕ) (i : List ℕ) (is : List (List ℕ)) (a b x y : List ℕ) → Comes walk at i is a → Remains walk at [] b → a ++ x ≡ b ++ y → ⊥ }
+    ensures one_end { (walk : BlockWalk) (at : ℕ) (a b x y : List ℕ) → Remains walk at [] a → Remains walk at [] b → a ++ x ≡ b ++ y → a ≡ b }
 {}
 
 /// The law that a walk over blocks tells the first fault, and that the first fault is told.

@@ -1,7 +1,7 @@
 use Rattle.avro_bytes.specs.Laws.BlockEnds.{end_sound, first_remains, remains_first}
 use Rattle.avro_bytes.specs.Laws.BlockSteps.{step_sound}
 use Rattle.avro_bytes.specs.Laws.BlocksAgain.{end_complete, step_complete}
-use Rattle.avro_bytes.specs.Laws.BlocksSame.{walk_steady}
+use Rattle.avro_bytes.specs.Laws.BlocksSame.{comes_or_ends, comes_same, ends_same, walk_steady}
 use Rattle.avro_bytes.proofs.laws.walks_pass_the_items.Goals as goal
 
 pub returns-clause-first : goal.returns-clause-first
@@ -21,3 +21,12 @@ returns-clause-end_complete c = λ walk before bytes more m r. end_complete walk
 
 pub returns-clause-steady : goal.returns-clause-steady
 returns-clause-steady c = λ walk all more at m le e. walk_steady walk all more at m le e
+
+pub returns-clause-one_item : goal.returns-clause-one_item
+returns-clause-one_item c = λ walk at i j is js a b x y p q e. comes_same walk at i j is js a b x y p q e
+
+pub returns-clause-item_or_end : goal.returns-clause-item_or_end
+returns-clause-item_or_end c = λ walk at i is a b x y p r e. comes_or_ends walk at i is a b x y p r e
+
+pub returns-clause-one_end : goal.returns-clause-one_end
+returns-clause-one_end c = λ walk at a b x y r s e. ends_same walk at a b x y r s e
