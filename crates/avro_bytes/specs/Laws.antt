@@ -1,8 +1,17 @@
 pub mod Binds
+pub mod Blobs
+pub mod BlockDefects
+pub mod BlockEnds
+pub mod BlockSteps
+pub mod BlocksAgain
+pub mod BlocksSame
+pub mod Booleans
 pub mod Defects
+pub mod Fixeds
 pub mod Groups
 pub mod Meters
 pub mod Numbers
 pub mod Shortests
 pub mod TextDefects
 pub mod Texts
+pub mod Walks

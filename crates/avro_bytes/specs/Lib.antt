@@ -1,3 +1,8 @@
+pub mod Blob
+pub mod BlockDecoding
+pub mod BlockFault
+pub mod Blocks
+pub mod Boolean
 pub mod Contract
 pub mod Decoding
 pub mod Fault

@@ -18,6 +18,22 @@ opened_record at m =
     else if nat_le MOST_UNITS m.units then Err (Malformed TooMany at)
     else Ok (record { depth = m.depth + 1; units = m.units + 1 })
 
+-- at an array item or a map pair that begins at a place: one unit more
+abbrev pub opened_item : ℕ → Meter → Result Meter Fault
+opened_item at m =
+    if nat_le MOST_UNITS m.units then Err (Malformed TooMany at)
+    else Ok (record { depth = m.depth; units = m.units + 1 })
+
+-- inside an array or a map that begins at a place: one deeper
+abbrev pub opened_blocks : ℕ → Meter → Result Meter Fault
+opened_blocks at m =
+    if nat_le MOST_DEPTH m.depth then Err (Malformed TooDeep at)
+    else Ok (record { depth = m.depth + 1; units = m.units })
+
+-- behind an array or a map
+abbrev pub closed_blocks : Meter → Meter
+closed_blocks m = record { depth = m.depth - 1; units = m.units }
+
 -- So many levels and units more stay within the limits behind a meter, and the meter behind them.
 pub record Counts (depth units : ℕ) (m after : Meter) : Type 0 where
   pub deep : depth ≤ MOST_DEPTH - m.depth
@@ -37,3 +53,21 @@ pub record OpensRecord (m within : Meter) : Type 0 where
 -- the record would be too deep; or it would not, and be one too many
 abbrev pub RefusesRecord : Meter → Defect → Type 0
 RefusesRecord m d = ((MOST_DEPTH ≤ m.depth) × (d ≡ Broken TooDeep 0)) ⊎ ((m.depth < MOST_DEPTH) × (MOST_UNITS ≤ m.units) × (d ≡ Broken TooMany 0))
+
+-- an item or a pair begins, and the meter at it
+pub record OpensItem (m within : Meter) : Type 0 where
+  pub few : m.units < MOST_UNITS
+  pub same_depth : within.depth ≡ m.depth
+  pub counted : within.units ≡ m.units + 1
+
+abbrev pub RefusesItem : Meter → Defect → Type 0
+RefusesItem m d = (MOST_UNITS ≤ m.units) × (d ≡ Broken TooMany 0)
+
+-- an array or a map begins, and the meter inside it
+pub record OpensBlocks (m within : Meter) : Type 0 where
+  pub shallow : m.depth < MOST_DEPTH
+  pub deeper : within.depth ≡ m.depth + 1
+  pub same_units : within.units ≡ m.units
+
+abbrev pub RefusesBlocks : Meter → Defect → Type 0
+RefusesBlocks m d = (MOST_DEPTH ≤ m.depth) × (d ≡ Broken TooDeep 0)

@@ -2,6 +2,9 @@
 //! "Binary Encoding").
 #![tactic(auto)]
 
+mod blob;
+mod blocks;
+mod boolean;
 mod fault;
 mod form;
 mod laws;
@@ -12,9 +15,12 @@ mod put;
 mod tests;
 mod text;
 
+pub use blob::{Blob, FixedBytes};
+pub use blocks::BlockWalk;
+pub use boolean::Bool;
 pub use fault::{Fault, MalformedKind};
 pub use form::{WireForm, read_and_skip};
-pub use laws::shortest_spelling_is_shortest;
+pub use laws::{shortest_spelling_is_shortest, walks_pass_the_items, walks_tell_the_first_fault};
 pub use meter::{MOST_DEPTH, MOST_UNITS, Meter};
 pub use number::{Int, Long};
 pub use put::{long_len, put_long};

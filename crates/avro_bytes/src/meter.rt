@@ -17,7 +17,7 @@ pub struct Meter {
 }
 
 impl Meter {
-    ghost use Rattle.avro_bytes.specs.Meter.{start, opened_record};
+    ghost use Rattle.avro_bytes.specs.Meter.{start, opened_blocks, opened_item, opened_record};
 
     /// The meter before a message.
     pub const START: Meter = Meter { depth: 0, units: 0 };
@@ -26,12 +26,13 @@ impl Meter {
     pub fn enter_record(self, at: usize) -> Result<Meter, Fault>
         ensures { result ≡ opened_record at self }
     {
-        if self.depth >= MOST_DEPTH {
-            return Err(Fault::Malformed {
-                kind: MalformedKind::TooDeep,
-                at,
-            });
-        }
+        self.enter_blocks(at)?.enter_item(at)
+    }
+
+    /// The meter at an array item or a map pair that begins at a place.
+    pub fn enter_item(self, at: usize) -> Result<Meter, Fault>
+        ensures { result ≡ opened_item at self }
+    {
         if self.units >= MOST_UNITS {
             return Err(Fault::Malformed {
                 kind: MalformedKind::TooMany,
@@ -39,8 +40,24 @@ impl Meter {
             });
         }
         Ok(Meter {
-            depth: self.depth + 1,
+            depth: self.depth,
             units: self.units + 1,
+        })
+    }
+
+    /// The meter inside an array or a map that begins at a place.
+    pub fn enter_blocks(self, at: usize) -> Result<Meter, Fault>
+        ensures { result ≡ opened_blocks at self }
+    {
+        if self.depth >= MOST_DEPTH {
+            return Err(Fault::Malformed {
+                kind: MalformedKind::TooDeep,
+                at,
+            });
+        }
+        Ok(Meter {
+            depth: self.depth + 1,
+            units: self.units,
         })
     }
 }

@@ -1,8 +1,11 @@
 //! Worked spellings of the Avro 1.11 Specification ("Binary Encoding"), and each fault from outside data.
 
+ghost use Rattle.std.specs.Prelude.{◌≡◌};
+
 use crate::{
-    Fault, Int, LONGEST, Long, MOST_DEPTH, MOST_UNITS, MalformedKind, Meter, Text, WireForm,
-    long_len, put_long, read_and_skip, shortest_spelling_is_shortest,
+    Blob, BlockWalk, Bool, Fault, FixedBytes, Int, LONGEST, Long, MOST_DEPTH, MOST_UNITS,
+    MalformedKind, Meter, Text, WireForm, long_len, put_long, read_and_skip,
+    shortest_spelling_is_shortest, walks_pass_the_items, walks_tell_the_first_fault,
 };
 use std::test::Fail;
 
@@ -77,6 +80,22 @@ fn numbers_cut_short(rt: HostRuntime) {
     assert_eq!(rt; Long.skip(&[0x80], 0, START), Err(Fault::Need));
 }
 
+#[test]
+fn booleans(rt: HostRuntime) {
+    let table: [(&[u8], Result<bool, Fault>); 5] = [
+        (&[0x00], Ok(false)),
+        (&[0x01], Ok(true)),
+        (&[0x02], Err(malformed(MalformedKind::BadBoolean, 0))),
+        (&[0x80, 0x00], Err(malformed(MalformedKind::BadBoolean, 0))),
+        (&[], Err(Fault::Need)),
+    ];
+    for (bytes, answer) in table {
+        let (read, skip) = read_and_skip(&Bool, bytes, 0, START);
+        assert_eq!(rt; read, answer.map(|value| (value, 1, START)), "{bytes:?}");
+        assert_eq!(rt; skip, answer.map(|_| (1, START)), "{bytes:?}");
+    }
+}
+
 /// What a text answers, read again where memory ran out the first time.
 fn read_text(rt: &HostRuntime, bytes: &[u8]) -> Result<(String, usize, Meter), Fault> {
     let form = Text { alloc: rt.alloc() };
@@ -124,6 +143,54 @@ fn faults_of_texts(rt: HostRuntime) {
     }
 }
 
+/// What a form of bytes answers, read again where memory ran out the first time.
+fn read_bytes<F: WireForm<Value = Vec<u8>>>(
+    form: &F,
+    bytes: &[u8],
+) -> Result<(Vec<u8>, usize, Meter), Fault> {
+    match form.read(bytes, 0, START) {
+        Err(Fault::NoMemory) => form.read(bytes, 0, START),
+        answer => answer,
+    }
+}
+
+#[test]
+fn bytes_behind_their_length(rt: HostRuntime) -> Result<(), Fail> {
+    let form = Blob { alloc: rt.alloc() };
+    let (value, to, after) = read_bytes(&form, &[0x04, 0x01, 0x02, 0x00])?;
+    assert_eq!(rt; value.as_slice(), [0x01, 0x02].as_slice());
+    assert_eq!(rt; (to, after), (3, START));
+    let (value, to, _) = read_bytes(&form, &[0x02, 0xff])?;
+    assert_eq!(rt; (value.as_slice(), to), ([0xff].as_slice(), 2));
+    let table: [(&[u8], Result<(usize, Meter), Fault>); 5] = [
+        (&[0x04, 0x01, 0x02], Ok((3, START))),
+        (&[0x00], Ok((1, START))),
+        (&[0x04, 0x01], Err(Fault::Need)),
+        (&[0x01], Err(malformed(MalformedKind::BadLength, 0))),
+        (&[], Err(Fault::Need)),
+    ];
+    for (bytes, answer) in table {
+        assert_eq!(rt; form.skip(bytes, 0, START), answer, "{bytes:?}");
+        assert_eq!(rt; read_bytes(&form, bytes).err(), answer.err(), "{bytes:?}");
+    }
+    Ok(())
+}
+
+#[test]
+fn so_many_bytes(rt: HostRuntime) -> Result<(), Fail> {
+    let form = FixedBytes {
+        alloc: rt.alloc(),
+        size: 3,
+    };
+    let (value, to, after) = read_bytes(&form, &[0x01, 0x02, 0x03, 0x04])?;
+    assert_eq!(rt; value.as_slice(), [0x01, 0x02, 0x03].as_slice());
+    assert_eq!(rt; (to, after), (3, START));
+    assert_eq!(rt; form.skip(&[0x01, 0x02, 0x03], 0, START), Ok((3, START)));
+    assert_eq!(rt; form.skip(&[0x01, 0x02], 0, START), Err(Fault::Need));
+    assert_eq!(rt; read_bytes(&form, &[0x01, 0x02]).err(), Some(Fault::Need));
+    Ok(())
+}
+
 #[test]
 fn records_too_deep_or_too_many(rt: HostRuntime) {
     assert_eq!(rt; START.enter_record(5), Ok(Meter { depth: 1, units: 1 }));
@@ -143,6 +210,97 @@ fn records_too_deep_or_too_many(rt: HostRuntime) {
         many.enter_record(5),
         Err(malformed(MalformedKind::TooMany, 5))
     );
+}
+
+#[test]
+fn items_too_many_and_blocks_too_deep(rt: HostRuntime) {
+    let last = Meter {
+        depth: MOST_DEPTH - 1,
+        units: MOST_UNITS - 1,
+    };
+    let deep = Meter {
+        depth: MOST_DEPTH,
+        units: MOST_UNITS - 1,
+    };
+    let many = Meter {
+        depth: MOST_DEPTH - 1,
+        units: MOST_UNITS,
+    };
+    assert_eq!(rt; last.enter_blocks(5), Ok(deep));
+    assert_eq!(rt; last.enter_item(5), Ok(many));
+    assert_eq!(rt;
+        deep.enter_blocks(5),
+        Err(malformed(MalformedKind::TooDeep, 5))
+    );
+    assert_eq!(rt;
+        many.enter_item(5),
+        Err(malformed(MalformedKind::TooMany, 5))
+    );
+    assert_eq!(rt; START.enter_blocks(5), Ok(Meter { depth: 1, units: 0 }));
+    assert_eq!(rt; START.enter_item(5), Ok(Meter { depth: 0, units: 1 }));
+}
+
+/// The meter inside an array in a message's root, with so many units.
+fn inside(units: u32) -> Meter
+    ensures { result ≡ record { depth = 1; units = units } }
+{
+    Meter { depth: 1, units }
+}
+
+#[test]
+fn blocks_with_and_without_a_size(rt: HostRuntime) -> Result<(), Fail> {
+    let behind = Meter { depth: 0, units: 1 };
+    walks_pass_the_items();
+    let (mut walk, m) = BlockWalk::begin(0, START)?;
+    assert_eq!(rt; m, inside(0));
+    let bytes = [0x02, 0x36, 0x00];
+    assert_eq!(rt; walk.next(&bytes, 0, inside(0)), Ok((true, 1, inside(1))));
+    assert_eq!(rt; walk.next(&bytes, 2, inside(1)), Ok((false, 3, behind)));
+    let (mut walk, _) = BlockWalk::begin(0, START)?;
+    let bytes = [0x01, 0x02, 0x36, 0x00];
+    assert_eq!(rt; walk.next(&bytes, 0, inside(0)), Ok((true, 2, inside(1))));
+    assert_eq!(rt; walk.next(&bytes, 3, inside(1)), Ok((false, 4, behind)));
+    let (mut walk, _) = BlockWalk::begin(0, START)?;
+    assert_eq!(rt; walk.next(&[0x00], 0, inside(0)), Ok((false, 1, START)));
+    Ok(())
+}
+
+#[test]
+fn several_blocks_of_several_items(rt: HostRuntime) -> Result<(), Fail> {
+    let bytes = [0x04, 0x36, 0x36, 0x03, 0x04, 0x36, 0x36, 0x00];
+    let (mut walk, _) = BlockWalk::begin(0, START)?;
+    assert_eq!(rt; walk.next(&bytes, 0, inside(0)), Ok((true, 1, inside(1))));
+    assert_eq!(rt; walk.next(&bytes, 2, inside(1)), Ok((true, 2, inside(2))));
+    assert_eq!(rt; walk.next(&bytes, 3, inside(2)), Ok((true, 5, inside(3))));
+    assert_eq!(rt; walk.next(&bytes, 6, inside(3)), Ok((true, 6, inside(4))));
+    let behind = Meter { depth: 0, units: 4 };
+    assert_eq!(rt; walk.next(&bytes, 7, inside(4)), Ok((false, 8, behind)));
+    Ok(())
+}
+
+#[test]
+fn faults_of_blocks(rt: HostRuntime) -> Result<(), Fail> {
+    walks_tell_the_first_fault();
+    let (mut walk, _) = BlockWalk::begin(0, START)?;
+    let bytes = [0x01, 0x04, 0x36, 0x00];
+    assert_eq!(rt; walk.next(&bytes, 0, inside(0)), Ok((true, 2, inside(1))));
+    let bad = malformed(MalformedKind::BadBlock, 0);
+    assert_eq!(rt; walk.next(&bytes, 3, inside(1)), Err(bad));
+    assert_eq!(rt; walk.next(&bytes, 3, inside(1)), Err(bad));
+    let (mut walk, _) = BlockWalk::begin(0, START)?;
+    assert_eq!(rt; walk.next(&[0x01, 0x80], 0, inside(0)), Err(Fault::Need));
+    assert_eq!(rt; walk.next(&[], 0, inside(0)), Err(Fault::Need));
+    let full = malformed(MalformedKind::TooMany, 1);
+    assert_eq!(rt; walk.next(&[0x02, 0x36], 0, inside(MOST_UNITS)), Err(full));
+    let deep = Meter {
+        depth: MOST_DEPTH,
+        units: 0,
+    };
+    assert_eq!(rt;
+        BlockWalk::begin(5, deep).err(),
+        Some(malformed(MalformedKind::TooDeep, 5))
+    );
+    Ok(())
 }
 
 #[test]

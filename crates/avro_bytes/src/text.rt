@@ -22,7 +22,7 @@ pub struct Text {
 
 /// The content behind the length at a place.
 #[tactic(auto, unfolding(crate::specs::Text::content_at))]
-fn content(bytes: &[u8], at: usize, m: Meter) -> Result<(&[u8], usize, Meter), Fault>
+pub(crate) fn content(bytes: &[u8], at: usize, m: Meter) -> Result<(&[u8], usize, Meter), Fault>
     requires { at ≤ length bytes.now }
     ensures finds { Finds (λ content. content.now) result (content_at bytes.now at m) }
     ensures before { IfOk result (λ r. length r.0.now ≤ r.1) }

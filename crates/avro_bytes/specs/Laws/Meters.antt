@@ -1,13 +1,14 @@
--- Opening a record: when it is refused, and what is inside, both ways.
+-- Opening a record, an item, and an array or a map: when it is refused, and what is inside, both ways.
 use Rattle.std.proofs.Common.{◌≡◌, ℕ, ◌+◌, ◌<◌, ◌≤◌, Ok, Err, Bool, true, false, cond, refl, sym, ap, ◌∙◌, arith, inl, inr}
 use Rattle.std.specs.Prelude.{nat_le}
 use Rattle.std.proofs.lemmas.Bool.{leb-true, leb-false, le-leb, lt-leb}
 use Rattle.avro_bytes.specs.declared.meter.Meter.{Meter}
 use Rattle.avro_bytes.specs.declared.fault.Fault.TheVariants.{Malformed}
+use Rattle.avro_bytes.specs.declared.fault.MalformedKind.{MalformedKind}
 use Rattle.avro_bytes.specs.declared.fault.MalformedKind.TheVariants.{TooDeep, TooMany}
 use Rattle.avro_bytes.specs.Decoding.{Decoding, Invalid, inside}
 use Rattle.avro_bytes.specs.Fault.{Defect, Broken, HasDefect, failing}
-use Rattle.avro_bytes.specs.Meter.{opened_record, OpensRecord, RefusesRecord}
+use Rattle.avro_bytes.specs.Meter.{opened_record, opened_item, opened_blocks, OpensRecord, OpensItem, OpensBlocks, RefusesRecord, RefusesItem, RefusesBlocks}
 
 abbrev within_record : Meter → Meter
 within_record m = record { depth = m.depth + 1; units = m.units + 1 }
@@ -52,3 +53,63 @@ refused_told f at m d (inr r) =
     let shallow : m.depth < 1000 = r.0 in
     let many : 1048576 ≤ m.units = r.1 in
     rw (lt-leb 1000 m.depth shallow, le-leb 1048576 m.units many) (ap (Invalid TooMany) (place at)) ∙ ap (failing at) (sym r.2)
+
+-- ---- items, and arrays and maps: one limit each
+
+opens_one : (b : Bool) (kind : MalformedKind) (at : ℕ) (m within : Meter) → cond b (Err (Malformed kind at)) (Ok m) ≡ Ok within → (b ≡ false) × (m ≡ within)
+opens_one true kind at m within e = absurd cc
+opens_one false kind at m within e = (refl, cc)
+
+abbrev one_unit_more : Meter → Meter
+one_unit_more m = record { depth = m.depth; units = m.units + 1 }
+
+pub item_was_opened : (at : ℕ) (m within : Meter) → opened_item at m ≡ Ok within → OpensItem m within
+item_was_opened at m within h =
+    let o = opens_one (nat_le 1048576 m.units) TooMany at (one_unit_more m) within h in
+    record { few = leb-false 1048576 m.units o.0; same_depth = sym (ap (λ (x : Meter). x.depth) o.1); counted = sym (ap (λ (x : Meter). x.units) o.1) }
+
+pub item_opened_again : (at : ℕ) (m within : Meter) → OpensItem m within → opened_item at m ≡ Ok within
+item_opened_again at m within o =
+    let few : m.units < 1048576 = o.few in
+    rw (lt-leb 1048576 m.units few) (ap Ok (sym (same_meter within (one_unit_more m) o.same_depth o.counted)))
+
+item_cases : {V : Type 0} (b : Bool) (f : Meter → Decoding V) (at : ℕ) (m : Meter) (P : Defect → Type 0) → nat_le 1048576 m.units ≡ b
+    → ((d : Defect) → RefusesItem m d → P d) → ((within : Meter) → OpensItem m within → HasDefect (f within) at P)
+    → HasDefect (inside (cond b (Err (Malformed TooMany at)) (Ok (one_unit_more m))) f) at P
+item_cases true f at m P many refused opened = (0, omega arith, refused (Broken TooMany 0) (leb-true 1048576 m.units many, refl))
+item_cases false f at m P many refused opened = opened (one_unit_more m) (record { few = leb-false 1048576 m.units many; same_depth = refl; counted = refl })
+
+pub item_defect : {V : Type 0} (f : Meter → Decoding V) (at : ℕ) (m : Meter) (P : Defect → Type 0) → ((d : Defect) → RefusesItem m d → P d) → ((within : Meter) → OpensItem m within → HasDefect (f within) at P) → HasDefect (inside (opened_item at m) f) at P
+item_defect f at m P refused opened = item_cases (nat_le 1048576 m.units) f at m P refl refused opened
+
+pub item_refused_told : {V : Type 0} (f : Meter → Decoding V) (at : ℕ) (m : Meter) (d : Defect) → RefusesItem m d → inside (opened_item at m) f ≡ failing at d
+item_refused_told f at m d r =
+    let many : 1048576 ≤ m.units = r.0 in
+    rw (le-leb 1048576 m.units many) (ap (Invalid TooMany) (place at)) ∙ ap (failing at) (sym r.1)
+
+abbrev one_deeper : Meter → Meter
+one_deeper m = record { depth = m.depth + 1; units = m.units }
+
+pub blocks_were_opened : (at : ℕ) (m within : Meter) → opened_blocks at m ≡ Ok within → OpensBlocks m within
+blocks_were_opened at m within h =
+    let o = opens_one (nat_le 1000 m.depth) TooDeep at (one_deeper m) within h in
+    record { shallow = leb-false 1000 m.depth o.0; deeper = sym (ap (λ (x : Meter). x.depth) o.1); same_units = sym (ap (λ (x : Meter). x.units) o.1) }
+
+pub blocks_opened_again : (at : ℕ) (m within : Meter) → OpensBlocks m within → opened_blocks at m ≡ Ok within
+blocks_opened_again at m within o =
+    let shallow : m.depth < 1000 = o.shallow in
+    rw (lt-leb 1000 m.depth shallow) (ap Ok (sym (same_meter within (one_deeper m) o.deeper o.same_units)))
+
+blocks_cases : {V : Type 0} (b : Bool) (f : Meter → Decoding V) (at : ℕ) (m : Meter) (P : Defect → Type 0) → nat_le 1000 m.depth ≡ b
+    → ((d : Defect) → RefusesBlocks m d → P d) → ((within : Meter) → OpensBlocks m within → HasDefect (f within) at P)
+    → HasDefect (inside (cond b (Err (Malformed TooDeep at)) (Ok (one_deeper m))) f) at P
+blocks_cases true f at m P deep refused opened = (0, omega arith, refused (Broken TooDeep 0) (leb-true 1000 m.depth deep, refl))
+blocks_cases false f at m P deep refused opened = opened (one_deeper m) (record { shallow = leb-false 1000 m.depth deep; deeper = refl; same_units = refl })
+
+pub blocks_defect : {V : Type 0} (f : Meter → Decoding V) (at : ℕ) (m : Meter) (P : Defect → Type 0) → ((d : Defect) → RefusesBlocks m d → P d) → ((within : Meter) → OpensBlocks m within → HasDefect (f within) at P) → HasDefect (inside (opened_blocks at m) f) at P
+blocks_defect f at m P refused opened = blocks_cases (nat_le 1000 m.depth) f at m P refl refused opened
+
+pub blocks_refused_told : {V : Type 0} (f : Meter → Decoding V) (at : ℕ) (m : Meter) (d : Defect) → RefusesBlocks m d → inside (opened_blocks at m) f ≡ failing at d
+blocks_refused_told f at m d r =
+    let deep : 1000 ≤ m.depth = r.0 in
+    rw (le-leb 1000 m.depth deep) (ap (Invalid TooDeep) (place at)) ∙ ap (failing at) (sym r.1)

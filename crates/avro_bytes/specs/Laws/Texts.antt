@@ -35,7 +35,7 @@ length_complete false true content v at place to m after e = absurd cc
 length_complete false false content v at place to m after e = let w = complete_is e in (refl, refl, w.0, w.1, w.2)
 
 -- the bytes behind a length
-pos_is : {a b : ℕ} → pos a ≡ pos b → a ≡ b
+pub pos_is : {a b : ℕ} → pos a ≡ pos b → a ≡ b
 pos_is e = cc
 
 record Content (all : List ℕ) (n : ℤ) (mid : ℕ) (m : Meter) (content : List ℕ) (to : ℕ) (after : Meter) : Type 0 where
@@ -131,7 +131,7 @@ text_one_form a b x y v w s t e =
     let same : v ≡ w = sym (take_at v x (length v) refl) ∙ ap (take (length v)) rest ∙ take_at w y (length v) (sym len) in
     (s.parts ∙ ap (λ (l : List ℕ). l ++ v) number.0 ∙ ap (λ (k : List ℕ). t.len ++ k) same ∙ sym t.parts, same)
 
-content_steady : (all more : List ℕ) (at : ℕ) (n : ℤ) (mid : ℕ) (m : Meter) → mid ≤ length all → bytes_of_length all at n mid m ≢ Incomplete → bytes_of_length (all ++ more) at n mid m ≡ bytes_of_length all at n mid m
+pub content_steady : (all more : List ℕ) (at : ℕ) (n : ℤ) (mid : ℕ) (m : Meter) → mid ≤ length all → bytes_of_length all at n mid m ≢ Incomplete → bytes_of_length (all ++ more) at n mid m ≡ bytes_of_length all at n mid m
 content_steady all more at (negsuc n) mid m le c = refl
 content_steady all more at (pos n) mid m le c =
     elim (cases_lt 16777216 n) [

@@ -1,0 +1,118 @@
+ghost use Rattle.std.specs.Prelude.{◌≡◌, ◌≤◌, ℕ, List, length, IfOk};
+ghost use Rattle.avro_bytes.specs.Blob.{FaultyFixed, IsBlob, IsFixed, fixed_at};
+ghost use Rattle.avro_bytes.specs.Contract.{Finds};
+ghost use Rattle.avro_bytes.specs.Fault.{FaultyContent};
+ghost use Rattle.avro_bytes.specs.Text.{content_at};
+ghost use Rattle.avro_bytes.specs.Laws.Blobs.{blob_complete, blob_one_form, blob_sound, blob_steady};
+ghost use Rattle.avro_bytes.specs.Laws.Fixeds.{fixed_complete, fixed_defect, fixed_one_form, fixed_sound, fixed_steady, fixed_told};
+ghost use Rattle.avro_bytes.specs.Laws.TextDefects.{content_defect, content_told};
+
+use crate::fault::Fault;
+use crate::form::WireForm;
+use crate::meter::Meter;
+use crate::text::content;
+use std::alloc::Global;
+
+/// Bytes behind their length.
+#[derive(Clone, Copy, Debug)]
+pub struct Blob {
+    pub alloc: Global,
+}
+
+impl WireForm for Blob {
+    type Value = Vec<u8>;
+
+    ghost Meaning = { List ℕ };
+
+    ghost meaning = { λ value. value.items };
+
+    ghost spells = { λ _ value bytes. IsBlob value bytes };
+
+    ghost faulty = { λ _ bytes m d. FaultyContent bytes d };
+
+    ghost counts = { λ _ m after. m ≡ after };
+
+    ghost decoding = { λ _ bytes at m. content_at bytes at m };
+
+    ghost sound = { λ _ bytes at m value to after e. blob_sound bytes at m value to after e };
+
+    ghost complete = { λ _ before spelling rest m value after s e. blob_complete before spelling rest value m after s e };
+
+    ghost one_form = { λ _ a b x y v w s t e. blob_one_form a b x y v w s t e };
+
+    ghost steady = { λ _ bytes more at m le c. blob_steady bytes more at m le c };
+
+    ghost defect = { λ _ bytes at m le. content_defect bytes at m };
+
+    ghost told = { λ _ before bytes m d f. content_told before bytes m d f };
+
+    fn read(&self, bytes: &[u8], at: usize, m: Meter) -> Result<(Vec<u8>, usize, Meter), Fault> {
+        let (content, to, m) = content(bytes, at, m)?;
+        Ok((Vec::from_slice(self.alloc, content)?, to, m))
+    }
+
+    fn skip(&self, bytes: &[u8], at: usize, m: Meter) -> Result<(usize, Meter), Fault> {
+        let (_, to, m) = content(bytes, at, m)?;
+        Ok((to, m))
+    }
+}
+
+/// So many bytes, as a fixed has them.
+#[derive(Clone, Copy, Debug)]
+pub struct FixedBytes {
+    pub alloc: Global,
+    pub size: usize,
+}
+
+/// So many bytes at a place.
+#[tactic(auto, unfolding(crate::specs::Blob::fixed_at))]
+fn fixed(bytes: &[u8], size: usize, at: usize, m: Meter) -> Result<(&[u8], usize, Meter), Fault>
+    requires { at ≤ length bytes.now }
+    ensures finds { Finds (λ content. content.now) result (fixed_at size bytes.now at m) }
+    ensures within { IfOk result (λ r. r.1 ≤ length bytes.now) }
+    ensures depth { IfOk result (λ r. r.2.depth ≡ m.depth) }
+    ensures units { IfOk result (λ r. m.units ≤ r.2.units) }
+{
+    if bytes.len() - at < size {
+        return Err(Fault::Need);
+    }
+    Ok((&bytes[at..at + size], at + size, m))
+}
+
+impl WireForm for FixedBytes {
+    type Value = Vec<u8>;
+
+    ghost Meaning = { List ℕ };
+
+    ghost meaning = { λ value. value.items };
+
+    ghost spells = { λ form value bytes. IsFixed form.size value bytes };
+
+    ghost faulty = { λ form bytes m d. FaultyFixed form.size bytes d };
+
+    ghost counts = { λ _ m after. m ≡ after };
+
+    ghost decoding = { λ form bytes at m. fixed_at form.size bytes at m };
+
+    ghost sound = { λ form bytes at m value to after e. fixed_sound form.size bytes at m value to after e };
+
+    ghost complete = { λ form before spelling rest m value after s e. fixed_complete form.size before spelling rest value m after s e };
+
+    ghost one_form = { λ form a b x y v w s t e. fixed_one_form form.size a b x y v w s t e };
+
+    ghost steady = { λ form bytes more at m le c. fixed_steady form.size bytes more at m le c };
+
+    ghost defect = { λ form bytes at m le. fixed_defect form.size bytes at m };
+
+    ghost told = { λ form before bytes m d f. fixed_told form.size before bytes m d f };
+
+    fn read(&self, bytes: &[u8], at: usize, m: Meter) -> Result<(Vec<u8>, usize, Meter), Fault> {
+        let (content, to, m) = fixed(bytes, self.size, at, m)?;
+        Ok((Vec::from_slice(self.alloc, content)?, to, m))
+    }
+
+    fn skip(&self, bytes: &[u8], at: usize, m: Meter) -> Result<(usize, Meter), Fault> {
+        let (_, to, m) = fixed(bytes, self.size, at, m)?;
+        Ok((to, m))
+    }
+}

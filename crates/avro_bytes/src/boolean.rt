@@ -1,0 +1,74 @@
+ghost use Rattle.std.specs.Prelude.{◌≡◌, ◌≤◌, length, IfOk, Bool as Truth};
+ghost use Rattle.avro_bytes.specs.Boolean.{FaultyBoolean, IsBoolean, boolean_at};
+ghost use Rattle.avro_bytes.specs.Contract.{Finds};
+ghost use Rattle.avro_bytes.specs.Laws.Booleans.{boolean_complete, boolean_defect, boolean_one_form, boolean_sound, boolean_steady, boolean_told};
+
+use crate::fault::{Fault, MalformedKind};
+use crate::form::WireForm;
+use crate::meter::Meter;
+
+/// A boolean.
+#[derive(Clone, Copy, Debug)]
+pub struct Bool;
+
+/// The boolean at a place.
+#[tactic(auto, using(crate::specs::Laws::Booleans::boolean_past, crate::specs::Laws::Booleans::boolean_there))]
+fn read_boolean(bytes: &[u8], at: usize, m: Meter) -> Result<(bool, usize, Meter), Fault>
+    requires { at ≤ length bytes.now }
+    ensures finds { Finds (λ value. value) result (boolean_at bytes.now at m) }
+    ensures within { IfOk result (λ r. r.1 ≤ length bytes.now) }
+    ensures depth { IfOk result (λ r. r.2.depth ≡ m.depth) }
+    ensures units { IfOk result (λ r. m.units ≤ r.2.units) }
+{
+    if at == bytes.len() {
+        return Err(Fault::Need);
+    }
+    let value = match bytes[at] {
+        0 => false,
+        1 => true,
+        _ => {
+            return Err(Fault::Malformed {
+                kind: MalformedKind::BadBoolean,
+                at,
+            });
+        }
+    };
+    Ok((value, at + 1, m))
+}
+
+impl WireForm for Bool {
+    type Value = bool;
+
+    ghost Meaning = { Truth };
+
+    ghost meaning = { λ value. value };
+
+    ghost spells = { λ _ value bytes. IsBoolean value bytes };
+
+    ghost faulty = { λ _ bytes m d. FaultyBoolean bytes d };
+
+    ghost counts = { λ _ m after. m ≡ after };
+
+    ghost decoding = { λ _ bytes at m. boolean_at bytes at m };
+
+    ghost sound = { λ _ bytes at m value to after e. boolean_sound bytes at m value to after e };
+
+    ghost complete = { λ _ before spelling rest m value after s e. boolean_complete before spelling rest value m after s e };
+
+    ghost one_form = { λ _ a b x y v w s t e. boolean_one_form a b x y v w s t e };
+
+    ghost steady = { λ _ bytes more at m le c. boolean_steady bytes more at m le c };
+
+    ghost defect = { λ _ bytes at m le. boolean_defect bytes at m };
+
+    ghost told = { λ _ before bytes m d f. boolean_told before bytes m d f };
+
+    fn read(&self, bytes: &[u8], at: usize, m: Meter) -> Result<(bool, usize, Meter), Fault> {
+        read_boolean(bytes, at, m)
+    }
+
+    fn skip(&self, bytes: &[u8], at: usize, m: Meter) -> Result<(usize, Meter), Fault> {
+        let (_, to, m) = read_boolean(bytes, at, m)?;
+        Ok((to, m))
+    }
+}
