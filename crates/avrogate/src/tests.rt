@@ -32,6 +32,14 @@ const NO_FIELDS: &str =
 const PROMOTED: &str =
     "{\"type\":\"record\",\"name\":\"P\",\"fields\":[{\"name\":\"n\",\"type\":\"int\"}]}\n{\"type\":\"record\",\"name\":\"P\",\"fields\":[{\"name\":\"n\",\"type\":\"long\"}]}\n03\n";
 
+/// A record of a long and a string, to itself, and two lines that are no lower-case hexadecimal in pairs.
+const BAD_HEX: &str =
+    "{\"type\":\"record\",\"name\":\"T\",\"fields\":[{\"name\":\"a\",\"type\":\"long\"},{\"name\":\"b\",\"type\":\"string\"}]}\n{\"type\":\"record\",\"name\":\"T\",\"fields\":[{\"name\":\"a\",\"type\":\"long\"},{\"name\":\"b\",\"type\":\"string\"}]}\n3\n3606666F6F\n";
+
+/// The same record, to one with its fields the other way, and a payload.
+const REORDERED: &str =
+    "{\"type\":\"record\",\"name\":\"T\",\"fields\":[{\"name\":\"a\",\"type\":\"long\"},{\"name\":\"b\",\"type\":\"string\"}]}\n{\"type\":\"record\",\"name\":\"T\",\"fields\":[{\"name\":\"b\",\"type\":\"string\"},{\"name\":\"a\",\"type\":\"long\"}]}\n3606666f6f\n";
+
 /// A number of a call that is never reached.
 const NEVER: usize = usize::MAX;
 
@@ -263,7 +271,7 @@ fn reads_the_command_line(rt: HostRuntime) -> Result<(), Fail> {
 
 #[test]
 fn answers_schemas(rt: HostRuntime) {
-    let table: [(&str, &str, u8); 10] = [
+    let table: [(&str, &str, u8); 11] = [
         ("", "bad schema 1 NotJson\n", 1),
         ("{\n\"long\"\n02\n", "bad schema 1 NotJson\n", 1),
         ("\"long\"", "bad schema 2 NotJson\n", 1),
@@ -274,6 +282,7 @@ fn answers_schemas(rt: HostRuntime) {
         ("\"long\"\n\"long\"", "", 0),
         (TWO_NAMES, "not yet\n", 1),
         (TWO_NAMES_AND_A_PAYLOAD, "not yet\n", 1),
+        (REORDERED, "not yet\n", 1),
     ];
     for (input, output, status) in table {
         assert_answers(&rt, input.as_bytes(), output.as_bytes(), status);
@@ -282,7 +291,7 @@ fn answers_schemas(rt: HostRuntime) {
 
 #[test]
 fn answers_payloads(rt: HostRuntime) {
-    let table: [(&str, &str); 11] = [
+    let table: [(&str, &str); 12] = [
         ("\"long\"\n\"long\"\n02\n", "done 02\n"),
         ("\"long\"\n\"long\"\n02\n7f", "done 02\ndone 7f\n"),
         (
@@ -297,6 +306,7 @@ fn answers_payloads(rt: HostRuntime) {
         ("\"string\"\n\"string\"\n02ff\n", "malformed BadText at 1\n"),
         ("\"long\"\n\"string\"\n02\n", "mismatch NoMatch 0 0\n"),
         ("\"string\"\n\"int\"\n0261\n", "mismatch NoMatch 0 0\n"),
+        (BAD_HEX, "bad hex\nbad hex\n"),
         (PROMOTED, "done 03\n"),
         (
             "\"int\"\n\"int\"\n8000\nffffffff1f\n",
