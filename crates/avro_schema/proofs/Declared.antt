@@ -1,16 +1,19 @@
 -- What a text declares, step by step.
-use Rattle.std.proofs.Common.{◌≡◌, ℕ, ◌<◌, ◌≤◌, List, [], length, true, false, Option, Some, None, Result, Ok, Err, refl, sym, ap}
+use Rattle.std.proofs.Common.{◌≡◌, ℕ, ◌<◌, ◌≤◌, List, [], length, true, false, option_map, Option, Some, None, Result, Ok, Err, refl, sym, ap}
 use Rattle.std.specs.Option.{ok_or}
 use Rattle.std.proofs.lemmas.Bool.{le-leb, lt-leb}
 use Rattle.serde_json.specs.Data.{Data}
 use Rattle.serde_json.specs.Read.{read}
 use Rattle.serde_json.specs.Written.{has_float}
 use Rattle.avro_schema.specs.declared.error.SchemaError.{SchemaError}
-use Rattle.avro_schema.specs.declared.error.SchemaError.TheVariants.{TooLarge, NotJson, BadNumber}
+use Rattle.avro_schema.specs.declared.error.SchemaError.TheVariants.{TooLarge, NotJson, BadNumber, BadDefault}
 use Rattle.avro_schema.specs.Contract.{run}
 use Rattle.avro_schema.specs.Fault.{◌>>=◌}
 use Rattle.avro_schema.specs.Node.{Node}
-use Rattle.avro_schema.specs.Schema.{schema_of, nodes_in_read, most_text}
+use Rattle.avro_schema.specs.Datum.{Datum}
+use Rattle.avro_schema.specs.Defaults.{all_defaults, finished, nodes_with}
+use Rattle.avro_schema.specs.Draft.{Draft}
+use Rattle.avro_schema.specs.Schema.{schema_of, nodes_in_read, declared, most_text}
 use Rattle.avro_schema.specs.Walk.{walk, added, null_namespace}
 
 pub too-large : (text : List ℕ) → most_text < length text → schema_of text ≡ Err TooLarge
@@ -32,10 +35,31 @@ some-json (Some e) d h = let same : e ≡ d = cc in ap Some same
 pub a-float : (text : List ℕ) (d : Data) → read text ≡ Some d → true ≡ has_float d → nodes_in_read (read text) ≡ Err BadNumber
 a-float text d e f = rw (e, ← f) refl
 
-from-nothing : {A : Type 0} (r : Result (A × List Node) SchemaError) → added [] r ≡ r
+pub walked : (text : List ℕ) (d : Data) → read text ≡ Some d → false ≡ has_float d → nodes_in_read (read text) ≡ declared d
+walked text d e f = rw (e, ← f) refl
+
+-- ---- the walk, and then the defaults
+
+from-nothing : {A : Type 0} (r : Result (A × List Draft) SchemaError) → added [] r ≡ r
 from-nothing (Ok p) = refl
 from-nothing (Err e) = refl
 
-pub walked : (text : List ℕ) (d : Data) → read text ≡ Some d → false ≡ has_float d → nodes_in_read (read text) ≡ (run (walk d) null_namespace [] >>= λ p. Ok p.1)
+pub declared-is : (d : Data) → declared d ≡ (run (walk d) null_namespace [] >>= λ p. finished p.1)
 unfolding run
-walked text d e f = rw (e, ← f) (ap (λ (r : Result (ℕ × List Node) SchemaError). r >>= λ p. Ok p.1) (sym (from-nothing (walk d null_namespace []))))
+declared-is d = ap (λ (r : Result (ℕ × List Draft) SchemaError). r >>= λ p. finished p.1) (sym (from-nothing (walk d null_namespace [])))
+
+pub finished-ok : (drafts : List Draft) (all : List (List (Option Datum))) → ok_or (all_defaults drafts drafts) BadDefault ≡ Ok all → finished drafts ≡ Ok (nodes_with drafts all)
+unfolding finished
+finished-ok drafts all e = at (all_defaults drafts drafts) e
+  where
+    at : (o : Option (List (List (Option Datum)))) → ok_or o BadDefault ≡ Ok all → ok_or (option_map (nodes_with drafts) o) BadDefault ≡ Ok (nodes_with drafts all)
+    at None e = absurd (let wrong : ⊥ = cc in wrong)
+    at (Some xs) e = let same : xs ≡ all = cc in ap (λ ys. Ok (nodes_with drafts ys)) same
+
+pub finished-err : (drafts : List Draft) (x : SchemaError) → ok_or (all_defaults drafts drafts) BadDefault ≡ Err x → finished drafts ≡ Err x
+unfolding finished
+finished-err drafts x e = at (all_defaults drafts drafts) e
+  where
+    at : (o : Option (List (List (Option Datum)))) → ok_or o BadDefault ≡ Err x → ok_or (option_map (nodes_with drafts) o) BadDefault ≡ Err x
+    at None e = let same : BadDefault ≡ x = cc in ap Err same
+    at (Some xs) e = absurd (let wrong : ⊥ = cc in wrong)

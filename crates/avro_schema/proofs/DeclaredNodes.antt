@@ -1,196 +1,219 @@
--- The law of the walk: its nodes are what the value declares.
-use Rattle.std.proofs.Common.{◌≡◌, ℕ, ◌==◌, List, [], ◌∷◌, ◌++◌, length, Bool, true, false, cond, Option, Some, None, is_none, Result, Ok, Err, refl, ◌∙◌, subst, append-nil, nat_lt, nat_le, codes, slice_get}
+-- The law of the walk: the nodes that its drafts become are what the value declares.
+use Rattle.std.proofs.Common.{◌≡◌, ℕ, inl, inr, List, [], ◌∷◌, ◌++◌, length, map, Bool, true, false, cond, Option, Some, None, Result, Ok, Err, refl, ap, ◌∙◌, nat_lt, codes}
 use Rattle.std.specs.Ordering.{nat_cmp}
 use Rattle.std.specs.Cmp.Lexicographic.{slice_cmp}
 use Rattle.serde_json.specs.Data.{Data, null, boolean, number, string, array, object, Items, no_items, item, Members, no_members, member}
 use Rattle.serde_json.specs.Find.{get_member}
-use Rattle.serde_json.specs.Read.{read}
-use Rattle.serde_json.specs.Written.{has_float}
 use Rattle.avro_schema.specs.declared.error.SchemaError.{SchemaError}
-use Rattle.avro_schema.specs.declared.error.SchemaError.TheVariants.{TooLarge, BadNumber, OutOfProfile}
+use Rattle.avro_schema.specs.declared.error.SchemaError.TheVariants.{TooLarge, BadUnion}
 use Rattle.avro_schema.specs.declared.word.Form.{Form}
 use Rattle.avro_schema.specs.declared.word.Form.TheVariants as forms
-use Rattle.avro_schema.specs.Declaring.{IsNamed, IsRecordOf, DeclaresNode, NodeAt, FieldsAt, ListsFields, DeclaresFields, DeclaresField}
-use Rattle.avro_schema.specs.Fault.{◌>>=◌, require}
-use Rattle.avro_schema.specs.Names.{record_name, field_name}
-use Rattle.avro_schema.specs.Node.{Node, RecordNode, FieldNode, HaveDistinctNames}
-use Rattle.avro_schema.specs.Schema.{schema_of, nodes_in_read, Declares}
-use Rattle.avro_schema.specs.Walk.{Walk, Head, Named, supported, named, or_unknown, around, record_of, declared_by, walk, walk_member, walk_fields, fields, fields_after, field, field_of, field_node, null_namespace}
-use Rattle.avro_schema.specs.Word.{word_of, leaf_of, form_of}
-use Rattle.avro_schema.proofs.Attributes.{ok_inside, record_named, field_named, record_type}
-use Rattle.avro_schema.proofs.Places.{Placed, Places, PlacesIf, places-bind, places-done, places-or, placed-room, at_seam, placed-around, if_found}
-use Rattle.avro_schema.proofs.Sound.{Fine, SoundIf}
-use Rattle.avro_schema.proofs.WellFormed.{FieldsFit, record_fits, sound-fields_in}
+use Rattle.avro_schema.specs.declared.word.Word.{Word}
+use Rattle.avro_schema.specs.declared.word.Word.TheVariants as words
+use Rattle.avro_schema.specs.Attributes.{symbols_of, default_symbol, size_of}
+use Rattle.avro_schema.specs.Declaring.{IsNamed, IsObject, DeclaresNode, DeclareMembers, NodeAt, FieldsAt, ListsFields, DeclareFields, DeclaresField}
+use Rattle.avro_schema.specs.Defaults.{field_default, field_defaults, fields_with}
+use Rattle.avro_schema.specs.Draft.{Draft, Whole, RecordDraft, DraftField}
+use Rattle.avro_schema.specs.Fault.{◌>>=◌}
+use Rattle.avro_schema.specs.Head.{Head, ArrayHead, MapHead, UnionHead, Named, heads_of, defined_at}
+use Rattle.avro_schema.specs.Names.{new_name, namespace_of, full_name, field_name}
+use Rattle.avro_schema.specs.Node.{Node, FixedNode, EnumNode, ArrayNode, MapNode, UnionNode, RecordNode}
+use Rattle.avro_schema.specs.Walk.{Walk, are_apart, head_at, fault, found, leaf_or_reference, reference, named, or_unknown, around, union_of, record_of, enum_of, fixed_of, if_room, declared_by, draft_field, field_of, walk, members, walk_member, walk_fields, fields, fields_after, field}
+use Rattle.avro_schema.specs.Word.{word_of, leaf_of, is_left_out, is_primitive, form_of}
+use Rattle.avro_schema.proofs.Attributes.{new_named, field_named}
+use Rattle.avro_schema.proofs.EndsAs.{Ends, FieldEnds, FieldsEnd, ends_at, defined_node, default_there}
+use Rattle.avro_schema.proofs.FinishedNodes.{in-row}
+use Rattle.avro_schema.proofs.Places.{Placed, Places, PlacesIf, places-bind, places-done, places-or, placed-given, placed-if, placed-one, placed-before, placed-around, if_found}
 
--- ---- primitive types
+-- ---- what a text names
 
-primitive_at : (s : List ℕ) (o : Option Node) → leaf_of (word_of s) ≡ o → Places (DeclaresNode (string s)) (supported o)
-primitive_at s None e space heads = tt
-primitive_at s (Some k) e space heads = placed-room (DeclaresNode (string s)) heads (nat_lt (length heads) 1024) _ TooLarge
-    (λ before after len. (k, e, subst (λ n. slice_get (before ++ k ∷ after) n ≡ Some k) len (at_seam before k after)))
+abbrev TextEnds : List ℕ → List ℕ → List Draft → ℕ → Type 0
+TextEnds s space = Ends (DeclaresNode (string s) space)
 
-places-named : (s : List ℕ) → Places (DeclaresNode (string s)) (named s)
+found_at : (s space : List ℕ) → is_primitive (word_of s) ≡ false → (heads : List Head) (o : Option ℕ) → defined_at (full_name space s) heads ≡ o → Placed (TextEnds s space) heads (found o)
+found_at s space none heads None e = tt
+found_at s space none heads (Some n) e = λ before after same nodes ends.
+    let h = defined_node (full_name space s) before after n nodes (ap (defined_at (full_name space s)) same ∙ e) ends in
+    (h.0, h.1, inr (record { not_primitive = none; defines = h.2 }))
+
+places-reference : (s space : List ℕ) → is_primitive (word_of s) ≡ false → Places (TextEnds s space) space (reference s)
+unfolding reference
+places-reference s space none heads = found_at s space none heads (defined_at (full_name space s) heads) refl
+
+not_primitive : (w : Word) → is_left_out w ≡ false → leaf_of w ≡ None → is_primitive w ≡ false
+not_primitive words.Null a b = absurd (let wrong : ⊥ = cc in wrong)
+not_primitive words.Boolean a b = absurd (let wrong : ⊥ = cc in wrong)
+not_primitive words.Int a b = absurd (let wrong : ⊥ = cc in wrong)
+not_primitive words.Long a b = absurd (let wrong : ⊥ = cc in wrong)
+not_primitive words.Bytes a b = absurd (let wrong : ⊥ = cc in wrong)
+not_primitive words.Text a b = absurd (let wrong : ⊥ = cc in wrong)
+not_primitive words.Float a b = absurd (let wrong : ⊥ = cc in wrong)
+not_primitive words.Double a b = absurd (let wrong : ⊥ = cc in wrong)
+not_primitive words.Record a b = refl
+not_primitive words.Enum a b = refl
+not_primitive words.Fixed a b = refl
+not_primitive words.Array a b = refl
+not_primitive words.Map a b = refl
+not_primitive words.Error a b = refl
+not_primitive words.Other a b = refl
+
+places-leaf : (s space : List ℕ) (o : Option Node) → is_left_out (word_of s) ≡ false → leaf_of (word_of s) ≡ o → Places (TextEnds s space) space (leaf_or_reference o s)
+places-leaf s space None kept e = places-reference s space (not_primitive (word_of s) kept e)
+places-leaf s space (Some k) kept e = λ heads. placed-if (TextEnds s space) heads (nat_lt (length heads) 1024) _ TooLarge (
+    placed-one (TextEnds s space) (Whole k) (λ drafts n here nodes ends. (k, (ends_at drafts nodes ends n (Whole k) here).2, inl e)) heads)
+
+kept_at : (s space : List ℕ) (b : Bool) (e : SchemaError) → is_left_out (word_of s) ≡ b → (heads : List Head) → Placed (TextEnds s space) heads (cond b (fault e) (leaf_or_reference (leaf_of (word_of s)) s) space heads)
+kept_at s space true e is heads = tt
+kept_at s space false e is heads = places-leaf s space (leaf_of (word_of s)) is refl heads
+
+places-named : (s space : List ℕ) → Places (TextEnds s space) space (named s)
 unfolding named
-places-named s = primitive_at s (leaf_of (word_of s)) refl
+places-named s space heads = kept_at s space (is_left_out (word_of s)) _ refl heads
 
--- ---- records
+-- ---- unions
 
-abbrev Listed : Members → List Node → List FieldNode → Type 0
-Listed ms ns fs = FieldsAt (codes "fields") ms ns fs × HaveDistinctNames fs
+abbrev MembersEnd : Items → List ℕ → List Draft → List ℕ → Type 0
+MembersEnd ds space = Ends (DeclareMembers ds space)
 
-distinct_at : (P : List Node → List FieldNode → Type 0) (heads : List Head) (r : Result (List FieldNode × List Node) SchemaError) → Placed P heads r → Fine (FieldsFit []) heads r → Placed (λ ns fs. P ns fs × HaveDistinctNames fs) heads r
-distinct_at P heads (Ok p) f h = λ before after len. (f before after len, (record_fits [] _ p.0 h.0).1)
-distinct_at P heads (Err e) f h = tt
+union_at : (ds : Items) (space : List ℕ) (heads : List Head) (b : Bool) (p : List ℕ × List Draft) → Placed (MembersEnd ds space) (heads ++ UnionHead ∷ []) (Ok p)
+    → Placed (Ends (DeclaresNode (array ds) space)) heads (cond b (Ok (length heads, Whole (UnionNode p.0) ∷ p.1)) (Err BadUnion))
+union_at ds space heads true p f = placed-before (MembersEnd ds space) (Ends (DeclaresNode (array ds) space)) (λ ns. Whole (UnionNode ns)) UnionHead (λ ns. refl)
+    (λ drafts n ns here h nodes ends. (ns, (ends_at drafts nodes ends n (Whole (UnionNode ns)) here).2, h nodes ends)) heads p.0 p.1 f
+union_at ds space heads false p f = tt
 
-places_if-distinct : (P : List Node → List FieldNode → Type 0) (o : Option (Walk (List FieldNode))) → PlacesIf P o → SoundIf (FieldsFit []) o → PlacesIf (λ ns fs. P ns fs × HaveDistinctNames fs) o
-places_if-distinct P None f h = tt
-places_if-distinct P (Some w) f h = λ space heads. distinct_at P heads (w space heads) (f space heads) (h space heads)
+apart_at : (ds : Items) (space : List ℕ) (heads : List Head) (r : Result (List ℕ × List Draft) SchemaError) → Placed (MembersEnd ds space) (heads ++ UnionHead ∷ []) r
+    → Placed (Ends (DeclaresNode (array ds) space)) heads (r >>= λ p. cond (are_apart [] (map (head_at ((heads ++ UnionHead ∷ []) ++ heads_of p.1)) p.0)) (Ok (length heads, Whole (UnionNode p.0) ∷ p.1)) (Err BadUnion))
+apart_at ds space heads (Ok p) f = union_at ds space heads (are_apart [] (map (head_at ((heads ++ UnionHead ∷ []) ++ heads_of p.1)) p.0)) p f
+apart_at ds space heads (Err e) f = tt
 
-named_at : (ms : Members) (o : Option (Walk (List FieldNode))) → PlacesIf (Listed ms) o → (space : List ℕ) (heads : List Head) (r : Result (List ℕ) SchemaError) → ((s : List ℕ) → r ≡ Ok s → IsRecordOf ms s)
-    → Placed (DeclaresNode (object ms)) heads (r >>= λ s. around (RecordNode s) (Named s) (or_unknown o) space heads)
+places-union : (ds : Items) (space : List ℕ) (w : Walk (List ℕ)) → Places (MembersEnd ds space) space w → Places (Ends (DeclaresNode (array ds) space)) space (if_room (union_of w))
+unfolding union_of
+places-union ds space w f heads = placed-if (Ends (DeclaresNode (array ds) space)) heads (nat_lt (length heads) 1024) _ TooLarge (apart_at ds space heads (w space (heads ++ UnionHead ∷ [])) (f (heads ++ UnionHead ∷ [])))
+
+-- ---- objects
+
+abbrev ObjectEnds : Form → Members → List ℕ → List Draft → ℕ → Type 0
+ObjectEnds form ms space = Ends (λ nodes. IsObject form ms (NodeAt ms nodes) (FieldsAt ms nodes) space nodes)
+
+module _ (ms : Members) (space : List ℕ) (heads : List Head) where
+  placed-record : (o : Option (Walk (List DraftField))) → ((inner : List ℕ) → PlacesIf (FieldsEnd (λ nodes. FieldsAt ms nodes (codes "fields") inner)) inner o)
+      → Placed (ObjectEnds forms.Record ms space) heads (record_of (get_member (codes "name") ms) (get_member (codes "namespace") ms) o space heads)
+  unfolding record_of around
+  placed-record o f = placed-given (ObjectEnds forms.Record ms space) heads (new_name (get_member (codes "name") ms) (get_member (codes "namespace") ms) space heads) _ (λ full is.
+      let Inner = FieldsEnd (λ nodes. FieldsAt ms nodes (codes "fields") (namespace_of full)) in
+      placed-around Inner (ObjectEnds forms.Record ms space) (λ fs. RecordDraft full fs) (Named full) (λ fs. refl)
+      (λ drafts n fs here parts nodes ends.
+      let at = ends_at drafts nodes ends n (RecordDraft full fs) here in
+      let well = ends.well_formed.each n (RecordNode full (fields_with fs at.0)) at.2 in
+      (full, fields_with fs at.0, at.2, new_named ms space heads full is, parts nodes ends at.0 at.1, well.1))
+      heads (or_unknown o (namespace_of full) (heads ++ Named full ∷ []))
+      (places-or Inner (namespace_of full) o (f (namespace_of full)) (heads ++ Named full ∷ [])))
+
+  placed-enum : Placed (ObjectEnds forms.Enum ms space) heads (enum_of (get_member (codes "name") ms) (get_member (codes "namespace") ms) (get_member (codes "symbols") ms) (get_member (codes "default") ms) space heads)
+  unfolding enum_of
+  placed-enum =
+      placed-given (ObjectEnds forms.Enum ms space) heads (new_name (get_member (codes "name") ms) (get_member (codes "namespace") ms) space heads) _ (λ full is.
+      placed-given (ObjectEnds forms.Enum ms space) heads (symbols_of (get_member (codes "symbols") ms)) _ (λ ss are.
+      placed-given (ObjectEnds forms.Enum ms space) heads (default_symbol ss (get_member (codes "default") ms)) _ (λ default at.
+      placed-one (ObjectEnds forms.Enum ms space) (Whole (EnumNode full ss default)) (λ drafts n here nodes ends.
+      (full, ss, default, (ends_at drafts nodes ends n (Whole (EnumNode full ss default)) here).2, new_named ms space heads full is, are, at)) heads)))
+
+  placed-fixed : Placed (ObjectEnds forms.Fixed ms space) heads (fixed_of (get_member (codes "name") ms) (get_member (codes "namespace") ms) (get_member (codes "size") ms) space heads)
+  unfolding fixed_of
+  placed-fixed =
+      placed-given (ObjectEnds forms.Fixed ms space) heads (new_name (get_member (codes "name") ms) (get_member (codes "namespace") ms) space heads) _ (λ full is.
+      placed-given (ObjectEnds forms.Fixed ms space) heads (size_of (get_member (codes "size") ms)) _ (λ size at.
+      placed-one (ObjectEnds forms.Fixed ms space) (Whole (FixedNode full size)) (λ drafts n here nodes ends.
+      (full, size, (ends_at drafts nodes ends n (Whole (FixedNode full size)) here).2, new_named ms space heads full is, at)) heads))
+
+abbrev AtKeyEnds : Members → List ℕ → List ℕ → List Draft → ℕ → Type 0
+AtKeyEnds ms k space = Ends (λ nodes. NodeAt ms nodes k space)
+
+places-array : (ms : Members) (space : List ℕ) (o : Option (Walk ℕ)) → PlacesIf (AtKeyEnds ms (codes "items") space) space o → Places (ObjectEnds forms.Array ms space) space (around (λ n. Whole (ArrayNode n)) ArrayHead (or_unknown o))
 unfolding around
-named_at ms o f space heads (Ok s) is = placed-around (Listed ms) (DeclaresNode (object ms)) (λ fs. RecordNode s fs) (λ ns n fs here h. (s, fs, here, is s refl, h.0, h.1)) (Named s) heads (or_unknown o space (heads ++ Named s ∷ []))
-    (places-or (Listed ms) o f space (heads ++ Named s ∷ []))
-named_at ms o f space heads (Err e) is = tt
+places-array ms space o f heads = placed-around (AtKeyEnds ms (codes "items") space) (ObjectEnds forms.Array ms space) (λ n. Whole (ArrayNode n)) ArrayHead (λ n. refl)
+    (λ drafts n inner here h nodes ends. (inner, (ends_at drafts nodes ends n (Whole (ArrayNode inner)) here).2, h nodes ends)) heads _ (places-or (AtKeyEnds ms (codes "items") space) space o f (heads ++ ArrayHead ∷ []))
 
-root_at : {A : Type 0} (P : List Node → A → Type 0) (heads : List Head) (b : Bool) (r : Result (A × List Node) SchemaError) (e : SchemaError) → Placed P heads r → Placed P heads (require b e >>= λ _. r)
-root_at P heads true r e f = f
-root_at P heads false r e f = tt
+places-map : (ms : Members) (space : List ℕ) (o : Option (Walk ℕ)) → PlacesIf (AtKeyEnds ms (codes "values") space) space o → Places (ObjectEnds forms.Map ms space) space (around (λ n. Whole (MapNode n)) MapHead (or_unknown o))
+unfolding around
+places-map ms space o f heads = placed-around (AtKeyEnds ms (codes "values") space) (ObjectEnds forms.Map ms space) (λ n. Whole (MapNode n)) MapHead (λ n. refl)
+    (λ drafts n inner here h nodes ends. (inner, (ends_at drafts nodes ends n (Whole (MapNode inner)) here).2, h nodes ends)) heads _ (places-or (AtKeyEnds ms (codes "values") space) space o f (heads ++ MapHead ∷ []))
 
-places-record : (ms : Members) (o : Option (Walk (List FieldNode))) → PlacesIf (Listed ms) o → get_member (codes "type") ms ≡ Some (string (codes "record"))
-    → Places (DeclaresNode (object ms)) (record_of (get_member (codes "name") ms) (get_member (codes "namespace") ms) o)
-unfolding record_of
-places-record ms o f type space heads = root_at (DeclaresNode (object ms)) heads (length heads == 0) _ OutOfProfile (named_at ms o f space heads (record_name (get_member (codes "name") ms) (get_member (codes "namespace") ms)) (λ s e. record_named ms s type e))
-
-places-declared : (ms : Members) (o : Option (Walk (List FieldNode))) → PlacesIf (Listed ms) o → (form : Form) → form_of (get_member (codes "type") ms) ≡ form
-    → Places (DeclaresNode (object ms)) (declared_by form (get_member (codes "name") ms) (get_member (codes "namespace") ms) o)
-places-declared ms o f forms.Misshapen e space heads = tt
-places-declared ms o f forms.Record e space heads = placed-room (DeclaresNode (object ms)) heads (nat_lt (length heads) 1024) _ TooLarge (places-record ms o f (record_type (get_member (codes "type") ms) e) space heads)
-places-declared ms o f forms.Unsupported e space heads = tt
+places-declared : (ms : Members) (space : List ℕ) (schema : List ℕ → Option (Walk ℕ)) (fs : List ℕ → Option (Walk (List DraftField))) (form : Form)
+    → ((k : List ℕ) → PlacesIf (AtKeyEnds ms k space) space (schema k)) → ((k inner : List ℕ) → PlacesIf (FieldsEnd (λ nodes. FieldsAt ms nodes k inner)) inner (fs k))
+    → Places (ObjectEnds form ms space) space (declared_by form (λ k. get_member k ms) schema fs)
+places-declared ms space schema fs forms.Record f g = λ heads. placed-if (ObjectEnds forms.Record ms space) heads (nat_lt (length heads) 1024) _ TooLarge (placed-record ms space heads (fs (codes "fields")) (g (codes "fields")))
+places-declared ms space schema fs forms.Enum f g = λ heads. placed-if (ObjectEnds forms.Enum ms space) heads (nat_lt (length heads) 1024) _ TooLarge (placed-enum ms space heads)
+places-declared ms space schema fs forms.Fixed f g = λ heads. placed-if (ObjectEnds forms.Fixed ms space) heads (nat_lt (length heads) 1024) _ TooLarge (placed-fixed ms space heads)
+places-declared ms space schema fs forms.Array f g = λ heads. placed-if (ObjectEnds forms.Array ms space) heads (nat_lt (length heads) 1024) _ TooLarge (places-array ms space (schema (codes "items")) (f (codes "items")) heads)
+places-declared ms space schema fs forms.Map f g = λ heads. placed-if (ObjectEnds forms.Map ms space) heads (nat_lt (length heads) 1024) _ TooLarge (places-map ms space (schema (codes "values")) (f (codes "values")) heads)
+places-declared ms space schema fs forms.Error f g = λ heads. tt
+places-declared ms space schema fs forms.Other f g = places-or (AtKeyEnds ms (codes "type") space) space (schema (codes "type")) (f (codes "type"))
 
 -- ---- fields
 
-default_at : (ms : Members) (heads : List Head) (s : List ℕ) → IsNamed ms s → (default : Option Data) → get_member (codes "default") ms ≡ default → (p : ℕ × List Node) → Placed (NodeAt (codes "type") ms) heads (Ok p)
-    → Placed (DeclaresField (object ms)) heads (require (is_none default) OutOfProfile >>= λ _. Ok (field_node s p.0, p.1))
-default_at ms heads s is None e p f = λ before after len. (is, f before after len, e)
-default_at ms heads s is (Some d) e p f = tt
+abbrev OneFieldEnds : Data → List ℕ → List Draft → DraftField → Type 0
+OneFieldEnds d space = FieldEnds (DeclaresField d space)
 
-type_at : (ms : Members) (heads : List Head) (s : List ℕ) → IsNamed ms s → (r : Result (ℕ × List Node) SchemaError) → Placed (NodeAt (codes "type") ms) heads r
-    → Placed (DeclaresField (object ms)) heads (r >>= λ p. require (is_none (get_member (codes "default") ms)) OutOfProfile >>= λ _. Ok (field_node s p.0, p.1))
-type_at ms heads s is (Ok p) f = default_at ms heads s is (get_member (codes "default") ms) refl p f
-type_at ms heads s is (Err e) f = tt
+type_at : (ms : Members) (space : List ℕ) (heads : List Head) (s : List ℕ) → IsNamed ms s → (r : Result (ℕ × List Draft) SchemaError) → Placed (AtKeyEnds ms (codes "type") space) heads r
+    → Placed (OneFieldEnds (object ms) space) heads (r >>= λ p. Ok (draft_field s p.0 (get_member (codes "default") ms), p.1))
+type_at ms space heads s is (Ok p) f = λ before after same nodes ends default e. (is, f before after same nodes ends, default_there _ p.0 (get_member (codes "default") ms) default e)
+type_at ms space heads s is (Err e) f = tt
 
-name_at : (ms : Members) (r : Result (List ℕ) SchemaError) → ((s : List ℕ) → r ≡ Ok s → IsNamed ms s) → (type : Option (Walk ℕ)) → PlacesIf (NodeAt (codes "type") ms) type → (space : List ℕ) (heads : List Head)
-    → Placed (DeclaresField (object ms)) heads (r >>= λ s. or_unknown type space heads >>= λ p. require (is_none (get_member (codes "default") ms)) OutOfProfile >>= λ _. Ok (field_node s p.0, p.1))
-name_at ms (Ok s) is type f space heads = type_at ms heads s (is s refl) (or_unknown type space heads) (places-or (NodeAt (codes "type") ms) type f space heads)
-name_at ms (Err e) is type f space heads = tt
-
-places-field_of : (ms : Members) (before : List (List ℕ)) (type : Option (Walk ℕ)) → PlacesIf (NodeAt (codes "type") ms) type
-    → Places (DeclaresField (object ms)) (field_of (get_member (codes "name") ms) type (get_member (codes "default") ms) before)
+places-field_of : (ms : Members) (space : List ℕ) (before : List (List ℕ)) (type : Option (Walk ℕ)) → PlacesIf (AtKeyEnds ms (codes "type") space) space type
+    → Places (OneFieldEnds (object ms) space) space (field_of (get_member (codes "name") ms) type (get_member (codes "default") ms) before)
 unfolding field_of
-places-field_of ms before type f space heads = name_at ms (field_name (get_member (codes "name") ms) before) (λ s e. field_named ms before s e) type f space heads
+places-field_of ms space before type f heads = placed-given (OneFieldEnds (object ms) space) heads (field_name (get_member (codes "name") ms) before) _ (λ s is.
+    type_at ms space heads s (field_named ms before s is) (or_unknown type space heads) (places-or (AtKeyEnds ms (codes "type") space) space type f heads))
+
+abbrev AllFieldsEnd : Items → List ℕ → List Draft → List DraftField → Type 0
+AllFieldsEnd ds space = FieldsEnd (DeclareFields ds space)
+
+fields-cons : (d : Data) (ds : Items) (space : List ℕ) (drafts : List Draft) (f : DraftField) (fs : List DraftField) → OneFieldEnds d space drafts f → AllFieldsEnd ds space drafts fs → AllFieldsEnd (item d ds) space drafts (f ∷ fs)
+fields-cons d ds space drafts f fs h k = λ nodes ends all e.
+    let r = in-row (field_default drafts f.node f.default) (field_defaults drafts fs) all e in
+    rw r.all_are (h nodes ends r.head r.first_is, k nodes ends r.tail r.rest_is)
 
 -- ---- the walk
 
 mutual
   unfolding walk
 
-  places-walk : (d : Data) → Places (DeclaresNode d) (walk d)
-  places-walk null = λ space heads. tt
-  places-walk (boolean b) = λ space heads. tt
-  places-walk (number n) = λ space heads. tt
-  places-walk (string s) = places-named s
-  places-walk (array ds) = λ space heads. tt
-  places-walk (object ms) = places-declared ms _ (places_if-distinct (FieldsAt (codes "fields") ms) _ (places-fields_in ms (codes "fields")) (sound-fields_in ms (codes "fields"))) _ refl
+  pub places-walk : (d : Data) (space : List ℕ) → Places (Ends (DeclaresNode d space)) space (walk d)
+  places-walk null space = λ heads. tt
+  places-walk (boolean b) space = λ heads. tt
+  places-walk (number n) space = λ heads. tt
+  places-walk (string s) space = places-named s space
+  places-walk (array ds) space = places-union ds space (members ds) (places-members ds space)
+  places-walk (object ms) space = places-declared ms space (walk_member ms) (walk_fields ms) (form_of (get_member (codes "type") ms)) (λ k. places-member ms k space) (places-fields_in ms)
 
-  places-member : (ms : Members) (k : List ℕ) → PlacesIf (NodeAt k ms) (walk_member ms k)
-  places-member no_members k = tt
-  places-member (member l d ms) k = if_found (NodeAt k ms) (DeclaresNode d) k l (slice_cmp nat_cmp k l) refl (walk_member ms k) (walk d) (places-member ms k) (places-walk d)
+  places-members : (ds : Items) (space : List ℕ) → Places (MembersEnd ds space) space (members ds)
+  places-members no_items space = places-done (MembersEnd no_items space) space [] (λ drafts nodes ends. tt)
+  places-members (item d ds) space = places-bind (Ends (DeclaresNode d space)) (MembersEnd (item d ds) space) space (walk d) _ (places-walk d space)
+      (λ n. places-bind (MembersEnd ds space) (λ drafts ns. Ends (DeclaresNode d space) drafts n → MembersEnd (item d ds) space drafts ns) space (members ds) _ (places-members ds space)
+      (λ ns. places-done (λ drafts all. MembersEnd ds space drafts ns → Ends (DeclaresNode d space) drafts n → MembersEnd (item d ds) space drafts all) space (n ∷ ns) (λ drafts k h nodes ends. (h nodes ends, k nodes ends))))
 
-  places-fields_in : (ms : Members) (k : List ℕ) → PlacesIf (FieldsAt k ms) (walk_fields ms k)
-  places-fields_in no_members k = tt
-  places-fields_in (member l d ms) k = if_found (FieldsAt k ms) (ListsFields d) k l (slice_cmp nat_cmp k l) refl (walk_fields ms k) (fields d) (places-fields_in ms k) (places-fields d)
+  places-member : (ms : Members) (k space : List ℕ) → PlacesIf (AtKeyEnds ms k space) space (walk_member ms k)
+  places-member no_members k space = tt
+  places-member (member l d ms) k space = if_found (AtKeyEnds ms k space) (Ends (DeclaresNode d space)) (AtKeyEnds (member l d ms) k space) k l (λ other drafts n h nodes ends. inr (other, h nodes ends)) (λ own drafts n h nodes ends. inl (own, h nodes ends))
+      space (slice_cmp nat_cmp k l) refl (walk_member ms k) (walk d) (places-member ms k space) (places-walk d space)
 
-  places-fields : (d : Data) → Places (ListsFields d) (fields d)
-  places-fields (array ds) = places-after ds []
-  places-fields _ = λ space heads. tt
+  places-fields_in : (ms : Members) (k space : List ℕ) → PlacesIf (FieldsEnd (λ nodes. FieldsAt ms nodes k space)) space (walk_fields ms k)
+  places-fields_in no_members k space = tt
+  places-fields_in (member l d ms) k space = if_found (FieldsEnd (λ nodes. FieldsAt ms nodes k space)) (FieldsEnd (ListsFields d space)) (FieldsEnd (λ nodes. FieldsAt (member l d ms) nodes k space)) k l
+      (λ other drafts fs h nodes ends all e. inr (other, h nodes ends all e)) (λ own drafts fs h nodes ends all e. inl (own, h nodes ends all e))
+      space (slice_cmp nat_cmp k l) refl (walk_fields ms k) (fields d) (places-fields_in ms k space) (places-fields d space)
 
-  places-after : (ds : Items) (before : List (List ℕ)) → Places (DeclaresFields ds) (fields_after ds before)
-  places-after no_items before = places-done (DeclaresFields no_items) [] (λ ns. tt)
-  places-after (item d ds) before = places-bind (DeclaresField d) (DeclaresFields (item d ds)) (field d before) _ (places-field d before)
-      (λ f. places-bind (DeclaresFields ds) (λ ns fs. DeclaresField d ns f → DeclaresFields (item d ds) ns fs) (fields_after ds (before ++ f.name ∷ [])) _ (places-after ds (before ++ f.name ∷ []))
-      (λ fs. places-done (λ ns all. DeclaresFields ds ns fs → DeclaresField d ns f → DeclaresFields (item d ds) ns all) (f ∷ fs) (λ ns h k. (k, h))))
+  places-fields : (d : Data) (space : List ℕ) → Places (FieldsEnd (ListsFields d space)) space (fields d)
+  places-fields (array ds) space = places-after ds [] space
+  places-fields _ space = λ heads. tt
 
-  places-field : (d : Data) (before : List (List ℕ)) → Places (DeclaresField d) (field d before)
-  places-field (object ms) before = λ space heads. placed-room (DeclaresField (object ms)) heads (nat_lt (length before) 1024) _ TooLarge (places-field_of ms before (walk_member ms (codes "type")) (places-member ms (codes "type")) space heads)
-  places-field _ before = λ space heads. tt
+  places-after : (ds : Items) (before : List (List ℕ)) (space : List ℕ) → Places (AllFieldsEnd ds space) space (fields_after ds before)
+  places-after no_items before space = places-done (AllFieldsEnd no_items space) space [] (λ drafts nodes ends all e. tt)
+  places-after (item d ds) before space = places-bind (OneFieldEnds d space) (AllFieldsEnd (item d ds) space) space (field d before) _ (places-field d before space)
+      (λ f. places-bind (AllFieldsEnd ds space) (λ drafts fs. OneFieldEnds d space drafts f → AllFieldsEnd (item d ds) space drafts fs) space (fields_after ds (before ++ f.name ∷ [])) _ (places-after ds (before ++ f.name ∷ []) space)
+      (λ fs. places-done (λ drafts all. AllFieldsEnd ds space drafts fs → OneFieldEnds d space drafts f → AllFieldsEnd (item d ds) space drafts all) space (f ∷ fs) (λ drafts k h. fields-cons d ds space drafts f fs h k)))
 
--- ---- the first node
-
--- the node of the value is the first that is added
-abbrev First : List Head → Result (ℕ × List Node) SchemaError → Type 0
-First heads (Ok p) = p.0 ≡ length heads
-First heads (Err e) = Unit {0}
-
-first_room : (heads : List Head) (b : Bool) (r : Result (ℕ × List Node) SchemaError) → First heads r → First heads (cond b r (Err TooLarge))
-first_room heads true r f = f
-first_room heads false r f = tt
-
-first_leaf : (o : Option Node) (space : List ℕ) (heads : List Head) → First heads (supported o space heads)
-first_leaf None space heads = tt
-first_leaf (Some k) space heads = first_room heads (nat_lt (length heads) 1024) _ refl
-
-first_made : {A : Type 0} (make : A → Node) (heads : List Head) (r : Result (A × List Node) SchemaError) → First heads (r >>= λ p. Ok (length heads, make p.0 ∷ p.1))
-first_made make heads (Ok p) = refl
-first_made make heads (Err e) = tt
-
-first_named : (o : Option (Walk (List FieldNode))) (space : List ℕ) (heads : List Head) (r : Result (List ℕ) SchemaError) → First heads (r >>= λ s. around (RecordNode s) (Named s) (or_unknown o) space heads)
-unfolding around
-first_named o space heads (Ok s) = first_made (λ fs. RecordNode s fs) heads (or_unknown o space (heads ++ Named s ∷ []))
-first_named o space heads (Err e) = tt
-
-first_root : (heads : List Head) (b : Bool) (r : Result (ℕ × List Node) SchemaError) → First heads r → First heads (require b OutOfProfile >>= λ _. r)
-first_root heads true r f = f
-first_root heads false r f = tt
-
-first_declared : (form : Form) (name namespace : Option Data) (o : Option (Walk (List FieldNode))) (space : List ℕ) (heads : List Head) → First heads (declared_by form name namespace o space heads)
-unfolding record_of
-first_declared forms.Misshapen name namespace o space heads = tt
-first_declared forms.Record name namespace o space heads = first_room heads (nat_lt (length heads) 1024) _ (first_root heads (length heads == 0) _ (first_named o space heads (record_name name namespace)))
-first_declared forms.Unsupported name namespace o space heads = tt
-
-first_walk : (d : Data) (space : List ℕ) (heads : List Head) → First heads (walk d space heads)
-unfolding walk named
-first_walk null space heads = tt
-first_walk (boolean b) space heads = tt
-first_walk (number n) space heads = tt
-first_walk (string s) space heads = first_leaf (leaf_of (word_of s)) space heads
-first_walk (array ds) space heads = tt
-first_walk (object ms) space heads = first_declared (form_of (get_member (codes "type") ms)) _ _ _ space heads
-
--- ---- the nodes of a text
-
-whole_at : (d : Data) (r : Result (ℕ × List Node) SchemaError) (ns : List Node) → Placed (DeclaresNode d) [] r → First [] r → (r >>= λ p. Ok p.1) ≡ Ok ns → DeclaresNode d ns 0
-whole_at d (Ok p) ns f first e =
-    let same : p.1 ≡ ns = ok_inside p.1 ns e in
-    subst (DeclaresNode d ns) first (subst (λ ms. DeclaresNode d ms p.0) (append-nil p.1 ∙ same) (f [] [] refl))
-whole_at d (Err x) ns f first e = absurd (let no : ⊥ = cc in no)
-
-numbers_at : (b : Bool) (d : Data) (ns : List Node) → cond b (Err BadNumber) (walk d null_namespace [] >>= λ p. Ok p.1) ≡ Ok ns → DeclaresNode d ns 0
-numbers_at true d ns e = absurd (let no : ⊥ = cc in no)
-numbers_at false d ns e = whole_at d (walk d null_namespace []) ns (places-walk d null_namespace []) (first_walk d null_namespace []) e
-
-read_at : (o : Option Data) (ns : List Node) → nodes_in_read o ≡ Ok ns → (d : Data) × (o ≡ Some d) × DeclaresNode d ns 0
-read_at None ns e = absurd (let no : ⊥ = cc in no)
-read_at (Some d) ns e = (d, refl, numbers_at (has_float d) d ns e)
-
-pub declared-nodes : (text : List ℕ) (ns : List Node) → Declares text ns → (d : Data) × (read text ≡ Some d) × DeclaresNode d ns 0
-declared-nodes text ns h = read_at (read text) ns h.nodes_are
-
-size_at : (b : Bool) (text : List ℕ) (ns : List Node) → cond b (nodes_in_read (read text)) (Err TooLarge) ≡ Ok ns → nodes_in_read (read text) ≡ Ok ns
-size_at true text ns e = e
-size_at false text ns e = absurd (let no : ⊥ = cc in no)
-
-pub parsed-nodes : (text : List ℕ) (ns : List Node) → schema_of text ≡ Ok ns → (d : Data) × (read text ≡ Some d) × DeclaresNode d ns 0
-unfolding schema_of
-parsed-nodes text ns e = read_at (read text) ns (size_at (nat_le (length text) 262144) text ns e)
+  places-field : (d : Data) (before : List (List ℕ)) (space : List ℕ) → Places (OneFieldEnds d space) space (field d before)
+  places-field (object ms) before space = λ heads. placed-if (OneFieldEnds (object ms) space) heads (nat_lt (length before) 1024) _ TooLarge (places-field_of ms space before (walk_member ms (codes "type")) (places-member ms (codes "type") space) heads)
+  places-field _ before space = λ heads. tt

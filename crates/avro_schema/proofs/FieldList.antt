@@ -9,79 +9,75 @@ use Rattle.serde_json.specs.View.{view, items_view}
 use Rattle.serde_json.specs.declared.value.Value.{Value}
 use Rattle.avro_schema.specs.declared.error.SchemaError.{SchemaError}
 use Rattle.avro_schema.specs.declared.error.SchemaError.TheVariants.{TooLarge, OutOfProfile}
-use Rattle.avro_schema.specs.declared.kind.Field.{Field}
+use Rattle.avro_schema.specs.declared.draft.DraftField as rust
 use Rattle.avro_schema.specs.Contract.{run, names_of, field_walk}
 use Rattle.avro_schema.specs.Fault.{◌>>=◌, require}
 use Rattle.avro_schema.specs.Names.{field_name}
-use Rattle.avro_schema.specs.Node.{Node, FieldNode}
-use Rattle.avro_schema.specs.Walk.{Walk, added, done, followed_by, heads_of, or_unknown, most_fields, field_node, field_of, walk, fields_after, field}
+use Rattle.avro_schema.specs.Draft.{Draft, DraftField}
+use Rattle.avro_schema.specs.Head.{heads_of}
+use Rattle.avro_schema.specs.Walk.{Walk, added, done, followed_by, or_unknown, most_fields, draft_field, field_of, walk, fields_after, field}
 use Rattle.avro_schema.proofs.Members.{field-object}
 use Rattle.avro_schema.proofs.Runs.{run-followed_by, run-done, run-mapped}
 
 -- what was walked, behind what was walked before
-abbrev pub behind : {A : Type 0} → List A → Result (List A × List Node) SchemaError → Result (List A × List Node) SchemaError
+abbrev pub behind : {A : Type 0} → List A → Result (List A × List Draft) SchemaError → Result (List A × List Draft) SchemaError
 behind front (Ok p) = Ok (front ++ p.0, p.1)
 behind front (Err e) = Err e
 
-behind-one : {A : Type 0} (front : List A) (a : A) (r : Result (List A × List Node) SchemaError) → behind front (r >>= λ q. Ok (a ∷ q.0, q.1)) ≡ behind (front ++ a ∷ []) r
+pub behind-one : {A : Type 0} (front : List A) (a : A) (r : Result (List A × List Draft) SchemaError) → behind front (r >>= λ q. Ok (a ∷ q.0, q.1)) ≡ behind (front ++ a ∷ []) r
 behind-one front a (Ok p) = ap (λ xs. Ok (xs, p.1)) (sym (append_assoc front (a ∷ []) p.0))
 behind-one front a (Err e) = refl
 
-abbrev first_field : FieldNode → Result (List FieldNode × List Node) SchemaError → Result (List FieldNode × List Node) SchemaError
+abbrev first_field : DraftField → Result (List DraftField × List Draft) SchemaError → Result (List DraftField × List Draft) SchemaError
 first_field f r = r >>= λ q. Ok (f ∷ q.0, q.1)
 
-item_at : (ds : Items) (before : List (List ℕ)) (space : List ℕ) (r : Result (FieldNode × List Node) SchemaError)
+item_at : (ds : Items) (before : List (List ℕ)) (space : List ℕ) (r : Result (DraftField × List Draft) SchemaError)
     → (r >>= λ p. run (followed_by (fields_after ds (before ++ p.0.name ∷ [])) (λ fs. done (p.0 ∷ fs))) space p.1) ≡ (r >>= λ p. first_field p.0 (run (fields_after ds (before ++ p.0.name ∷ [])) space p.1))
 item_at ds before space (Ok p) = run-mapped (fields_after ds (before ++ p.0.name ∷ [])) (λ fs. p.0 ∷ fs) space p.1
 item_at ds before space (Err e) = refl
 
-run-item : (d : Data) (ds : Items) (before : List (List ℕ)) (space : List ℕ) (ns : List Node)
+run-item : (d : Data) (ds : Items) (before : List (List ℕ)) (space : List ℕ) (ns : List Draft)
     → run (fields_after (item d ds) before) space ns ≡ (run (field d before) space ns >>= λ p. first_field p.0 (run (fields_after ds (before ++ p.0.name ∷ [])) space p.1))
 unfolding walk
 run-item d ds before space ns = run-followed_by (field d before) _ space ns ∙ item_at ds before space (run (field d before) space ns)
 
-module _ (space : List ℕ) (vs : List Value) (i : ℕ) (v : Value) (lt : i < length vs) (is : v ≡ get_or vs i v) (front : List FieldNode) (before : List (List ℕ)) (ns : List Node) where
+module _ (space : List ℕ) (vs : List Value) (i : ℕ) (v : Value) (lt : i < length vs) (is : v ≡ get_or vs i v) (front : List DraftField) (before : List (List ℕ)) (ns : List Draft) where
   here : drop i vs ≡ v ∷ drop (i + 1) vs
   here = drop-cons vs i v lt ∙ rw (← is, add-one i)
 
-  pub fields-on : (f : FieldNode) (ms : List Node) → run (field (view v) before) space ns ≡ Ok (f, ms)
+  pub fields-on : (f : DraftField) (ms : List Draft) → run (field (view v) before) space ns ≡ Ok (f, ms)
       → behind front (run (fields_after (items_view (drop i vs)) before) space ns) ≡ behind (front ++ f ∷ []) (run (fields_after (items_view (drop (i + 1) vs)) (before ++ f.name ∷ [])) space ms)
   fields-on f ms e = rw (here, run-item (view v) (items_view (drop (i + 1) vs)) before space ns, e) (behind-one front f (run (fields_after (items_view (drop (i + 1) vs)) (before ++ f.name ∷ [])) space ms))
 
   pub fields-fail : (e : SchemaError) → run (field (view v) before) space ns ≡ Err e → behind front (run (fields_after (items_view (drop i vs)) before) space ns) ≡ Err e
   fields-fail e is_err = rw (here, run-item (view v) (items_view (drop (i + 1) vs)) before space ns, is_err)
 
-pub fields-end : (space : List ℕ) (vs : List Value) (i : ℕ) → length vs ≤ i → (front : List FieldNode) (before : List (List ℕ)) (ns : List Node)
+pub fields-end : (space : List ℕ) (vs : List Value) (i : ℕ) → length vs ≤ i → (front : List DraftField) (before : List (List ℕ)) (ns : List Draft)
     → behind front (run (fields_after (items_view (drop i vs)) before) space ns) ≡ Ok (front, ns)
 unfolding walk
-fields-end space vs i le front before ns = rw (drop_of_length-le vs le, run-done {A = List FieldNode} [] space ns) (ap (λ xs. Ok (xs, ns)) (append-nil front))
+fields-end space vs i le front before ns = rw (drop_of_length-le vs le, run-done {A = List DraftField} [] space ns) (ap (λ xs. Ok (xs, ns)) (append-nil front))
 
 -- ---- a field
 
 -- a field, once its name is known
-abbrev pub typed : Option Data → List ℕ → Result (ℕ × List Node) SchemaError → Result (FieldNode × List Node) SchemaError
-typed default s r = r >>= λ p. require (is_none default) OutOfProfile >>= λ _. Ok (field_node s p.0, p.1)
+abbrev pub typed : Option Data → List ℕ → Result (ℕ × List Draft) SchemaError → Result (DraftField × List Draft) SchemaError
+typed default s r = r >>= λ p. Ok (draft_field s p.0 default, p.1)
 
-default_at : (b : Bool) (s : List ℕ) (ns : List Node) (p : ℕ × List Node)
-    → added ns (require b OutOfProfile >>= λ _. Ok (field_node s p.0, p.1)) ≡ (require b OutOfProfile >>= λ _. Ok (field_node s p.0, ns ++ p.1))
-default_at true s ns p = refl
-default_at false s ns p = refl
-
-type_at : (default : Option Data) (s : List ℕ) (ns : List Node) (r : Result (ℕ × List Node) SchemaError) → added ns (typed default s r) ≡ typed default s (added ns r)
-type_at default s ns (Ok p) = default_at (is_none default) s ns p
+type_at : (default : Option Data) (s : List ℕ) (ns : List Draft) (r : Result (ℕ × List Draft) SchemaError) → added ns (typed default s r) ≡ typed default s (added ns r)
+type_at default s ns (Ok p) = refl
 type_at default s ns (Err e) = refl
 
-name_at : (default : Option Data) (w : Walk ℕ) (space : List ℕ) (ns : List Node) (r : Result (List ℕ) SchemaError)
+name_at : (default : Option Data) (w : Walk ℕ) (space : List ℕ) (ns : List Draft) (r : Result (List ℕ) SchemaError)
     → added ns (r >>= λ s. typed default s (w space (heads_of ns))) ≡ (r >>= λ s. typed default s (run w space ns))
 unfolding run
 name_at default w space ns (Ok s) = type_at default s ns (w space (heads_of ns))
 name_at default w space ns (Err e) = refl
 
-length-names : (fs : List Field) → length (names_of fs) ≡ length fs
+length-names : (fs : List rust.DraftField) → length (names_of fs) ≡ length fs
 length-names [] = refl
 length-names (f ∷ fs) = ap suc (length-names fs)
 
-module _ (d : Data) (fs : List Field) (space : List ℕ) (ns : List Node) (is : true ≡ is_some (as_object d)) where
+module _ (d : Data) (fs : List rust.DraftField) (space : List ℕ) (ns : List Draft) (is : true ≡ is_some (as_object d)) where
   pub run-field : length fs < most_fields
       → run (field d (names_of fs)) space ns ≡ (field_name (get (codes "name") d) (names_of fs) >>= λ s. typed (get (codes "default") d) s (run (or_unknown (option_map walk (get (codes "type") d))) space ns))
   unfolding run field_walk field_of

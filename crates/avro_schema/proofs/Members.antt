@@ -11,8 +11,11 @@ use Rattle.serde_json.specs.declared.number.Number.{Number}
 use Rattle.serde_json.specs.declared.value.Value as json
 use Rattle.serde_json.specs.declared.value.Value.{Value, the_lemmas}
 use Rattle.avro_schema.specs.declared.error.SchemaError.TheVariants.{Unknown}
-use Rattle.avro_schema.specs.Contract.{object_walk, field_walk}
-use Rattle.avro_schema.specs.Walk.{walk, walk_member, walk_fields, fields, fields_after, field, fault}
+use Rattle.avro_schema.specs.Contract.{object_as, object_walk, field_walk}
+use Rattle.avro_schema.specs.Walk.{declared_by, walk, walk_member, walk_fields, fields, fields_after, field, fault}
+use Rattle.avro_schema.specs.Word.{form_of}
+use Rattle.avro_schema.specs.declared.word.Form.{Form}
+use Rattle.avro_schema.specs.declared.word.Form.TheVariants as forms
 
 at_order : {A B : Type 0} (f : A → B) (o : Ordering) (a : A) (r : Option A) (s : Option B) → s ≡ option_map f r → match_ordering o s (Some (f a)) s ≡ option_map f (match_ordering o r (Some a) r)
 at_order f Less a r s e = e
@@ -30,9 +33,18 @@ unfolding walk
 walk_fields-get no_members k = refl
 walk_fields-get (member l d ms) k = at_order fields (slice_cmp nat_cmp k l) d (get_member k ms) (walk_fields ms k) (walk_fields-get ms k)
 
+declared_as : (form : Form) (ms : Members) → declared_by form (λ k. get_member k ms) (walk_member ms) (walk_fields ms) ≡ object_as form (object ms)
+declared_as forms.Record ms = rw (walk_fields-get ms (codes "fields")) refl
+declared_as forms.Enum ms = refl
+declared_as forms.Fixed ms = refl
+declared_as forms.Array ms = rw (walk_member-get ms (codes "items")) refl
+declared_as forms.Map ms = rw (walk_member-get ms (codes "values")) refl
+declared_as forms.Error ms = refl
+declared_as forms.Other ms = rw (walk_member-get ms (codes "type")) refl
+
 pub walk-object : (ms : Members) → walk (object ms) ≡ object_walk (object ms)
 unfolding walk object_walk
-walk-object ms = rw (walk_fields-get ms _)
+walk-object ms = declared_as (form_of (get_member (codes "type") ms)) ms
 
 pub field-object : (d : Data) (before : List (List ℕ)) → true ≡ is_some (as_object d) → field d before ≡ field_walk d before
 unfolding walk field_walk

@@ -4,7 +4,7 @@ use Rattle.std.specs.List.{list_any, list_all}
 use Rattle.std.specs.Str.{bytes_eq}
 use Rattle.avro_schema.specs.Contract.{names_of}
 use Rattle.avro_schema.specs.Names.{is_letter, is_letter_or_digit, is_name, is_used}
-use Rattle.avro_schema.specs.declared.kind.Field.{Field}
+use Rattle.avro_schema.specs.declared.draft.DraftField.{DraftField}
 
 pub name-empty : (s : List ℕ) → length s < 1 → false ≡ is_name s
 unfolding is_name
@@ -16,9 +16,9 @@ unfolding is_name
 name-starts [] le = absurd (omega arith)
 name-starts (c ∷ cs) le = refl
 
-pub used-field : (name : List ℕ) (fs : List Field) → is_used name (names_of fs) ≡ list_any (λ f. bytes_eq (string_bytes f.name) name) fs
-used-field name [] = refl
-used-field name (f ∷ fs) = ap (λ b. bytes_eq (string_bytes f.name) name || b) (used-field name fs)
+pub used_field : (name : List ℕ) (fs : List DraftField) → is_used name (names_of fs) ≡ list_any (λ f. bytes_eq (string_bytes f.name) name) fs
+used_field name [] = refl
+used_field name (f ∷ fs) = ap (λ b. bytes_eq (string_bytes f.name) name || b) (used_field name fs)
 
 -- ---- an attribute that is there, and one that is not
 

@@ -1,49 +1,81 @@
--- The walk of a record, step by step.
-use Rattle.std.proofs.Common.{◌≡◌, ℕ, ◌<◌, List, [], ◌∷◌, ◌++◌, length, Option, Result, Ok, Err, refl, ◌∙◌, arith, set, String, Vec, Global, string_bytes}
-use Rattle.std.proofs.lemmas.Bool.{ne_eqb}
+-- The walk of a named type, step by step.
+use Rattle.std.proofs.Common.{◌≡◌, ℕ, ◌<◌, List, [], ◌∷◌, ◌++◌, length, map, Option, Result, Ok, Err, refl, ◌∙◌, set, String, Vec, Global, string_bytes}
 use Rattle.serde_json.specs.Data.{Data}
 use Rattle.avro_schema.specs.declared.error.SchemaError.{SchemaError}
-use Rattle.avro_schema.specs.declared.error.SchemaError.TheVariants.{OutOfProfile}
-use Rattle.avro_schema.specs.declared.kind.Field.{Field}
-use Rattle.avro_schema.specs.declared.kind.Kind.{Kind}
-use Rattle.avro_schema.specs.declared.kind.Kind.TheVariants as kinds
+use Rattle.avro_schema.specs.declared.draft.Draft as rust
+use Rattle.avro_schema.specs.declared.draft.Draft.TheVariants as drafts
+use Rattle.avro_schema.specs.declared.draft.DraftField as rust_field
+use Rattle.avro_schema.specs.Attributes.{symbols_of, default_symbol, size_of}
 use Rattle.avro_schema.specs.Contract.{run}
+use Rattle.avro_schema.specs.Draft.{Draft, Whole, RecordDraft, DraftField, draft_field_of, drafts_of}
 use Rattle.avro_schema.specs.Fault.{◌>>=◌}
-use Rattle.avro_schema.specs.Names.{record_name}
-use Rattle.avro_schema.specs.Node.{Node, RecordNode, FieldNode, nodes_of}
-use Rattle.avro_schema.specs.Walk.{Walk, Named, heads_of, added, if_room, most_nodes, around, record_of, or_unknown}
-use Rattle.avro_schema.proofs.Runs.{length-nodes_of, length-heads_of, nodes_of-append, run-if_room, closed, unclosed}
+use Rattle.avro_schema.specs.Head.{Named, heads_of}
+use Rattle.avro_schema.specs.Names.{namespace_of, new_name}
+use Rattle.avro_schema.specs.Node.{EnumNode, FixedNode}
+use Rattle.avro_schema.specs.Walk.{Walk, added, if_room, most_nodes, around, one_node, record_of, enum_of, fixed_of, or_unknown}
+use Rattle.avro_schema.proofs.Runs.{drafts_of-append, run-if_room, closed, unclosed}
 
-record_at : (fields : Option (Walk (List FieldNode))) (space : List ℕ) (ns : List Node) (r : Result (List ℕ) SchemaError)
-    → added ns (r >>= λ s. around (RecordNode s) (Named s) (or_unknown fields) space (heads_of ns)) ≡ (r >>= λ s. run (around (RecordNode s) (Named s) (or_unknown fields)) space ns)
+-- where a name is given, what is made of it
+named_at : {A : Type 0} (make : List ℕ → Walk A) (space : List ℕ) (ns : List Draft) (r : Result (List ℕ) SchemaError) → added ns (r >>= λ s. make s space (heads_of ns)) ≡ (r >>= λ s. run (make s) space ns)
 unfolding run
-record_at fields space ns (Ok s) = refl
-record_at fields space ns (Err e) = refl
+named_at make space ns (Ok s) = refl
+named_at make space ns (Err e) = refl
 
--- the root is a record, once its name is known
-run-root : (name namespace : Option Data) (fields : Option (Walk (List FieldNode))) (space : List ℕ) (ks : List Kind) → length ks ≡ 0
-    → run (record_of name namespace fields) space (nodes_of ks) ≡ (record_name name namespace >>= λ s. run (around (RecordNode s) (Named s) (or_unknown fields)) space (nodes_of ks))
-unfolding record_of run
-run-root name namespace fields space ks none = rw (length-heads_of (nodes_of ks), length-nodes_of ks, none) (record_at fields space (nodes_of ks) (record_name name namespace))
+-- ---- records
 
-module _ (name namespace : Option Data) (fields : Option (Walk (List FieldNode))) (space : List ℕ) (ks : List Kind) where
-  pub run-inner : length ks < most_nodes → (length ks ≡ 0 → ⊥) → run (if_room (record_of name namespace fields)) space (nodes_of ks) ≡ Err OutOfProfile
+module _ (name namespace : Option Data) (fields : Option (Walk (List DraftField))) (space : List ℕ) (ks : List rust.Draft) where
+  record_at : (r : Result (List ℕ) SchemaError) → added (drafts_of ks) (r >>= λ s. around (RecordDraft s) (Named s) (or_unknown fields) (namespace_of s) (heads_of (drafts_of ks)))
+      ≡ (r >>= λ s. run (around (RecordDraft s) (Named s) (or_unknown fields)) (namespace_of s) (drafts_of ks))
+  unfolding run
+  record_at (Ok s) = refl
+  record_at (Err e) = refl
+
+  pub run-record : length ks < most_nodes → run (if_room (record_of name namespace fields)) space (drafts_of ks)
+      ≡ (new_name name namespace space (heads_of (drafts_of ks)) >>= λ s. run (around (RecordDraft s) (Named s) (or_unknown fields)) (namespace_of s) (drafts_of ks))
   unfolding record_of run
-  run-inner room some = run-if_room (record_of name namespace fields) space ks room ∙ rw (length-heads_of (nodes_of ks), length-nodes_of ks, ne_eqb (length ks) 0 some)
+  run-record room = run-if_room (record_of name namespace fields) space ks room ∙ record_at (new_name name namespace space (heads_of (drafts_of ks)))
 
-  pub run-record : length ks ≡ 0 → run (if_room (record_of name namespace fields)) space (nodes_of ks) ≡ (record_name name namespace >>= λ s. run (around (RecordNode s) (Named s) (or_unknown fields)) space (nodes_of ks))
-  run-record none = run-if_room (record_of name namespace fields) space ks (omega arith) ∙ run-root name namespace fields space ks none
+  module _ (room : length ks < most_nodes) (s : List ℕ) (is : new_name name namespace space (heads_of (drafts_of ks)) ≡ Ok s) where
+    pub record-done : (fs : List DraftField) (ms : List Draft) → run (or_unknown fields) (namespace_of s) (drafts_of ks ++ RecordDraft s [] ∷ []) ≡ Ok (fs, ms)
+        → run (if_room (record_of name namespace fields)) space (drafts_of ks) ≡ Ok (length ks, set ms (length ks) (RecordDraft s fs))
+    record-done fs ms e = run-record room ∙ rw is (closed (λ fs. RecordDraft s fs) (RecordDraft s []) (or_unknown fields) (namespace_of s) ks fs ms e)
 
-  module _ (none : length ks ≡ 0) (s : List ℕ) (is : record_name name namespace ≡ Ok s) where
-    pub record-done : (fs : List FieldNode) (ms : List Node) → run (or_unknown fields) space (nodes_of ks ++ RecordNode s [] ∷ []) ≡ Ok (fs, ms)
-        → run (if_room (record_of name namespace fields)) space (nodes_of ks) ≡ Ok (length ks, set ms (length ks) (RecordNode s fs))
-    record-done fs ms e = run-record none ∙ rw is (closed (λ fs. RecordNode s fs) (RecordNode s []) (or_unknown fields) space ks fs ms e)
-
-    pub record-failed : (x : SchemaError) → run (or_unknown fields) space (nodes_of ks ++ RecordNode s [] ∷ []) ≡ Err x
-        → run (if_room (record_of name namespace fields)) space (nodes_of ks) ≡ Err x
-    record-failed x e = run-record none ∙ rw is (unclosed (λ fs. RecordNode s fs) (RecordNode s []) (or_unknown fields) space ks x e)
+    pub record-failed : (x : SchemaError) → run (or_unknown fields) (namespace_of s) (drafts_of ks ++ RecordDraft s [] ∷ []) ≡ Err x
+        → run (if_room (record_of name namespace fields)) space (drafts_of ks) ≡ Err x
+    record-failed x e = run-record room ∙ rw is (unclosed (λ fs. RecordDraft s fs) (RecordDraft s []) (or_unknown fields) (namespace_of s) ks x e)
 
 -- the nodes, with a record that has no fields yet
-pub pushed-record : (ks ls : List Kind) (name copy : String Global) (fields : Vec Field Global) → ls ≡ ks ++ kinds.Record copy fields ∷ [] → string_bytes copy ≡ string_bytes name → fields.items ≡ []
-    → nodes_of ls ≡ nodes_of ks ++ RecordNode (string_bytes name) [] ∷ []
-pushed-record ks ls name copy fields e same none = rw (e, nodes_of-append ks (kinds.Record copy fields ∷ []), same, none) refl
+pub pushed-record : (ks ls : List rust.Draft) (name copy : String Global) (fields : Vec rust_field.DraftField Global) → ls ≡ ks ++ drafts.Record copy fields ∷ [] → string_bytes copy ≡ string_bytes name → fields.items ≡ []
+    → drafts_of ls ≡ drafts_of ks ++ RecordDraft (string_bytes name) [] ∷ []
+pushed-record ks ls name copy fields e same none = rw (e, drafts_of-append ks (drafts.Record copy fields ∷ []), same, none) refl
+
+-- ---- types without parts
+
+-- a step, and then what adds nodes
+added-bind : {A B : Type 0} (ns : List Draft) (r : Result A SchemaError) (f : A → Result (B × List Draft) SchemaError) → added ns (r >>= f) ≡ (r >>= λ a. added ns (f a))
+added-bind ns (Ok a) f = refl
+added-bind ns (Err e) f = refl
+
+bind-same : {A B : Type 0} (r : Result A SchemaError) (f g : A → Result B SchemaError) → ((a : A) → f a ≡ g a) → (r >>= f) ≡ (r >>= g)
+bind-same (Ok a) f g h = h a
+bind-same (Err e) f g h = refl
+
+module _ (name namespace : Option Data) (space : List ℕ) (ks : List rust.Draft) (room : length ks < most_nodes) where
+  pub run-enum : (symbols default : Option Data) → run (if_room (enum_of name namespace symbols default)) space (drafts_of ks)
+      ≡ (new_name name namespace space (heads_of (drafts_of ks)) >>= λ s. symbols_of symbols >>= λ ss. default_symbol ss default >>= λ n. run (one_node (Whole (EnumNode s ss n))) space (drafts_of ks))
+  unfolding enum_of run
+  run-enum symbols default =
+      run-if_room (enum_of name namespace symbols default) space ks room
+      ∙ added-bind (drafts_of ks) (new_name name namespace space (heads_of (drafts_of ks))) _
+      ∙ bind-same (new_name name namespace space (heads_of (drafts_of ks))) _ _ (λ s.
+      added-bind (drafts_of ks) (symbols_of symbols) _
+      ∙ bind-same (symbols_of symbols) _ _ (λ ss.
+      added-bind (drafts_of ks) (default_symbol ss default) _))
+
+  pub run-fixed : (size : Option Data) → run (if_room (fixed_of name namespace size)) space (drafts_of ks)
+      ≡ (new_name name namespace space (heads_of (drafts_of ks)) >>= λ s. size_of size >>= λ n. run (one_node (Whole (FixedNode s n))) space (drafts_of ks))
+  unfolding fixed_of run
+  run-fixed size =
+      run-if_room (fixed_of name namespace size) space ks room
+      ∙ added-bind (drafts_of ks) (new_name name namespace space (heads_of (drafts_of ks))) _
+      ∙ bind-same (new_name name namespace space (heads_of (drafts_of ks))) _ _ (λ s. added-bind (drafts_of ks) (size_of size) _)

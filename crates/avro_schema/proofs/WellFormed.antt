@@ -1,135 +1,290 @@
--- The law of the walk: whatever nodes it makes are well formed.
-use Rattle.std.proofs.Common.{◌≡◌, ℕ, ◌+◌, ◌<◌, ◌==◌, List, [], ◌∷◌, ◌++◌, length, map, Bool, true, false, not, ◌&&◌, cond, Option, Some, None, is_none, Result, Ok, Err, refl, ap, subst, arith, append_assoc, append-nil, ◌||◌, nat_lt, codes}
-use Rattle.std.specs.List.{AllByRecursion, IsDistinct}
+-- The law of the walk: whatever nodes it makes fit.
+use Rattle.std.proofs.Common.{◌≡◌, ℕ, zero, suc, ◌+◌, ◌<◌, ◌≤◌, inl, inr, List, [], ◌∷◌, ◌++◌, length, map, Bool, true, false, not, ◌&&◌, ◌||◌, cond, option_and_then, Option, Some, None, IfSome, Result, Ok, Err, refl, sym, ap, subst, ◌∙◌, arith, append_assoc, append-nil, length-append, nat_le, nat_lt, codes, slice_get}
+use Rattle.std.specs.List.{AllByRecursion, IsDistinct, list_all, position, position_from}
+use Rattle.std.specs.Option.{ok_or}
 use Rattle.std.specs.Ordering.{nat_cmp}
 use Rattle.std.specs.Cmp.Lexicographic.{slice_cmp}
 use Rattle.std.specs.Str.{bytes_eq}
+use Rattle.std.proofs.lemmas.Bool.{leb-true}
+use Rattle.std.proofs.lemmas.List.Quantifiers.{position-Some}
 use Rattle.serde_json.specs.Data.{Data, null, boolean, number, string, array, object, Items, no_items, item, Members, no_members, member}
-use Rattle.serde_json.specs.Read.{read}
-use Rattle.serde_json.specs.Written.{has_float}
+use Rattle.serde_json.specs.Find.{get_member, as_number, as_u64}
 use Rattle.avro_schema.specs.declared.error.SchemaError.{SchemaError}
-use Rattle.avro_schema.specs.declared.error.SchemaError.TheVariants.{BadNumber, BadName, OutOfProfile}
+use Rattle.avro_schema.specs.declared.error.SchemaError.TheVariants.{BadName, BadSymbols, BadNumber, TooLarge}
 use Rattle.avro_schema.specs.declared.word.Form.{Form}
 use Rattle.avro_schema.specs.declared.word.Form.TheVariants as forms
 use Rattle.avro_schema.specs.declared.word.Word.{Word}
 use Rattle.avro_schema.specs.declared.word.Word.TheVariants as words
+use Rattle.avro_schema.specs.Attributes.{are_new, symbols_of, texts_of, default_symbol, size_of}
+use Rattle.avro_schema.specs.Draft.{Draft, Whole, RecordDraft, DraftField}
 use Rattle.avro_schema.specs.Fault.{◌>>=◌, require}
-use Rattle.avro_schema.specs.Names.{simple_name, record_name, field_name, is_name, is_used}
-use Rattle.avro_schema.specs.Node.{Node, IntNode, LongNode, TextNode, RecordNode, FieldNode, FieldsBelow, NodeIsWellFormed, IsWellFormed}
-use Rattle.avro_schema.specs.Schema.{Declares, nodes_in_read}
-use Rattle.avro_schema.specs.Walk.{Walk, Head, Named, leaf, supported, named, or_unknown, around, record_of, declared_by, walk, walk_member, walk_fields, fields, fields_after, field, field_of, field_node, null_namespace}
-use Rattle.avro_schema.specs.Word.{word_of, leaf_of}
-use Rattle.avro_schema.proofs.Sound.{Below, Fine, Sound, SoundIf, all-append, fine-bind, fine-done, room_at, sound-room, sound-around, sound-or, if_found}
-
--- ---- what holds of fields
-
-abbrev Names : List FieldNode → List (List ℕ)
-Names fs = map (λ f. f.name) fs
-
--- a field's type is among the nodes, and its name is none of those before it
-abbrev FieldFits : List (List ℕ) → ℕ → FieldNode → Type 0
-FieldFits before len f = (f.node < len) × (is_used f.name before ≡ false)
-
--- so with each of the fields
-abbrev pub FieldsFit : List (List ℕ) → ℕ → List FieldNode → Type 0
-FieldsFit before len fs = FieldsBelow len fs × (IsDistinct bytes_eq before → IsDistinct bytes_eq (before ++ Names fs))
-
--- ---- names
-
-or-false : (a b : Bool) → (a || b) ≡ false → (a ≡ false) × (b ≡ false)
-or-false true b e = absurd (let no : ⊥ = cc in no)
-or-false false b e = (refl, e)
-
-distinct-push : (names : List (List ℕ)) (name : List ℕ) → IsDistinct bytes_eq names → is_used name names ≡ false → IsDistinct bytes_eq (names ++ name ∷ [])
-unfolding IsDistinct
-distinct-push [] name d new = (tt, tt)
-distinct-push (x ∷ xs) name d new =
-    let apart = or-false (bytes_eq x name) (is_used name xs) new in
-    (all-append (λ y. bytes_eq x y ≡ false) xs (name ∷ []) d.0 (apart.0, tt), distinct-push xs name d.1 apart.1)
-
--- ---- leaves
-
-sound-leaf : (n : Node) → ((m : ℕ) → NodeIsWellFormed m n) → Sound Below (leaf n)
-sound-leaf n fits = sound-room Below _ (λ space heads. (omega arith, (fits _, tt)))
-
-sound-word : (w : Word) → Sound Below (supported (leaf_of w))
-sound-word words.Int = sound-leaf IntNode (λ m. tt)
-sound-word words.Long = sound-leaf LongNode (λ m. tt)
-sound-word words.Text = sound-leaf TextNode (λ m. tt)
-sound-word words.Null = λ space heads. tt
-sound-word words.Boolean = λ space heads. tt
-sound-word words.Bytes = λ space heads. tt
-sound-word words.Float = λ space heads. tt
-sound-word words.Double = λ space heads. tt
-sound-word words.Record = λ space heads. tt
-sound-word words.Other = λ space heads. tt
-
-sound-named : (s : List ℕ) → Sound Below (named s)
-unfolding named
-sound-named s = sound-word (word_of s)
-
--- ---- records
-
-pub record_fits : (s : List ℕ) (m : ℕ) (fs : List FieldNode) → FieldsFit [] m fs → NodeIsWellFormed m (RecordNode s fs)
-unfolding IsDistinct
-record_fits s m fs h = (h.0, h.1 tt)
-
-record_fine : (o : Option (Walk (List FieldNode))) → SoundIf (FieldsFit []) o → (space : List ℕ) (heads : List Head) (r : Result (List ℕ) SchemaError)
-    → Fine Below heads (r >>= λ s. around (RecordNode s) (Named s) (or_unknown o) space heads)
-record_fine o f space heads (Ok s) = sound-around (FieldsFit []) (λ fs. RecordNode s fs) (record_fits s) (Named s) (or_unknown o) (sound-or (FieldsFit []) o f) space heads
-record_fine o f space heads (Err e) = tt
-
-root_fine : {A : Type 0} (In : ℕ → A → Type 0) (heads : List Head) (b : Bool) (r : Result (A × List Node) SchemaError) (e : SchemaError) → Fine In heads r → Fine In heads (require b e >>= λ _. r)
-root_fine In heads true r e f = f
-root_fine In heads false r e f = tt
-
-sound-record : (name namespace : Option Data) (o : Option (Walk (List FieldNode))) → SoundIf (FieldsFit []) o → Sound Below (record_of name namespace o)
-unfolding record_of
-sound-record name namespace o f space heads = root_fine Below heads (length heads == 0) _ OutOfProfile (record_fine o f space heads (record_name name namespace))
-
-sound-declared : (form : Form) (name namespace : Option Data) (fs : Option (Walk (List FieldNode))) → SoundIf (FieldsFit []) fs → Sound Below (declared_by form name namespace fs)
-sound-declared forms.Misshapen name namespace fs f = λ space heads. tt
-sound-declared forms.Record name namespace fs f = sound-room Below _ (sound-record name namespace fs f)
-sound-declared forms.Unsupported name namespace fs f = λ space heads. tt
+use Rattle.avro_schema.specs.Head.{Head, NullHead, BooleanHead, IntHead, LongHead, BytesHead, TextHead, ArrayHead, MapHead, UnionHead, Named, heads_of, defines, defined_at}
+use Rattle.avro_schema.specs.Names.{text_of, new_name, namespace_of, full_name, field_name, is_name, is_used}
+use Rattle.avro_schema.specs.Node.{Node, NullNode, BooleanNode, IntNode, LongNode, BytesNode, TextNode, FixedNode, EnumNode, ArrayNode, MapNode, most_symbols, most_fixed}
+use Rattle.avro_schema.specs.Walk.{Walk, found, leaf, one_node, leaf_or_reference, reference, named, or_unknown, around, record_of, enum_of, fixed_of, declared_by, walk, members, walk_member, walk_fields, fields, fields_after, field, field_of, draft_field, most_nodes}
+use Rattle.avro_schema.specs.Word.{word_of, leaf_of, is_left_out}
+use Rattle.avro_schema.proofs.Fits.{Gives, ItemFits, DraftFits, AllFrom, is_named_there, holds_items, get-extended, distinct-more}
+use Rattle.avro_schema.proofs.Sound.{Fine, Sound, SoundIf, Whatever, fine-bind, fine-done, fine-one, fine-around, sound-room, sound-or, if_found}
+use Rattle.avro_schema.proofs.UnionFits.{AllBelow, sound-union}
 
 -- ---- fields
 
-default_fine : (before : List (List ℕ)) (heads : List Head) (s : List ℕ) → is_used s before ≡ false → (default : Bool) (p : ℕ × List Node) → Fine Below heads (Ok p)
-    → Fine (FieldFits before) heads (require default OutOfProfile >>= λ _. Ok (field_node s p.0, p.1))
-default_fine before heads s new true p f = ((f.0, new), f.1)
-default_fine before heads s new false p f = tt
+abbrev Names : List DraftField → List (List ℕ)
+Names fs = map (λ f. f.name) fs
 
-type_fine : (before : List (List ℕ)) (heads : List Head) (s : List ℕ) → is_used s before ≡ false → (default : Bool) (r : Result (ℕ × List Node) SchemaError) → Fine Below heads r
-    → Fine (FieldFits before) heads (r >>= λ p. require default OutOfProfile >>= λ _. Ok (field_node s p.0, p.1))
-type_fine before heads s new default (Ok p) f = default_fine before heads s new default p f
-type_fine before heads s new default (Err e) f = tt
+-- a field's type is among the nodes, and its name is none of those before it
+abbrev FieldFits : List (List ℕ) → List Head → List Head → DraftField → Type 0
+FieldFits before start all f = (f.node < length all) × (is_used f.name before ≡ false)
 
--- a name that is given to a field is none of those before it
-unused_at : (a b : Bool) (s t : List ℕ) → (require (a && not b) BadName >>= λ _. Ok s) ≡ Ok t → (s ≡ t) × (b ≡ false)
-unused_at true true s t e = absurd (let no : ⊥ = cc in no)
-unused_at true false s t e = (cc, refl)
-unused_at false b s t e = absurd (let no : ⊥ = cc in no)
+-- so with each of the fields
+abbrev pub FieldsFit : List (List ℕ) → List Head → List Head → List DraftField → Type 0
+FieldsFit before start all fs = AllByRecursion (λ f. f.node < length all) fs × (IsDistinct bytes_eq before → IsDistinct bytes_eq (before ++ Names fs))
 
-unused_in : (before : List (List ℕ)) (r : Result (List ℕ) SchemaError) (t : List ℕ) → (r >>= λ s. require (is_name s && not (is_used s before)) BadName >>= λ _. Ok s) ≡ Ok t → is_used t before ≡ false
-unused_in before (Ok s) t e = let p = unused_at (is_name s) (is_used s before) s t e in subst (λ x. is_used x before ≡ false) p.0 p.1
-unused_in before (Err x) t e = absurd (let no : ⊥ = cc in no)
+-- ---- steps that gave a value
+
+bound : {A B : Type 0} (r : Result A SchemaError) (f : A → Result B SchemaError) (b : B) → (r >>= f) ≡ Ok b → (a : A) × (r ≡ Ok a) × (f a ≡ Ok b)
+bound (Ok a) f b h = (a, refl, h)
+bound (Err e) f b h = absurd (let wrong : ⊥ = cc in wrong)
+
+required : {A : Type 0} (c : Bool) (e : SchemaError) (r : Result A SchemaError) (a : A) → (require c e >>= λ _. r) ≡ Ok a → (c ≡ true) × (r ≡ Ok a)
+required true e r a h = (refl, h)
+required false e r a h = absurd (let wrong : ⊥ = cc in wrong)
+
+abbrev told : {A : Type 0} → A → Result A SchemaError
+told a = Ok a
+
+ok_inside : {A : Type 0} (a b : A) → told a ≡ told b → a ≡ b
+ok_inside a b e = cc
+
+both : (a b : Bool) → (a && b) ≡ true → (a ≡ true) × (b ≡ true)
+both true b e = (refl, e)
+both false b e = absurd (let wrong : ⊥ = cc in wrong)
+
+not_true : (b : Bool) → not b ≡ true → b ≡ false
+not_true true e = absurd (let wrong : ⊥ = cc in wrong)
+not_true false e = refl
+
+neither : (a b : Bool) → (a || b) ≡ false → (a ≡ false) × (b ≡ false)
+neither true b e = absurd (let wrong : ⊥ = cc in wrong)
+neither false b e = (refl, e)
+
+-- ---- names
+
+unused_all : (name : List ℕ) (before : List (List ℕ)) → is_used name before ≡ false → AllByRecursion (λ x. bytes_eq x name ≡ false) before
+unused_all name [] e = tt
+unused_all name (x ∷ before) e = let h = neither (bytes_eq x name) (is_used name before) e in (h.0, unused_all name before h.1)
+
+distinct-push : (names : List (List ℕ)) (name : List ℕ) → IsDistinct bytes_eq names → is_used name names ≡ false → IsDistinct bytes_eq (names ++ name ∷ [])
+distinct-push names name d new = distinct-more bytes_eq names name d (unused_all name names new)
+
+new_distinct : (before ss : List (List ℕ)) → are_new before ss ≡ true → IsDistinct bytes_eq before → IsDistinct bytes_eq (before ++ ss)
+new_distinct before [] e d = subst (IsDistinct bytes_eq) (sym (append-nil before)) d
+new_distinct before (s ∷ ss) e d =
+    let h = both (not (is_used s before)) _ e in
+    subst (IsDistinct bytes_eq) (append_assoc before (s ∷ []) ss) (new_distinct (before ++ s ∷ []) ss h.1 (distinct-push before s d (not_true _ h.0)))
+
+none_distinct : IsDistinct bytes_eq []
+unfolding IsDistinct
+none_distinct = tt
+
+-- ---- what a text names
+
+fine-leaf : (n : Node) → ((all : List Head) (own : ℕ) → DraftFits all own (Whole n)) → Sound Gives (leaf n)
+fine-leaf n fits = sound-room Gives (one_node (Whole n)) (λ space heads room. fine-one (Whole n) space heads room (λ all. fits all (length heads)))
+
+-- where a name is defined, its head is
+named_head : (full : List ℕ) (h : Head) → defines full h ≡ true → is_named_there (Some h) ≡ true
+named_head full (Named name) e = refl
+named_head full NullHead e = absurd (let wrong : ⊥ = cc in wrong)
+named_head full BooleanHead e = absurd (let wrong : ⊥ = cc in wrong)
+named_head full IntHead e = absurd (let wrong : ⊥ = cc in wrong)
+named_head full LongHead e = absurd (let wrong : ⊥ = cc in wrong)
+named_head full BytesHead e = absurd (let wrong : ⊥ = cc in wrong)
+named_head full TextHead e = absurd (let wrong : ⊥ = cc in wrong)
+named_head full ArrayHead e = absurd (let wrong : ⊥ = cc in wrong)
+named_head full MapHead e = absurd (let wrong : ⊥ = cc in wrong)
+named_head full UnionHead e = absurd (let wrong : ⊥ = cc in wrong)
+
+-- a place, counted from another
+abbrev NamedFrom : ℕ → List Head → ℕ → Type 0
+NamedFrom i heads n = (j : ℕ) × (n ≡ i + j) × (j < length heads) × (is_named_there (slice_get heads j) ≡ true)
+
+some_inside : (a b : ℕ) → Some a ≡ Some b → a ≡ b
+some_inside a b e = cc
+
+defined_at_head : (full : List ℕ) (i : ℕ) (h : Head) (heads : List Head) (n : ℕ) (b : Bool) (rest : Option ℕ) → (rest ≡ Some n → NamedFrom (i + 1) heads n) → defines full h ≡ b → cond b (Some i) rest ≡ Some n → NamedFrom i (h ∷ heads) n
+defined_at_head full i h heads n true rest later t e = (0, sym (some_inside i n e) ∙ (let z : i ≡ i + 0 = omega arith in z), omega arith, named_head full h t)
+defined_at_head full i h heads n false rest later t e = let k = later e in (suc k.0, omega (arith, k.1), omega (arith, k.2), k.3)
+
+defined_there : (full : List ℕ) (i : ℕ) (heads : List Head) (n : ℕ) → position_from (defines full) i heads ≡ Some n → NamedFrom i heads n
+defined_there full i [] n e = absurd (let wrong : ⊥ = cc in wrong)
+defined_there full i (h ∷ heads) n e = defined_at_head full i h heads n (defines full h) (position_from (defines full) (i + 1) heads) (defined_there full (i + 1) heads n) refl e
+
+found_fine : (full : List ℕ) (heads : List Head) (o : Option ℕ) → defined_at full heads ≡ o → Fine Gives heads (found o)
+unfolding defined_at
+found_fine full heads None e = tt
+found_fine full heads (Some n) e = λ few.
+    let k = defined_there full 0 heads n e in
+    let same : n ≡ k.0 = omega (arith, k.1) in (
+      omega (arith, few),
+      λ all more is.
+          let whole : all ≡ heads ++ more = is ∙ ap (λ hs. hs ++ more) (append-nil heads) in
+          let lt : n < length heads = omega (arith, same, k.2) in (
+            record {
+              below = omega (arith, ap length whole, length-append heads more, lt);
+              new = inr (ap is_named_there (get-extended all heads more n whole lt ∙ ap (λ j. slice_get heads j) same) ∙ k.3);
+            },
+            tt,
+          ),
+    )
+
+sound-reference : (s : List ℕ) → Sound Gives (reference s)
+unfolding reference
+sound-reference s space heads = found_fine (full_name space s) heads (defined_at (full_name space s) heads) refl
+
+sound-word : (w : Word) (s : List ℕ) → Sound Gives (leaf_or_reference (leaf_of w) s)
+sound-word words.Null s = fine-leaf NullNode (λ all own. tt)
+sound-word words.Boolean s = fine-leaf BooleanNode (λ all own. tt)
+sound-word words.Int s = fine-leaf IntNode (λ all own. tt)
+sound-word words.Long s = fine-leaf LongNode (λ all own. tt)
+sound-word words.Bytes s = fine-leaf BytesNode (λ all own. tt)
+sound-word words.Text s = fine-leaf TextNode (λ all own. tt)
+sound-word words.Float s = sound-reference s
+sound-word words.Double s = sound-reference s
+sound-word words.Record s = sound-reference s
+sound-word words.Enum s = sound-reference s
+sound-word words.Fixed s = sound-reference s
+sound-word words.Array s = sound-reference s
+sound-word words.Map s = sound-reference s
+sound-word words.Error s = sound-reference s
+sound-word words.Other s = sound-reference s
+
+left_out : (b : Bool) (e : SchemaError) (w : Walk ℕ) → Sound Gives w → Sound Gives (cond b (λ space heads. Err e) w)
+left_out true e w f space heads = tt
+left_out false e w f space heads = f space heads
+
+sound-named : (s : List ℕ) → Sound Gives (named s)
+unfolding named
+sound-named s = left_out (is_left_out (word_of s)) _ (leaf_or_reference (leaf_of (word_of s)) s) (sound-word (word_of s) s)
+
+-- ---- named types
+
+-- a step that gives no node, and what comes of it
+given_fine : {A B : Type 0} (In : List Head → List Head → B → Type 0) (heads : List Head) (r : Result A SchemaError) (f : A → Result (B × List Draft) SchemaError) → ((a : A) → r ≡ Ok a → Fine In heads (f a)) → Fine In heads (r >>= f)
+given_fine In heads (Ok a) f h = h a refl
+given_fine In heads (Err e) f h = tt
+
+record_fits : (own all : List Head) (full : List ℕ) (fs : List DraftField) → FieldsFit [] (own ++ Named full ∷ []) all fs → DraftFits all (length own) (RecordDraft full fs)
+record_fits own all full fs h = (h.0, h.1 none_distinct)
+
+sound-record : (name namespace : Option Data) (o : Option (Walk (List DraftField))) → SoundIf (FieldsFit []) o → (space : List ℕ) (heads : List Head) → length heads < most_nodes → Fine Gives heads (record_of name namespace o space heads)
+unfolding record_of
+sound-record name namespace o f space heads room = given_fine Gives heads (new_name name namespace space heads) _ (λ full is.
+    fine-around (FieldsFit []) (λ fs. RecordDraft full fs) (Named full) (λ fs. refl) (λ own all fs h. record_fits own all full fs h) (or_unknown o) (namespace_of full) space heads room (sound-or (FieldsFit []) o f))
+
+symbols_fit : (symbols : Option Data) (ss : List (List ℕ)) → symbols_of symbols ≡ Ok ss → IsDistinct bytes_eq ss × (length ss ≤ most_symbols)
+unfolding symbols_of
+symbols_fit symbols ss e =
+    let p = bound (texts_of symbols) _ ss e in
+    let q = required _ _ _ ss p.2 in
+    let r = required _ _ _ ss q.1 in
+    let same : p.0 ≡ ss = ok_inside p.0 ss r.1 in
+    let h = both (list_all is_name p.0) (are_new [] p.0) q.0 in
+    subst (λ x. IsDistinct bytes_eq x × (length x ≤ most_symbols)) same (new_distinct [] p.0 h.1 none_distinct, leb-true (length p.0) 4096 r.0)
+
+position_below : (ss : List (List ℕ)) (o : Option ℕ) (p : List ℕ → Bool) (n : Option ℕ) → position p ss ≡ o → (ok_or o BadSymbols >>= λ k. Ok (Some k)) ≡ Ok n → IfSome n (λ k. k < length ss)
+position_below ss None p n is e = absurd (let wrong : ⊥ = cc in wrong)
+position_below ss (Some k) p n is e = subst (λ x. IfSome x (λ j. j < length ss)) (ok_inside (Some k) n e) ((position-Some p ss k [] is).0)
+
+default_fits : (ss : List (List ℕ)) (default : Option Data) (n : Option ℕ) → default_symbol ss default ≡ Ok n → IfSome n (λ k. k < length ss)
+default_fits ss None n e = subst (λ x. IfSome x (λ k. k < length ss)) (ok_inside None n e) tt
+default_fits ss (Some d) n e =
+    let p = bound (text_of (Some d)) _ n e in
+    position_below ss (position (λ other. bytes_eq other p.0) ss) (λ other. bytes_eq other p.0) n refl p.2
+
+sound-enum : (name namespace symbols default : Option Data) (space : List ℕ) (heads : List Head) → length heads < most_nodes → Fine Gives heads (enum_of name namespace symbols default space heads)
+unfolding enum_of
+sound-enum name namespace symbols default space heads room =
+    given_fine Gives heads (new_name name namespace space heads) _ (λ full is.
+    given_fine Gives heads (symbols_of symbols) _ (λ ss are.
+    given_fine Gives heads (default_symbol ss default) _ (λ n at.
+    let h = symbols_fit symbols ss are in
+    fine-one (Whole (EnumNode full ss n)) space heads room (λ all. (h.0, h.1, default_fits ss default n at)))))
+
+size_fits : (size : Option Data) (n : ℕ) → size_of size ≡ Ok n → n ≤ most_fixed
+size_fits None n e = absurd (let wrong : ⊥ = cc in wrong)
+size_fits (Some d) n e =
+    let p = bound (ok_or (option_and_then as_u64 (as_number d)) BadNumber) _ n e in
+    let q = required _ _ _ n p.2 in
+    subst (λ k. k ≤ most_fixed) (ok_inside p.0 n q.1) (leb-true p.0 1048576 q.0)
+
+sound-fixed : (name namespace size : Option Data) (space : List ℕ) (heads : List Head) → length heads < most_nodes → Fine Gives heads (fixed_of name namespace size space heads)
+unfolding fixed_of
+sound-fixed name namespace size space heads room =
+    given_fine Gives heads (new_name name namespace space heads) _ (λ full is.
+    given_fine Gives heads (size_of size) _ (λ n at.
+    fine-one (Whole (FixedNode full n)) space heads room (λ all. size_fits size n at)))
+
+-- ---- arrays and maps
+
+named_holds_none : (o : Option Head) → is_named_there o ≡ true → holds_items o ≡ false
+named_holds_none None e = refl
+named_holds_none (Some (Named name)) e = refl
+named_holds_none (Some NullHead) e = refl
+named_holds_none (Some BooleanHead) e = refl
+named_holds_none (Some IntHead) e = refl
+named_holds_none (Some LongHead) e = refl
+named_holds_none (Some BytesHead) e = refl
+named_holds_none (Some TextHead) e = refl
+named_holds_none (Some UnionHead) e = refl
+named_holds_none (Some ArrayHead) e = absurd (let wrong : ⊥ = cc in wrong)
+named_holds_none (Some MapHead) e = absurd (let wrong : ⊥ = cc in wrong)
+
+item_fits : (head : Head) (own all : List Head) (n : ℕ) → Gives (own ++ head ∷ []) all n → ItemFits all (length own) n
+item_fits head own all n g = record {
+  below = g.below;
+  later = elim g.new [
+    | inl le ↦ inl (omega (arith, le, length-append own (head ∷ [])))
+    | inr named ↦ inr (named_holds_none (slice_get all n) named)
+  ];
+}
+
+sound-declared : (form : Form) (value : List ℕ → Option Data) (schema : List ℕ → Option (Walk ℕ)) (fs : List ℕ → Option (Walk (List DraftField))) → ((k : List ℕ) → SoundIf Gives (schema k)) → ((k : List ℕ) → SoundIf (FieldsFit []) (fs k)) → Sound Gives (declared_by form value schema fs)
+sound-declared forms.Record value schema fs f g = sound-room Gives _ (sound-record _ _ (fs (codes "fields")) (g (codes "fields")))
+sound-declared forms.Enum value schema fs f g = sound-room Gives _ (sound-enum _ _ _ _)
+sound-declared forms.Fixed value schema fs f g = sound-room Gives _ (sound-fixed _ _ _)
+sound-declared forms.Array value schema fs f g = sound-room Gives _ (λ space heads room. fine-around Gives (λ n. Whole (ArrayNode n)) ArrayHead (λ n. refl) (item_fits ArrayHead) (or_unknown (schema (codes "items"))) space space heads room (sound-or Gives (schema (codes "items")) (f (codes "items"))))
+sound-declared forms.Map value schema fs f g = sound-room Gives _ (λ space heads room. fine-around Gives (λ n. Whole (MapNode n)) MapHead (λ n. refl) (item_fits MapHead) (or_unknown (schema (codes "values"))) space space heads room (sound-or Gives (schema (codes "values")) (f (codes "values"))))
+sound-declared forms.Error value schema fs f g = λ space heads. tt
+sound-declared forms.Other value schema fs f g = sound-or Gives (schema (codes "type")) (f (codes "type"))
+
+-- ---- fields
 
 unused : (name : Option Data) (before : List (List ℕ)) (t : List ℕ) → field_name name before ≡ Ok t → is_used t before ≡ false
 unfolding field_name
-unused name before t e = unused_in before (simple_name name) t e
+unused name before t e =
+    let p = bound (text_of name) _ t e in
+    let q = required _ _ _ t p.2 in
+    let h = both (is_name p.0) (not (is_used p.0 before)) q.0 in
+    subst (λ x. is_used x before ≡ false) (ok_inside p.0 t q.1) (not_true _ h.1)
 
-name_fine : (before : List (List ℕ)) (r : Result (List ℕ) SchemaError) → ((t : List ℕ) → r ≡ Ok t → is_used t before ≡ false) → (type : Option (Walk ℕ)) → SoundIf Below type → (default : Bool) (space : List ℕ) (heads : List Head)
-    → Fine (FieldFits before) heads (r >>= λ s. or_unknown type space heads >>= λ p. require default OutOfProfile >>= λ _. Ok (field_node s p.0, p.1))
-name_fine before (Ok s) new type f default space heads = type_fine before heads s (new s refl) default (or_unknown type space heads) (sound-or Below type f space heads)
-name_fine before (Err e) new type f default space heads = tt
+type_fine : (before : List (List ℕ)) (heads : List Head) (s : List ℕ) (default : Option Data) → is_used s before ≡ false → (r : Result (ℕ × List Draft) SchemaError) → Fine Gives heads r
+    → Fine (FieldFits before) heads (r >>= λ p. Ok (draft_field s p.0 default, p.1))
+type_fine before heads s default new (Ok p) f = λ few. let h = f few in (h.0, λ all more e. let k = h.1 all more e in ((k.0.below, new), k.1))
+type_fine before heads s default new (Err e) f = tt
 
-sound-field_of : (name : Option Data) (type : Option (Walk ℕ)) (default : Option Data) (before : List (List ℕ)) → SoundIf Below type → Sound (FieldFits before) (field_of name type default before)
+sound-field_of : (name : Option Data) (type : Option (Walk ℕ)) (default : Option Data) (before : List (List ℕ)) → SoundIf Gives type → Sound (FieldFits before) (field_of name type default before)
 unfolding field_of
-sound-field_of name type default before f space heads = name_fine before (field_name name before) (unused name before) type f (is_none default) space heads
+sound-field_of name type default before f space heads = given_fine (FieldFits before) heads (field_name name before) _ (λ s is.
+    type_fine before heads s default (unused name before s is) (or_unknown type space heads) (sound-or Gives type f space heads))
+
+few_fine : {A : Type 0} (In : List Head → List Head → A → Type 0) (heads : List Head) (b : Bool) (r : Result (A × List Draft) SchemaError) (e : SchemaError) → Fine In heads r → Fine In heads (cond b r (Err e))
+few_fine In heads true r e f = f
+few_fine In heads false r e f = tt
 
 -- a field before others
-fields-cons : (before : List (List ℕ)) (len : ℕ) (f : FieldNode) (fs : List FieldNode) → FieldFits before len f → FieldsFit (before ++ f.name ∷ []) len fs → FieldsFit before len (f ∷ fs)
-fields-cons before len f fs h k =
+fields-cons : (before : List (List ℕ)) (start all : List Head) (f : DraftField) (fs : List DraftField) → FieldFits before start all f → FieldsFit (before ++ f.name ∷ []) start all fs → FieldsFit before start all (f ∷ fs)
+fields-cons before start all f fs h k =
     ((h.0, k.0), λ distinct. subst (IsDistinct bytes_eq) (append_assoc before (f.name ∷ []) (Names fs)) (k.1 (distinct-push before f.name distinct h.1)))
 
 -- ---- the walk
@@ -137,19 +292,26 @@ fields-cons before len f fs h k =
 mutual
   unfolding walk
 
-  sound-walk : (d : Data) → Sound Below (walk d)
+  pub sound-walk : (d : Data) → Sound Gives (walk d)
   sound-walk null = λ space heads. tt
   sound-walk (boolean b) = λ space heads. tt
   sound-walk (number n) = λ space heads. tt
   sound-walk (string s) = sound-named s
-  sound-walk (array ds) = λ space heads. tt
-  sound-walk (object ms) = sound-declared _ _ _ _ (sound-fields_in ms (codes "fields"))
+  sound-walk (array ds) = sound-union (members ds) (sound-members ds)
+  sound-walk (object ms) = sound-declared _ _ (walk_member ms) (walk_fields ms) (sound-member ms) (sound-fields_in ms)
 
-  sound-member : (ms : Members) (k : List ℕ) → SoundIf Below (walk_member ms k)
+  sound-members : (ds : Items) → Sound AllBelow (members ds)
+  sound-members no_items = λ space heads. fine-done (AllBelow []) [] space heads (λ all. tt)
+  sound-members (item d ds) = λ space heads.
+      fine-bind Gives (λ n all xs. n < length all → AllBelow [] all xs) (AllBelow []) heads (λ n xs all g next. next g.below) (walk d) _ space (sound-walk d space heads) (λ n hs.
+      fine-bind AllBelow (λ ns all xs. AllBelow [] all ns → n < length all → AllBelow [] all xs) (λ all xs. n < length all → AllBelow [] all xs) hs (λ ns xs all below next. next below) (members ds) _ space (sound-members ds space hs) (λ ns ks.
+      fine-done (λ all xs. AllBelow [] all ns → n < length all → AllBelow [] all xs) (n ∷ ns) space ks (λ all below lt. (lt, below))))
+
+  sound-member : (ms : Members) (k : List ℕ) → SoundIf Gives (walk_member ms k)
   sound-member no_members k = tt
-  sound-member (member l d ms) k = if_found Below (slice_cmp nat_cmp k l) (walk_member ms k) (walk d) (sound-member ms k) (sound-walk d)
+  sound-member (member l d ms) k = if_found Gives (slice_cmp nat_cmp k l) (walk_member ms k) (walk d) (sound-member ms k) (sound-walk d)
 
-  pub sound-fields_in : (ms : Members) (k : List ℕ) → SoundIf (FieldsFit []) (walk_fields ms k)
+  sound-fields_in : (ms : Members) (k : List ℕ) → SoundIf (FieldsFit []) (walk_fields ms k)
   sound-fields_in no_members k = tt
   sound-fields_in (member l d ms) k = if_found (FieldsFit []) (slice_cmp nat_cmp k l) (walk_fields ms k) (fields d) (sound-fields_in ms k) (sound-fields d)
 
@@ -158,35 +320,12 @@ mutual
   sound-fields _ = λ space heads. tt
 
   sound-after : (ds : Items) (before : List (List ℕ)) → Sound (FieldsFit before) (fields_after ds before)
-  sound-after no_items before = λ space heads. fine-done (FieldsFit before) [] space heads (tt, λ distinct. rw append-nil distinct)
-  sound-after (item d ds) before = λ space heads. fine-bind (FieldFits before) (FieldsFit before) (field d before) _ space heads (sound-field d before space heads)
-      (λ f hs le h. fine-bind (FieldsFit (before ++ f.name ∷ [])) (FieldsFit before) (fields_after ds (before ++ f.name ∷ [])) _ space hs (sound-after ds (before ++ f.name ∷ []) space hs)
-      (λ fs ks le2 h2. fine-done (FieldsFit before) (f ∷ fs) space ks (fields-cons before (length ks) f fs (omega arith, h.1) h2)))
+  sound-after no_items before = λ space heads. fine-done (FieldsFit before []) [] space heads (λ all. (tt, λ distinct. subst (IsDistinct bytes_eq) (sym (append-nil before)) distinct))
+  sound-after (item d ds) before = λ space heads.
+      fine-bind (FieldFits before) (λ f all xs. FieldFits before [] all f → FieldsFit before [] all xs) (FieldsFit before []) heads (λ f xs all h next. next h) (field d before) _ space (sound-field d before space heads) (λ f hs.
+      fine-bind (FieldsFit (before ++ f.name ∷ [])) (λ fs all xs. FieldsFit (before ++ f.name ∷ []) [] all fs → FieldFits before [] all f → FieldsFit before [] all xs) (λ all xs. FieldFits before [] all f → FieldsFit before [] all xs) hs (λ fs xs all h next. next h) (fields_after ds (before ++ f.name ∷ [])) _ space (sound-after ds (before ++ f.name ∷ []) space hs) (λ fs ks.
+      fine-done (λ all xs. FieldsFit (before ++ f.name ∷ []) [] all fs → FieldFits before [] all f → FieldsFit before [] all xs) (f ∷ fs) space ks (λ all k h. fields-cons before [] all f fs h k)))
 
   sound-field : (d : Data) (before : List (List ℕ)) → Sound (FieldFits before) (field d before)
-  sound-field (object ms) before = λ space heads. room_at (FieldFits before) heads (nat_lt (length before) 1024) _ _ (sound-field_of _ (walk_member ms (codes "type")) _ before (sound-member ms (codes "type")) space heads)
+  sound-field (object ms) before = λ space heads. few_fine (FieldFits before) heads (nat_lt (length before) 1024) _ _ (sound-field_of _ (walk_member ms (codes "type")) _ before (sound-member ms (codes "type")) space heads)
   sound-field _ before = λ space heads. tt
-
--- ---- the nodes of a schema
-
-abbrev all_nodes : Result (List Node) SchemaError → List Node
-all_nodes (Ok ns) = ns
-all_nodes (Err e) = []
-
-whole_at : (r : Result (ℕ × List Node) SchemaError) (ns : List Node) → Fine Below [] r → (r >>= λ p. Ok p.1) ≡ Ok ns → IsWellFormed ns
-whole_at (Ok p) ns f e =
-    let same : p.1 ≡ ns = ap all_nodes e in
-    let none : 0 + length p.1 ≡ length p.1 = omega arith in
-    subst IsWellFormed same (record { root = omega (arith, f.0); each = subst (λ m. AllByRecursion (NodeIsWellFormed m) p.1) none f.1 })
-whole_at (Err x) ns f e = absurd (let no : ⊥ = cc in no)
-
-numbers_at : (b : Bool) (d : Data) (ns : List Node) → cond b (Err BadNumber) (walk d null_namespace [] >>= λ p. Ok p.1) ≡ Ok ns → IsWellFormed ns
-numbers_at true d ns e = absurd (let no : ⊥ = cc in no)
-numbers_at false d ns e = whole_at (walk d null_namespace []) ns (sound-walk d null_namespace []) e
-
-read_at : (o : Option Data) (ns : List Node) → nodes_in_read o ≡ Ok ns → IsWellFormed ns
-read_at None ns e = absurd (let no : ⊥ = cc in no)
-read_at (Some d) ns e = numbers_at (has_float d) d ns e
-
-pub declared-well_formed : (text : List ℕ) (ns : List Node) → Declares text ns → IsWellFormed ns
-declared-well_formed text ns h = read_at (read text) ns h.nodes_are

@@ -1,52 +1,93 @@
--- What a JSON value declares (Avro 1.11, "Schema Declaration"), by recursion on the value.
-use Rattle.std.specs.Prelude.{◌≡◌, ◌≢◌, ◌⊎◌, ℕ, List, [], ◌∷◌, true, false, Some, None, slice_get, codes}
+-- What a JSON value declares (Avro 1.11, "Schema Declaration" and "Names"), by recursion on the value.
+use Rattle.std.specs.Prelude.{◌≡◌, ◌≢◌, ◌⊎◌, ℕ, List, [], ◌∷◌, true, false, Option, Some, is_some, slice_get, Ok, codes}
 use Rattle.serde_json.specs.Data.{Data, string, array, object, Items, no_items, item, Members, no_members, member}
 use Rattle.serde_json.specs.Find.{get_member}
-use Rattle.avro_schema.specs.Names.{is_name}
-use Rattle.avro_schema.specs.Node.{Node, FieldNode, RecordNode, HaveDistinctNames}
-use Rattle.avro_schema.specs.Word.{word_of, leaf_of, is_primitive}
+use Rattle.avro_schema.specs.declared.word.Form.{Form}
+use Rattle.avro_schema.specs.declared.word.Form.TheVariants as forms
+use Rattle.avro_schema.specs.Attributes.{symbols_of, default_symbol, size_of}
+use Rattle.avro_schema.specs.Head.{Named, head_of_node}
+use Rattle.avro_schema.specs.Names.{is_name, is_full_name, full_name, namespace_of, own_namespace, unqualified}
+use Rattle.avro_schema.specs.Node.{Node, FieldNode, FixedNode, EnumNode, ArrayNode, MapNode, UnionNode, RecordNode, HaveDistinctNames}
+use Rattle.avro_schema.specs.Word.{word_of, leaf_of, is_primitive, form_of}
+
+-- ---- names
 
 -- the object's `name` is this one, by the rule for names
 pub record IsNamed (ms : Members) (name : List ℕ) : Type 0 where
   pub is : get_member (codes "name") ms ≡ Some (string name)
   pub by_rule : is_name name ≡ true
 
--- the object is a record of this full name, in no namespace and no primitive type's
-pub record IsRecordOf (ms : Members) (name : List ℕ) : Type 0 where
-  pub type : get_member (codes "type") ms ≡ Some (string (codes "record"))
-  pub named : IsNamed ms name
-  pub namespace : get_member (codes "namespace") ms ≡ None
-  pub not_primitive : is_primitive (word_of name) ≡ false
+-- In the enclosing namespace, the object's `name` and `namespace` define this full name. It is by the rule for names, and no primitive type's.
+pub record IsFullName (ms : Members) (space full : List ℕ) : Type 0 where
+  pub name : List ℕ
+  pub own : List ℕ
+  pub is : get_member (codes "name") ms ≡ Some (string name)
+  pub stands_in : own_namespace name (get_member (codes "namespace") ms) space ≡ Ok own
+  pub means : full_name own name ≡ full
+  pub by_rule : is_full_name full ≡ true
+  pub not_primitive : is_primitive (word_of (unqualified full)) ≡ false
+
+-- the node is the record, enum or fixed that the text means in this namespace
+pub record IsReference (text space : List ℕ) (node : Node) : Type 0 where
+  pub not_primitive : is_primitive (word_of text) ≡ false
+  pub defines : head_of_node node ≡ Named (full_name space text)
+
+-- the text names the node: a primitive type, or what is defined elsewhere
+abbrev pub IsNodeOf : List ℕ → List ℕ → Node → Type 0
+IsNodeOf text space node = (leaf_of (word_of text) ≡ Some node) ⊎ IsReference text space node
+
+-- ---- objects
+
+-- The object, which is of this form, declares node n. What the schemas and the lists of fields at its keys declare is given.
+abbrev pub IsObject : Form → Members → (List ℕ → List ℕ → ℕ → Type 0) → (List ℕ → List ℕ → List FieldNode → Type 0) → List ℕ → List Node → ℕ → Type 0
+IsObject forms.Record ms Schema Fields space nodes n = (full : List ℕ) × (fs : List FieldNode) × (slice_get nodes n ≡ Some (RecordNode full fs)) × IsFullName ms space full × Fields (codes "fields") (namespace_of full) fs × HaveDistinctNames fs
+IsObject forms.Enum ms Schema Fields space nodes n = (full : List ℕ) × (symbols : List (List ℕ)) × (default : Option ℕ) × (slice_get nodes n ≡ Some (EnumNode full symbols default)) × IsFullName ms space full
+    × (symbols_of (get_member (codes "symbols") ms) ≡ Ok symbols) × (default_symbol symbols (get_member (codes "default") ms) ≡ Ok default)
+IsObject forms.Fixed ms Schema Fields space nodes n = (full : List ℕ) × (size : ℕ) × (slice_get nodes n ≡ Some (FixedNode full size)) × IsFullName ms space full × (size_of (get_member (codes "size") ms) ≡ Ok size)
+IsObject forms.Array ms Schema Fields space nodes n = (inner : ℕ) × (slice_get nodes n ≡ Some (ArrayNode inner)) × Schema (codes "items") space inner
+IsObject forms.Map ms Schema Fields space nodes n = (inner : ℕ) × (slice_get nodes n ≡ Some (MapNode inner)) × Schema (codes "values") space inner
+IsObject forms.Error ms Schema Fields space nodes n = ⊥
+IsObject forms.Other ms Schema Fields space nodes n = Schema (codes "type") space n
+
+-- ---- values
 
 abbrev mutual
-  -- node n of these nodes is the schema that the value declares
-  pub DeclaresNode : Data → List Node → ℕ → Type 0
-  DeclaresNode (string s) nodes n = (k : Node) × (leaf_of (word_of s) ≡ Some k) × (slice_get nodes n ≡ Some k)
-  DeclaresNode (object ms) nodes n = (name : List ℕ) × (fs : List FieldNode) × (slice_get nodes n ≡ Some (RecordNode name fs)) × IsRecordOf ms name × FieldsAt (codes "fields") ms nodes fs × HaveDistinctNames fs
-  DeclaresNode _ nodes n = ⊥
+  -- node n of these nodes is the schema that the value declares in this namespace
+  pub DeclaresNode : Data → List ℕ → List Node → ℕ → Type 0
+  DeclaresNode (string s) space nodes n = (node : Node) × (slice_get nodes n ≡ Some node) × IsNodeOf s space node
+  DeclaresNode (array ds) space nodes n = (members : List ℕ) × (slice_get nodes n ≡ Some (UnionNode members)) × DeclareMembers ds space nodes members
+  DeclaresNode (object ms) space nodes n = IsObject (form_of (get_member (codes "type") ms)) ms (NodeAt ms nodes) (FieldsAt ms nodes) space nodes n
+  DeclaresNode _ space nodes n = ⊥
+
+  -- the elements declare the members, one by one
+  pub DeclareMembers : Items → List ℕ → List Node → List ℕ → Type 0
+  DeclareMembers no_items space nodes [] = Unit {0}
+  DeclareMembers (item d ds) space nodes (n ∷ ns) = DeclaresNode d space nodes n × DeclareMembers ds space nodes ns
+  DeclareMembers no_items space nodes (n ∷ ns) = ⊥
+  DeclareMembers (item d ds) space nodes [] = ⊥
 
   -- the value at a key declares the node
-  pub NodeAt : List ℕ → Members → List Node → ℕ → Type 0
-  NodeAt key no_members nodes n = ⊥
-  NodeAt key (member k d ms) nodes n = ((key ≡ k) × DeclaresNode d nodes n) ⊎ ((key ≢ k) × NodeAt key ms nodes n)
+  pub NodeAt : Members → List Node → List ℕ → List ℕ → ℕ → Type 0
+  NodeAt no_members nodes key space n = ⊥
+  NodeAt (member k d ms) nodes key space n = ((key ≡ k) × DeclaresNode d space nodes n) ⊎ ((key ≢ k) × NodeAt ms nodes key space n)
 
   -- the value at a key lists the fields
-  pub FieldsAt : List ℕ → Members → List Node → List FieldNode → Type 0
-  FieldsAt key no_members nodes fs = ⊥
-  FieldsAt key (member k d ms) nodes fs = ((key ≡ k) × ListsFields d nodes fs) ⊎ ((key ≢ k) × FieldsAt key ms nodes fs)
+  pub FieldsAt : Members → List Node → List ℕ → List ℕ → List FieldNode → Type 0
+  FieldsAt no_members nodes key space fs = ⊥
+  FieldsAt (member k d ms) nodes key space fs = ((key ≡ k) × ListsFields d space nodes fs) ⊎ ((key ≢ k) × FieldsAt ms nodes key space fs)
 
-  pub ListsFields : Data → List Node → List FieldNode → Type 0
-  ListsFields (array ds) nodes fs = DeclaresFields ds nodes fs
-  ListsFields _ nodes fs = ⊥
+  pub ListsFields : Data → List ℕ → List Node → List FieldNode → Type 0
+  ListsFields (array ds) space nodes fs = DeclareFields ds space nodes fs
+  ListsFields _ space nodes fs = ⊥
 
   -- the elements declare the fields, one by one
-  pub DeclaresFields : Items → List Node → List FieldNode → Type 0
-  DeclaresFields no_items nodes [] = Unit {0}
-  DeclaresFields (item d ds) nodes (f ∷ fs) = DeclaresField d nodes f × DeclaresFields ds nodes fs
-  DeclaresFields no_items nodes (f ∷ fs) = ⊥
-  DeclaresFields (item d ds) nodes [] = ⊥
+  pub DeclareFields : Items → List ℕ → List Node → List FieldNode → Type 0
+  DeclareFields no_items space nodes [] = Unit {0}
+  DeclareFields (item d ds) space nodes (f ∷ fs) = DeclaresField d space nodes f × DeclareFields ds space nodes fs
+  DeclareFields no_items space nodes (f ∷ fs) = ⊥
+  DeclareFields (item d ds) space nodes [] = ⊥
 
-  -- the value declares a field of that name and type, with no default
-  pub DeclaresField : Data → List Node → FieldNode → Type 0
-  DeclaresField (object ms) nodes f = IsNamed ms f.name × NodeAt (codes "type") ms nodes f.node × (get_member (codes "default") ms ≡ None)
-  DeclaresField _ nodes f = ⊥
+  -- the value declares a field of that name and type, with a default just where it has the attribute
+  pub DeclaresField : Data → List ℕ → List Node → FieldNode → Type 0
+  DeclaresField (object ms) space nodes f = IsNamed ms f.name × NodeAt ms nodes (codes "type") space f.node × (is_some f.default ≡ is_some (get_member (codes "default") ms))
+  DeclaresField _ space nodes f = ⊥

@@ -1,7 +1,13 @@
+pub mod Attributes
+pub mod Conforming
 pub mod Contract
 pub mod Datum
+pub mod DatumCode
 pub mod Declaring
+pub mod Defaults
+pub mod Draft
 pub mod Fault
+pub mod Head
 pub mod Names
 pub mod Node
 pub mod Schema

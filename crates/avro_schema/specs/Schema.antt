@@ -5,13 +5,17 @@ use Rattle.serde_json.specs.Read.{read}
 use Rattle.serde_json.specs.Written.{has_float, compact_text}
 use Rattle.avro_schema.specs.declared.error.SchemaError.{SchemaError}
 use Rattle.avro_schema.specs.declared.error.SchemaError.TheVariants.{TooLarge, NotJson, BadNumber, NoMemory}
+use Rattle.avro_schema.specs.Defaults.{finished}
 use Rattle.avro_schema.specs.Fault.{◌>>=◌}
 use Rattle.avro_schema.specs.Node.{Node, Declaration}
 use Rattle.avro_schema.specs.Walk.{walk, null_namespace}
 
--- the nodes of a JSON value, or its first fault
+-- the nodes that a JSON value declares, or the first fault: the walk's, and then that of a default
+abbrev pub declared : Data → Result (List Node) SchemaError
+declared d = walk d null_namespace [] >>= λ p. finished p.1
+
 abbrev pub nodes_in : Data → Result (List Node) SchemaError
-nodes_in d = if has_float d then Err BadNumber else (walk d null_namespace [] >>= λ p. Ok p.1)
+nodes_in d = if has_float d then Err BadNumber else declared d
 
 abbrev pub nodes_in_read : Option Data → Result (List Node) SchemaError
 nodes_in_read None = Err NotJson

@@ -1,37 +1,25 @@
 -- The walk over a schema's JSON: what each value declares, or the first fault (Avro 1.11, "Schema Declaration").
-use Rattle.std.specs.Prelude.{ℕ, ◌==◌, List, [], ◌∷◌, ◌++◌, length, map, if◌then◌else◌, Option, Some, None, is_none, Result, Ok, Err, nat_lt, codes}
+use Rattle.std.specs.Prelude.{ℕ, List, [], ◌∷◌, ◌++◌, length, map, Bool, true, not, ◌&&◌, if◌then◌else◌, Option, Some, None, slice_index_or, Result, Ok, Err, nat_lt, codes}
+use Rattle.std.specs.List.{list_any}
 use Rattle.std.specs.Ordering.{nat_cmp, match_ordering}
 use Rattle.std.specs.Cmp.Lexicographic.{slice_cmp}
 use Rattle.serde_json.specs.Data.{Data, null, boolean, number, string, array, object, Items, no_items, item, Members, no_members, member}
 use Rattle.serde_json.specs.Find.{get_member}
 use Rattle.avro_schema.specs.declared.error.SchemaError.{SchemaError}
-use Rattle.avro_schema.specs.declared.error.SchemaError.TheVariants.{TooLarge, Unknown, OutOfProfile}
+use Rattle.avro_schema.specs.declared.error.SchemaError.TheVariants.{TooLarge, Unknown, OutOfProfile, BadUnion}
 use Rattle.avro_schema.specs.declared.word.Form.{Form}
 use Rattle.avro_schema.specs.declared.word.Form.TheVariants as forms
-use Rattle.avro_schema.specs.Fault.{◌>>=◌, require}
-use Rattle.avro_schema.specs.Names.{record_name, field_name}
-use Rattle.avro_schema.specs.Node.{Node, IntNode, LongNode, TextNode, RecordNode, FieldNode}
-use Rattle.avro_schema.specs.Word.{word_of, leaf_of, form_of}
-
--- what is seen of a node before its parts are known
-pub data Head : Type 0 where
-  IntHead : Head
-  LongHead : Head
-  TextHead : Head
-  Named : List ℕ → Head
-
-abbrev pub head_of : Node → Head
-head_of IntNode = IntHead
-head_of LongNode = LongHead
-head_of TextNode = TextHead
-head_of (RecordNode name fields) = Named name
-
-abbrev pub heads_of : List Node → List Head
-heads_of ns = map head_of ns
+use Rattle.avro_schema.specs.Attributes.{symbols_of, default_symbol, size_of}
+use Rattle.avro_schema.specs.Draft.{Draft, Whole, RecordDraft, DraftField}
+use Rattle.avro_schema.specs.Fault.{◌>>=◌}
+use Rattle.avro_schema.specs.Head.{Head, ArrayHead, MapHead, UnionHead, Named, heads_of, is_same_type, is_union_head, defined_at}
+use Rattle.avro_schema.specs.Names.{full_name, namespace_of, new_name, field_name}
+use Rattle.avro_schema.specs.Node.{Node, FixedNode, EnumNode, ArrayNode, MapNode, UnionNode}
+use Rattle.avro_schema.specs.Word.{word_of, leaf_of, is_left_out, form_of}
 
 -- Given the enclosing namespace and the heads of the nodes so far: a value, and the nodes that it adds.
 abbrev pub Walk : Type 0 → Type 0
-Walk A = List ℕ → List Head → Result (A × List Node) SchemaError
+Walk A = List ℕ → List Head → Result (A × List Draft) SchemaError
 
 abbrev pub null_namespace : List ℕ
 null_namespace = []
@@ -49,7 +37,7 @@ or_unknown (Some w) = w
 abbrev pub done : {A : Type 0} → A → Walk A
 done a space heads = Ok (a, [])
 
-abbrev pub added : {A : Type 0} → List Node → Result (A × List Node) SchemaError → Result (A × List Node) SchemaError
+abbrev pub added : {A : Type 0} → List Draft → Result (A × List Draft) SchemaError → Result (A × List Draft) SchemaError
 added front (Ok p) = Ok (p.0, front ++ p.1)
 added front (Err e) = Err e
 
@@ -67,33 +55,85 @@ abbrev pub if_room : {A : Type 0} → Walk A → Walk A
 if_room w space heads = if nat_lt (length heads) most_nodes then w space heads else Err TooLarge
 
 -- a node that has no parts
+abbrev pub one_node : Draft → Walk ℕ
+one_node d space heads = Ok (length heads, d ∷ [])
+
 abbrev pub leaf : Node → Walk ℕ
-leaf n = if_room (λ space heads. Ok (length heads, n ∷ []))
-
-abbrev pub supported : Option Node → Walk ℕ
-supported (Some n) = leaf n
-supported None = fault OutOfProfile
-
--- what a text names
-unfoldable pub named : List ℕ → Walk ℕ
-named s = supported (leaf_of (word_of s))
+leaf n = if_room (one_node (Whole n))
 
 -- a node before its parts
-unfoldable pub around : {A : Type 0} → (A → Node) → Head → Walk A → Walk ℕ
+unfoldable pub around : {A : Type 0} → (A → Draft) → Head → Walk A → Walk ℕ
 around make head parts space heads = parts space (heads ++ head ∷ []) >>= λ p. Ok (length heads, make p.0 ∷ p.1)
 
--- a record, which stands before its fields; it is the root
-unfoldable pub record_of : Option Data → Option Data → Option (Walk (List FieldNode)) → Walk ℕ
-record_of name namespace fields space heads = do
-  _ ← require (length heads == 0) OutOfProfile
-  s ← record_name name namespace
-  around (RecordNode s) (Named s) (or_unknown fields) space heads
+-- ---- what a text names
 
--- an object, by what its `type` makes of it, its `name` and `namespace`, and the walk of its `fields`
-abbrev pub declared_by : Form → Option Data → Option Data → Option (Walk (List FieldNode)) → Walk ℕ
-declared_by forms.Misshapen name namespace fields = fault Unknown
-declared_by forms.Record name namespace fields = if_room (record_of name namespace fields)
-declared_by forms.Unsupported name namespace fields = fault OutOfProfile
+abbrev pub found : Option ℕ → Result (ℕ × List Draft) SchemaError
+found None = Err Unknown
+found (Some n) = Ok (n, [])
+
+unfoldable pub reference : List ℕ → Walk ℕ
+reference s space heads = found (defined_at (full_name space s) heads)
+
+abbrev pub leaf_or_reference : Option Node → List ℕ → Walk ℕ
+leaf_or_reference (Some n) s = leaf n
+leaf_or_reference None s = reference s
+
+unfoldable pub named : List ℕ → Walk ℕ
+named s = if is_left_out (word_of s) then fault OutOfProfile else leaf_or_reference (leaf_of (word_of s)) s
+
+-- ---- named types
+
+-- a record's name is defined before its fields, which stand in its namespace
+unfoldable pub record_of : Option Data → Option Data → Option (Walk (List DraftField)) → Walk ℕ
+record_of name namespace fields space heads = do
+  full ← new_name name namespace space heads
+  around (RecordDraft full) (Named full) (or_unknown fields) (namespace_of full) heads
+
+unfoldable pub enum_of : Option Data → Option Data → Option Data → Option Data → Walk ℕ
+enum_of name namespace symbols default space heads = do
+  full ← new_name name namespace space heads
+  ss ← symbols_of symbols
+  n ← default_symbol ss default
+  one_node (Whole (EnumNode full ss n)) space heads
+
+unfoldable pub fixed_of : Option Data → Option Data → Option Data → Walk ℕ
+fixed_of name namespace size space heads = do
+  full ← new_name name namespace space heads
+  n ← size_of size
+  one_node (Whole (FixedNode full n)) space heads
+
+-- ---- unions
+
+-- no union among them, and none of the type of one before
+abbrev pub are_apart : List Head → List Head → Bool
+are_apart before [] = true
+are_apart before (h ∷ hs) = (not (is_union_head h) && not (list_any (is_same_type h) before)) && are_apart (before ++ h ∷ []) hs
+
+-- the head of a node
+abbrev pub head_at : List Head → ℕ → Head
+head_at heads n = slice_index_or heads n UnionHead
+
+-- once all members are there
+abbrev pub apart_union : List Head → List Head → List ℕ → List Draft → Result (ℕ × List Draft) SchemaError
+apart_union heads all members added =
+    if are_apart [] (map (head_at all) members) then Ok (length heads, Whole (UnionNode members) ∷ added) else Err BadUnion
+
+unfoldable pub union_of : Walk (List ℕ) → Walk ℕ
+union_of parts space heads = do
+  p ← parts space (heads ++ UnionHead ∷ [])
+  apart_union heads ((heads ++ UnionHead ∷ []) ++ heads_of p.1) p.0 p.1
+
+-- ---- objects
+
+-- an object by what its `type` makes of it: the value, the schema and the list of fields at each key
+abbrev pub declared_by : Form → (List ℕ → Option Data) → (List ℕ → Option (Walk ℕ)) → (List ℕ → Option (Walk (List DraftField))) → Walk ℕ
+declared_by forms.Record value schema fields = if_room (record_of (value (codes "name")) (value (codes "namespace")) (fields (codes "fields")))
+declared_by forms.Enum value schema fields = if_room (enum_of (value (codes "name")) (value (codes "namespace")) (value (codes "symbols")) (value (codes "default")))
+declared_by forms.Fixed value schema fields = if_room (fixed_of (value (codes "name")) (value (codes "namespace")) (value (codes "size")))
+declared_by forms.Array value schema fields = if_room (around (λ n. Whole (ArrayNode n)) ArrayHead (or_unknown (schema (codes "items"))))
+declared_by forms.Map value schema fields = if_room (around (λ n. Whole (MapNode n)) MapHead (or_unknown (schema (codes "values"))))
+declared_by forms.Error value schema fields = fault OutOfProfile
+declared_by forms.Other value schema fields = or_unknown (schema (codes "type"))
 
 -- ---- fields
 
@@ -104,28 +144,30 @@ most_fields = 1024
 abbrev pub if_few : {A : Type 0} → List (List ℕ) → Walk A → Walk A
 if_few before w space heads = if nat_lt (length before) most_fields then w space heads else Err TooLarge
 
-abbrev pub field_node : List ℕ → ℕ → FieldNode
-field_node s n = record { name = s; node = n }
+abbrev pub draft_field : List ℕ → ℕ → Option Data → DraftField
+draft_field s n default = record { name = s; node = n; default = default }
 
 -- a field, by its `name`, the walk of its `type`, its `default` and the names before it
-unfoldable pub field_of : Option Data → Option (Walk ℕ) → Option Data → List (List ℕ) → Walk FieldNode
+unfoldable pub field_of : Option Data → Option (Walk ℕ) → Option Data → List (List ℕ) → Walk DraftField
 field_of name type default before space heads = do
   s ← field_name name before
   p ← or_unknown type space heads
-  _ ← require (is_none default) OutOfProfile
-  Ok (field_node s p.0, p.1)
+  Ok (draft_field s p.0 default, p.1)
 
 -- ---- the walk
 
 unfoldable mutual
   -- the schema that a value is
   pub walk : Data → Walk ℕ
-  walk null = fault Unknown
-  walk (boolean b) = fault Unknown
-  walk (number n) = fault Unknown
   walk (string s) = named s
-  walk (array ds) = fault OutOfProfile
-  walk (object ms) = declared_by (form_of (get_member (codes "type") ms)) (get_member (codes "name") ms) (get_member (codes "namespace") ms) (walk_fields ms (codes "fields"))
+  walk (array ds) = if_room (union_of (members ds))
+  walk (object ms) = declared_by (form_of (get_member (codes "type") ms)) (λ k. get_member k ms) (walk_member ms) (walk_fields ms)
+  walk _ = fault Unknown
+
+  -- the members of a union
+  pub members : Items → Walk (List ℕ)
+  members no_items = done []
+  members (item d ds) = followed_by (walk d) (λ n. followed_by (members ds) (λ ns. done (n ∷ ns)))
 
   -- the schema at a key
   pub walk_member : Members → List ℕ → Option (Walk ℕ)
@@ -133,20 +175,20 @@ unfoldable mutual
   walk_member (member l d ms) k = match_ordering (slice_cmp nat_cmp k l) (walk_member ms k) (Some (walk d)) (walk_member ms k)
 
   -- the fields at a key
-  pub walk_fields : Members → List ℕ → Option (Walk (List FieldNode))
+  pub walk_fields : Members → List ℕ → Option (Walk (List DraftField))
   walk_fields no_members k = None
   walk_fields (member l d ms) k = match_ordering (slice_cmp nat_cmp k l) (walk_fields ms k) (Some (fields d)) (walk_fields ms k)
 
   -- the fields that a value lists
-  pub fields : Data → Walk (List FieldNode)
+  pub fields : Data → Walk (List DraftField)
   fields (array ds) = fields_after ds []
   fields _ = fault Unknown
 
   -- the fields, behind those of such names
-  pub fields_after : Items → List (List ℕ) → Walk (List FieldNode)
+  pub fields_after : Items → List (List ℕ) → Walk (List DraftField)
   fields_after no_items before = done []
   fields_after (item d ds) before = followed_by (field d before) (λ f. followed_by (fields_after ds (before ++ f.name ∷ [])) (λ fs. done (f ∷ fs)))
 
-  pub field : Data → List (List ℕ) → Walk FieldNode
+  pub field : Data → List (List ℕ) → Walk DraftField
   field (object ms) before = if_few before (field_of (get_member (codes "name") ms) (walk_member ms (codes "type")) (get_member (codes "default") ms) before)
   field _ before = fault Unknown

@@ -1,11 +1,36 @@
+use crate::datum::Datum;
+
 /// What a node of a schema is.
 #[derive(Debug, Drop)]
 pub enum Kind {
+    Null,
+    Boolean,
     Int,
     Long,
+    Bytes,
     Text,
+    /// A fixed under its full name, of so many bytes.
+    Fixed {
+        name: String,
+        size: usize,
+    },
+    /// An enum under its full name, with its symbols, and the position of the one that stands for unknown ones.
+    Enum {
+        name: String,
+        symbols: Vec<String>,
+        default: Option<u32>,
+    },
+    /// The number of the items' node.
+    Array(usize),
+    /// The number of the values' node.
+    Map(usize),
+    /// The numbers of the members' nodes.
+    Union(Vec<usize>),
     /// A record under its full name, with its fields in the order of their declaration.
-    Record { name: String, fields: Vec<Field> },
+    Record {
+        name: String,
+        fields: Vec<Field>,
+    },
 }
 
 /// A field of a record.
@@ -14,4 +39,6 @@ pub struct Field {
     pub name: String,
     /// The number of the node that is its type.
     pub node: usize,
+    /// What a reader takes where the writer has no such field.
+    pub default: Option<Datum>,
 }

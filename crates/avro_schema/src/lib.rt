@@ -1,13 +1,19 @@
 //! Avro schemas, and data by their kinds (Avro 1.11 Specification, "Schema Declaration").
 #![tactic(auto)]
 
+mod copying;
 mod datum;
+mod defaults;
+mod draft;
 mod error;
+mod finishing;
 mod kind;
 mod laws;
 mod names;
 mod numbers;
 mod schema;
+mod symbols;
+mod unions;
 mod walk;
 mod word;
 

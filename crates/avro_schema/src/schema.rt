@@ -5,10 +5,12 @@ ghost use Rattle.serde_json.specs.Read.{read, max_depth};
 ghost use Rattle.serde_json.specs.View.{view};
 ghost use Rattle.avro_schema.specs.Declaring.{DeclaresNode};
 ghost use Rattle.avro_schema.specs.Fault.{Tells};
-ghost use Rattle.avro_schema.specs.Node.{IsWellFormed, NodeIsWellFormed, node_of};
-ghost use Rattle.avro_schema.specs.Schema.{Parses};
+ghost use Rattle.avro_schema.specs.Node.{IsWellFormed, NodeIsWellFormed, node_of, nodes_of};
+ghost use Rattle.avro_schema.specs.Schema.{Parses, declared};
+ghost use Rattle.avro_schema.specs.Walk.{null_namespace};
 
 use crate::error::SchemaError;
+use crate::finishing::{all_defaults, nodes_with};
 use crate::kind::Kind;
 use crate::numbers::has_float;
 use crate::walk::walk;
@@ -32,8 +34,12 @@ impl Model for Schema {
     ghost use Rattle.std.specs.Prelude.{string_bytes};
     ghost use Rattle.avro_schema.specs.Node.{Declaration, nodes_of};
     ghost use Rattle.avro_schema.specs.Schema.{Declares};
+    ghost use Rattle.avro_schema.specs.DatumCode.{datum_coded};
+    ghost use Rattle.std.specs.Coded.{codes};
 
     ghost Value = { Declaration };
+
+    ghost coded = { Prim.hlevel (codes, datum_coded) };
 
     ghost view = { λ s. record { text = string_bytes s.text; nodes = nodes_of s.nodes.items } };
 
@@ -52,8 +58,7 @@ impl Schema {
         if has_float(&value) {
             return Err(SchemaError::BadNumber);
         }
-        let mut nodes = Vec::new(alloc);
-        walk(alloc, &value, &mut nodes)?;
+        let nodes = nodes_in(alloc, &value)?;
         let text = value.to_string(alloc)?;
         Ok(Schema { text, nodes })
     }
@@ -76,7 +81,7 @@ impl Schema {
     pub fn kind(&self, node: usize) -> &Kind
         requires { node < length self.now.nodes }
         ensures kind { slice_get self.now.nodes node ≡ Some (node_of result.now) }
-        ensures well_formed { NodeIsWellFormed (length self.now.nodes) (node_of result.now) }
+        ensures well_formed { NodeIsWellFormed self.now.nodes node (node_of result.now) }
     {
         &self.nodes[node]
     }
@@ -90,10 +95,20 @@ impl Schema {
 
     /// The law that the root is what the JSON value of its text declares.
     pub fn is_declared(&self)
-        ensures { (d : Data) × (read self.now.text ≡ Some d) × DeclaresNode d self.now.nodes 0 }
+        ensures { (d : Data) × (read self.now.text ≡ Some d) × DeclaresNode d null_namespace self.now.nodes 0 }
     {
         let _opened = &self.nodes;
     }
+}
+
+/// The nodes that a JSON value declares.
+fn nodes_in(alloc: Global, value: &Value) -> Result<Vec<Kind>, SchemaError>
+    ensures { Tells (λ v. nodes_of v.items) result (declared (view value.now)) }
+{
+    let mut drafts = Vec::new(alloc);
+    walk(alloc, value, "", &mut drafts)?;
+    let defaults = all_defaults(alloc, &drafts)?;
+    Ok(nodes_with(alloc, drafts, defaults)?)
 }
 
 /// The JSON value of a text.

@@ -1,12 +1,17 @@
-ghost use Rattle.std.specs.Prelude.{option_map, []};
+ghost use Rattle.std.specs.Prelude.{option_map, map, []};
+ghost use Rattle.serde_json.specs.Find.{get};
 ghost use Rattle.serde_json.specs.View.{view, items_view};
-ghost use Rattle.avro_schema.specs.Contract.{Walks, data_at, names_of, object_walk, record_walk};
-ghost use Rattle.avro_schema.specs.Node.{node_of, field_of, fields_of};
-ghost use Rattle.avro_schema.specs.Walk.{leaf, named, walk, or_unknown, fields, fields_after, field, null_namespace};
+ghost use Rattle.avro_schema.specs.Contract.{Walks, names_of, object_as, object_walk};
+ghost use Rattle.avro_schema.specs.Draft.{Whole, data_at, draft_field_of};
+ghost use Rattle.avro_schema.specs.Node.{node_of};
+ghost use Rattle.avro_schema.specs.Walk.{leaf, reference, named, walk, members, if_room, union_of, or_unknown, fields, fields_after, field};
 
+use crate::draft::{Draft, DraftField};
 use crate::error::SchemaError;
-use crate::kind::{Field, Kind};
-use crate::names::{field_name, record_name};
+use crate::kind::Kind;
+use crate::names::{defined_at, field_name, full_name, namespace_of, new_name};
+use crate::symbols::{default_symbol, size_of, symbols_of};
+use crate::unions::are_apart;
 use crate::word::{Form, Word};
 use serde_json::Value;
 use std::alloc::Global;
@@ -16,124 +21,306 @@ const MOST_NODES: usize = 1024;
 const MOST_FIELDS: usize = 1024;
 
 /// The new node of a kind that holds no others.
-fn walk_leaf(kind: Kind, nodes: &mut Vec<Kind>) -> Result<usize, SchemaError>
-    ensures { Walks (λ n. n) result (leaf (node_of kind)) null_namespace nodes.old.items nodes.new.items }
+fn walk_leaf(kind: Kind, space: &str, drafts: &mut Vec<Draft>) -> Result<usize, SchemaError>
+    ensures { Walks (λ n. n) result (leaf (node_of kind)) space.now drafts.old.items drafts.new.items }
 {
-    let node = nodes.len();
+    let node = drafts.len();
     if node >= MOST_NODES {
         return Err(SchemaError::TooLarge);
     }
-    nodes.push(kind)?;
+    drafts.push(Draft::Whole(kind))?;
     Ok(node)
 }
 
-/// The node that a text names.
-fn walk_text(text: &str, nodes: &mut Vec<Kind>) -> Result<usize, SchemaError>
-    ensures { Walks (λ n. n) result (named text.now) null_namespace nodes.old.items nodes.new.items }
+/// The node of the type that a text refers to.
+fn walk_reference(
+    alloc: Global,
+    text: &str,
+    space: &str,
+    drafts: &mut Vec<Draft>,
+) -> Result<usize, SchemaError>
+    ensures { Walks (λ n. n) result (reference text.now) space.now drafts.old.items drafts.new.items }
 {
-    match Word::of_text(text).leaf() {
-        Some(kind) => walk_leaf(kind, nodes),
-        None => Err(SchemaError::OutOfProfile),
+    let full = full_name(alloc, space, text)?;
+    match defined_at(drafts, &full) {
+        Some(node) => Ok(node),
+        None => Err(SchemaError::Unknown),
     }
+}
+
+/// The node that a text names.
+fn walk_text(
+    alloc: Global,
+    text: &str,
+    space: &str,
+    drafts: &mut Vec<Draft>,
+) -> Result<usize, SchemaError>
+    ensures { Walks (λ n. n) result (named text.now) space.now drafts.old.items drafts.new.items }
+{
+    let word = Word::of_text(text);
+    if word.is_left_out() {
+        return Err(SchemaError::OutOfProfile);
+    }
+    match word.leaf() {
+        Some(kind) => walk_leaf(kind, space, drafts),
+        None => walk_reference(alloc, text, space, drafts),
+    }
+}
+
+/// The node of an enum.
+fn walk_enum(
+    alloc: Global,
+    value: &Value,
+    space: &str,
+    drafts: &mut Vec<Draft>,
+) -> Result<usize, SchemaError>
+    ensures { Walks (λ n. n) result (object_as Form.Enum (view value.now)) space.now drafts.old.items drafts.new.items }
+{
+    let node = drafts.len();
+    if node >= MOST_NODES {
+        return Err(SchemaError::TooLarge);
+    }
+    let name = new_name(
+        alloc,
+        value.get("name"),
+        value.get("namespace"),
+        space,
+        drafts,
+    )?;
+    let symbols = symbols_of(alloc, value.get("symbols"))?;
+    let default = default_symbol(&symbols, value.get("default"))?;
+    drafts.push(Draft::Whole(Kind::Enum {
+        name,
+        symbols,
+        default,
+    }))?;
+    Ok(node)
+}
+
+/// The node of a fixed.
+fn walk_fixed(
+    alloc: Global,
+    value: &Value,
+    space: &str,
+    drafts: &mut Vec<Draft>,
+) -> Result<usize, SchemaError>
+    ensures { Walks (λ n. n) result (object_as Form.Fixed (view value.now)) space.now drafts.old.items drafts.new.items }
+{
+    let node = drafts.len();
+    if node >= MOST_NODES {
+        return Err(SchemaError::TooLarge);
+    }
+    let name = new_name(
+        alloc,
+        value.get("name"),
+        value.get("namespace"),
+        space,
+        drafts,
+    )?;
+    let size = size_of(value.get("size"))?;
+    drafts.push(Draft::Whole(Kind::Fixed { name, size }))?;
+    Ok(node)
 }
 
 /// The node of the schema that a value is; it and its parts go behind the nodes that are there.
 #[cycle(walk)]
-pub(crate) fn walk(
+pub(crate) fn walk<'v>(
     alloc: Global,
-    value: &Value,
-    nodes: &mut Vec<Kind>,
+    value: &'v Value,
+    space: &str,
+    drafts: &mut Vec<Draft<'v>>,
 ) -> Result<usize, SchemaError>
-    ensures { Walks (λ n. n) result (walk (view value.now)) null_namespace nodes.old.items nodes.new.items }
+    ensures { Walks (λ n. n) result (walk (view value.now)) space.now drafts.old.items drafts.new.items }
 {
     match value {
         Value::Null | Value::Bool(_) | Value::Number(_) => Err(SchemaError::Unknown),
-        Value::String(text) => walk_text(text.as_str(), nodes),
-        Value::Array(_) => Err(SchemaError::OutOfProfile),
-        Value::Object(_) => walk_object(alloc, value, nodes),
+        Value::String(text) => walk_text(alloc, text.as_str(), space, drafts),
+        Value::Array(items) => walk_union(alloc, items, space, drafts),
+        Value::Object(_) => walk_object(alloc, value, space, drafts),
     }
 }
 
 /// The node of the schema at an attribute.
 #[cycle(walk)]
-fn walk_at(
+fn walk_at<'v>(
     alloc: Global,
-    value: Option<&Value>,
-    nodes: &mut Vec<Kind>,
+    value: Option<&'v Value>,
+    space: &str,
+    drafts: &mut Vec<Draft<'v>>,
 ) -> Result<usize, SchemaError>
-    ensures { Walks (λ n. n) result (or_unknown (option_map walk (data_at value.entry))) null_namespace nodes.old.items nodes.new.items }
+    ensures { Walks (λ n. n) result (or_unknown (option_map walk (data_at value.entry))) space.now drafts.old.items drafts.new.items }
 {
     match value {
-        Some(value) => walk(alloc, value, nodes),
+        Some(value) => walk(alloc, value, space, drafts),
         None => Err(SchemaError::Unknown),
     }
 }
 
-/// The node of an object.
+/// The node of a union, which stands before its members'.
 #[cycle(walk)]
-fn walk_object(alloc: Global, value: &Value, nodes: &mut Vec<Kind>) -> Result<usize, SchemaError>
-    ensures { Walks (λ n. n) result (object_walk (view value.now)) null_namespace nodes.old.items nodes.new.items }
+fn walk_union<'v>(
+    alloc: Global,
+    items: &'v [Value],
+    space: &str,
+    drafts: &mut Vec<Draft<'v>>,
+) -> Result<usize, SchemaError>
+    ensures { Walks (λ n. n) result (if_room (union_of (members (items_view items.now)))) space.now drafts.old.items drafts.new.items }
 {
-    match Form::of_type(value.get("type")) {
-        Form::Misshapen => Err(SchemaError::Unknown),
-        Form::Record => walk_record(alloc, value, nodes),
-        Form::Unsupported => Err(SchemaError::OutOfProfile),
-    }
-}
-
-/// The node of a record, which must be the root.
-#[cycle(walk)]
-fn walk_record(alloc: Global, value: &Value, nodes: &mut Vec<Kind>) -> Result<usize, SchemaError>
-    ensures { Walks (λ n. n) result (record_walk (view value.now)) null_namespace nodes.old.items nodes.new.items }
-{
-    let node = nodes.len();
+    let node = drafts.len();
     if node >= MOST_NODES {
         return Err(SchemaError::TooLarge);
     }
-    if node != 0 {
-        return Err(SchemaError::OutOfProfile);
+    drafts.push(Draft::Whole(Kind::Union(Vec::new(alloc))))?;
+    let members = walk_members(alloc, items, space, drafts)?;
+    if !are_apart(&members, drafts) {
+        return Err(SchemaError::BadUnion);
     }
-    let name = record_name(alloc, value.get("name"), value.get("namespace"))?;
+    drafts[node] = Draft::Whole(Kind::Union(members));
+    Ok(node)
+}
+
+/// The nodes of a union's members, one after another.
+#[cycle(walk)]
+fn walk_members<'v>(
+    alloc: Global,
+    items: &'v [Value],
+    space: &str,
+    drafts: &mut Vec<Draft<'v>>,
+) -> Result<Vec<usize>, SchemaError>
+    ensures { Walks (λ v. v.items) result (members (items_view items.now)) space.now drafts.old.items drafts.new.items }
+{
+    let mut members = Vec::new(alloc);
+    for item in items {
+        let member = walk(alloc, item, space, drafts)?;
+        members.push(member)?;
+    }
+    Ok(members)
+}
+
+/// The node of an object.
+#[cycle(walk)]
+fn walk_object<'v>(
+    alloc: Global,
+    value: &'v Value,
+    space: &str,
+    drafts: &mut Vec<Draft<'v>>,
+) -> Result<usize, SchemaError>
+    ensures { Walks (λ n. n) result (object_walk (view value.now)) space.now drafts.old.items drafts.new.items }
+{
+    match Form::of_type(value.get("type")) {
+        Form::Record => walk_record(alloc, value, space, drafts),
+        Form::Enum => walk_enum(alloc, value, space, drafts),
+        Form::Fixed => walk_fixed(alloc, value, space, drafts),
+        Form::Array => walk_array(alloc, value, space, drafts),
+        Form::Map => walk_map(alloc, value, space, drafts),
+        Form::Error => Err(SchemaError::OutOfProfile),
+        Form::Other => walk_at(alloc, value.get("type"), space, drafts),
+    }
+}
+
+/// The node of an array, which stands before its items'.
+#[cycle(walk)]
+fn walk_array<'v>(
+    alloc: Global,
+    value: &'v Value,
+    space: &str,
+    drafts: &mut Vec<Draft<'v>>,
+) -> Result<usize, SchemaError>
+    ensures { Walks (λ n. n) result (object_as Form.Array (view value.now)) space.now drafts.old.items drafts.new.items }
+{
+    let node = drafts.len();
+    if node >= MOST_NODES {
+        return Err(SchemaError::TooLarge);
+    }
+    drafts.push(Draft::Whole(Kind::Array(0)))?;
+    let items = walk_at(alloc, value.get("items"), space, drafts)?;
+    drafts[node] = Draft::Whole(Kind::Array(items));
+    Ok(node)
+}
+
+/// The node of a map, which stands before its values'.
+#[cycle(walk)]
+fn walk_map<'v>(
+    alloc: Global,
+    value: &'v Value,
+    space: &str,
+    drafts: &mut Vec<Draft<'v>>,
+) -> Result<usize, SchemaError>
+    ensures { Walks (λ n. n) result (object_as Form.Map (view value.now)) space.now drafts.old.items drafts.new.items }
+{
+    let node = drafts.len();
+    if node >= MOST_NODES {
+        return Err(SchemaError::TooLarge);
+    }
+    drafts.push(Draft::Whole(Kind::Map(0)))?;
+    let values = walk_at(alloc, value.get("values"), space, drafts)?;
+    drafts[node] = Draft::Whole(Kind::Map(values));
+    Ok(node)
+}
+
+/// The node of a record, which stands before its fields'.
+#[cycle(walk)]
+fn walk_record<'v>(
+    alloc: Global,
+    value: &'v Value,
+    space: &str,
+    drafts: &mut Vec<Draft<'v>>,
+) -> Result<usize, SchemaError>
+    ensures { Walks (λ n. n) result (object_as Form.Record (view value.now)) space.now drafts.old.items drafts.new.items }
+{
+    let node = drafts.len();
+    if node >= MOST_NODES {
+        return Err(SchemaError::TooLarge);
+    }
+    let name = new_name(
+        alloc,
+        value.get("name"),
+        value.get("namespace"),
+        space,
+        drafts,
+    )?;
     let copy = name.clone()?;
-    nodes.push(Kind::Record {
+    drafts.push(Draft::Record {
         name: copy,
         fields: Vec::new(alloc),
     })?;
-    let fields = walk_fields(alloc, value.get("fields"), nodes)?;
-    nodes[node] = Kind::Record { name, fields };
+    let fields = walk_fields(alloc, value.get("fields"), namespace_of(&name), drafts)?;
+    drafts[node] = Draft::Record { name, fields };
     Ok(node)
 }
 
 /// The fields that the value at `fields` lists.
 #[cycle(walk)]
-fn walk_fields(
+fn walk_fields<'v>(
     alloc: Global,
-    value: Option<&Value>,
-    nodes: &mut Vec<Kind>,
-) -> Result<Vec<Field>, SchemaError>
-    ensures { Walks (λ v. fields_of v.items) result (or_unknown (option_map fields (data_at value.entry))) null_namespace nodes.old.items nodes.new.items }
+    value: Option<&'v Value>,
+    space: &str,
+    drafts: &mut Vec<Draft<'v>>,
+) -> Result<Vec<DraftField<'v>>, SchemaError>
+    ensures { Walks (λ v. map draft_field_of v.items) result (or_unknown (option_map fields (data_at value.entry))) space.now drafts.old.items drafts.new.items }
 {
     match value {
         None => Err(SchemaError::Unknown),
         Some(value) => match value.as_array() {
             None => Err(SchemaError::Unknown),
-            Some(items) => walk_listed(alloc, items, nodes),
+            Some(items) => walk_listed(alloc, items, space, drafts),
         },
     }
 }
 
 /// The fields, one after another.
 #[cycle(walk)]
-fn walk_listed(
+fn walk_listed<'v>(
     alloc: Global,
-    items: &[Value],
-    nodes: &mut Vec<Kind>,
-) -> Result<Vec<Field>, SchemaError>
-    ensures { Walks (λ v. fields_of v.items) result (fields_after (items_view items.now) []) null_namespace nodes.old.items nodes.new.items }
+    items: &'v [Value],
+    space: &str,
+    drafts: &mut Vec<Draft<'v>>,
+) -> Result<Vec<DraftField<'v>>, SchemaError>
+    ensures { Walks (λ v. map draft_field_of v.items) result (fields_after (items_view items.now) []) space.now drafts.old.items drafts.new.items }
 {
     let mut fields = Vec::new(alloc);
     for item in items {
-        let field = walk_field(alloc, item, &fields, nodes)?;
+        let field = walk_field(alloc, item, &fields, space, drafts)?;
         fields.push(field)?;
     }
     Ok(fields)
@@ -141,13 +328,14 @@ fn walk_listed(
 
 /// A field, behind others.
 #[cycle(walk)]
-fn walk_field(
+fn walk_field<'v>(
     alloc: Global,
-    value: &Value,
-    before: &[Field],
-    nodes: &mut Vec<Kind>,
-) -> Result<Field, SchemaError>
-    ensures { Walks field_of result (field (view value.now) (names_of before.now)) null_namespace nodes.old.items nodes.new.items }
+    value: &'v Value,
+    before: &[DraftField<'v>],
+    space: &str,
+    drafts: &mut Vec<Draft<'v>>,
+) -> Result<DraftField<'v>, SchemaError>
+    ensures { Walks draft_field_of result (field (view value.now) (names_of before.now)) space.now drafts.old.items drafts.new.items }
 {
     if !value.is_object() {
         return Err(SchemaError::Unknown);
@@ -156,9 +344,10 @@ fn walk_field(
         return Err(SchemaError::TooLarge);
     }
     let name = field_name(alloc, value.get("name"), before)?;
-    let node = walk_at(alloc, value.get("type"), nodes)?;
-    if value.get("default").is_some() {
-        return Err(SchemaError::OutOfProfile);
-    }
-    Ok(Field { name, node })
+    let node = walk_at(alloc, value.get("type"), space, drafts)?;
+    Ok(DraftField {
+        name,
+        node,
+        default: value.get("default"),
+    })
 }

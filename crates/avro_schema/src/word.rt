@@ -1,7 +1,7 @@
 ghost use Rattle.std.specs.Prelude.{◌≡◌, option_map};
-ghost use Rattle.avro_schema.specs.Contract.{data_at};
+ghost use Rattle.avro_schema.specs.Draft.{data_at};
 ghost use Rattle.avro_schema.specs.Node.{node_of};
-ghost use Rattle.avro_schema.specs.Word.{word_of, leaf_of, is_primitive, form_of, form_of_word};
+ghost use Rattle.avro_schema.specs.Word.{word_of, leaf_of, is_left_out, is_primitive, form_of, form_of_word};
 
 use crate::kind::Kind;
 use serde_json::Value;
@@ -18,6 +18,11 @@ pub(crate) enum Word {
     Float,
     Double,
     Record,
+    Enum,
+    Fixed,
+    Array,
+    Map,
+    Error,
     Other,
 }
 
@@ -36,14 +41,37 @@ impl Word {
             "float" => Word::Float,
             "double" => Word::Double,
             "record" => Word::Record,
+            "enum" => Word::Enum,
+            "fixed" => Word::Fixed,
+            "array" => Word::Array,
+            "map" => Word::Map,
+            "error" => Word::Error,
             _ => Word::Other,
         }
     }
 
+    /// Whether it names a primitive type of Avro.
     pub(crate) fn is_primitive(self) -> bool
         ensures { result ≡ is_primitive self }
     {
-        !matches!(self, Word::Record | Word::Other)
+        matches!(
+            self,
+            Word::Null
+                | Word::Boolean
+                | Word::Int
+                | Word::Long
+                | Word::Bytes
+                | Word::Text
+                | Word::Float
+                | Word::Double
+        )
+    }
+
+    /// Whether it names a primitive type that is left out.
+    pub(crate) fn is_left_out(self) -> bool
+        ensures { result ≡ is_left_out self }
+    {
+        matches!(self, Word::Float | Word::Double)
     }
 
     /// The node that it is by itself.
@@ -51,8 +79,11 @@ impl Word {
         ensures { option_map node_of result ≡ leaf_of self }
     {
         match self {
+            Word::Null => Some(Kind::Null),
+            Word::Boolean => Some(Kind::Boolean),
             Word::Int => Some(Kind::Int),
             Word::Long => Some(Kind::Long),
+            Word::Bytes => Some(Kind::Bytes),
             Word::Text => Some(Kind::Text),
             _ => None,
         }
@@ -62,10 +93,15 @@ impl Word {
 /// What the `type` of an object makes of it.
 #[derive(Clone, Copy, Debug)]
 pub(crate) enum Form {
-    /// The type is missing, or no schema.
-    Misshapen,
     Record,
-    Unsupported,
+    Enum,
+    Fixed,
+    Array,
+    Map,
+    /// A record of a protocol's errors.
+    Error,
+    /// The object stands for the schema at `type`.
+    Other,
 }
 
 impl Form {
@@ -74,12 +110,8 @@ impl Form {
         ensures { result ≡ form_of (data_at value.entry) }
     {
         match value {
-            None => Form::Misshapen,
-            Some(value) => match value {
-                Value::Null | Value::Bool(_) | Value::Number(_) => Form::Misshapen,
-                Value::String(text) => Form::of_word(Word::of_text(text.as_str())),
-                Value::Array(_) | Value::Object(_) => Form::Unsupported,
-            },
+            Some(Value::String(text)) => Form::of_word(Word::of_text(text.as_str())),
+            _ => Form::Other,
         }
     }
 
@@ -88,7 +120,12 @@ impl Form {
     {
         match word {
             Word::Record => Form::Record,
-            _ => Form::Unsupported,
+            Word::Enum => Form::Enum,
+            Word::Fixed => Form::Fixed,
+            Word::Array => Form::Array,
+            Word::Map => Form::Map,
+            Word::Error => Form::Error,
+            _ => Form::Other,
         }
     }
 }

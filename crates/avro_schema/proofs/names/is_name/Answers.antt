@@ -4,10 +4,10 @@ use Rattle.avro_schema.proofs.NameRule.{name-empty, name-starts}
 use Rattle.avro_schema.proofs.names.is_name.Goals as goal
 
 pub returns-in-empty : goal.returns-in-empty
-returns-in-empty c = rw (← c.as_bytes.ensures.value) (name-empty c.as_bytes.result.now c.in-empty.len_below)
+returns-in-empty c = name-empty c.args.text.now c.in-empty.len_below
 
 pub returns-then-is_letter : goal.returns-then-is_letter
-returns-then-is_letter c = rw (← c.as_bytes.ensures.value, name-starts c.as_bytes.result.now c.in-len1-up.len_at_least, ← c.if-is_letter.ensures) (grind (arith, common_steps))
+returns-then-is_letter c = rw (name-starts c.args.text.now c.in-len1-up.len_at_least, ← c.if-is_letter.ensures) (grind (arith, common_steps))
 
 pub returns-else-is_letter : goal.returns-else-is_letter
-returns-else-is_letter c = rw (← c.as_bytes.ensures.value, name-starts c.as_bytes.result.now c.in-len1-up.len_at_least, ← c.if-is_letter.ensures) c.if-is_letter.false
+returns-else-is_letter c = rw (name-starts c.args.text.now c.in-len1-up.len_at_least, ← c.if-is_letter.ensures) c.if-is_letter.false

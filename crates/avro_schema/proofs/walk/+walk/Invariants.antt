@@ -1,9 +1,9 @@
-use Rattle.std.proofs.Common.{◌≡◌, ◌+◌, ◌*◌, drop, option_map, []}
+use Rattle.std.proofs.Common.{◌≡◌, ◌+◌, ◌*◌, drop, map, []}
 use Rattle.serde_json.specs.Data.{depth, items_depth}
 use Rattle.serde_json.specs.View.{view, items_view}
 use Rattle.avro_schema.specs.Contract.{run, names_of}
-use Rattle.avro_schema.specs.Node.{nodes_of, fields_of}
-use Rattle.avro_schema.specs.Walk.{fields_after, null_namespace}
+use Rattle.avro_schema.specs.Draft.{data_at, draft_field_of, drafts_of}
+use Rattle.avro_schema.specs.Walk.{fields_after, members}
 use Rattle.avro_schema.proofs.FieldList.{behind}
 use Rattle.avro_schema.proofs.Members.{option_depth}
 use Rattle.avro_schema.proofs.walk.+walk.Given as goal
@@ -13,16 +13,28 @@ abbrev pub decreases-walk : goal.decreases-walk
 decreases-walk l = 8 * depth (view l.value.now) + 5
 
 abbrev pub decreases-walk_at : goal.decreases-walk_at
-decreases-walk_at l = 8 * option_depth (option_map (λ v. view v.now) l.value)
+decreases-walk_at l = 8 * option_depth (data_at l.value)
+
+abbrev pub decreases-walk_union : goal.decreases-walk_union
+decreases-walk_union l = 8 * items_depth (items_view l.items.now) + 7
+
+abbrev pub decreases-walk_members : goal.decreases-walk_members
+decreases-walk_members l = 8 * items_depth (items_view l.items.now) + 6
 
 abbrev pub decreases-walk_object : goal.decreases-walk_object
 decreases-walk_object l = 8 * depth (view l.value.now) + 4
+
+abbrev pub decreases-walk_array : goal.decreases-walk_array
+decreases-walk_array l = 8 * depth (view l.value.now) + 3
+
+abbrev pub decreases-walk_map : goal.decreases-walk_map
+decreases-walk_map l = 8 * depth (view l.value.now) + 3
 
 abbrev pub decreases-walk_record : goal.decreases-walk_record
 decreases-walk_record l = 8 * depth (view l.value.now) + 3
 
 abbrev pub decreases-walk_fields : goal.decreases-walk_fields
-decreases-walk_fields l = 8 * option_depth (option_map (λ v. view v.now) l.value) + 2
+decreases-walk_fields l = 8 * option_depth (data_at l.value) + 2
 
 abbrev pub decreases-walk_listed : goal.decreases-walk_listed
 decreases-walk_listed l = 8 * items_depth (items_view l.items.now) + 8
@@ -30,7 +42,12 @@ decreases-walk_listed l = 8 * items_depth (items_view l.items.now) + 8
 abbrev pub decreases-walk_field : goal.decreases-walk_field
 decreases-walk_field l = 8 * depth (view l.value.now) + 7
 
+abbrev pub invariant-walk_members-loop-item : goal.invariant-walk_members-loop-item
+invariant-walk_members-loop-item l =
+    behind l.members.items (run (members (items_view (drop l.item-index l.items))) l.space (drafts_of l.drafts.items))
+    ≡ run (members (items_view l.items)) l.space (drafts_of l.initial.drafts.items)
+
 abbrev pub invariant-walk_listed-loop-item : goal.invariant-walk_listed-loop-item
 invariant-walk_listed-loop-item l =
-    behind (fields_of l.fields.items) (run (fields_after (items_view (drop l.item-index l.items)) (names_of l.fields.items)) null_namespace (nodes_of l.nodes.items))
-    ≡ run (fields_after (items_view l.items) []) null_namespace (nodes_of l.initial.nodes.items)
+    behind (map draft_field_of l.fields.items) (run (fields_after (items_view (drop l.item-index l.items)) (names_of l.fields.items)) l.space (drafts_of l.drafts.items))
+    ≡ run (fields_after (items_view l.items) []) l.space (drafts_of l.initial.drafts.items)

@@ -1,13 +1,12 @@
-use Rattle.std.proofs.Common.{rules, arith, ◌≡◌, length, [], ◌∷◌}
-use Rattle.avro_schema.specs.Node.{node_of}
-use Rattle.avro_schema.specs.Walk.{null_namespace}
-use Rattle.avro_schema.proofs.Runs.{nodes_of-append, run-no_room, run-leaf}
+use Rattle.std.proofs.Common.{arith, rules, ◌∙◌, ◌≡◌, ap, sym, length, ◌<◌}
+use Rattle.avro_schema.specs.Walk.{most_nodes}
+use Rattle.avro_schema.proofs.Runs.{run-no_room, run-leaf, pushed}
 use Rattle.avro_schema.proofs.walk.walk_leaf.Goals as goal
 
 pub returns-then-node-ge-MOST_NODES : goal.returns-then-node-ge-MOST_NODES
-returns-then-node-ge-MOST_NODES c = λ _. run-no_room _ null_namespace c.args.nodes.now.items (omega arith)
+returns-then-node-ge-MOST_NODES c = λ _. run-no_room _ c.args.space.now c.args.drafts.now.items (omega arith)
 
 pub returns : goal.returns
 returns c =
-    let n : c.len-node.result ≡ length c.args.nodes.now.items = search rules in
-    rw (n, c.in_ok-push.ensures.items, nodes_of-append c.args.nodes.now.items (c.args.kind ∷ [])) (run-leaf (node_of c.args.kind) null_namespace c.args.nodes.now.items (omega arith))
+    let n : c.len-node.result ≡ length c.args.drafts.now.items = search rules in
+    rw (n, pushed c.args.drafts.now.items _ _ c.in_ok-push.ensures.items) (run-leaf _ c.args.space.now c.args.drafts.now.items (let room : length c.args.drafts.now.items < most_nodes = omega arith in room))

@@ -1,4 +1,4 @@
-use Rattle.avro_schema.proofs.DeclaredNodes.{declared-nodes}
+use Rattle.avro_schema.proofs.RootNode.{declared-nodes}
 use Rattle.avro_schema.proofs.schema.Schema.is_declared.Goals as goal
 
 pub returns : goal.returns

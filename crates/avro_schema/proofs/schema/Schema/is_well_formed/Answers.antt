@@ -1,4 +1,4 @@
-use Rattle.avro_schema.proofs.WellFormed.{declared-well_formed}
+use Rattle.avro_schema.proofs.WholeNodes.{declared-well_formed}
 use Rattle.avro_schema.proofs.schema.Schema.is_well_formed.Goals as goal
 
 pub returns : goal.returns

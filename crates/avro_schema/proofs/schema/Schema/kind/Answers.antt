@@ -1,7 +1,7 @@
 use Rattle.std.proofs.Common.{◌<◌, length, ap, arith}
 use Rattle.avro_schema.specs.Node.{Declaration}
 use Rattle.avro_schema.proofs.OneNode.{one_is_well_formed, length-nodes_of}
-use Rattle.avro_schema.proofs.WellFormed.{declared-well_formed}
+use Rattle.avro_schema.proofs.WholeNodes.{declared-well_formed}
 use Rattle.avro_schema.proofs.schema.Schema.kind.Goals as goal
 
 pub returns-clause-well_formed : goal.returns-clause-well_formed

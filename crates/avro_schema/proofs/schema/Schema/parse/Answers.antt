@@ -18,21 +18,21 @@ returns-then-has_float c =
     let is = some-json (read c.args.text.now) (view c.in_ok-value.value) c.in_ok-value.ensures.value in
     λ _. small c.args.text.now (omega arith) ∙ a-float c.args.text.now (view c.in_ok-value.value) is c.if-has_float.ensures
 
-pub returns-in_err-walk : goal.returns-in_err-walk
-returns-in_err-walk c =
-    let p = err_from_is_err_and c.from_residual-in_err-walk.result c.from_residual-in_err-walk.ensures.1 in
+pub returns-in_err-nodes : goal.returns-in_err-nodes
+returns-in_err-nodes c =
+    let p = err_from_is_err_and c.from_residual-in_err-nodes.result c.from_residual-in_err-nodes.ensures.1 in
     let is = some-json (read c.args.text.now) (view c.in_ok-value.value) c.in_ok-value.ensures.value in
-    rw (p.1, p.2) (λ known. small c.args.text.now (omega arith) ∙ walked c.args.text.now (view c.in_ok-value.value) is c.if-has_float.ensures ∙ rw (rw c.new-nodes.ensures.items at (c.in_err-walk.ensures known)) refl)
+    rw (p.1, p.2) (λ known. small c.args.text.now (omega arith) ∙ walked c.args.text.now (view c.in_ok-value.value) is c.if-has_float.ensures ∙ c.in_err-nodes.ensures known)
 
 pub invariant_of-result : goal.invariant_of-result
 invariant_of-result c =
     let back : read (string_bytes c.in_ok-text.text) ≡ Some (view c.in_ok-value.value) = c.in_ok-text.ensures.reads_back c.in_ok-value.ensures.nests in
-    record { nodes_are = walked (string_bytes c.in_ok-text.text) (view c.in_ok-value.value) back c.if-has_float.ensures ∙ rw (rw c.new-nodes.ensures.items at c.in_ok-walk.ensures) refl }
+    record { nodes_are = walked (string_bytes c.in_ok-text.text) (view c.in_ok-value.value) back c.if-has_float.ensures ∙ c.in_ok-nodes.ensures }
 
 pub returns : goal.returns
 returns c =
     let is = some-json (read c.args.text.now) (view c.in_ok-value.value) c.in_ok-value.ensures.value in (
-      small c.args.text.now (omega arith) ∙ walked c.args.text.now (view c.in_ok-value.value) is c.if-has_float.ensures ∙ rw (rw c.new-nodes.ensures.items at c.in_ok-walk.ensures) refl,
+      small c.args.text.now (omega arith) ∙ walked c.args.text.now (view c.in_ok-value.value) is c.if-has_float.ensures ∙ c.in_ok-nodes.ensures,
       view c.in_ok-value.value,
       is,
       c.in_ok-text.ensures.text (sym c.if-has_float.ensures),

@@ -1,0 +1,16 @@
+-- What a text refers to.
+use Rattle.std.proofs.Common.{◌≡◌, ◌∙◌, ℕ, List, Option, Some, None, Ok, Err, refl, ap, append-nil}
+use Rattle.avro_schema.specs.declared.error.SchemaError.TheVariants.{Unknown}
+use Rattle.avro_schema.specs.Contract.{run}
+use Rattle.avro_schema.specs.Draft.{Draft}
+use Rattle.avro_schema.specs.Head.{defined_at, heads_of}
+use Rattle.avro_schema.specs.Names.{full_name}
+use Rattle.avro_schema.specs.Walk.{added, found, reference}
+
+pub refers : (text space : List ℕ) (ns : List Draft) (n : ℕ) → defined_at (full_name space text) (heads_of ns) ≡ Some n → run (reference text) space ns ≡ Ok (n, ns)
+unfolding reference run
+refers text space ns n e = ap (λ o. added ns (found o)) e ∙ ap (λ ms. Ok (n, ms)) (append-nil ns)
+
+pub refers_not : (text space : List ℕ) (ns : List Draft) → defined_at (full_name space text) (heads_of ns) ≡ None → run (reference text) space ns ≡ Err Unknown
+unfolding reference run
+refers_not text space ns e = ap (λ o. added ns (found o)) e

@@ -1,0 +1,85 @@
+-- Texts one after another: which are listed, and whether each is new.
+use Rattle.std.proofs.Common.{◌≡◌, ℕ, ◌+◌, ◌<◌, ◌≤◌, zero, suc, List, [], ◌∷◌, ◌++◌, length, map, take, drop, get_or, Some, Bool, true, false, not, ◌&&◌, ◌||◌, cond, Result, Ok, Err, refl, sym, ap, ◌∙◌, arith, add-one, string_bytes, String, Vec, Global, append_assoc, append-nil}
+use Rattle.std.specs.Str.{bytes_eq}
+use Rattle.std.specs.List.{list_any, list_all, position}
+use Rattle.std.proofs.Math.Seq.{drop-cons}
+use Rattle.std.proofs.Math.ListN.{drop_of_length-le}
+use Rattle.serde_json.specs.Data.{Items, item}
+use Rattle.serde_json.specs.View.{view, items_view}
+use Rattle.serde_json.specs.declared.value.Value.{Value}
+use Rattle.avro_schema.specs.declared.error.SchemaError.{SchemaError}
+use Rattle.avro_schema.specs.Attributes.{are_new, texts_in}
+use Rattle.avro_schema.specs.Fault.{◌>>=◌}
+use Rattle.avro_schema.specs.Names.{is_name, is_used, text_of}
+use Rattle.avro_schema.proofs.Positions.{position-map}
+use Rattle.avro_schema.proofs.Heads.{map-one}
+
+-- ---- texts that a value lists
+
+-- what is listed, behind what was listed before
+abbrev pub listed : List (List ℕ) → Result (List (List ℕ)) SchemaError → Result (List (List ℕ)) SchemaError
+listed front (Ok ss) = Ok (front ++ ss)
+listed front (Err e) = Err e
+
+one_more : (front : List (List ℕ)) (s : List ℕ) (r : Result (List (List ℕ)) SchemaError) → listed front (r >>= λ ss. Ok (s ∷ ss)) ≡ listed (front ++ s ∷ []) r
+one_more front s (Ok ss) = ap (λ xs. Ok xs) (sym (append_assoc front (s ∷ []) ss))
+one_more front s (Err e) = refl
+
+module _ (vs : List Value) (i : ℕ) (v : Value) (lt : i < length vs) (is : v ≡ get_or vs i v) (front : List (List ℕ)) where
+  here : drop i vs ≡ v ∷ drop (i + 1) vs
+  here = drop-cons vs i v lt ∙ rw (← is, add-one i)
+
+  pub texts-on : (s : List ℕ) → text_of (Some (view v)) ≡ Ok s → listed front (texts_in (items_view (drop i vs))) ≡ listed (front ++ s ∷ []) (texts_in (items_view (drop (i + 1) vs)))
+  texts-on s e = rw (here, e) (one_more front s (texts_in (items_view (drop (i + 1) vs))))
+
+  pub texts-fail : (e : SchemaError) → text_of (Some (view v)) ≡ Err e → listed front (texts_in (items_view (drop i vs))) ≡ Err e
+  texts-fail e is_err = rw (here, is_err) refl
+
+pub texts-end : (vs : List Value) (i : ℕ) → length vs ≤ i → (front : List (List ℕ)) → listed front (texts_in (items_view (drop i vs))) ≡ Ok front
+texts-end vs i le front = rw (drop_of_length-le vs le) (ap (λ xs. Ok xs) (append-nil front))
+
+-- ---- each is new
+
+abbrev pub names : List (String Global) → List (List ℕ)
+names ts = map string_bytes ts
+
+take-one : (ts : List (String Global)) (i : ℕ) (t : String Global) → i < length ts → t ≡ get_or ts i t → take (suc i) ts ≡ take i ts ++ t ∷ []
+take-one [] i t lt is = absurd (omega arith)
+take-one (x ∷ ts) zero t lt is = ap (λ y. y ∷ []) (sym is)
+take-one (x ∷ ts) (suc i) t lt is = ap (λ xs. x ∷ xs) (take-one ts i t (omega arith) is)
+
+pub names-take : (ts : List (String Global)) (i : ℕ) (t : String Global) → i < length ts → t ≡ get_or ts i t → names (take (i + 1) ts) ≡ names (take i ts) ++ string_bytes t ∷ []
+names-take ts i t lt is = rw add-one (ap names (take-one ts i t lt is) ∙ map-one string_bytes (take i ts) t)
+
+pub new-step : (before : List (List ℕ)) (ts : List (String Global)) (i : ℕ) (t : String Global) → i < length ts → t ≡ get_or ts i t
+    → are_new before (names (drop i ts)) ≡ (not (is_used (string_bytes t) before) && are_new (before ++ string_bytes t ∷ []) (names (drop (i + 1) ts)))
+new-step before ts i t lt is = rw (drop-cons ts i t lt, ← is, add-one i) refl
+
+pub new-end : (before : List (List ℕ)) (ts : List (String Global)) (i : ℕ) → length ts ≤ i → are_new before (names (drop i ts)) ≡ true
+new-end before ts i le = rw (drop_of_length-le ts le) refl
+
+-- one more name that is used
+pub used-push : (name : List ℕ) (before : List (List ℕ)) (s : List ℕ) → is_used name (before ++ s ∷ []) ≡ (bytes_eq s name || is_used name before)
+used-push name [] s = refl
+used-push name (x ∷ before) s = ap (λ b. bytes_eq x name || b) (used-push name before s) ∙ swap (bytes_eq x name) (bytes_eq s name) (is_used name before)
+  where
+    swap : (a b c : Bool) → (a || (b || c)) ≡ (b || (a || c))
+    swap true true c = refl
+    swap true false c = refl
+    swap false true c = refl
+    swap false false c = refl
+
+pub cond_or : (a b : Bool) → cond a true b ≡ (a || b)
+cond_or true b = refl
+cond_or false b = refl
+
+pub not_not : (b : Bool) → not b ≡ true → b ≡ false
+not_not true e = absurd (let wrong : ⊥ = cc in wrong)
+not_not false e = refl
+
+pub all_names : (ts : List (String Global)) → list_all is_name (map string_bytes ts) ≡ list_all (λ s. is_name (string_bytes s)) ts
+all_names [] = refl
+all_names (t ∷ ts) = ap (λ b. is_name (string_bytes t) && b) (all_names ts)
+
+pub position_names : (text : List ℕ) (ts : List (String Global)) → position (λ other. bytes_eq other text) (map string_bytes ts) ≡ position (λ s. bytes_eq (string_bytes s) text) ts
+position_names text ts = position-map (λ other. bytes_eq other text) string_bytes ts

@@ -1,0 +1,47 @@
+-- What the attributes of enums and fixed give (Avro 1.11, "Enums" and "Fixed").
+use Rattle.std.specs.Prelude.{ℕ, ◌&&◌, List, [], ◌∷◌, ◌++◌, length, Bool, true, not, nat_le, Option, Some, None, option_and_then, Result, Ok, Err}
+use Rattle.std.specs.Option.{ok_or}
+use Rattle.std.specs.List.{list_all, position}
+use Rattle.std.specs.Str.{bytes_eq}
+use Rattle.serde_json.specs.Data.{Data, array, Items, no_items, item}
+use Rattle.serde_json.specs.Find.{as_number, as_u64}
+use Rattle.avro_schema.specs.declared.error.SchemaError.{SchemaError}
+use Rattle.avro_schema.specs.declared.error.SchemaError.TheVariants.{Unknown, BadSymbols, BadNumber, TooLarge}
+use Rattle.avro_schema.specs.Fault.{◌>>=◌, require}
+use Rattle.avro_schema.specs.Names.{text_of, is_name, is_used}
+use Rattle.avro_schema.specs.Node.{most_symbols, most_fixed}
+
+-- the texts that a value lists
+abbrev pub texts_in : Items → Result (List (List ℕ)) SchemaError
+texts_in no_items = Ok []
+texts_in (item d ds) = text_of (Some d) >>= λ s. texts_in ds >>= λ ss. Ok (s ∷ ss)
+
+abbrev pub texts_of : Option Data → Result (List (List ℕ)) SchemaError
+texts_of (Some (array ds)) = texts_in ds
+texts_of _ = Err Unknown
+
+-- none of the names comes again, nor is one of those before
+abbrev pub are_new : List (List ℕ) → List (List ℕ) → Bool
+are_new before [] = true
+are_new before (s ∷ ss) = not (is_used s before) && are_new (before ++ s ∷ []) ss
+
+-- the symbols that `symbols` gives
+unfoldable pub symbols_of : Option Data → Result (List (List ℕ)) SchemaError
+symbols_of symbols = do
+  ss ← texts_of symbols
+  _ ← require (list_all is_name ss && are_new [] ss) BadSymbols
+  _ ← require (nat_le (length ss) most_symbols) TooLarge
+  Ok ss
+
+-- the position of the symbol that `default` names
+abbrev pub default_symbol : List (List ℕ) → Option Data → Result (Option ℕ) SchemaError
+default_symbol ss None = Ok None
+default_symbol ss (Some d) = text_of (Some d) >>= λ s. ok_or (position (λ other. bytes_eq other s) ss) BadSymbols >>= λ n. Ok (Some n)
+
+-- the number of bytes that `size` gives
+abbrev pub size_of : Option Data → Result ℕ SchemaError
+size_of None = Err Unknown
+size_of (Some d) = do
+  n ← ok_or (option_and_then as_u64 (as_number d)) BadNumber
+  _ ← require (nat_le n most_fixed) TooLarge
+  Ok n

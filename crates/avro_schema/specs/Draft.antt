@@ -1,0 +1,43 @@
+-- What a node is before the defaults of its fields have been read.
+use Rattle.std.specs.Prelude.{ℕ, ◌≤◌, List, length, map, Option, option_map, string_bytes}
+use Rattle.std.specs.Borrow.{Bor}
+use Rattle.std.specs.List.{AllByRecursion}
+use Rattle.serde_json.specs.Data.{Data}
+use Rattle.serde_json.specs.View.{view}
+use Rattle.serde_json.specs.declared.value.Value.{Value}
+use Rattle.avro_schema.specs.declared.draft.Draft as rust
+use Rattle.avro_schema.specs.declared.draft.Draft.TheVariants as drafts
+use Rattle.avro_schema.specs.declared.draft.DraftField as rust_field
+use Rattle.avro_schema.specs.Node.{Node, EnumNode, most_symbols, node_of}
+
+-- a field, and the value at its `default`
+pub record DraftField : Type 0 where
+  pub name : List ℕ
+  pub node : ℕ
+  pub default : Option Data
+
+pub data Draft : Type 0 where
+  Whole : Node → Draft
+  RecordDraft : List ℕ → List DraftField → Draft
+
+-- the value at an attribute, where there is one
+abbrev pub data_at : Option (Bor Value) → Option Data
+data_at o = option_map (λ v. view v.now) o
+
+abbrev pub draft_field_of : rust_field.DraftField → DraftField
+draft_field_of f = record { name = string_bytes f.name; node = f.node; default = data_at f.default }
+
+abbrev pub draft_of : rust.Draft → Draft
+draft_of (drafts.Whole kind) = Whole (node_of kind)
+draft_of (drafts.Record name fields) = RecordDraft (string_bytes name) (map draft_field_of fields.items)
+
+abbrev pub drafts_of : List rust.Draft → List Draft
+drafts_of ds = map draft_of ds
+
+-- an enum's symbols are few enough to be numbered
+abbrev pub HasFewSymbols : Draft → Type 0
+HasFewSymbols (Whole (EnumNode name symbols default)) = length symbols ≤ most_symbols
+HasFewSymbols _ = Unit {0}
+
+abbrev pub HaveFewSymbols : List Draft → Type 0
+HaveFewSymbols ds = AllByRecursion HasFewSymbols ds
