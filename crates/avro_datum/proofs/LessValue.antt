@@ -4,37 +4,29 @@ use Rattle.std.specs.Prelude.{nat_le}
 use Rattle.avro_bytes.specs.declared.fault.MalformedKind.TheVariants.{TooDeep, TooMany}
 use Rattle.avro_bytes.specs.declared.meter.Meter.{Meter}
 use Rattle.avro_bytes.specs.declared.fault.Fault.{Fault}
-use Rattle.avro_bytes.specs.declared.fault.Fault.TheVariants.{Malformed}
-use Rattle.avro_bytes.specs.Contract.{skipped}
-use Rattle.avro_bytes.specs.Decoding.{Decoding, Complete, Invalid, Incomplete, ◌>>=◌, inside}
-use Rattle.avro_bytes.specs.Meter.{opened_record}
+use Rattle.avro_bytes.specs.declared.fault.Fault.TheVariants.{Need, Malformed, NoMemory}
+use Rattle.avro_bytes.specs.Contract.{Finds, skipped}
+use Rattle.avro_bytes.specs.declared.blocks.BlockWalk.{BlockWalk}
+use Rattle.avro_bytes.specs.BlockDecoding.{first_walk}
+use Rattle.std.specs.List.{AllByRecursion}
+use Rattle.avro_bytes.specs.declared.fault.MalformedKind.TheVariants.{BadBranch}
+use Rattle.avro_bytes.specs.Decoding.{Decoding, Complete, Invalid, Incomplete, ◌>>=◌, inside, map_decoding}
+use Rattle.avro_bytes.specs.Meter.{opened_blocks, opened_record}
 use Rattle.avro_schema.specs.declared.kind.Field.{Field}
-use Rattle.avro_schema.specs.Datum.{Datum, Data, more}
-use Rattle.avro_schema.specs.Node.{Node, FieldNode, RecordNode, fields_of}
-use Rattle.avro_datum.specs.Decoding.{Decoder, IsLeaf, leaf_at, closed_record, fields_at, node_at, datum_at}
-use Rattle.avro_datum.proofs.ByKind.{below, datum_at-leaf, record_here, within_is}
+use Rattle.avro_schema.specs.Datum.{Datum, Data, UnionDatum, more}
+use Rattle.avro_schema.specs.Node.{Node, FieldNode, IsMember, ArrayNode, MapNode, UnionNode, RecordNode, fields_of}
+use Rattle.avro_datum.specs.Decoding.{Decoder, IsLeaf, array_of, closed_record, datum_at, fields_at, leaf_at, map_of, member_at, node_at, pair_at, plain_at}
+use Rattle.avro_datum.specs.ItemDecoding.{items_at, steps_left}
+use Rattle.avro_datum.specs.Position.{position_at}
+use Rattle.avro_datum.proofs.ByKind.{array_here, array_is_here, below, datum_at-leaf, map_here, map_is_here, member_here, record_here, union_here, within_is}
 use Rattle.avro_datum.proofs.Fields.{fields_from, no_fields}
+use Rattle.avro_datum.proofs.Items.{less_mapped}
+use Rattle.avro_datum.proofs.Skips.{fails_too, same_ok, was_complete}
 
 less_datum : (d : Datum) (x : Decoding Data) → skipped (x >>= λ ds end last. Complete (more d ds) end last) ≡ skipped x
 less_datum d (Complete ds to m) = refl
 less_datum d (Invalid kind at) = refl
 less_datum d Incomplete = refl
-
-abbrev ok_at : ℕ × Meter → Result (ℕ × Meter) Fault
-ok_at x = Ok x
-
-same_ok : {a b : ℕ × Meter} → ok_at a ≡ ok_at b → a ≡ b
-same_ok e = cc
-
-was_complete : {V : Type 0} (x : Decoding V) (next : ℕ) (after : Meter) → Ok (next, after) ≡ skipped x → (v : V) × (x ≡ Complete v next after)
-was_complete (Complete v to m) next after e = let p : (next, after) ≡ (to, m) = same_ok e in (v, ap (λ (x : ℕ × Meter). Complete v x.0 x.1) (sym p))
-was_complete (Invalid kind at) next after e = absurd cc
-was_complete Incomplete next after e = absurd cc
-
-fails_too : {A B : Type 0} (x : Decoding A) (f : A → ℕ → Meter → Decoding B) (e : Fault) → Err e ≡ skipped x → Err e ≡ skipped (x >>= f)
-fails_too (Complete v to m) f e h = absurd cc
-fails_too (Invalid kind at) f e h = h
-fails_too Incomplete f e h = h
 
 -- ---- fields
 
@@ -93,3 +85,42 @@ module _ (nodes : List Node) (bytes : List ℕ) (node at : ℕ) (m : Meter) (nam
 
   pub skip_fields_end : (within after : Meter) (to : ℕ) → Ok within ≡ opened_record at m → Ok (to, after) ≡ skipped (fields_at (node_at (1000 - within.depth) nodes bytes) fields at within) → Ok (to, record { depth = m.depth; units = after.units }) ≡ skipped (datum_at nodes bytes node at m)
   skip_fields_end within after to h r = closed_ok m.depth (fields_at (node_at (1000 - within.depth) nodes bytes) fields at within) to after r ∙ ap skipped (sym (within_is nodes bytes node at m name fields is within (sym h)))
+
+-- ---- arrays and maps
+
+pub skip_pair_at_depth : (depth : ℕ) (r : Result (ℕ × Meter) Fault) (nodes : List Node) (bytes : List ℕ) (node at : ℕ) (m : Meter) → m.depth ≡ depth → r ≡ skipped (pair_at (node_at (1000 - m.depth) nodes bytes) bytes node at m) → r ≡ skipped (pair_at (node_at (1000 - depth) nodes bytes) bytes node at m)
+skip_pair_at_depth depth r nodes bytes node at m e h = subst (λ (k : ℕ). r ≡ skipped (pair_at (node_at (1000 - k) nodes bytes) bytes node at m)) e h
+
+blocks_err : {A : Type 0} (f : Meter → Decoding A) (at : ℕ) (e : Fault) (b : Bool) (within : Meter) → cond b (Err (Malformed TooDeep at)) (Ok within) ≡ Err e → Err e ≡ skipped (inside (cond b (Err (Malformed TooDeep at)) (Ok within)) f)
+blocks_err f at e true within h = ap again (same_fault e (Malformed TooDeep at) (sym h))
+blocks_err f at e false within h = absurd cc
+
+module _ (nodes : List Node) (bytes : List ℕ) (node at : ℕ) (m : Meter) (inner : ℕ) where
+  module _ (is : slice_get nodes node ≡ Some (ArrayNode inner)) where
+    pub skip_array_not_opened : (e : Fault) → opened_blocks at m ≡ Err e → Err e ≡ skipped (datum_at nodes bytes node at m)
+    skip_array_not_opened e h =
+        blocks_err (λ within. items_at (steps_left within) (below (1000 - m.depth) nodes bytes inner) bytes first_walk at within) at e (nat_le 1000 m.depth) (record { depth = m.depth + 1; units = m.units }) h
+        ∙ sym (ap skipped (array_here nodes bytes node at m inner is) ∙ less_mapped array_of (inside (opened_blocks at m) (λ within. items_at (steps_left within) (below (1000 - m.depth) nodes bytes inner) bytes first_walk at within)))
+
+    pub skips_array : (r : Result (ℕ × Meter) Fault) (within : Meter) (walk : BlockWalk) → opened_blocks at m ≡ Ok within → walk ≡ first_walk → r ≡ skipped (items_at (steps_left within) (node_at (1000 - within.depth) nodes bytes inner) bytes walk at within) → r ≡ skipped (datum_at nodes bytes node at m)
+    skips_array r within walk h w e = e ∙ sym (ap skipped (array_is_here nodes bytes node at m inner is within walk h w) ∙ less_mapped array_of (items_at (steps_left within) (node_at (1000 - within.depth) nodes bytes inner) bytes walk at within))
+
+  module _ (is : slice_get nodes node ≡ Some (MapNode inner)) where
+    pub skip_map_not_opened : (e : Fault) → opened_blocks at m ≡ Err e → Err e ≡ skipped (datum_at nodes bytes node at m)
+    skip_map_not_opened e h =
+        blocks_err (λ within. items_at (steps_left within) (pair_at (below (1000 - m.depth) nodes bytes) bytes inner) bytes first_walk at within) at e (nat_le 1000 m.depth) (record { depth = m.depth + 1; units = m.units }) h
+        ∙ sym (ap skipped (map_here nodes bytes node at m inner is) ∙ less_mapped map_of (inside (opened_blocks at m) (λ within. items_at (steps_left within) (pair_at (below (1000 - m.depth) nodes bytes) bytes inner) bytes first_walk at within)))
+
+    pub skips_map : (r : Result (ℕ × Meter) Fault) (within : Meter) (walk : BlockWalk) → opened_blocks at m ≡ Ok within → walk ≡ first_walk → r ≡ skipped (items_at (steps_left within) (pair_at (node_at (1000 - within.depth) nodes bytes) bytes inner) bytes walk at within) → r ≡ skipped (datum_at nodes bytes node at m)
+    skips_map r within walk h w e = e ∙ sym (ap skipped (map_is_here nodes bytes node at m inner is within walk h w) ∙ less_mapped map_of (items_at (steps_left within) (pair_at (node_at (1000 - within.depth) nodes bytes) bytes inner) bytes walk at within))
+
+-- ---- unions
+
+module _ (nodes : List Node) (bytes : List ℕ) (node at : ℕ) (m : Meter) (members : List ℕ) (many : ℕ) (is : slice_get nodes node ≡ Some (UnionNode members)) (len : many ≡ length members) where
+  pub skip_position_fails : (e : Fault) → Finds {X = ℕ} (λ n. n) (Err e) (position_at BadBranch many bytes at m) → Err e ≡ skipped (datum_at nodes bytes node at m)
+  skip_position_fails Need h = sym (ap skipped (union_here nodes bytes node at m members many is len ∙ ap (λ x. x >>= λ n to after. map_decoding (UnionDatum n) (member_at (λ node at m'. plain_at (below (1000 - m.depth) nodes bytes) bytes (slice_get nodes node) at m') (slice_get members n) to after)) h))
+  skip_position_fails (Malformed kind place) h = sym (ap skipped (union_here nodes bytes node at m members many is len ∙ ap (λ x. x >>= λ n to after. map_decoding (UnionDatum n) (member_at (λ node at m'. plain_at (below (1000 - m.depth) nodes bytes) bytes (slice_get nodes node) at m') (slice_get members n) to after)) h))
+  skip_position_fails NoMemory h = absurd h
+
+  pub skips_member : (n to member : ℕ) (after : Meter) → position_at BadBranch many bytes at m ≡ Complete n to after → slice_get members n ≡ Some member → after.depth ≡ m.depth → AllByRecursion (IsMember nodes) members → (r : Result (ℕ × Meter) Fault) → r ≡ skipped (datum_at nodes bytes member to after) → r ≡ skipped (datum_at nodes bytes node at m)
+  skips_member n to member after read got same all r e = e ∙ sym (ap skipped (member_here nodes bytes node at m members many is len n to member after read got same all) ∙ less_mapped (UnionDatum n) (datum_at nodes bytes member to after))

@@ -1,7 +1,12 @@
 pub mod ByKind
+pub mod Counts
 pub mod Fields
+pub mod Items
 pub mod LessValue
+pub mod OfType
 pub mod OnePayload
 pub mod Payloads
+pub mod Positions
 pub mod ShortestForm
+pub mod Skips
 pub mod Written

@@ -16,7 +16,7 @@ use Rattle.avro_datum.specs.Fault.{FirstFault, malformed, truncated, trailing}
 use Rattle.avro_datum.specs.Payload.{IsPayload}
 use Rattle.avro_datum.specs.Spelling.{Spells, Fits, units_of}
 use Rattle.avro_datum.specs.Laws.Complete.{datum_complete}
-use Rattle.avro_datum.specs.Laws.Defects.{datum_told}
+use Rattle.avro_datum.specs.Laws.Told.{datum_told}
 use Rattle.avro_datum.specs.Laws.OneForm.{datum_one_form}
 use Rattle.avro_datum.specs.Laws.Sound.{datum_sound}
 use Rattle.avro_datum.proofs.Payloads.{is_whole, is_trailing, is_truncated, is_malformed}

@@ -1,16 +1,22 @@
 -- The written form is a spelling, none is shorter, and what is spelled is of its node's type.
-use Rattle.std.proofs.Common.{ℕ, ◌+◌, ◌*◌, ◌^◌, ◌<◌, ◌≤◌, List, [], ◌∷◌, ◌++◌, length, refl, ap, arith, ℤ, pos, negsuc, lit<, lit≤}
-use Rattle.std.proofs.lemmas.List.{length-append}
-use Rattle.avro_bytes.specs.Number.{int_limit, long_limit, zigzag}
+use Rattle.std.proofs.Common.{◌≡◌, ℕ, zero, suc, ◌+◌, ◌*◌, ◌^◌, ◌<◌, ◌≤◌, List, [], ◌∷◌, ◌++◌, length, refl, sym, ap, subst, ◌∙◌, append_assoc, arith, ℤ, pos, negsuc, inl, lit<, lit≤}
+use Rattle.std.proofs.lemmas.List.{append-nil, length-append}
+use Rattle.std.proofs.lemmas.Option.{slice_get_within}
+use Rattle.std.specs.Str.{IsUtf8}
+use Rattle.avro_bytes.specs.Blob.{IsBlob}
+use Rattle.avro_bytes.specs.Blocks.{IsItems, joined}
+use Rattle.avro_bytes.specs.Number.{IsNumber64, int_limit, long_limit, zigzag}
 use Rattle.avro_bytes.specs.Shortest.{shortest}
 use Rattle.avro_bytes.specs.Text.{IsText}
-use Rattle.avro_bytes.specs.Laws.Numbers.{number_below}
 use Rattle.avro_bytes.specs.Laws.Shortests.{shortest_is_number, shortest_is_shortest}
-use Rattle.avro_schema.specs.Node.{Node, FieldNode}
-use Rattle.avro_schema.specs.Datum.{Datum, Data, IntDatum, LongDatum, TextDatum, RecordDatum, no_more, more}
-use Rattle.avro_datum.specs.Conforming.{Conforms, ConformsEach, HasBits, HasShortTexts, HaveShortTexts}
-use Rattle.avro_datum.specs.Spelling.{Spells, SpellsFields}
-use Rattle.avro_datum.specs.Writing.{written, written_data}
+use Rattle.avro_schema.specs.Conforming.{Conforms, ConformAll, ConformPairs, ConformsEach, HasBits}
+use Rattle.avro_schema.specs.Node.{IsWellFormed, Node, FieldNode, EnumNode, UnionNode}
+use Rattle.avro_schema.specs.Datum.{Datum, Data, Pairs, NullDatum, BooleanDatum, IntDatum, LongDatum, BytesDatum, TextDatum, FixedDatum, EnumDatum, ArrayDatum, MapDatum, UnionDatum, RecordDatum, no_more, more, no_pairs, pair}
+use Rattle.avro_datum.specs.Conforming.{HasShortTexts, HaveShortPairs, HaveShortTexts}
+use Rattle.avro_datum.specs.Spelling.{Spells, SpellsFields, SpellsItems, SpellsPairs, units_of, units_of_data, units_of_items, units_of_pairs}
+use Rattle.avro_datum.specs.Writing.{behind_length, how_many, how_many_pairs, in_block, written, written_data, written_pairs}
+use Rattle.avro_datum.proofs.ByKind.{member_of}
+use Rattle.avro_datum.proofs.Counts.{block_len, items_longer}
 
 -- ---- the width of a number, and its zig-zag
 
@@ -22,40 +28,151 @@ long_bits : (n : ℤ) → HasBits 63 n → zigzag n < (1 + 1) * 2 ^ (7 * 9)
 long_bits (pos n) h = omega arith
 long_bits (negsuc n) h = omega arith
 
-length_bits : (n : ℕ) → n ≤ 16777216 → HasBits 63 (pos n)
-length_bits n h = omega arith
+position_bits : (n many : ℕ) → n < many → many ≤ 4096 → zigzag (pos n) < (15 + 1) * 2 ^ (7 * 4)
+position_bits n many lt le = omega arith
+
+length_number : (n : ℕ) → n ≤ 16777216 → IsNumber64 (pos n) (shortest (pos n))
+length_number n h = shortest_is_number 9 1 (pos n) (lit< tt) (lit≤ tt) (long_bits (pos n) (omega arith))
+
+count_number : (n : ℕ) → n < 2 ^ 63 → IsNumber64 (pos n) (shortest (pos n))
+count_number n h = shortest_is_number 9 1 (pos n) (lit< tt) (lit≤ tt) (long_bits (pos n) h)
 
 -- ---- the written form is a spelling
 
-mutual
-  unfolding written written_data
+one_block : (many : ℕ) (items : List (List ℕ)) (bytes : List ℕ) → many ≡ length items → joined items ≡ bytes → many < 2 ^ 63 → IsItems items (in_block many bytes)
+one_block zero [] bytes m j lt = record { blocks = []; all = refl; spelled = subst (λ (b : List ℕ). IsNumber64 (pos 0) (b ++ shortest (pos 0))) j (count_number 0 (lit< tt)) }
+one_block zero (i ∷ items) bytes m j lt = absurd (omega (arith, m))
+one_block (suc n) items bytes m j lt = record {
+  blocks = items ∷ [];
+  all = append-nil items;
+  spelled =
+      (shortest (pos (suc n)), shortest (pos 0), ap (λ (b : List ℕ). shortest (pos (suc n)) ++ (b ++ shortest (pos 0))) (sym j), omega (arith, m), inl (subst (λ (k : ℕ). IsNumber64 (pos k) (shortest (pos (suc n)))) m (count_number (suc n) lt)), count_number 0 (lit< tt));
+}
 
-  pub written_spelled : (nodes : List Node) (node : ℕ) (d : Datum) → Conforms nodes node d → HasShortTexts d → Spells nodes node d (written d)
-  written_spelled nodes node (IntDatum n) c s = (c.0, shortest_is_number 4 15 n (lit< tt) (lit≤ tt) (int_bits n c.1))
-  written_spelled nodes node (LongDatum n) c s = (c.0, shortest_is_number 9 1 n (lit< tt) (lit≤ tt) (long_bits n c.1))
-  written_spelled nodes node (TextDatum text) c s =
-      (c.0, record { len = shortest (pos (length text)); parts = refl; number = shortest_is_number 9 1 (pos (length text)) (lit< tt) (lit≤ tt) (long_bits (pos (length text)) (length_bits (length text) s)); short = s; utf8 = c.1 })
-  written_spelled nodes node (RecordDatum ds) c s = (c.0, c.1, c.2, written_spelled_each nodes c.1 ds c.3 s)
+few_items : (ds : Data) → how_many ds ≤ units_of_items ds
+few_items no_more = omega arith
+few_items (more d ds) = let others = few_items ds in omega (arith, others)
 
-  written_spelled_each : (nodes : List Node) (fields : List FieldNode) (ds : Data) → ConformsEach nodes fields ds → HaveShortTexts ds → SpellsFields nodes fields ds (written_data ds)
-  written_spelled_each nodes [] no_more c s = refl
-  written_spelled_each nodes (f ∷ fs) (more d ds) c s = (written d, written_data ds, refl, written_spelled nodes f.node d c.0 s.0, written_spelled_each nodes fs ds c.1 s.1)
-  written_spelled_each nodes [] (more d ds) c s = absurd c
-  written_spelled_each nodes (f ∷ fs) no_more c s = absurd c
+few_pairs : (ps : Pairs) → how_many_pairs ps ≤ units_of_pairs ps
+few_pairs no_pairs = omega arith
+few_pairs (pair key d ps) = let others = few_pairs ps in omega (arith, others)
+
+-- the written items, one by one
+record Items (P : List (List ℕ) → Type 0) (many : ℕ) (bytes : List ℕ) : Type 0 where
+  items : List (List ℕ)
+  count : many ≡ length items
+  flat : joined items ≡ bytes
+  spelled : P items
+
+text_written : (key : List ℕ) → length key ≤ 16777216 → IsUtf8 key → IsText key (behind_length key)
+text_written key short utf8 = record { len = shortest (pos (length key)); parts = refl; number = length_number (length key) short; short = short; utf8 = utf8 }
+
+module _ (nodes : List Node) (wf : IsWellFormed nodes) where
+  mutual
+    unfolding written written_data written_pairs
+
+    written_spelled_at : (node : ℕ) (d : Datum) → Conforms nodes node d → HasShortTexts d → units_of d < 2 ^ 63 → Spells nodes node d (written d)
+    written_spelled_at node NullDatum c s u = (c, refl)
+    written_spelled_at node (BooleanDatum b) c s u = (c, refl)
+    written_spelled_at node (IntDatum n) c s u = (c.0, shortest_is_number 4 15 n (lit< tt) (lit≤ tt) (int_bits n c.1))
+    written_spelled_at node (LongDatum n) c s u = (c.0, shortest_is_number 9 1 n (lit< tt) (lit≤ tt) (long_bits n c.1))
+    written_spelled_at node (BytesDatum value) c s u = (c, record { len = shortest (pos (length value)); parts = refl; number = length_number (length value) s; short = s })
+    written_spelled_at node (TextDatum text) c s u = (c.0, text_written text s c.1)
+    written_spelled_at node (FixedDatum value) c s u = (c.0, length value, c.1, record { same = refl; whole = refl })
+    written_spelled_at node (EnumDatum n) c s u =
+        let few = wf.each node (EnumNode c.0 c.1 c.2) c.3 in
+        (c.0, c.1, c.2, c.3, (c.4, shortest_is_number 4 15 (pos n) (lit< tt) (lit≤ tt) (position_bits n (length c.1) c.4 few.1)))
+    written_spelled_at node (ArrayDatum ds) c s u =
+        let i = written_items c.0 ds c.2 s u in
+        (c.0, c.1, i.items, one_block (how_many ds) i.items (written_data ds) i.count i.flat (omega (arith, few_items ds, u)), i.spelled)
+    written_spelled_at node (MapDatum ps) c s u =
+        let i = written_pair_items c.0 ps c.2 s u in
+        (c.0, c.1, i.items, one_block (how_many_pairs ps) i.items (written_pairs ps) i.count i.flat (omega (arith, few_pairs ps, u)), i.spelled)
+    written_spelled_at node (UnionDatum n d) c s u =
+        let w = wf.each node (UnionNode c.0) c.1 in
+        let below = slice_get_within c.0 n c.2 c.3 in
+        (c.0, c.1, c.2, c.3, (member_of nodes c.0 n c.2 w.0 c.3).no_union, shortest (pos n), written d, refl, (below, shortest_is_number 4 15 (pos n) (lit< tt) (lit≤ tt) (position_bits n (length c.0) below (omega (arith, w.1)))), written_spelled_at c.2 d c.4 s u)
+    written_spelled_at node (RecordDatum ds) c s u = (c.0, c.1, c.2, written_spelled_each c.1 ds c.3 s (omega (arith, u)))
+
+    written_items : (inner : ℕ) (ds : Data) → ConformAll nodes inner ds → HaveShortTexts ds → units_of_items ds < 2 ^ 63 → Items (SpellsItems nodes inner ds) (how_many ds) (written_data ds)
+    written_items inner no_more c s u = record { items = []; count = refl; flat = refl; spelled = tt }
+    written_items inner (more d ds) c s u =
+        let others = written_items inner ds c.1 s.1 (omega (arith, u)) in
+        record { items = written d ∷ others.items; count = ap suc others.count; flat = ap (λ (b : List ℕ). written d ++ b) others.flat; spelled = (written_spelled_at inner d c.0 s.0 (omega (arith, u)), others.spelled) }
+
+    written_pair_items : (inner : ℕ) (ps : Pairs) → ConformPairs nodes inner ps → HaveShortPairs ps → units_of_pairs ps < 2 ^ 63 → Items (SpellsPairs nodes inner ps) (how_many_pairs ps) (written_pairs ps)
+    written_pair_items inner no_pairs c s u = record { items = []; count = refl; flat = refl; spelled = tt }
+    written_pair_items inner (pair key d ps) c s u =
+        let others = written_pair_items inner ps c.2 s.2 (omega (arith, u)) in
+        record {
+          items = (behind_length key ++ written d) ∷ others.items;
+          count = ap suc others.count;
+          flat = append_assoc (behind_length key) (written d) (joined others.items) ∙ ap (λ (b : List ℕ). behind_length key ++ (written d ++ b)) others.flat;
+          spelled = ((behind_length key, written d, refl, text_written key s.0 c.0, written_spelled_at inner d c.1 s.1 (omega (arith, u))), others.spelled);
+        }
+
+    written_spelled_each : (fields : List FieldNode) (ds : Data) → ConformsEach nodes fields ds → HaveShortTexts ds → units_of_data ds < 2 ^ 63 → SpellsFields nodes fields ds (written_data ds)
+    written_spelled_each [] no_more c s u = refl
+    written_spelled_each (f ∷ fs) (more d ds) c s u = (written d, written_data ds, refl, written_spelled_at f.node d c.0 s.0 (omega (arith, u)), written_spelled_each fs ds c.1 s.1 (omega (arith, u)))
+    written_spelled_each [] (more d ds) c s u = absurd c
+    written_spelled_each (f ∷ fs) no_more c s u = absurd c
+
+pub written_spelled : (nodes : List Node) (node : ℕ) (d : Datum) → IsWellFormed nodes → Conforms nodes node d → HasShortTexts d → units_of d < 2 ^ 63 → Spells nodes node d (written d)
+written_spelled nodes node d wf c s u = written_spelled_at nodes wf node d c s u
 
 -- ---- none is shorter
 
-text_shortest : (text bytes : List ℕ) → IsText text bytes → length (shortest (pos (length text)) ++ text) ≤ length bytes
-text_shortest text bytes s = omega (arith, length-append (shortest (pos (length text))) text, ap length s.parts, length-append s.len text, shortest_is_shortest long_limit (pos (length text)) s.len s.number)
+behind_length_len : (value : List ℕ) → length (behind_length value) ≡ length (shortest (pos (length value))) + length value
+behind_length_len value = length-append (shortest (pos (length value))) value
+
+blob_shortest : (value bytes : List ℕ) → IsBlob value bytes → length (behind_length value) ≤ length bytes
+blob_shortest value bytes s = omega (arith, behind_length_len value, ap length s.parts, length-append s.len value, shortest_is_shortest long_limit (pos (length value)) s.len s.number)
+
+text_shortest : (text bytes : List ℕ) → IsText text bytes → length (behind_length text) ≤ length bytes
+text_shortest text bytes s = omega (arith, behind_length_len text, ap length s.parts, length-append s.len text, shortest_is_shortest long_limit (pos (length text)) s.len s.number)
+
+block_shortest : (many : ℕ) (written_bytes : List ℕ) (items : List (List ℕ)) (bytes : List ℕ) → IsItems items bytes → many ≡ length items → length written_bytes ≤ length (joined items) → length (in_block many written_bytes) ≤ length bytes
+block_shortest many written_bytes items bytes s m le = let one = items_longer items bytes s in rw m (omega (arith, block_len (length items) written_bytes, one, le))
 
 mutual
-  unfolding written written_data
+  unfolding written written_data written_pairs
 
   pub none_shorter : (nodes : List Node) (node : ℕ) (d : Datum) (bytes : List ℕ) → Spells nodes node d bytes → length (written d) ≤ length bytes
+  none_shorter nodes node NullDatum bytes s = omega arith
+  none_shorter nodes node (BooleanDatum b) bytes s = omega (arith, ap length s.1)
   none_shorter nodes node (IntDatum n) bytes s = shortest_is_shortest int_limit n bytes s.1
   none_shorter nodes node (LongDatum n) bytes s = shortest_is_shortest long_limit n bytes s.1
+  none_shorter nodes node (BytesDatum value) bytes s = blob_shortest value bytes s.1
   none_shorter nodes node (TextDatum text) bytes s = text_shortest text bytes s.1
+  none_shorter nodes node (FixedDatum value) bytes s = omega (arith, ap length s.3.same)
+  none_shorter nodes node (EnumDatum n) bytes s = shortest_is_shortest int_limit (pos n) bytes s.4.1
+  none_shorter nodes node (ArrayDatum ds) bytes s = let i = items_shorter nodes s.0 ds s.2 s.4 in block_shortest (how_many ds) (written_data ds) s.2 bytes s.3 i.0 i.1
+  none_shorter nodes node (MapDatum ps) bytes s = let i = pairs_shorter nodes s.0 ps s.2 s.4 in block_shortest (how_many_pairs ps) (written_pairs ps) s.2 bytes s.3 i.0 i.1
+  none_shorter nodes node (UnionDatum n d) bytes s =
+      let first = shortest_is_shortest int_limit (pos n) s.5 s.8.1 in
+      let inner = none_shorter nodes s.2 d s.6 s.9 in
+      omega (arith, first, inner, ap length s.7, length-append s.5 s.6, length-append (shortest (pos n)) (written d))
   none_shorter nodes node (RecordDatum ds) bytes s = none_shorter_each nodes s.1 ds bytes s.3
+
+  items_shorter : (nodes : List Node) (inner : ℕ) (ds : Data) (items : List (List ℕ)) → SpellsItems nodes inner ds items → (how_many ds ≡ length items) × (length (written_data ds) ≤ length (joined items))
+  items_shorter nodes inner no_more [] s = (refl, omega arith)
+  items_shorter nodes inner (more d ds) (i ∷ items) s =
+      let one = none_shorter nodes inner d i s.0 in
+      let others = items_shorter nodes inner ds items s.1 in
+      (ap suc others.0, omega (arith, one, others.1, length-append i (joined items), length-append (written d) (written_data ds)))
+  items_shorter nodes inner no_more (i ∷ items) s = absurd s
+  items_shorter nodes inner (more d ds) [] s = absurd s
+
+  pairs_shorter : (nodes : List Node) (inner : ℕ) (ps : Pairs) (items : List (List ℕ)) → SpellsPairs nodes inner ps items → (how_many_pairs ps ≡ length items) × (length (written_pairs ps) ≤ length (joined items))
+  pairs_shorter nodes inner no_pairs [] s = (refl, omega arith)
+  pairs_shorter nodes inner (pair key d ps) (i ∷ items) s =
+      let p = s.0 in
+      let first = text_shortest key s.0.0 s.0.3 in
+      let one = none_shorter nodes inner d s.0.1 s.0.4 in
+      let others = pairs_shorter nodes inner ps items s.1 in
+      (ap suc others.0, omega (arith, first, one, others.1, ap length s.0.2, length-append s.0.0 s.0.1, length-append i (joined items), length-append (behind_length key) (written d ++ written_pairs ps), length-append (written d) (written_pairs ps)))
+  pairs_shorter nodes inner no_pairs (i ∷ items) s = absurd s
+  pairs_shorter nodes inner (pair key d ps) [] s = absurd s
 
   none_shorter_each : (nodes : List Node) (fields : List FieldNode) (ds : Data) (bytes : List ℕ) → SpellsFields nodes fields ds bytes → length (written_data ds) ≤ length bytes
   none_shorter_each nodes [] no_more bytes s = omega arith
@@ -65,27 +182,3 @@ mutual
       omega (arith, one, others, ap length s.2, length-append s.0 s.1, length-append (written d) (written_data ds))
   none_shorter_each nodes [] (more d ds) bytes s = absurd s
   none_shorter_each nodes (f ∷ fs) no_more bytes s = absurd s
-
--- ---- what is spelled is of its node's type
-
-bits_of : (n : ℤ) (bits : ℕ) → zigzag n < 2 * 2 ^ bits → HasBits bits n
-bits_of (pos n) bits h = omega arith
-bits_of (negsuc n) bits h = omega arith
-
-mutual
-  pub spelled_conforms : (nodes : List Node) (node : ℕ) (d : Datum) (bytes : List ℕ) → Spells nodes node d bytes → Conforms nodes node d × HasShortTexts d
-  spelled_conforms nodes node (IntDatum n) bytes s = ((s.0, bits_of n 31 (number_below int_limit n bytes (lit< tt) (lit< tt) s.1)), tt)
-  spelled_conforms nodes node (LongDatum n) bytes s = ((s.0, bits_of n 63 (number_below long_limit n bytes (lit< tt) (lit< tt) s.1)), tt)
-  spelled_conforms nodes node (TextDatum text) bytes s = ((s.0, s.1.utf8), s.1.short)
-  spelled_conforms nodes node (RecordDatum ds) bytes s =
-      let each = spelled_conforms_each nodes s.1 ds bytes s.3 in
-      ((s.0, s.1, s.2, each.0), each.1)
-
-  spelled_conforms_each : (nodes : List Node) (fields : List FieldNode) (ds : Data) (bytes : List ℕ) → SpellsFields nodes fields ds bytes → ConformsEach nodes fields ds × HaveShortTexts ds
-  spelled_conforms_each nodes [] no_more bytes s = (tt, tt)
-  spelled_conforms_each nodes (f ∷ fs) (more d ds) bytes s =
-      let one = spelled_conforms nodes f.node d s.0 s.3 in
-      let others = spelled_conforms_each nodes fs ds s.1 s.4 in
-      ((one.0, others.0), (one.1, others.1))
-  spelled_conforms_each nodes [] (more d ds) bytes s = absurd s
-  spelled_conforms_each nodes (f ∷ fs) no_more bytes s = absurd s

@@ -1,7 +1,11 @@
 pub mod Conforming
 pub mod Decoding
 pub mod Fault
+pub mod ItemDecoding
+pub mod ItemFault
 pub mod Laws
 pub mod Payload
+pub mod Position
 pub mod Spelling
+pub mod View
 pub mod Writing

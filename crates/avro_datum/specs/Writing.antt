@@ -1,22 +1,56 @@
--- The one written form of a datum (Avro 1.11, "Binary Encoding"): numbers in their shortest spelling.
-use Rattle.std.specs.Prelude.{◌≡◌, ◌≤◌, ◌<◌, ℕ, List, [], ◌++◌, length, pos, Result, Ok, Err}
+-- The one written form of a datum (Avro 1.11, "Binary Encoding"): numbers in their shortest spelling, items in one block.
+use Rattle.std.specs.Prelude.{◌≡◌, ◌≤◌, ◌<◌, ℕ, zero, suc, List, [], ◌∷◌, ◌++◌, length, pos, Result, Ok, Err}
+use Rattle.avro_bytes.specs.Boolean.{boolean_byte}
 use Rattle.avro_bytes.specs.Shortest.{shortest}
-use Rattle.avro_schema.specs.Datum.{Datum, Data, IntDatum, LongDatum, TextDatum, RecordDatum, no_more, more}
+use Rattle.avro_schema.specs.Datum.{Datum, Data, Pairs, NullDatum, BooleanDatum, IntDatum, LongDatum, BytesDatum, TextDatum, FixedDatum, EnumDatum, ArrayDatum, MapDatum, UnionDatum, RecordDatum, no_more, more, no_pairs, pair}
 use Rattle.avro_datum.specs.declared.writing.TheConstants.{MOST_OUTPUT}
 use Rattle.avro_datum.specs.declared.writing.WriteError.{WriteError}
 use Rattle.avro_datum.specs.declared.writing.WriteError.TheVariants.{TooLarge, NoMemory}
 
+-- bytes behind their length
+abbrev pub behind_length : List ℕ → List ℕ
+behind_length bytes = shortest (pos (length bytes)) ++ bytes
+
+-- what stands before the items of the one block: nothing where there are none
+abbrev pub block_count : ℕ → List ℕ
+block_count zero = []
+block_count (suc n) = shortest (pos (suc n))
+
+-- items in one block, and the count 0 behind it
+abbrev pub in_block : ℕ → List ℕ → List ℕ
+in_block many bytes = block_count many ++ (bytes ++ shortest (pos 0))
+
+abbrev pub how_many : Data → ℕ
+how_many no_more = 0
+how_many (more d ds) = suc (how_many ds)
+
+abbrev pub how_many_pairs : Pairs → ℕ
+how_many_pairs no_pairs = 0
+how_many_pairs (pair key d ps) = suc (how_many_pairs ps)
+
 unfoldable mutual
   pub written : Datum → List ℕ
+  written NullDatum = []
+  written (BooleanDatum b) = boolean_byte b ∷ []
   written (IntDatum n) = shortest n
   written (LongDatum n) = shortest n
-  written (TextDatum text) = shortest (pos (length text)) ++ text
+  written (BytesDatum value) = behind_length value
+  written (TextDatum text) = behind_length text
+  written (FixedDatum value) = value
+  written (EnumDatum n) = shortest (pos n)
+  written (ArrayDatum ds) = in_block (how_many ds) (written_data ds)
+  written (MapDatum ps) = in_block (how_many_pairs ps) (written_pairs ps)
+  written (UnionDatum n d) = shortest (pos n) ++ written d
   written (RecordDatum ds) = written_data ds
 
   -- one behind another
   pub written_data : Data → List ℕ
   written_data no_more = []
   written_data (more d ds) = written d ++ written_data ds
+
+  pub written_pairs : Pairs → List ℕ
+  written_pairs no_pairs = []
+  written_pairs (pair key d ps) = behind_length key ++ (written d ++ written_pairs ps)
 
 -- what writing answers, and what it leaves of the bytes that were there
 abbrev pub Writes : Result (Unit {0}) WriteError → Datum → List ℕ → List ℕ → Type 0

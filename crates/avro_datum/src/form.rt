@@ -37,10 +37,11 @@ impl<'s> WireForm for NodeForm<'s> {
     ghost use Rattle.avro_datum.specs.Fault.{FaultyDatum};
     ghost use Rattle.avro_datum.specs.Spelling.{Spells, depth_of, units_of};
     ghost use Rattle.avro_datum.specs.Laws.Complete.{datum_complete};
-    ghost use Rattle.avro_datum.specs.Laws.Defects.{datum_defect, datum_told};
+    ghost use Rattle.avro_datum.specs.Laws.Defects.{datum_defect};
     ghost use Rattle.avro_datum.specs.Laws.OneForm.{datum_one_form};
     ghost use Rattle.avro_datum.specs.Laws.Sound.{datum_sound};
     ghost use Rattle.avro_datum.specs.Laws.Steady.{datum_steady};
+    ghost use Rattle.avro_datum.specs.Laws.Told.{datum_told};
 
     type Value = Datum;
 

@@ -1,11 +1,12 @@
-ghost use Rattle.std.specs.Prelude.{◌≡◌, ◌≤◌, ◌⊎◌, ℕ, List, length};
+ghost use Rattle.std.specs.Prelude.{◌≡◌, ◌≤◌, ◌<◌, ◌^◌, ◌⊎◌, ℕ, List, length};
 ghost use Rattle.avro_bytes.specs.declared.fault.MalformedKind.{MalformedKind};
-ghost use Rattle.avro_schema.specs.Node.{Node};
+ghost use Rattle.avro_schema.specs.Conforming.{Conforms};
+ghost use Rattle.avro_schema.specs.Node.{IsWellFormed, Node};
 ghost use Rattle.avro_schema.specs.Datum as datum;
-ghost use Rattle.avro_datum.specs.Conforming.{Conforms, HasShortTexts};
+ghost use Rattle.avro_datum.specs.Conforming.{HasShortTexts};
 ghost use Rattle.avro_datum.specs.Fault.{FirstFault};
 ghost use Rattle.avro_datum.specs.Payload.{IsPayload};
-ghost use Rattle.avro_datum.specs.Spelling.{Spells};
+ghost use Rattle.avro_datum.specs.Spelling.{Spells, units_of};
 ghost use Rattle.avro_datum.specs.Writing.{written};
 
 /// The law that a payload spells one datum or has one first fault, and never both.
@@ -20,13 +21,15 @@ pub fn payload_is_spelled_or_faulty()
         IsPayload nodes d payload → ¬ (FirstFault nodes payload kind at) }
 {}
 
-/// The law that the written form of a node's datum is a spelling of it, and that no spelling is shorter.
+/// The law that the written form of a node's datum is a spelling of it, where a long can count its items, and that no
+/// spelling is shorter.
 pub fn written_form_is_the_shortest_spelling()
     ensures spelled { (nodes : List Node) (node : ℕ) (d : datum.Datum) →
-        Conforms nodes node d → HasShortTexts d → Spells nodes node d (written d) }
+        IsWellFormed nodes → Conforms nodes node d → HasShortTexts d → units_of d < 2 ^ 63 → Spells nodes node d (written d) }
     ensures none_shorter { (nodes : List Node) (node : ℕ) (d : datum.Datum) (bytes : List ℕ) →
         Spells nodes node d bytes → length (written d) ≤ length bytes }
 {}
+
 /// The law that a datum that is spelled is of its node's type, so that it can be written again.
 pub fn spelled_datum_conforms()
     ensures { (nodes : List Node) (node : ℕ) (d : datum.Datum) (bytes : List ℕ) →

@@ -2,8 +2,12 @@
 #![tactic(auto)]
 
 mod form;
+#[cfg(test)]
+mod kinds_tests;
 mod laws;
+mod leaf;
 mod payload;
+mod position;
 mod reading;
 mod skipping;
 #[cfg(test)]

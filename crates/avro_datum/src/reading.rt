@@ -1,44 +1,16 @@
-ghost use Rattle.std.specs.Prelude.{◌≡◌, ◌<◌, ◌≤◌, ◌-◌, length, IfOk};
+ghost use Rattle.std.specs.Prelude.{◌≡◌, ◌<◌, ◌≤◌, ◌-◌, ◌+◌, length, slice_get, string_bytes, false, IfOk};
 ghost use Rattle.avro_bytes.specs.Contract.{Reads};
 ghost use Rattle.avro_schema.specs.Datum.{data_of, datum_of};
-ghost use Rattle.avro_schema.specs.Node.{FieldsBelow, fields_of, node_of};
-ghost use Rattle.avro_datum.specs.Decoding.{IsLeaf, datum_at, fields_at, leaf_at, node_at};
+ghost use Rattle.avro_schema.specs.Node.{FieldsBelow, fields_of, is_union};
+ghost use Rattle.avro_datum.specs.Decoding.{datum_at, fields_at, node_at, pair_at};
+ghost use Rattle.avro_datum.specs.ItemDecoding.{items_at, steps_left};
+ghost use Rattle.avro_datum.specs.View.{each_datum, each_pair, pair_of};
 
-use avro_bytes::{Fault, Int, Long, MOST_DEPTH, Meter, Text, WireForm};
+use crate::leaf::read_leaf;
+use crate::position::read_position;
+use avro_bytes::{BlockWalk, Fault, MOST_DEPTH, MalformedKind, Meter, Text, WireForm};
 use avro_schema::{Datum, Field, Kind, Schema};
 use std::alloc::Global;
-
-/// The datum of a kind that holds no others.
-fn read_leaf(
-    alloc: Global,
-    kind: &Kind,
-    bytes: &[u8],
-    at: usize,
-    m: Meter,
-) -> Result<(Datum, usize, Meter), Fault>
-    requires leaf { IsLeaf (node_of kind.now) }
-    requires in_bounds { at ≤ length bytes.now }
-    ensures reads { Reads datum_of result (leaf_at bytes.now (node_of kind.now) at m) }
-    ensures within { IfOk result (λ r. r.1 ≤ length bytes.now) }
-    ensures depth { IfOk result (λ r. r.2.depth ≡ m.depth) }
-    ensures units { IfOk result (λ r. m.units ≤ r.2.units) }
-{
-    match kind {
-        Kind::Int => {
-            let (n, to, m) = Int.read(bytes, at, m)?;
-            Ok((Datum::Int(n), to, m))
-        }
-        Kind::Long => {
-            let (n, to, m) = Long.read(bytes, at, m)?;
-            Ok((Datum::Long(n), to, m))
-        }
-        Kind::Text => {
-            let (text, to, m) = Text { alloc }.read(bytes, at, m)?;
-            Ok((Datum::Text(text), to, m))
-        }
-        Kind::Record { .. } => unreachable!(),
-    }
-}
 
 /// The datum of a node at a place.
 #[cycle(read)]
@@ -57,6 +29,34 @@ pub(crate) fn read_node(
     ensures depth { IfOk result (λ r. r.2.depth ≡ m.depth) }
     ensures units { IfOk result (λ r. m.units ≤ r.2.units) }
 {
+    let Kind::Union(members) = schema.kind(node) else {
+        return read_plain(alloc, schema, node, bytes, at, m);
+    };
+    let (n, to, after) = read_position(MalformedKind::BadBranch, members.len(), bytes, at, m)?;
+    let member = members[n as usize];
+    let (datum, end, last) = read_plain(alloc, schema, member, bytes, to, after)?;
+    let datum = Box::new(alloc, datum)?;
+    Ok((Datum::Union(n, datum), end, last))
+}
+
+/// The datum of a node that is no union.
+#[cycle(read)]
+fn read_plain(
+    alloc: Global,
+    schema: &Schema,
+    node: usize,
+    bytes: &[u8],
+    at: usize,
+    m: Meter,
+) -> Result<(Datum, usize, Meter), Fault>
+    requires node { node < length schema.now.nodes }
+    requires no_union { is_union (slice_get schema.now.nodes node) ≡ false }
+    requires in_bounds { at ≤ length bytes.now }
+    ensures reads { Reads datum_of result (datum_at schema.now.nodes bytes.now node at m) }
+    ensures within { IfOk result (λ r. r.1 ≤ length bytes.now) }
+    ensures depth { IfOk result (λ r. r.2.depth ≡ m.depth) }
+    ensures units { IfOk result (λ r. m.units ≤ r.2.units) }
+{
     let kind = schema.kind(node);
     match kind {
         Kind::Record { fields, .. } => {
@@ -68,6 +68,17 @@ pub(crate) fn read_node(
             };
             Ok((Datum::Record(data), to, outside))
         }
+        Kind::Array(inner) => {
+            let (walk, inside) = BlockWalk::begin(at, m)?;
+            let (data, to, after) = read_items(alloc, schema, *inner, walk, bytes, at, inside)?;
+            Ok((Datum::Array(data), to, after))
+        }
+        Kind::Map(inner) => {
+            let (walk, inside) = BlockWalk::begin(at, m)?;
+            let (pairs, to, after) = read_pairs(alloc, schema, *inner, walk, bytes, at, inside)?;
+            Ok((Datum::Map(pairs), to, after))
+        }
+        Kind::Union(_) => unreachable!(),
         _ => read_leaf(alloc, kind, bytes, at, m),
     }
 }
@@ -99,4 +110,96 @@ fn read_fields(
         so_far = after;
     }
     Ok((data, to, so_far))
+}
+
+/// The items that a walk over blocks comes to, before any of which it is.
+#[cycle(read)]
+fn read_items(
+    alloc: Global,
+    schema: &Schema,
+    inner: usize,
+    walk: BlockWalk,
+    bytes: &[u8],
+    at: usize,
+    m: Meter,
+) -> Result<(Vec<Datum>, usize, Meter), Fault>
+    requires inner { inner < length schema.now.nodes }
+    requires in_bounds { at ≤ length bytes.now }
+    requires deep { 0 < m.depth }
+    ensures reads { Reads (λ v. each_datum v.items) result (items_at (steps_left m) (node_at (MOST_DEPTH - m.depth) schema.now.nodes bytes.now inner) bytes.now walk at m) }
+    ensures within { IfOk result (λ r. r.1 ≤ length bytes.now) }
+    ensures depth { IfOk result (λ r. r.2.depth + 1 ≡ m.depth) }
+    ensures units { IfOk result (λ r. m.units ≤ r.2.units) }
+{
+    let mut walk = walk;
+    let mut data = Vec::new(alloc);
+    let mut to = at;
+    let mut so_far = m;
+    loop {
+        let (further, place, opened) = walk.next(bytes, to, so_far)?;
+        if !further {
+            return Ok((data, place, opened));
+        }
+        let (datum, end, last) = read_node(alloc, schema, inner, bytes, place, opened)?;
+        data.push(datum)?;
+        to = end;
+        so_far = last;
+    }
+}
+
+/// The pairs that a walk over blocks comes to, before any of which it is.
+#[cycle(read)]
+fn read_pairs(
+    alloc: Global,
+    schema: &Schema,
+    inner: usize,
+    walk: BlockWalk,
+    bytes: &[u8],
+    at: usize,
+    m: Meter,
+) -> Result<(Vec<(String, Datum)>, usize, Meter), Fault>
+    requires inner { inner < length schema.now.nodes }
+    requires in_bounds { at ≤ length bytes.now }
+    requires deep { 0 < m.depth }
+    ensures reads { Reads (λ v. each_pair v.items) result (items_at (steps_left m) (pair_at (node_at (MOST_DEPTH - m.depth) schema.now.nodes bytes.now) bytes.now inner) bytes.now walk at m) }
+    ensures within { IfOk result (λ r. r.1 ≤ length bytes.now) }
+    ensures depth { IfOk result (λ r. r.2.depth + 1 ≡ m.depth) }
+    ensures units { IfOk result (λ r. m.units ≤ r.2.units) }
+{
+    let mut walk = walk;
+    let mut pairs = Vec::new(alloc);
+    let mut to = at;
+    let mut so_far = m;
+    loop {
+        let (further, place, opened) = walk.next(bytes, to, so_far)?;
+        if !further {
+            return Ok((pairs, place, opened));
+        }
+        let (pair, end, last) = read_pair(alloc, schema, inner, bytes, place, opened)?;
+        pairs.push(pair)?;
+        to = end;
+        so_far = last;
+    }
+}
+
+/// A key, and the datum of a node behind it.
+#[cycle(read)]
+fn read_pair(
+    alloc: Global,
+    schema: &Schema,
+    inner: usize,
+    bytes: &[u8],
+    at: usize,
+    m: Meter,
+) -> Result<((String, Datum), usize, Meter), Fault>
+    requires inner { inner < length schema.now.nodes }
+    requires in_bounds { at ≤ length bytes.now }
+    ensures reads { Reads pair_of result (pair_at (node_at (MOST_DEPTH - m.depth) schema.now.nodes bytes.now) bytes.now inner at m) }
+    ensures within { IfOk result (λ r. r.1 ≤ length bytes.now) }
+    ensures depth { IfOk result (λ r. r.2.depth ≡ m.depth) }
+    ensures units { IfOk result (λ r. m.units ≤ r.2.units) }
+{
+    let (key, to, after) = Text { alloc }.read(bytes, at, m)?;
+    let (datum, end, last) = read_node(alloc, schema, inner, bytes, to, after)?;
+    Ok(((key, datum), end, last))
 }

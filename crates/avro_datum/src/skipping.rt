@@ -1,34 +1,14 @@
-ghost use Rattle.std.specs.Prelude.{◌≡◌, ◌<◌, ◌≤◌, ◌-◌, length, IfOk};
+ghost use Rattle.std.specs.Prelude.{◌≡◌, ◌<◌, ◌≤◌, ◌-◌, ◌+◌, length, slice_get, false, IfOk};
 ghost use Rattle.avro_bytes.specs.Contract.{skipped};
-ghost use Rattle.avro_schema.specs.Node.{FieldsBelow, fields_of, node_of};
-ghost use Rattle.avro_datum.specs.Decoding.{IsLeaf, datum_at, fields_at, leaf_at, node_at};
+ghost use Rattle.avro_schema.specs.Node.{FieldsBelow, fields_of, is_union};
+ghost use Rattle.avro_datum.specs.Decoding.{datum_at, fields_at, node_at, pair_at};
+ghost use Rattle.avro_datum.specs.ItemDecoding.{items_at, steps_left};
 
-use avro_bytes::{Fault, Int, Long, MOST_DEPTH, Meter, Text, WireForm};
+use crate::leaf::skip_leaf;
+use crate::position::read_position;
+use avro_bytes::{BlockWalk, Fault, MOST_DEPTH, MalformedKind, Meter, Text, WireForm};
 use avro_schema::{Field, Kind, Schema};
 use std::alloc::Global;
-
-/// The place behind the datum of a kind that holds no others.
-fn skip_leaf(
-    alloc: Global,
-    kind: &Kind,
-    bytes: &[u8],
-    at: usize,
-    m: Meter,
-) -> Result<(usize, Meter), Fault>
-    requires leaf { IsLeaf (node_of kind.now) }
-    requires in_bounds { at ≤ length bytes.now }
-    ensures skips { result ≡ skipped (leaf_at bytes.now (node_of kind.now) at m) }
-    ensures within { IfOk result (λ r. r.0 ≤ length bytes.now) }
-    ensures depth { IfOk result (λ r. r.1.depth ≡ m.depth) }
-    ensures units { IfOk result (λ r. m.units ≤ r.1.units) }
-{
-    match kind {
-        Kind::Int => Int.skip(bytes, at, m),
-        Kind::Long => Long.skip(bytes, at, m),
-        Kind::Text => Text { alloc }.skip(bytes, at, m),
-        Kind::Record { .. } => unreachable!(),
-    }
-}
 
 /// The place behind the datum of a node.
 #[cycle(skip)]
@@ -47,6 +27,31 @@ pub(crate) fn skip_node(
     ensures depth { IfOk result (λ r. r.1.depth ≡ m.depth) }
     ensures units { IfOk result (λ r. m.units ≤ r.1.units) }
 {
+    let Kind::Union(members) = schema.kind(node) else {
+        return skip_plain(alloc, schema, node, bytes, at, m);
+    };
+    let (n, to, after) = read_position(MalformedKind::BadBranch, members.len(), bytes, at, m)?;
+    skip_plain(alloc, schema, members[n as usize], bytes, to, after)
+}
+
+/// The place behind the datum of a node that is no union.
+#[cycle(skip)]
+fn skip_plain(
+    alloc: Global,
+    schema: &Schema,
+    node: usize,
+    bytes: &[u8],
+    at: usize,
+    m: Meter,
+) -> Result<(usize, Meter), Fault>
+    requires node { node < length schema.now.nodes }
+    requires no_union { is_union (slice_get schema.now.nodes node) ≡ false }
+    requires in_bounds { at ≤ length bytes.now }
+    ensures skips { result ≡ skipped (datum_at schema.now.nodes bytes.now node at m) }
+    ensures within { IfOk result (λ r. r.0 ≤ length bytes.now) }
+    ensures depth { IfOk result (λ r. r.1.depth ≡ m.depth) }
+    ensures units { IfOk result (λ r. m.units ≤ r.1.units) }
+{
     let kind = schema.kind(node);
     match kind {
         Kind::Record { fields, .. } => {
@@ -58,6 +63,15 @@ pub(crate) fn skip_node(
             };
             Ok((to, outside))
         }
+        Kind::Array(inner) => {
+            let (walk, inside) = BlockWalk::begin(at, m)?;
+            skip_items(alloc, schema, *inner, walk, bytes, at, inside)
+        }
+        Kind::Map(inner) => {
+            let (walk, inside) = BlockWalk::begin(at, m)?;
+            skip_pairs(alloc, schema, *inner, walk, bytes, at, inside)
+        }
+        Kind::Union(_) => unreachable!(),
         _ => skip_leaf(alloc, kind, bytes, at, m),
     }
 }
@@ -87,4 +101,91 @@ fn skip_fields(
         so_far = after;
     }
     Ok((to, so_far))
+}
+
+/// The place behind the items that a walk over blocks comes to, before any of which it is.
+#[cycle(skip)]
+fn skip_items(
+    alloc: Global,
+    schema: &Schema,
+    inner: usize,
+    walk: BlockWalk,
+    bytes: &[u8],
+    at: usize,
+    m: Meter,
+) -> Result<(usize, Meter), Fault>
+    requires inner { inner < length schema.now.nodes }
+    requires in_bounds { at ≤ length bytes.now }
+    requires deep { 0 < m.depth }
+    ensures skips { result ≡ skipped (items_at (steps_left m) (node_at (MOST_DEPTH - m.depth) schema.now.nodes bytes.now inner) bytes.now walk at m) }
+    ensures within { IfOk result (λ r. r.0 ≤ length bytes.now) }
+    ensures depth { IfOk result (λ r. r.1.depth + 1 ≡ m.depth) }
+    ensures units { IfOk result (λ r. m.units ≤ r.1.units) }
+{
+    let mut walk = walk;
+    let mut to = at;
+    let mut so_far = m;
+    loop {
+        let (further, place, opened) = walk.next(bytes, to, so_far)?;
+        if !further {
+            return Ok((place, opened));
+        }
+        let (end, last) = skip_node(alloc, schema, inner, bytes, place, opened)?;
+        to = end;
+        so_far = last;
+    }
+}
+
+/// The place behind the pairs that a walk over blocks comes to, before any of which it is.
+#[cycle(skip)]
+fn skip_pairs(
+    alloc: Global,
+    schema: &Schema,
+    inner: usize,
+    walk: BlockWalk,
+    bytes: &[u8],
+    at: usize,
+    m: Meter,
+) -> Result<(usize, Meter), Fault>
+    requires inner { inner < length schema.now.nodes }
+    requires in_bounds { at ≤ length bytes.now }
+    requires deep { 0 < m.depth }
+    ensures skips { result ≡ skipped (items_at (steps_left m) (pair_at (node_at (MOST_DEPTH - m.depth) schema.now.nodes bytes.now) bytes.now inner) bytes.now walk at m) }
+    ensures within { IfOk result (λ r. r.0 ≤ length bytes.now) }
+    ensures depth { IfOk result (λ r. r.1.depth + 1 ≡ m.depth) }
+    ensures units { IfOk result (λ r. m.units ≤ r.1.units) }
+{
+    let mut walk = walk;
+    let mut to = at;
+    let mut so_far = m;
+    loop {
+        let (further, place, opened) = walk.next(bytes, to, so_far)?;
+        if !further {
+            return Ok((place, opened));
+        }
+        let (end, last) = skip_pair(alloc, schema, inner, bytes, place, opened)?;
+        to = end;
+        so_far = last;
+    }
+}
+
+/// The place behind a key and the datum of a node.
+#[cycle(skip)]
+fn skip_pair(
+    alloc: Global,
+    schema: &Schema,
+    inner: usize,
+    bytes: &[u8],
+    at: usize,
+    m: Meter,
+) -> Result<(usize, Meter), Fault>
+    requires inner { inner < length schema.now.nodes }
+    requires in_bounds { at ≤ length bytes.now }
+    ensures skips { result ≡ skipped (pair_at (node_at (MOST_DEPTH - m.depth) schema.now.nodes bytes.now) bytes.now inner at m) }
+    ensures within { IfOk result (λ r. r.0 ≤ length bytes.now) }
+    ensures depth { IfOk result (λ r. r.1.depth ≡ m.depth) }
+    ensures units { IfOk result (λ r. m.units ≤ r.1.units) }
+{
+    let (to, after) = Text { alloc }.skip(bytes, at, m)?;
+    skip_node(alloc, schema, inner, bytes, to, after)
 }

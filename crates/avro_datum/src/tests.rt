@@ -14,7 +14,7 @@ const RECORD: &str =
     "{\"type\":\"record\",\"name\":\"T\",\"fields\":[{\"name\":\"a\",\"type\":\"long\"},{\"name\":\"b\",\"type\":\"string\"}]}";
 
 /// A schema, parsed again where memory ran out the first time.
-fn parsed(alloc: Global, text: &str) -> Result<Schema, SchemaError> {
+pub(crate) fn parsed(alloc: Global, text: &str) -> Result<Schema, SchemaError> {
     match Schema::parse(alloc, text) {
         Err(SchemaError::NoMemory) => Schema::parse(alloc, text),
         answer => answer,
@@ -22,7 +22,7 @@ fn parsed(alloc: Global, text: &str) -> Result<Schema, SchemaError> {
 }
 
 /// A payload's datum, read again where memory ran out the first time.
-fn read_again(alloc: Global, schema: &Schema, payload: &[u8]) -> Result<Datum, Fault> {
+pub(crate) fn read_again(alloc: Global, schema: &Schema, payload: &[u8]) -> Result<Datum, Fault> {
     match read_all(alloc, schema, payload) {
         Err(Fault::NoMemory) => read_all(alloc, schema, payload),
         answer => answer,
@@ -30,7 +30,7 @@ fn read_again(alloc: Global, schema: &Schema, payload: &[u8]) -> Result<Datum, F
 }
 
 /// A datum behind a byte that was there, written again where memory ran out the first time.
-fn written(rt: &(impl Abort + AllocGlobal), datum: &Datum) -> Result<Vec<u8>, Fail> {
+pub(crate) fn written(rt: &(impl Abort + AllocGlobal), datum: &Datum) -> Result<Vec<u8>, Fail> {
     let mut out = vec![in rt.alloc(); 9u8]?;
     if write(datum, &mut out) == Err(WriteError::NoMemory) {
         assert_eq!(rt; out.as_slice(), [9].as_slice());

@@ -1,7 +1,7 @@
-ghost use Rattle.std.specs.Prelude.{◌≡◌, ◌++◌, ◌+◌, ◌<◌, length, MatchOption, OnOk, OnErr};
+ghost use Rattle.std.specs.Prelude.{◌≡◌, ◌++◌, ◌+◌, ◌<◌, ◌^◌, [], length, MatchOption, OnOk, OnErr};
 ghost use Rattle.avro_bytes.specs.Shortest.{Extends};
-ghost use Rattle.avro_schema.specs.Datum.{data_of, datum_of};
-ghost use Rattle.avro_datum.specs.Writing.{Writes, written, written_data};
+ghost use Rattle.avro_schema.specs.Datum.{data_of, datum_of, pairs_of};
+ghost use Rattle.avro_datum.specs.Writing.{Writes, behind_length, block_count, in_block, written, written_data, written_pairs};
 
 use avro_bytes::{long_len, put_long};
 use avro_schema::Datum;
@@ -27,26 +27,52 @@ fn behind(room: usize, len: usize) -> Option<usize>
     room.checked_sub(len)
 }
 
+/// What is left of some room behind bytes and their length, if they have room there.
+fn measure_bytes(bytes: &[u8], room: usize) -> Option<usize>
+    ensures { MatchOption result (room < length (behind_length bytes.now)) (λ left. left + length (behind_length bytes.now) ≡ room) }
+{
+    let left = behind(room, long_len(bytes.len() as i64))?;
+    behind(left, bytes.len())
+}
+
+/// What is left of some room behind the count of a block and its end, if they have room there.
+#[tactic(auto, using(crate::proofs::Written::empty_block, crate::proofs::Written::some_count, crate::proofs::Written::no_count))]
+fn measure_block(many: usize, room: usize) -> Option<usize>
+    requires { many < 2 ^ 63 }
+    ensures { MatchOption result (room < length (in_block many [])) (λ left. left + length (in_block many []) ≡ room) }
+{
+    let left = behind(room, 1)?;
+    if many == 0 {
+        return Some(left);
+    }
+    behind(left, long_len(many as i64))
+}
+
 /// What is left of some room behind a datum, if it has room there.
 #[cycle(measure)]
-#[tactic(auto, using(crate::proofs::Written::record_written, crate::proofs::Written::text_len, crate::proofs::Written::written_from), unfolding(crate::specs::Writing::written))]
+#[tactic(auto, using(crate::proofs::Written::record_written, crate::proofs::Written::array_len, crate::proofs::Written::map_len, crate::proofs::Written::written_from, crate::proofs::Written::pairs_len_from), unfolding(crate::specs::Writing::written))]
 fn measure(datum: &Datum, room: usize) -> Option<usize>
     ensures { MatchOption result (room < length (written (datum_of datum.now))) (λ left. left + length (written (datum_of datum.now)) ≡ room) }
 {
     match datum {
+        Datum::Null => Some(room),
+        Datum::Boolean(_) => behind(room, 1),
         Datum::Int(n) => behind(room, long_len(i64::from(*n))),
         Datum::Long(n) => behind(room, long_len(*n)),
-        Datum::Text(text) => {
-            let left = behind(room, long_len(text.len() as i64))?;
-            behind(left, text.len())
-        }
+        Datum::Bytes(value) => measure_bytes(value.as_slice(), room),
+        Datum::Text(text) => measure_bytes(text.as_bytes(), room),
+        Datum::Fixed(value) => behind(room, value.len()),
+        Datum::Enum(n) => behind(room, long_len(i64::from(*n))),
+        Datum::Array(items) => measure_each(items, measure_block(items.len(), room)?),
+        Datum::Map(pairs) => measure_pairs(pairs, measure_block(pairs.len(), room)?),
+        Datum::Union(n, datum) => measure(datum, behind(room, long_len(i64::from(*n)))?),
         Datum::Record(fields) => measure_each(fields, room),
     }
 }
 
 /// What is left of some room behind data.
 #[cycle(measure)]
-#[tactic(auto, using(crate::proofs::Written::record_written, crate::proofs::Written::text_len, crate::proofs::Written::written_from), unfolding(crate::specs::Writing::written))]
+#[tactic(auto, using(crate::proofs::Written::record_written, crate::proofs::Written::array_len, crate::proofs::Written::map_len, crate::proofs::Written::written_from, crate::proofs::Written::pairs_len_from), unfolding(crate::specs::Writing::written))]
 fn measure_each(each: &[Datum], room: usize) -> Option<usize>
     ensures { MatchOption result (room < length (written_data (data_of each.now))) (λ left. left + length (written_data (data_of each.now)) ≡ room) }
 {
@@ -57,19 +83,73 @@ fn measure_each(each: &[Datum], room: usize) -> Option<usize>
     Some(left)
 }
 
+/// What is left of some room behind pairs.
+#[cycle(measure)]
+#[tactic(auto, using(crate::proofs::Written::record_written, crate::proofs::Written::array_len, crate::proofs::Written::map_len, crate::proofs::Written::written_from, crate::proofs::Written::pairs_len_from), unfolding(crate::specs::Writing::written))]
+fn measure_pairs(pairs: &[(String, Datum)], room: usize) -> Option<usize>
+    ensures { MatchOption result (room < length (written_pairs (pairs_of pairs.now))) (λ left. left + length (written_pairs (pairs_of pairs.now)) ≡ room) }
+{
+    let mut left = room;
+    for pair in pairs {
+        left = measure_bytes(pair.0.as_bytes(), left)?;
+        left = measure(&pair.1, left)?;
+    }
+    Some(left)
+}
+
+/// Writes bytes behind their length at the end. An `Err` leaves a beginning of them.
+fn put_bytes(out: &mut Vec<u8>, bytes: &[u8]) -> Result<(), AllocError>
+    ensures ok { OnOk result (out.new.items ≡ out.old.items ++ behind_length bytes.now) }
+    ensures err { OnErr result (Extends out.old.items out.new.items) }
+{
+    put_long(out, bytes.len() as i64)?;
+    out.extend_from_slice(bytes)
+}
+
+/// Writes the count of a block at the end, and nothing where it has no items. An `Err` leaves the vector as it was.
+fn put_count(out: &mut Vec<u8>, many: usize) -> Result<(), AllocError>
+    requires { many < 2 ^ 63 }
+    ensures ok { OnOk result (out.new.items ≡ out.old.items ++ block_count many) }
+    ensures err { OnErr result (out.new.items ≡ out.old.items) }
+{
+    if many == 0 {
+        return Ok(());
+    }
+    put_long(out, many as i64)
+}
+
 /// Writes a datum at the end. An `Err` leaves a beginning of it.
 #[cycle(put)]
-#[tactic(auto, using(crate::proofs::Written::record_written, crate::proofs::Written::text_len, crate::proofs::Written::written_from), unfolding(crate::specs::Writing::written))]
+#[tactic(auto, using(crate::proofs::Written::record_written, crate::proofs::Written::array_written, crate::proofs::Written::map_written, crate::proofs::Written::written_from, crate::proofs::Written::pairs_from), unfolding(crate::specs::Writing::written))]
 fn put_datum(out: &mut Vec<u8>, datum: &Datum) -> Result<(), AllocError>
     ensures ok { OnOk result (out.new.items ≡ out.old.items ++ written (datum_of datum.now)) }
     ensures err { OnErr result (Extends out.old.items out.new.items) }
 {
     match datum {
+        Datum::Null => Ok(()),
+        Datum::Boolean(value) => {
+            out.push(u8::from(*value))?;
+            Ok(())
+        }
         Datum::Int(n) => put_long(out, i64::from(*n)),
         Datum::Long(n) => put_long(out, *n),
-        Datum::Text(text) => {
-            put_long(out, text.len() as i64)?;
-            out.extend_from_slice(text.as_bytes())
+        Datum::Bytes(value) => put_bytes(out, value.as_slice()),
+        Datum::Text(text) => put_bytes(out, text.as_bytes()),
+        Datum::Fixed(value) => out.extend_from_slice(value.as_slice()),
+        Datum::Enum(n) => put_long(out, i64::from(*n)),
+        Datum::Array(items) => {
+            put_count(out, items.len())?;
+            put_each(out, items)?;
+            put_long(out, 0)
+        }
+        Datum::Map(pairs) => {
+            put_count(out, pairs.len())?;
+            put_pairs(out, pairs)?;
+            put_long(out, 0)
+        }
+        Datum::Union(n, datum) => {
+            put_long(out, i64::from(*n))?;
+            put_datum(out, datum)
         }
         Datum::Record(fields) => put_each(out, fields),
     }
@@ -77,13 +157,27 @@ fn put_datum(out: &mut Vec<u8>, datum: &Datum) -> Result<(), AllocError>
 
 /// Writes data at the end, one behind another. An `Err` leaves a beginning of them.
 #[cycle(put)]
-#[tactic(auto, using(crate::proofs::Written::record_written, crate::proofs::Written::text_len, crate::proofs::Written::written_from), unfolding(crate::specs::Writing::written))]
+#[tactic(auto, using(crate::proofs::Written::record_written, crate::proofs::Written::array_written, crate::proofs::Written::map_written, crate::proofs::Written::written_from, crate::proofs::Written::pairs_from), unfolding(crate::specs::Writing::written))]
 fn put_each(out: &mut Vec<u8>, each: &[Datum]) -> Result<(), AllocError>
     ensures ok { OnOk result (out.new.items ≡ out.old.items ++ written_data (data_of each.now)) }
     ensures err { OnErr result (Extends out.old.items out.new.items) }
 {
     for datum in each {
         put_datum(out, datum)?;
+    }
+    Ok(())
+}
+
+/// Writes pairs at the end, one behind another. An `Err` leaves a beginning of them.
+#[cycle(put)]
+#[tactic(auto, using(crate::proofs::Written::record_written, crate::proofs::Written::array_written, crate::proofs::Written::map_written, crate::proofs::Written::written_from, crate::proofs::Written::pairs_from), unfolding(crate::specs::Writing::written))]
+fn put_pairs(out: &mut Vec<u8>, pairs: &[(String, Datum)]) -> Result<(), AllocError>
+    ensures ok { OnOk result (out.new.items ≡ out.old.items ++ written_pairs (pairs_of pairs.now)) }
+    ensures err { OnErr result (Extends out.old.items out.new.items) }
+{
+    for pair in pairs {
+        put_bytes(out, pair.0.as_bytes())?;
+        put_datum(out, &pair.1)?;
     }
     Ok(())
 }

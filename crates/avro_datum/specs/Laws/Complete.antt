@@ -1,80 +1,96 @@
 -- What is spelled within the limits is decoded, whatever stands before and behind it.
-use Rattle.std.proofs.Common.{◌≡◌, ℕ, zero, suc, ◌+◌, ◌-◌, List, [], ◌∷◌, ◌++◌, length, Option, Some, Result, Ok, refl, sym, ap, ◌∙◌, append_assoc, arith, slice_get}
-use Rattle.std.proofs.lemmas.List.{length-append}
+use Rattle.std.proofs.Common.{◌≡◌, ℕ, zero, suc, ◌+◌, ◌-◌, List, ◌++◌, length, Option, Some, false, refl, sym, ap, subst, ◌∙◌, arith, slice_get}
+use Rattle.avro_bytes.specs.declared.fault.MalformedKind.TheVariants.{BadEnum}
 use Rattle.avro_bytes.specs.declared.meter.Meter.{Meter}
-use Rattle.avro_bytes.specs.declared.fault.Fault.{Fault}
-use Rattle.avro_bytes.specs.Decoding.{Decoding, Complete, Incomplete, ◌>>=◌, map_decoding, inside}
-use Rattle.avro_bytes.specs.Meter.{Counts, opened_record}
+use Rattle.avro_bytes.specs.Blob.{fixed_at}
+use Rattle.avro_bytes.specs.Boolean.{boolean_at}
+use Rattle.avro_bytes.specs.Decoding.{Complete, Incomplete, map_decoding}
+use Rattle.avro_bytes.specs.Meter.{Counts}
 use Rattle.avro_bytes.specs.Number.{int_limit, long_limit}
 use Rattle.avro_bytes.specs.NumberDecoding.{number_at}
-use Rattle.avro_bytes.specs.Text.{text_at}
-use Rattle.avro_bytes.specs.Laws.Meters.{opened_again, same_meter}
+use Rattle.avro_bytes.specs.Text.{content_at, text_at}
+use Rattle.avro_bytes.specs.Laws.Blobs.{blob_complete}
+use Rattle.avro_bytes.specs.Laws.Booleans.{boolean_complete}
+use Rattle.avro_bytes.specs.Laws.Fixeds.{fixed_complete}
 use Rattle.avro_bytes.specs.Laws.Numbers.{number_complete}
 use Rattle.avro_bytes.specs.Laws.Texts.{text_complete}
-use Rattle.avro_schema.specs.Node.{Node, FieldNode, IntNode, LongNode, TextNode, RecordNode}
-use Rattle.avro_schema.specs.Datum.{Datum, Data, IntDatum, LongDatum, TextDatum, RecordDatum, no_more, more}
-use Rattle.avro_datum.specs.Decoding.{Decoder, closed_record, fields_at, record_at, kind_at, node_at, datum_at}
-use Rattle.avro_datum.specs.Spelling.{Spells, SpellsFields, depth_of, depth_of_data, units_of, units_of_data}
+use Rattle.avro_schema.specs.Node.{Node, NullNode, BooleanNode, IntNode, LongNode, BytesNode, TextNode, FixedNode, EnumNode, ArrayNode, MapNode, UnionNode, RecordNode, is_union}
+use Rattle.avro_schema.specs.Datum.{Datum, NullDatum, BooleanDatum, IntDatum, LongDatum, BytesDatum, TextDatum, FixedDatum, EnumDatum, ArrayDatum, MapDatum, UnionDatum, RecordDatum}
+use Rattle.avro_datum.specs.Decoding.{Decoder, datum_at, kind_at, node_at, plain_at}
+use Rattle.avro_datum.specs.Position.{position_at}
+use Rattle.avro_datum.specs.Spelling.{Spells, depth_of, units_of}
+use Rattle.avro_datum.specs.Laws.Arrays.{array_complete, spell_each}
+use Rattle.avro_datum.specs.Laws.Decoders.{Deeper, IsComplete}
+use Rattle.avro_datum.specs.Laws.Kinds.{Group, array_group, group_of, kind_is_plain, leaf, leaf_no_union, map_group, none_deeper, nothing, one_deeper, record_group, union_group}
+use Rattle.avro_datum.specs.Laws.Maps.{map_complete, spell_pairs}
+use Rattle.avro_datum.specs.Laws.Parts.{counts_nothing}
+use Rattle.avro_datum.specs.Laws.Positions.{position_again}
+use Rattle.avro_datum.specs.Laws.Records.{record_complete}
+use Rattle.avro_datum.specs.Laws.Unions.{union_complete}
 
-counts_nothing : (m after : Meter) → Counts 0 0 m after → m ≡ after
-counts_nothing m after t = same_meter m after (sym t.same_depth) (omega (arith, t.counted))
+module _ (nodes : List Node) (all : List ℕ) (decoder : Decoder) (left : ℕ) (deeper : Deeper (IsComplete nodes all decoder) left) where
+  at_plain : (node at : ℕ) (m : Meter) (o : Option Node) → slice_get nodes node ≡ o → plain_at decoder all (slice_get nodes node) at m ≡ plain_at decoder all o at m
+  at_plain node at m o e = ap (λ (o : Option Node). plain_at decoder all o at m) e
 
--- what is spelled is what a decoder gives, where so many more records may be opened
-abbrev pub IsComplete : ℕ → List Node → List ℕ → Decoder → Type 0
-IsComplete left nodes all decoder = (node : ℕ) (d : Datum) (before bytes rest : List ℕ) (m after : Meter) → left ≡ 1000 - m.depth → all ≡ before ++ (bytes ++ rest) → Spells nodes node d bytes → Counts (depth_of d) (units_of d) m after → decoder node (length before) m ≡ Complete d (length before + length bytes) after
+  -- a datum that is no union's
+  plain_complete : (node : ℕ) (d : Datum) (before bytes rest : List ℕ) (m after : Meter) → left ≡ 1000 - m.depth → all ≡ before ++ (bytes ++ rest) → is_union (slice_get nodes node) ≡ false → Spells nodes node d bytes → Counts (depth_of d) (units_of d) m after → plain_at decoder all (slice_get nodes node) (length before) m ≡ Complete d (length before + length bytes) after
+  plain_complete node NullDatum before bytes rest m after l is f s t =
+      at_plain node (length before) m (Some NullNode) s.0 ∙ ap (λ (k : ℕ). Complete NullDatum k m) (let e : length before ≡ length before + length bytes = omega (arith, ap length s.1) in e) ∙ ap (Complete NullDatum (length before + length bytes)) (counts_nothing m after t)
+  plain_complete node (BooleanDatum b) before bytes rest m after l is f s t =
+      at_plain node (length before) m (Some BooleanNode) s.0 ∙ ap (λ (x : List ℕ). map_decoding BooleanDatum (boolean_at x (length before) m)) is ∙ ap (map_decoding BooleanDatum) (boolean_complete before bytes rest b m after s.1 (counts_nothing m after t))
+  plain_complete node (IntDatum n) before bytes rest m after l is f s t =
+      at_plain node (length before) m (Some IntNode) s.0 ∙ ap (λ (x : List ℕ). map_decoding IntDatum (number_at int_limit x (length before) m)) is ∙ ap (map_decoding IntDatum) (number_complete int_limit before bytes rest n m after s.1 (counts_nothing m after t))
+  plain_complete node (LongDatum n) before bytes rest m after l is f s t =
+      at_plain node (length before) m (Some LongNode) s.0 ∙ ap (λ (x : List ℕ). map_decoding LongDatum (number_at long_limit x (length before) m)) is ∙ ap (map_decoding LongDatum) (number_complete long_limit before bytes rest n m after s.1 (counts_nothing m after t))
+  plain_complete node (BytesDatum v) before bytes rest m after l is f s t =
+      at_plain node (length before) m (Some BytesNode) s.0 ∙ ap (λ (x : List ℕ). map_decoding BytesDatum (content_at x (length before) m)) is ∙ ap (map_decoding BytesDatum) (blob_complete before bytes rest v m after s.1 (counts_nothing m after t))
+  plain_complete node (TextDatum v) before bytes rest m after l is f s t =
+      at_plain node (length before) m (Some TextNode) s.0 ∙ ap (λ (x : List ℕ). map_decoding TextDatum (text_at x (length before) m)) is ∙ ap (map_decoding TextDatum) (text_complete before bytes rest v m after s.1 (counts_nothing m after t))
+  plain_complete node (FixedDatum v) before bytes rest m after l is f s t =
+      at_plain node (length before) m (Some (FixedNode s.0 s.1)) s.2 ∙ ap (λ (x : List ℕ). map_decoding FixedDatum (fixed_at s.1 x (length before) m)) is ∙ ap (map_decoding FixedDatum) (fixed_complete s.1 before bytes rest v m after s.3 (counts_nothing m after t))
+  plain_complete node (EnumDatum n) before bytes rest m after l is f s t =
+      at_plain node (length before) m (Some (EnumNode s.0 s.1 s.2)) s.3 ∙ ap (λ (x : List ℕ). map_decoding EnumDatum (position_at BadEnum (length s.1) x (length before) m)) is ∙ ap (map_decoding EnumDatum) (position_again BadEnum (length s.1) before bytes rest n m s.4)
+      ∙ ap (Complete (EnumDatum n) (length before + length bytes)) (counts_nothing m after t)
+  plain_complete node (ArrayDatum ds) before bytes rest m after l is f s t =
+      at_plain node (length before) m (Some (ArrayNode s.0)) s.1 ∙ array_complete nodes node s.0 left all decoder s.1 deeper ds before bytes rest m after l is (s.2, s.3, spell_each nodes s.0 ds s.2 s.4) t
+  plain_complete node (MapDatum ps) before bytes rest m after l is f s t =
+      at_plain node (length before) m (Some (MapNode s.0)) s.1 ∙ map_complete nodes node s.0 left all decoder s.1 deeper ps before bytes rest m after l is (s.2, s.3, spell_pairs nodes s.0 ps s.2 s.4) t
+  plain_complete node (UnionDatum n d) before bytes rest m after l is f s t = absurd (let u = ap is_union s.1 in cc)
+  plain_complete node (RecordDatum ds) before bytes rest m after l is f s t =
+      at_plain node (length before) m (Some (RecordNode s.0 s.1)) s.2 ∙ record_complete left nodes all decoder deeper s.1 ds before bytes rest m after l is s.3 t
 
-fields_complete : (left : ℕ) (nodes : List Node) (all : List ℕ) (decoder : Decoder) → IsComplete left nodes all decoder → (fields : List FieldNode) (ds : Data) (before bytes rest : List ℕ) (m after : Meter) → left ≡ 1000 - m.depth → all ≡ before ++ (bytes ++ rest) → SpellsFields nodes fields ds bytes → Counts (depth_of_data ds) (units_of_data ds) m after → fields_at decoder fields (length before) m ≡ Complete ds (length before + length bytes) after
-unfolding fields_at
-fields_complete left nodes all decoder complete [] no_more before bytes rest m after l is s t =
-    let end : length before ≡ length before + length bytes = omega (arith, ap length s) in
-    ap (λ (k : ℕ). Complete no_more k m) end ∙ ap (λ (x : Meter). Complete no_more (length before + length bytes) x) (counts_nothing m after t)
-fields_complete left nodes all decoder complete [] (more d ds) before bytes rest m after l is s t = absurd s
-fields_complete left nodes all decoder complete (f ∷ fields) no_more before bytes rest m after l is s t = absurd s
-fields_complete left nodes all decoder complete (f ∷ fields) (more d ds) before bytes rest m after l is s t =
-    let front = s.0 in
-    let others = s.1 in
-    let mid : Meter = record { depth = m.depth; units = m.units + units_of d } in
-    let is1 : all ≡ before ++ (front ++ (others ++ rest)) = is ∙ ap (λ (b : List ℕ). before ++ (b ++ rest)) s.2 ∙ ap (λ (b : List ℕ). before ++ b) (append_assoc front others rest) in
-    let is2 : all ≡ (before ++ front) ++ (others ++ rest) = is1 ∙ sym (append_assoc before front (others ++ rest)) in
-    let first = complete f.node d before front (others ++ rest) m mid l is1 s.3 (record { deep = omega (arith, t.deep); many = omega (arith, t.many); same_depth = refl; counted = refl }) in
-    let next = fields_complete left nodes all decoder complete fields ds (before ++ front) others rest mid after l is2 s.4 (record { deep = omega (arith, t.deep); many = omega (arith, t.many); same_depth = t.same_depth; counted = omega (arith, t.counted) }) in
-    let place : length (before ++ front) ≡ length before + length front = length-append before front in
-    let end : length (before ++ front) + length others ≡ length before + length bytes = omega (arith, place, ap length s.2, length-append front others) in
-    let behind : fields_at decoder fields (length before + length front) mid ≡ Complete ds (length before + length bytes) after = ap (λ (k : ℕ). fields_at decoder fields k mid) (sym place) ∙ next ∙ ap (λ (k : ℕ). Complete ds k after) end in
-    ap (λ (x : Decoding Datum). x >>= λ d to after. fields_at decoder fields to after >>= λ ds end last. Complete (more d ds) end last) first
-    ∙ ap (λ (x : Decoding Data). x >>= λ ds end last. Complete (more d ds) end last) behind
+  -- a datum of a union's node is a union's
+  of_union : (node : ℕ) (members : List ℕ) (d : Datum) (bytes : List ℕ) → slice_get nodes node ≡ Some (UnionNode members) → Spells nodes node d bytes → (n : ℕ) × (inner : Datum) × (d ≡ UnionDatum n inner)
+  of_union node members (UnionDatum n d) bytes is s = (n, d, refl)
+  of_union node members _ bytes is s = absurd cc
 
-record_complete : (left : ℕ) (nodes : List Node) (all : List ℕ) (decoder : Decoder) → IsComplete left nodes all decoder → (fields : List FieldNode) (ds : Data) (before bytes rest : List ℕ) (m after : Meter) → suc left ≡ 1000 - m.depth → all ≡ before ++ (bytes ++ rest) → SpellsFields nodes fields ds bytes → Counts (depth_of_data ds + 1) (units_of_data ds + 1) m after → record_at decoder fields (length before) m ≡ Complete (RecordDatum ds) (length before + length bytes) after
-record_complete left nodes all decoder complete fields ds before bytes rest m after l is s t =
-    let within : Meter = record { depth = m.depth + 1; units = m.units + 1 } in
-    let last : Meter = record { depth = m.depth + 1; units = after.units } in
-    let opens : opened_record (length before) m ≡ Ok within = opened_again (length before) m within (record { shallow = omega arith; few = omega (arith, t.many); deeper = refl; counted = refl }) in
-    let each = fields_complete left nodes all decoder complete fields ds before bytes rest within last (omega arith) is s (record { deep = omega (arith, t.deep); many = omega (arith, t.many); same_depth = refl; counted = omega (arith, t.counted) }) in
-    ap (λ (r : Result Meter Fault). inside r (λ within. fields_at decoder fields (length before) within >>= closed_record m.depth)) opens
-    ∙ ap (λ (x : Decoding Data). x >>= closed_record m.depth) each
-    ∙ ap (λ (x : Meter). Complete (RecordDatum ds) (length before + length bytes) x) (same_meter (record { depth = m.depth; units = after.units }) after (sym t.same_depth) refl)
+  not_union : (node : ℕ) (d : Datum) (before bytes rest : List ℕ) (m after : Meter) → left ≡ 1000 - m.depth → all ≡ before ++ (bytes ++ rest) → is_union (slice_get nodes node) ≡ false → Spells nodes node d bytes → Counts (depth_of d) (units_of d) m after → kind_at decoder nodes all (slice_get nodes node) (length before) m ≡ Complete d (length before + length bytes) after
+  not_union node d before bytes rest m after l e f s t = kind_is_plain decoder nodes all (length before) m (slice_get nodes node) f ∙ plain_complete node d before bytes rest m after l e f s t
 
-pub at_kind : (decoder : Decoder) (nodes : List Node) (all : List ℕ) (node at : ℕ) (m : Meter) (o : Option Node) → slice_get nodes node ≡ o → kind_at decoder all (slice_get nodes node) at m ≡ kind_at decoder all o at m
-at_kind decoder nodes all node at m o e = ap (λ (o : Option Node). kind_at decoder all o at m) e
+  union_datum : (node n : ℕ) (d : Datum) (before bytes rest : List ℕ) (m after : Meter) → left ≡ 1000 - m.depth → all ≡ before ++ (bytes ++ rest) → Spells nodes node (UnionDatum n d) bytes → Counts (depth_of d) (units_of d) m after → kind_at decoder nodes all (slice_get nodes node) (length before) m ≡ Complete (UnionDatum n d) (length before + length bytes) after
+  union_datum node n d before bytes rest m after l e s t =
+      ap (λ (o : Option Node). kind_at decoder nodes all o (length before) m) s.1
+      ∙ union_complete nodes node left all s.0 (λ node at m. plain_at decoder all (slice_get nodes node) at m) s.1 n s.2 d before s.5 s.6 rest m after (e ∙ ap (λ (b : List ℕ). before ++ (b ++ rest)) s.7) s.8 s.3
+      (λ before bytes rest e k. plain_complete s.2 d before bytes rest m after l e s.4 k t) s.9
+      ∙ ap (λ (b : List ℕ). Complete (UnionDatum n d) (length before + length b) after) (sym s.7)
 
-kind_complete : (nodes : List Node) (all : List ℕ) (decoder : Decoder) (node : ℕ) (d : Datum) (before bytes rest : List ℕ) (m after : Meter)
-    → ((fields : List FieldNode) (ds : Data) → SpellsFields nodes fields ds bytes → Counts (depth_of_data ds + 1) (units_of_data ds + 1) m after → record_at decoder fields (length before) m ≡ Complete (RecordDatum ds) (length before + length bytes) after)
-    → all ≡ before ++ (bytes ++ rest) → Spells nodes node d bytes → Counts (depth_of d) (units_of d) m after → kind_at decoder all (slice_get nodes node) (length before) m ≡ Complete d (length before + length bytes) after
-kind_complete nodes all decoder node (IntDatum n) before bytes rest m after records is s t =
-    at_kind decoder nodes all node (length before) m (Some IntNode) s.0 ∙ ap (λ (b : List ℕ). map_decoding IntDatum (number_at int_limit b (length before) m)) is ∙ ap (map_decoding IntDatum) (number_complete int_limit before bytes rest n m after s.1 (counts_nothing m after t))
-kind_complete nodes all decoder node (LongDatum n) before bytes rest m after records is s t =
-    at_kind decoder nodes all node (length before) m (Some LongNode) s.0 ∙ ap (λ (b : List ℕ). map_decoding LongDatum (number_at long_limit b (length before) m)) is ∙ ap (map_decoding LongDatum) (number_complete long_limit before bytes rest n m after s.1 (counts_nothing m after t))
-kind_complete nodes all decoder node (TextDatum text) before bytes rest m after records is s t =
-    at_kind decoder nodes all node (length before) m (Some TextNode) s.0 ∙ ap (λ (b : List ℕ). map_decoding TextDatum (text_at b (length before) m)) is ∙ ap (map_decoding TextDatum) (text_complete before bytes rest text m after s.1 (counts_nothing m after t))
-kind_complete nodes all decoder node (RecordDatum ds) before bytes rest m after records is s t =
-    at_kind decoder nodes all node (length before) m (Some (RecordNode s.0 s.1)) s.2 ∙ records s.1 ds s.3 t
+  kind_complete : (node : ℕ) (o : Option Node) → Group o → (d : Datum) (before bytes rest : List ℕ) (m after : Meter) → left ≡ 1000 - m.depth → all ≡ before ++ (bytes ++ rest) → slice_get nodes node ≡ o → Spells nodes node d bytes → Counts (depth_of d) (units_of d) m after → kind_at decoder nodes all (slice_get nodes node) (length before) m ≡ Complete d (length before + length bytes) after
+  kind_complete node _ nothing d before bytes rest m after l e is s t = not_union node d before bytes rest m after l e (ap is_union is) s t
+  kind_complete node _ (leaf n f) d before bytes rest m after l e is s t = not_union node d before bytes rest m after l e (ap is_union is ∙ leaf_no_union n f) s t
+  kind_complete node _ (array_group inner) d before bytes rest m after l e is s t = not_union node d before bytes rest m after l e (ap is_union is) s t
+  kind_complete node _ (map_group inner) d before bytes rest m after l e is s t = not_union node d before bytes rest m after l e (ap is_union is) s t
+  kind_complete node _ (record_group name fields) d before bytes rest m after l e is s t = not_union node d before bytes rest m after l e (ap is_union is) s t
+  kind_complete node _ (union_group members) d before bytes rest m after l e is s t =
+      let u = of_union node members d bytes is s in
+      subst (λ (x : Datum). kind_at decoder nodes all (slice_get nodes node) (length before) m ≡ Complete x (length before + length bytes) after) (sym u.2)
+      (union_datum node u.0 u.1 before bytes rest m after l e (subst (λ (x : Datum). Spells nodes node x bytes) u.2 s) (subst (λ (x : Datum). Counts (depth_of x) (units_of x) m after) u.2 t))
 
-pub node_complete : (left : ℕ) (nodes : List Node) (all : List ℕ) → IsComplete left nodes all (node_at left nodes all)
+pub node_complete : (left : ℕ) (nodes : List Node) (all : List ℕ) → IsComplete nodes all (node_at left nodes all) left
 unfolding node_at
 node_complete zero nodes all node d before bytes rest m after l is s t =
-    kind_complete nodes all (λ node at m. Incomplete) node d before bytes rest m after (λ fields ds s t. absurd (omega (arith, t.deep))) is s t
+    kind_complete nodes all (λ node at m. Incomplete) 0 (none_deeper (IsComplete nodes all (λ node at m. Incomplete))) node (slice_get nodes node) (group_of (slice_get nodes node)) d before bytes rest m after l is refl s t
 node_complete (suc left) nodes all node d before bytes rest m after l is s t =
-    kind_complete nodes all (node_at left nodes all) node d before bytes rest m after (λ fields ds s t. record_complete left nodes all (node_at left nodes all) (node_complete left nodes all) fields ds before bytes rest m after l is s t) is s t
+    kind_complete nodes all (node_at left nodes all) (suc left) (one_deeper (IsComplete nodes all (node_at left nodes all)) left (node_complete left nodes all)) node (slice_get nodes node) (group_of (slice_get nodes node)) d before bytes rest m after l is refl s t
 
 pub datum_complete : (nodes : List Node) (node : ℕ) (before bytes rest : List ℕ) (m : Meter) (d : Datum) (after : Meter) → Spells nodes node d bytes → Counts (depth_of d) (units_of d) m after → datum_at nodes (before ++ (bytes ++ rest)) node (length before) m ≡ Complete d (length before + length bytes) after
 datum_complete nodes node before bytes rest m d after s t = node_complete (1000 - m.depth) nodes (before ++ (bytes ++ rest)) node d before bytes rest m after refl refl s t

@@ -1,4 +1,4 @@
-use Rattle.avro_datum.proofs.ShortestForm.{spelled_conforms}
+use Rattle.avro_datum.proofs.OfType.{spelled_conforms}
 use Rattle.avro_datum.proofs.laws.spelled_datum_conforms.Goals as goal
 
 pub returns : goal.returns

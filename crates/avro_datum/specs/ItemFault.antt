@@ -1,0 +1,121 @@
+-- The first fault of the items of an array or the pairs of a map (Avro 1.11, "Binary Encoding", arrays and maps). Offsets count from
+-- the first byte of the array or the map.
+use Rattle.std.specs.Prelude.{◌≡◌, ◌<◌, ◌⊎◌, ℕ, suc, ◌+◌, max, List, [], ◌∷◌, ◌++◌, length, Option, Some, None, ℤ, pos, neg_ℤ}
+use Rattle.avro_bytes.specs.declared.fault.MalformedKind.TheVariants.{BadBlock}
+use Rattle.avro_bytes.specs.declared.meter.Meter.{Meter}
+use Rattle.avro_bytes.specs.BlockFault.{FaultyHead}
+use Rattle.avro_bytes.specs.Blocks.{joined, IsHead}
+use Rattle.avro_bytes.specs.Fault.{Defect, Broken, shifted}
+use Rattle.avro_bytes.specs.Meter.{Counts, OpensItem, RefusesItem}
+use Rattle.avro_bytes.specs.Number.{IsNumber64}
+
+-- blocks of one item at least, and no end behind them yet
+abbrev pub AreBlocks : List (List (List ℕ)) → List ℕ → Type 0
+AreBlocks [] bytes = bytes ≡ []
+AreBlocks (items ∷ blocks) bytes =
+    (head : List ℕ) × (rest : List ℕ) × (bytes ≡ head ++ (joined items ++ rest)) × (0 < length items)
+    × IsHead (length items) (length (joined items)) head × AreBlocks blocks rest
+
+-- a count below 0, and a size, whatever it says
+pub record SaysSize (count : ℕ) (size : ℤ) (head : List ℕ) : Type 0 where
+  pub count_bytes : List ℕ
+  pub size_bytes : List ℕ
+  pub parts : head ≡ count_bytes ++ size_bytes
+  pub number : IsNumber64 (neg_ℤ (pos count)) count_bytes
+  pub said : IsNumber64 size size_bytes
+
+-- what stands before so many items, where a size is said or none
+abbrev pub SaysCount : ℕ → Option ℤ → List ℕ → Type 0
+SaysCount count None head = IsNumber64 (pos count) head
+SaysCount count (Some size) head = SaysSize count size head
+
+-- each list of bytes spells one of the values
+abbrev pub SpellEach : {A : Type 0} → (A → List ℕ → Type 0) → List A → List (List ℕ) → Type 0
+SpellEach Spelled [] [] = Unit {0}
+SpellEach Spelled (v ∷ vs) (bytes ∷ items) = Spelled v bytes × SpellEach Spelled vs items
+SpellEach Spelled [] (bytes ∷ items) = ⊥
+SpellEach Spelled (v ∷ vs) [] = ⊥
+
+-- how deep the values go, and how many units they are, one of each for the item itself
+abbrev pub deepest : {A : Type 0} → (A → ℕ) → List A → ℕ
+deepest deep [] = 0
+deepest deep (v ∷ vs) = max (deep v) (deepest deep vs)
+
+abbrev pub units_all : {A : Type 0} → (A → ℕ) → List A → ℕ
+units_all units [] = 0
+units_all units (v ∷ vs) = (units v + 1) + units_all units vs
+
+module _ {A : Type 0} (Spelled : A → List ℕ → Type 0) (deep units : A → ℕ) where
+  -- some items are spelled, and stay within the limits behind a meter
+  pub record AreSpelled (items : List (List ℕ)) (m after : Meter) : Type 0 where
+    pub values : List A
+    pub each : SpellEach Spelled values items
+    pub counts : Counts (deepest deep values) (units_all units values) m after
+
+  -- a place behind whole blocks, where another or the end should begin
+  pub record BehindBlocks (bytes : List ℕ) (m : Meter) (front rest : List ℕ) (after : Meter) : Type 0 where
+    pub blocks : List (List (List ℕ))
+    pub parts : bytes ≡ front ++ rest
+    pub whole : AreBlocks blocks front
+    pub spelled : AreSpelled (joined blocks) m after
+
+  -- a place within a block, of which so many items are spelled and others are still to come
+  pub record AtItem (bytes : List ℕ) (m : Meter) (front rest : List ℕ) (after : Meter) : Type 0 where
+    pub blocks : List (List (List ℕ))
+    pub now : List (List ℕ)
+    pub left : ℕ
+    pub said : Option ℤ
+    pub before : List ℕ
+    pub head : List ℕ
+    pub parts : bytes ≡ front ++ rest
+    pub place : front ≡ before ++ (head ++ joined now)
+    pub whole : AreBlocks blocks before
+    pub begins : SaysCount (length now + suc left) said head
+    pub spelled : AreSpelled (joined blocks ++ now) m after
+
+  -- behind whole blocks, no other begins and they do not end
+  pub record IsFaultyHead (bytes : List ℕ) (m : Meter) (d : Defect) : Type 0 where
+    pub front : List ℕ
+    pub rest : List ℕ
+    pub after : Meter
+    pub inner : Defect
+    pub behind : BehindBlocks bytes m front rest after
+    pub faulty : FaultyHead rest after inner
+    pub where_it_is : d ≡ shifted (length front) inner
+
+  -- an item is one too many
+  pub record IsRefusedItem (bytes : List ℕ) (m : Meter) (d : Defect) : Type 0 where
+    pub front : List ℕ
+    pub rest : List ℕ
+    pub after : Meter
+    pub inner : Defect
+    pub here : AtItem bytes m front rest after
+    pub refused : RefusesItem after inner
+    pub where_it_is : d ≡ shifted (length front) inner
+
+  -- all items of a block are spelled, and its size is not their bytes: told at its count
+  pub record IsBadBlock (bytes : List ℕ) (m : Meter) (d : Defect) : Type 0 where
+    pub blocks : List (List (List ℕ))
+    pub now : List (List ℕ)
+    pub size : ℤ
+    pub before : List ℕ
+    pub head : List ℕ
+    pub rest : List ℕ
+    pub after : Meter
+    pub parts : bytes ≡ before ++ (head ++ (joined now ++ rest))
+    pub whole : AreBlocks blocks before
+    pub begins : SaysSize (length now) size head
+    pub some : 0 < length now
+    pub spelled : AreSpelled (joined blocks ++ now) m after
+    pub wrong : ¬ (size ≡ pos (length (joined now)))
+    pub where_it_is : d ≡ Broken BadBlock (length before)
+
+  -- no item is at fault, but what stands around them
+  abbrev pub FaultyBlocks : List ℕ → Meter → Defect → Type 0
+  FaultyBlocks bytes m d = IsFaultyHead bytes m d ⊎ (IsRefusedItem bytes m d ⊎ IsBadBlock bytes m d)
+
+  -- a place at which an item may begin, and the meter inside it
+  pub record Begins (bytes : List ℕ) (m : Meter) (front rest : List ℕ) (opened : Meter) : Type 0 where
+    pub after : Meter
+    pub here : AtItem bytes m front rest after
+    pub opens : OpensItem after opened
