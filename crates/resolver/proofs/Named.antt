@@ -1,5 +1,5 @@
 -- A field that is found by its name, and the place where it stands.
-use Rattle.std.proofs.Common.{◌≡◌, ℕ, zero, suc, ◌+◌, ◌<◌, Bool, true, false, cond, List, [], ◌∷◌, length, drop, get_or, Option, Some, None, is_some, position, refl, sym, ap, ◌∙◌, add-one, arith}
+use Rattle.std.proofs.Common.{◌≡◌, ℕ, zero, suc, ◌+◌, ◌<◌, Bool, true, false, cond, List, [], ◌∷◌, length, drop, get_or, Option, Some, None, is_none, position, refl, sym, ap, ◌∙◌, add-one, arith}
 use Rattle.std.proofs.Math.Seq.{drop-cons}
 use Rattle.std.proofs.lemmas.Bool.Decides.{nat_tests}
 use Rattle.std.proofs.lemmas.List.{get_or_default}
@@ -8,7 +8,7 @@ use Rattle.std.proofs.lemmas.List.Sums.{fails_before_first}
 use Rattle.std.specs.List.{position_or_len}
 use Rattle.avro_schema.specs.declared.kind.Field.{Field}
 use Rattle.avro_schema.specs.Node.{FieldNode, field_of, fields_of}
-use Rattle.resolver.specs.Resolution.{given, field_named, lacking}
+use Rattle.resolver.specs.Resolution.{field_named, lacking, lacks}
 use Rattle.resolver.specs.Steps.{is_named}
 
 named_at : (name : List ℕ) (fs : List Field) (j : ℕ) (f : Field) → j < length fs → f ≡ get_or fs j f → is_named name f ≡ true → ((k : ℕ) → k < j → is_named name (get_or fs k f) ≡ false) → field_named name (fields_of fs) ≡ Some (field_of f)
@@ -38,23 +38,13 @@ named_some name fs j f e is =
     let at = position-Some (is_named name) fs j f e in
     named_at name fs j f at.0 is (rw is at.1) at.2
 
+pub none_named : (name : List ℕ) (fs : List Field) (found : Option ℕ) → found ≡ position (is_named name) fs → is_none found ≡ is_none (field_named name (fields_of fs))
+none_named name fs None at = ap is_none (sym (named_none name fs (sym at)))
+none_named name [] (Some j) at = cc
+none_named name (g ∷ fs) (Some j) at =
+    let within = (position-Some (is_named name) (g ∷ fs) j g (sym at)).0 in
+    ap is_none (sym (named_some name (g ∷ fs) j (get_or (g ∷ fs) j g) (sym at) (get_or_default (g ∷ fs) j g _ within)))
+
 -- the reader's fields, one by one
-pub lacking_here : (ws : List FieldNode) (rs : List Field) (i : ℕ) (g : Field) → i < length rs → g ≡ get_or rs i g → lacking ws (fields_of (drop i rs)) ≡ given (field_named (field_of g).name ws) (Some (field_of g)) (λ _. lacking ws (fields_of (drop (i + 1) rs)))
+pub lacking_here : (ws : List FieldNode) (rs : List Field) (i : ℕ) (g : Field) → i < length rs → g ≡ get_or rs i g → lacking ws (fields_of (drop i rs)) ≡ cond (lacks ws (field_of g)) (Some (field_of g)) (lacking ws (fields_of (drop (i + 1) rs)))
 lacking_here ws rs i g lt is = rw add-one (ap (λ (x : List Field). lacking ws (fields_of x)) (drop-cons rs i g lt ∙ ap (λ (x : Field). x ∷ drop (suc i) rs) (sym is)))
-
--- the same of a field whose partner was looked for
-module _ (ws rs : List Field) (i : ℕ) (g : Field) (lt : i < length rs) (is : g ≡ get_or rs i g) where
-  step : Option FieldNode → Option FieldNode
-  step o = given o (Some (field_of g)) (λ _. lacking (fields_of ws) (fields_of (drop (i + 1) rs)))
-
-  pub lacks : (found : Option ℕ) → found ≡ position (is_named (field_of g).name) ws → is_some found ≡ false → lacking (fields_of ws) (fields_of (drop i rs)) ≡ Some (field_of g)
-  unfolding step
-  lacks None at none = lacking_here (fields_of ws) rs i g lt is ∙ ap step (named_none _ ws (sym at))
-  lacks (Some j) at none = cc
-
-  pub lacks_not : (found : Option ℕ) → found ≡ position (is_named (field_of g).name) ws → is_some found ≡ true → lacking (fields_of ws) (fields_of (drop (i + 1) rs)) ≡ lacking (fields_of ws) (fields_of (drop i rs))
-  unfolding step
-  lacks_not None at some = cc
-  lacks_not (Some j) at some =
-      let within = (position-Some (is_named (field_of g).name) ws j g (sym at)).0 in
-      sym (lacking_here (fields_of ws) rs i g lt is ∙ ap step (named_some _ ws j (get_or ws j g) (sym at) (get_or_default ws j g _ within)))

@@ -6,7 +6,8 @@ use Rattle.std.proofs.lemmas.Map.Keys.{IsDistinct-head, IsDistinct-tail}
 use Rattle.avro_schema.specs.Node.{Node, FieldNode, HaveDistinctNames}
 use Rattle.avro_schema.specs.Datum.{Datum, Data, no_more, more}
 use Rattle.resolver.specs.declared.mismatch.Mismatch.{Mismatch}
-use Rattle.resolver.specs.Resolution.{Resolved, ◌>>=◌, Came, field_named, given, resolved, resolved_fields}
+use Rattle.resolver.specs.Resolution.{Resolved, ◌>>=◌, Came, field_named, resolved, resolved_fields}
+use Rattle.resolver.specs.Matching.{given}
 use Rattle.resolver.specs.Steps.{AreFields, slots_from, into_slots, kept, one_field}
 use Rattle.resolver.proofs.Slots.{names, IsAt, AreFree, all_free, still_free, merged, merged_none, none_merged, put_on}
 

@@ -1,16 +1,16 @@
 -- What came by name, as it lies in the slots of the reader's fields, whose names are distinct.
-use Rattle.std.proofs.Common.{◌≡◌, ℕ, zero, suc, ◌<◌, Bool, true, false, cond, List, [], ◌∷◌, length, map, get_or, slice_set, option_map, option_to_list, Option, Some, None, position, refl, sym, ap, ◌∙◌, arith}
-use Rattle.std.specs.List.{AllByRecursion, flat_map}
+use Rattle.std.proofs.Common.{◌≡◌, ℕ, zero, suc, ◌<◌, Bool, true, false, cond, List, [], ◌∷◌, length, map, get_or, slice_set, Option, Some, None, position, refl, sym, ap, ◌∙◌, arith}
+use Rattle.std.specs.List.{AllByRecursion}
 use Rattle.std.specs.Str.{bytes_eq}
 use Rattle.std.proofs.lemmas.Map.Keys.{IsDistinct-head, IsDistinct-tail}
 use Rattle.std.proofs.lemmas.Slice.Eq.{bytes_eq-Decides}
 use Rattle.std.proofs.lemmas.List.Quantifiers.{position-Some}
 use Rattle.avro_schema.specs.declared.kind.Field.{Field}
-use Rattle.avro_schema.specs.declared.datum.Datum as rust
 use Rattle.avro_schema.specs.Node.{FieldNode, HaveDistinctNames, field_of, fields_of}
-use Rattle.avro_schema.specs.Datum.{Datum, Data, more, datum_of, data_of}
-use Rattle.resolver.specs.Resolution.{Came, came_as, gathered, given}
-use Rattle.resolver.specs.Steps.{is_named, slots_from, slots_of}
+use Rattle.avro_schema.specs.Datum.{Datum, Data, more}
+use Rattle.resolver.specs.Resolution.{Came, came_as, gathered, or_else}
+use Rattle.resolver.specs.Matching.{given}
+use Rattle.resolver.specs.Steps.{filled, is_named, slots_from}
 
 -- ---- names
 
@@ -73,28 +73,23 @@ still_free name [] rs slots j x at differ free = tt
 still_free name (f ∷ ws) rs slots j x at differ free =
     (other_seat name f.name rs slots j x at (apart name f.name differ.0) ∙ free.0, still_free name ws rs slots j x at differ.1 free.1)
 
--- the first, or else the second
-abbrev pub first_of : Option Datum → Option Datum → Option Datum
-first_of (Some d) o = Some d
-first_of None o = o
-
 abbrev pub merged : List (Option Datum) → List (Option Datum) → List (Option Datum)
 merged [] others = []
 merged (s ∷ slots) [] = s ∷ slots
-merged (s ∷ slots) (o ∷ others) = first_of s o ∷ merged slots others
+merged (s ∷ slots) (o ∷ others) = or_else s o ∷ merged slots others
 
 pub merged_none : (rs : List FieldNode) (came : Came) → merged (slots_from rs []) (slots_from rs came) ≡ slots_from rs came
 merged_none [] came = refl
 merged_none (g ∷ rs) came = ap (λ (l : List (Option Datum)). came_as g.name came ∷ l) (merged_none rs came)
 
-first_of_none : (s : Option Datum) → first_of s None ≡ s
-first_of_none None = refl
-first_of_none (Some d) = refl
+or_none : (s : Option Datum) → or_else s None ≡ s
+or_none None = refl
+or_none (Some d) = refl
 
 pub none_merged : (rs : List FieldNode) (slots : List (Option Datum)) → merged slots (slots_from rs []) ≡ slots
 none_merged rs [] = refl
 none_merged [] (s ∷ slots) = refl
-none_merged (g ∷ rs) (s ∷ slots) = ap (λ (o : Option Datum). o ∷ merged slots (slots_from rs [])) (first_of_none s) ∙ ap (λ (l : List (Option Datum)). s ∷ l) (none_merged rs slots)
+none_merged (g ∷ rs) (s ∷ slots) = ap (λ (o : Option Datum). o ∷ merged slots (slots_from rs [])) (or_none s) ∙ ap (λ (l : List (Option Datum)). s ∷ l) (none_merged rs slots)
 
 -- what came as a name is no other field's
 not_theirs : (name : List ℕ) (e : Datum) (rs : List FieldNode) (came : Came) → AllByRecursion (λ y. bytes_eq name y ≡ false) (names rs) → slots_from rs ((name, e) ∷ came) ≡ slots_from rs came
@@ -119,26 +114,18 @@ put_on name e (g ∷ rs) (s ∷ slots) zero came at distinct free =
     let own : bytes_eq name g.name ≡ true = (bytes_eq-Decides name g.name).1 at in
     let empty : s ≡ None = ap (λ (b : Bool). cond b s (seat name rs slots)) (sym own) ∙ free in
     let differ : AllByRecursion (λ y. bytes_eq name y ≡ false) (names rs) = rw at (IsDistinct-head bytes_eq g.name (names rs) distinct) in
-    let here : first_of s (came_as g.name ((name, e) ∷ came)) ≡ Some e =
-    ap (λ (b : Bool). first_of s (cond b (Some e) (came_as g.name came))) (its_own name g.name at) ∙ ap (λ (o : Option Datum). first_of o (Some e)) empty in
+    let here : or_else s (came_as g.name ((name, e) ∷ came)) ≡ Some e =
+    ap (λ (b : Bool). or_else s (cond b (Some e) (came_as g.name came))) (its_own name g.name at) ∙ ap (λ (o : Option Datum). or_else o (Some e)) empty in
     ap (λ (o : Option Datum). o ∷ merged slots (slots_from rs ((name, e) ∷ came))) here
     ∙ ap (λ (l : List (Option Datum)). Some e ∷ merged slots l) (not_theirs name e rs came differ)
 put_on name e (g ∷ rs) (s ∷ slots) (suc j) came at distinct free =
     let differ : bytes_eq g.name name ≡ false = differs_at name g.name j rs at (IsDistinct-head bytes_eq g.name (names rs) distinct) in
     let free_there : seat name rs slots ≡ None = ap (λ (b : Bool). cond b s (seat name rs slots)) (sym (apart g.name name differ)) ∙ free in
-    ap (λ (b : Bool). first_of s (cond b (Some e) (came_as g.name came)) ∷ merged slots (slots_from rs ((name, e) ∷ came))) differ
-    ∙ ap (λ (l : List (Option Datum)). first_of s (came_as g.name came) ∷ l) (put_on name e rs slots j came at (IsDistinct-tail bytes_eq g.name (names rs) distinct) free_there)
+    ap (λ (b : Bool). or_else s (cond b (Some e) (came_as g.name came)) ∷ merged slots (slots_from rs ((name, e) ∷ came))) differ
+    ∙ ap (λ (l : List (Option Datum)). or_else s (came_as g.name came) ∷ l) (put_on name e rs slots j came at (IsDistinct-tail bytes_eq g.name (names rs) distinct) free_there)
 
 -- ---- in the end
 
-gather_one : (g : Option Datum) (s : Option rust.Datum) (rest : Data) (slots : List (Option rust.Datum)) → option_map datum_of s ≡ g → rest ≡ data_of (flat_map option_to_list slots) → given g rest (λ d. more d rest) ≡ data_of (flat_map option_to_list (s ∷ slots))
-gather_one None None rest slots here e = e
-gather_one None (Some d) rest slots here e = cc
-gather_one (Some d) None rest slots here e = cc
-gather_one (Some d) (Some x) rest slots here e = cc
-
-pub gathered_slots : (rs : List FieldNode) (came : Came) (slots : List (Option rust.Datum)) → slots_of slots ≡ slots_from rs came → gathered rs came ≡ data_of (flat_map option_to_list slots)
-gathered_slots [] came [] e = refl
-gathered_slots [] came (s ∷ slots) e = cc
-gathered_slots (g ∷ rs) came [] e = cc
-gathered_slots (g ∷ rs) came (s ∷ slots) e = gather_one (came_as g.name came) s (gathered rs came) slots (cc) (gathered_slots rs came slots (cc))
+pub gathered_slots : (rs : List FieldNode) (came : Came) → filled rs (slots_from rs came) ≡ gathered rs came
+gathered_slots [] came = refl
+gathered_slots (g ∷ rs) came = ap (λ (ds : Data). given (or_else (came_as g.name came) g.default) ds (λ d. more d ds)) (gathered_slots rs came)

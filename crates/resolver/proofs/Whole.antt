@@ -1,203 +1,174 @@
 -- What resolution makes of data of the writer's node are data of the reader's node.
-use Rattle.std.proofs.Common.{◌≡◌, ℕ, zero, suc, Bool, true, false, cond, List, [], ◌∷◌, slice_get, Option, Some, None, Ok, Err, refl, sym, ap, subst, ◌∙◌, ◌⊎◌, pos, negsuc, inl, inr, length, ℤ, arith}
-use Rattle.std.specs.List.{AllByRecursion}
-use Rattle.std.specs.Str.{bytes_eq}
-use Rattle.std.proofs.lemmas.Map.Keys.{IsDistinct-head, IsDistinct-tail}
-use Rattle.std.proofs.lemmas.Slice.Eq.{bytes_eq-Decides}
-use Rattle.avro_schema.specs.Node.{Node, FieldNode, IntNode, LongNode, TextNode, RecordNode, IsWellFormed, NodeIsWellFormed, HaveDistinctNames}
-use Rattle.avro_schema.specs.Datum.{Datum, Data, IntDatum, LongDatum, TextDatum, RecordDatum, no_more, more}
-use Rattle.resolver.specs.declared.matching.Place.TheVariants.{Straight, Unmatched}
-use Rattle.resolver.specs.declared.mismatch.MismatchKind.TheVariants.{NoMatch}
-use Rattle.resolver.specs.Matching.{both_match, matches, place}
-use Rattle.resolver.specs.Resolution.{Resolved, ◌>>=◌, Came, came_as, mismatch, placed, given, promoted, field_lists, field_named, lacking, unless_lacking, gathered, resolved, resolved_fields}
-use Rattle.avro_datum.specs.Conforming.{Conforms, ConformsEach, HasBits}
-use Rattle.resolver.specs.Conforming.{ResolutionIsWhole}
-use Rattle.resolver.proofs.Slots.{names, apart}
+use Rattle.std.proofs.Common.{◌≡◌, ℕ, ◌<◌, Bool, true, false, cond, List, [], ◌∷◌, length, position, slice_get, Option, Some, None, IfSome, Ok, Err, refl, sym, ap, subst, ◌∙◌, pos, negsuc, inl, inr, ℤ, arith}
+use Rattle.std.specs.Str.{bytes_eq, is_utf8}
+use Rattle.std.proofs.lemmas.Str.{IsUtf8-from_is_utf8}
+use Rattle.std.proofs.lemmas.List.Quantifiers.{position-Some}
+use Rattle.avro_schema.specs.Node.{Node, FieldNode, NullNode, BooleanNode, IntNode, LongNode, BytesNode, TextNode, FixedNode, EnumNode, ArrayNode, MapNode, RecordNode, IsWellFormed, is_union}
+use Rattle.avro_schema.specs.Datum.{Datum, Data, Pairs, NullDatum, BooleanDatum, IntDatum, LongDatum, BytesDatum, TextDatum, FixedDatum, EnumDatum, ArrayDatum, MapDatum, UnionDatum, RecordDatum, no_more, more, no_pairs, pair}
+use Rattle.avro_schema.specs.Conforming.{Conforms, ConformAll, ConformPairs, ConformsEach, HasBits}
+use Rattle.resolver.specs.declared.mismatch.MismatchKind.TheVariants.{NoMatch, NoSymbol, BytesNotText}
+use Rattle.resolver.specs.Matching.{given, both_items, both_values, matches}
+use Rattle.resolver.specs.Resolution.{Resolved, ◌>>=◌, Came, mismatch, int_for, text_for, bytes_for, or_else, symbol_at, symbol_for, symbol_in, member_at, field_lists, field_named, lacking, unless_lacking, gathered, resolved, resolved_items, resolved_values, resolved_fields}
+use Rattle.resolver.specs.Conforming.{DefaultsConform, ResolutionIsWhole}
+use Rattle.resolver.proofs.Arriving.{Arrive, all_arrived, each_found, field_arrives, nothing_else}
+use Rattle.resolver.proofs.Partners.{node_fits}
+use Rattle.resolver.proofs.Places.{placed_whole}
 
--- ---- fields
+wider : (n : ℤ) → HasBits 31 n → HasBits 63 n
+wider (pos n) h = omega arith
+wider (negsuc n) h = omega arith
 
--- something came as the name, and it is a datum of the node
-record Arrived (R : List Node) (node : ℕ) (name : List ℕ) (came : Came) : Type 0 where
-  datum : Datum
-  as_named : came_as name came ≡ Some datum
-  conforms : Conforms R node datum
+made_of : {A : Type 0} → A → Resolved A
+made_of a = Ok a
 
--- each field stands under its name
-found_later : (g : FieldNode) (fs rs : List FieldNode) → AllByRecursion (λ y. bytes_eq g.name y ≡ false) (names fs) → AllByRecursion (λ f. field_named f.name rs ≡ Some f) fs → AllByRecursion (λ f. field_named f.name (g ∷ rs) ≡ Some f) fs
-found_later g [] rs differ found = tt
-found_later g (f ∷ fs) rs differ found =
-    (ap (λ (b : Bool). cond b (Some g) (field_named f.name rs)) (apart g.name f.name differ.0) ∙ found.0, found_later g fs rs differ.1 found.1)
+-- ---- what was made, taken apart
 
-each_found : (rs : List FieldNode) → HaveDistinctNames rs → AllByRecursion (λ g. field_named g.name rs ≡ Some g) rs
-each_found [] distinct = tt
-each_found (g ∷ rs) distinct = (
-  ap (λ (b : Bool). cond b (Some g) (field_named g.name rs)) ((bytes_eq-Decides g.name g.name).1 refl),
-  found_later g rs rs (IsDistinct-head bytes_eq g.name (names rs) distinct) (each_found rs (IsDistinct-tail bytes_eq g.name (names rs) distinct)),
-)
+text_or_fault : (b : Bool) (w r : ℕ) (bytes : List ℕ) (d : Datum) → cond b (made_of (TextDatum bytes)) (mismatch BytesNotText w r) ≡ Ok d → (b ≡ true) × (TextDatum bytes ≡ d)
+unfolding made_of
+text_or_fault true w r bytes d h = (refl, cc)
+text_or_fault false w r bytes d h = absurd cc
 
--- no field lacks a partner
-has_partner : (ws : List FieldNode) (g : FieldNode) (rest o : Option FieldNode) → given o (Some g) (λ _. rest) ≡ None → ((f : FieldNode) × (o ≡ Some f)) × (rest ≡ None)
-has_partner ws g rest None e = absurd cc
-has_partner ws g rest (Some f) e = ((f, refl), e)
+enum_made : (s : Option (List ℕ)) (o : Option Node) (w r : ℕ) (d : Datum) → given s (mismatch NoMatch w r) (λ symbol. given (symbol_for o symbol) (mismatch NoSymbol w r) (λ m. made_of (EnumDatum m))) ≡ Ok d → (symbol : List ℕ) × (m : ℕ) × (symbol_for o symbol ≡ Some m) × (EnumDatum m ≡ d)
+unfolding made_of
+enum_made None o w r d h = absurd cc
+enum_made (Some symbol) o w r d h = one (symbol_for o symbol) refl h where
+  one : (found : Option ℕ) → symbol_for o symbol ≡ found → given found (mismatch NoSymbol w r) (λ m. made_of (EnumDatum m)) ≡ Ok d → (symbol : List ℕ) × (m : ℕ) × (symbol_for o symbol ≡ Some m) × (EnumDatum m ≡ d)
+  one None is h = absurd cc
+  one (Some m) is h = (symbol, m, is, cc)
 
-module _ (W R : List Node) where
-  -- a field came with its name, or with another one
-  arrives : (name : List ℕ) (f g g' : FieldNode) (e : Datum) (came : Came) (rs : List FieldNode) → field_named f.name rs ≡ Some g → field_named name rs ≡ Some g' → Conforms R g.node e → (b : Bool) → bytes_eq name f.name ≡ b → (b ≡ false → Arrived R g'.node name came) → Arrived R g'.node name ((f.name, e) ∷ came)
-  arrives name f g g' e came rs its others conforms true is rest =
-      let same : name ≡ f.name = (bytes_eq-Decides name f.name).0 is in
-      let one : Some g ≡ Some g' = sym its ∙ ap (λ (x : List ℕ). field_named x rs) (sym same) ∙ others in
-      let same_node : g ≡ g' = cc in
-      record { datum = e; as_named = ap (λ (b : Bool). cond b (Some e) (came_as name came)) is; conforms = subst (λ (x : FieldNode). Conforms R x.node e) same_node conforms }
-  arrives name f g g' e came rs its others conforms false is rest =
-      let a = rest refl in
-      record { datum = a.datum; as_named = ap (λ (b : Bool). cond b (Some e) (came_as name came)) is ∙ a.as_named; conforms = a.conforms }
+symbol_within : (symbols : List (List ℕ)) (default : Option ℕ) (symbol : List ℕ) (m : ℕ) → IfSome default (λ n. n < length symbols) → symbol_in symbols default symbol ≡ Some m → m < length symbols
+symbol_within symbols default symbol m within e = one (position (bytes_eq symbol) symbols) refl default within e where
+  one : (found : Option ℕ) → position (bytes_eq symbol) symbols ≡ found → (default : Option ℕ) → IfSome default (λ n. n < length symbols) → or_else found default ≡ Some m → m < length symbols
+  one (Some i) is default within e = let same : i ≡ m = cc in subst (λ (x : ℕ). x < length symbols) same (position-Some (bytes_eq symbol) symbols i symbol is).0
+  one None is None within e = absurd cc
+  one None is (Some n) within e = let same : n ≡ m = cc in subst (λ (x : ℕ). x < length symbols) same within
 
-  -- all of the reader's fields arrived
-  all_arrived : (ws gs rs : List FieldNode) (came : Came) → lacking ws gs ≡ None → AllByRecursion (λ g. field_named g.name rs ≡ Some g) gs → ((name : List ℕ) (f g : FieldNode) → field_named name ws ≡ Some f → field_named name rs ≡ Some g → Arrived R g.node name came) → ConformsEach R gs (gathered gs came)
-  all_arrived ws [] rs came none found arrive = tt
-  all_arrived ws (g ∷ gs) rs came none found arrive =
-      let p = has_partner ws g (lacking ws gs) (field_named g.name ws) none in
-      let a = arrive g.name p.0.0 g p.0.1 found.0 in
-      let rest = all_arrived ws gs rs came p.1 found.1 arrive in
-      subst (λ (o : Option Datum). ConformsEach R (g ∷ gs) (given o (gathered gs came) (λ d. more d (gathered gs came)))) (sym a.as_named) (a.conforms, rest)
+bound : {A B : Type 0} (x : Resolved A) (f : A → B) (b : B) → (x >>= λ a. made_of (f a)) ≡ Ok b → (a : A) × (x ≡ Ok a) × (f a ≡ b)
+unfolding made_of
+bound (Ok a) f b h = (a, refl, cc)
+bound (Err m) f b h = absurd cc
 
-  -- what the writer's fields made of their data, for each name that both have
-  abbrev Arrive : List FieldNode → List FieldNode → Came → Type 0
-  Arrive ws rs came = (name : List ℕ) (f g : FieldNode) → field_named name ws ≡ Some f → field_named name rs ≡ Some g → Arrived R g.node name came
+member_made : (o : Option ℕ) (w r m : ℕ) (go : ℕ → Resolved Datum) (e : Datum) → o ≡ Some m → given o (mismatch NoMatch w r) go ≡ Ok e → go m ≡ Ok e
+member_made o w r m go e at h = sym (ap (λ (o : Option ℕ). given o (mismatch NoMatch w r) go) at) ∙ h
 
-  both_ok : (name : List ℕ) (x : Resolved Datum) (rest : Resolved Came) (came : Came) → (x >>= λ e. rest >>= λ came. Ok ((name, e) ∷ came)) ≡ Ok came → (e : Datum) × (others : Came) × (x ≡ Ok e) × (rest ≡ Ok others) × ((name, e) ∷ others ≡ came)
-  both_ok name (Ok e) (Ok others) came h = (e, others, refl, refl, cc)
-  both_ok name (Ok e) (Err m) came h = absurd cc
-  both_ok name (Err m) rest came h = absurd cc
+none_lacks : (o : Option FieldNode) (w : ℕ) (came : Resolved Came) (gs : List FieldNode) (e : Datum) → unless_lacking o w (came >>= λ came. Ok (RecordDatum (gathered gs came))) ≡ Ok e → (o ≡ None) × ((c : Came) × (came ≡ Ok c) × (RecordDatum (gathered gs c) ≡ e))
+none_lacks (Some g) w came gs e h = absurd cc
+none_lacks None w (Err m) gs e h = absurd cc
+none_lacks None w (Ok c) gs e h = (refl, (c, refl, cc))
 
-  named_rest : (b : Bool) (name : List ℕ) (f f' : FieldNode) (ws : List FieldNode) → b ≡ false → cond b (Some f) (field_named name ws) ≡ Some f' → field_named name ws ≡ Some f'
-  named_rest true name f f' ws e h = absurd cc
-  named_rest false name f f' ws e h = h
+module _ (W R : List Node) (formed : IsWellFormed R) (defaults : DefaultsConform R) where
+  -- ---- a datum in the reader's node itself, which matches
 
-  module _ (f : FieldNode) (ws rs : List FieldNode) (d : Datum) (rest : Resolved Came) (its : (g : FieldNode) (e : Datum) → resolved W R f.node g.node d ≡ Ok e → Conforms R g.node e) (others : (came : Came) → rest ≡ Ok came → Arrive ws rs came) where
-    passed_over : (came : Came) → field_named f.name rs ≡ None → Arrive ws rs came → Arrive (f ∷ ws) rs came
-    passed_over came lacks arrive name f' g at there = by_name (bytes_eq name f.name) refl where
-      by_name : (b : Bool) → bytes_eq name f.name ≡ b → Arrived R g.node name came
-      by_name true is = let same : name ≡ f.name = (bytes_eq-Decides name f.name).0 is in absurd (let clash : None ≡ Some g = sym lacks ∙ ap (λ (x : List ℕ). field_named x rs) (sym same) ∙ there in cc)
-      by_name false is = arrive name f' g (named_rest (bytes_eq name f.name) name f f' ws is at) there
+  module _ (w node : ℕ) (d : Datum) (u : is_union (slice_get R node) ≡ false) (m : matches W R w node ≡ true) where
+    same_kind : (k : Node) (e : Datum) → Conforms R node e → Ok e ≡ made_of d → Conforms R node d
+    unfolding made_of
+    same_kind k e conforms h = let same : e ≡ d = cc in subst (Conforms R node) same conforms
 
-    put_first : (g : FieldNode) (e : Datum) (came : Came) → field_named f.name rs ≡ Some g → Conforms R g.node e → Arrive ws rs came → Arrive (f ∷ ws) rs ((f.name, e) ∷ came)
-    put_first g e came has conforms arrive name f' g' at there =
-        arrives name f g g' e came rs has there conforms (bytes_eq name f.name) refl (λ is. arrive name f' g' (named_rest (bytes_eq name f.name) name f f' ws is at) there)
+    int_inside : (n : ℤ) → Conforms W w (IntDatum n) → Ok (int_for (slice_get R node) (IntDatum n)) ≡ made_of d → Conforms R node d
+    unfolding made_of
+    int_inside n is h =
+        elim (node_fits W R w node IntNode is.0 m u) [
+          | inl at ↦ same_kind IntNode (IntDatum n) (at, is.1) (sym (ap (λ (o : Option Node). made_of (int_for o (IntDatum n))) at) ∙ h)
+          | inr at ↦ same_kind LongNode (LongDatum n) (at, wider n is.1) (sym (ap (λ (o : Option Node). made_of (int_for o (IntDatum n))) at) ∙ h)
+        ]
 
-    field_arrives : (o : Option FieldNode) → field_named f.name rs ≡ o → (came : Came) → given o rest (λ g. resolved W R f.node g.node d >>= λ e. rest >>= λ came. Ok ((f.name, e) ∷ came)) ≡ Ok came → Arrive (f ∷ ws) rs came
-    field_arrives None is came h = passed_over came is (others came h)
-    field_arrives (Some g) is came h =
-        let p = both_ok f.name (resolved W R f.node g.node d) rest came h in
-        subst (Arrive (f ∷ ws) rs) p.4 (put_first g p.0 p.1 is (its g p.0 p.2) (others p.1 p.3))
+    text_inside : (text : List ℕ) → Conforms W w (TextDatum text) → Ok (text_for (slice_get R node) text) ≡ made_of d → Conforms R node d
+    unfolding made_of
+    text_inside text is h =
+        elim (node_fits W R w node TextNode is.0 m u) [
+          | inl at ↦ same_kind TextNode (TextDatum text) (at, is.1) (sym (ap (λ (o : Option Node). made_of (text_for o text)) at) ∙ h)
+          | inr at ↦ same_kind BytesNode (BytesDatum text) at (sym (ap (λ (o : Option Node). made_of (text_for o text)) at) ∙ h)
+        ]
 
-  -- ---- data
+    bytes_inside : (bytes : List ℕ) → Conforms W w (BytesDatum bytes) → bytes_for (slice_get R node) w node bytes ≡ Ok d → Conforms R node d
+    unfolding made_of
+    bytes_inside bytes is h =
+        elim (node_fits W R w node BytesNode is m u) [
+          | inl at ↦ same_kind BytesNode (BytesDatum bytes) at (sym (ap (λ (o : Option Node). bytes_for o w node bytes) at) ∙ h)
+          | inr at ↦ (let t = text_or_fault (is_utf8 bytes) w node bytes d (sym (ap (λ (o : Option Node). bytes_for o w node bytes) at) ∙ h) in subst (Conforms R node) t.1 (at, IsUtf8-from_is_utf8 bytes t.0))
+        ]
 
-  matched_if : (b : Bool) (w r : ℕ) (value : ℕ → Resolved Datum) (e : Datum) → placed (cond b Straight Unmatched) w r value ≡ Ok e → (b ≡ true) × (value r ≡ Ok e)
-  matched_if true w r value e h = (refl, h)
-  matched_if false w r value e h = absurd cc
+    enum_inside : (n : ℕ) → (is : Conforms W w (EnumDatum n)) → given (symbol_at (slice_get W w) n) (mismatch NoMatch w node) (λ symbol. given (symbol_for (slice_get R node) symbol) (mismatch NoSymbol w node) (λ m. Ok (EnumDatum m))) ≡ Ok d → Conforms R node d
+    unfolding made_of
+    enum_inside n is h =
+        let f = node_fits W R w node (EnumNode is.0 is.1 is.2) is.3 m u in
+        let made = enum_made (symbol_at (slice_get W w) n) (slice_get R node) w node d h in
+        let at : symbol_in f.1 f.2 made.0 ≡ Some made.1 = sym (ap (λ (o : Option Node). symbol_for o made.0) f.3) ∙ made.2 in
+        subst (Conforms R node) made.3 (f.0, f.1, f.2, f.3, symbol_within f.1 f.2 made.0 made.1 (formed.each node (EnumNode f.0 f.1 f.2) f.3).2 at)
 
-  matched : (w r : ℕ) (k : Node) (value : ℕ → Resolved Datum) (e : Datum) → slice_get W w ≡ Some k → placed (place W R w r) w r value ≡ Ok e → (both_match (Some k) (slice_get R r) ≡ true) × (value r ≡ Ok e)
-  unfolding matches
-  matched w r k value e at h =
-      let m = matched_if (matches W R w r) w r value e h in
-      (ap (λ (o : Option Node). both_match o (slice_get R r)) (sym at) ∙ m.0, m.1)
+    array_inside : (ds : Data) → (is : Conforms W w (ArrayDatum ds)) → ((j : ℕ) (es : Data) → resolved_items W R is.0 j ds ≡ Ok es → ConformAll R j es) → given (both_items (slice_get W w) (slice_get R node)) (mismatch NoMatch w node) (λ p. resolved_items W R p.0 p.1 ds >>= λ es. Ok (ArrayDatum es)) ≡ Ok d → Conforms R node d
+    unfolding made_of
+    array_inside ds is items h =
+        let f = node_fits W R w node (ArrayNode is.0) is.1 m u in
+        let both : both_items (slice_get W w) (slice_get R node) ≡ Some (is.0, f.0) = ap (λ (o : Option Node). both_items o (slice_get R node)) is.1 ∙ ap (λ (o : Option Node). both_items (Some (ArrayNode is.0)) o) f.1 in
+        let made = bound (resolved_items W R is.0 f.0 ds) ArrayDatum d (sym (ap (λ (o : Option (ℕ × ℕ)). given o (mismatch NoMatch w node) (λ p. resolved_items W R p.0 p.1 ds >>= λ es. Ok (ArrayDatum es))) both) ∙ h) in
+        subst (Conforms R node) made.2 (f.0, f.1, items f.0 made.0 made.1)
 
-  for_int : (k : Option Node) → both_match (Some IntNode) k ≡ true → (k ≡ Some IntNode) ⊎ (k ≡ Some LongNode)
-  for_int None h = absurd cc
-  for_int (Some IntNode) h = inl refl
-  for_int (Some LongNode) h = inr refl
-  for_int (Some TextNode) h = absurd cc
-  for_int (Some (RecordNode m gs)) h = absurd cc
+    map_inside : (ps : Pairs) → (is : Conforms W w (MapDatum ps)) → ((j : ℕ) (qs : Pairs) → resolved_values W R is.0 j ps ≡ Ok qs → ConformPairs R j qs) → given (both_values (slice_get W w) (slice_get R node)) (mismatch NoMatch w node) (λ p. resolved_values W R p.0 p.1 ps >>= λ qs. Ok (MapDatum qs)) ≡ Ok d → Conforms R node d
+    unfolding made_of
+    map_inside ps is values h =
+        let f = node_fits W R w node (MapNode is.0) is.1 m u in
+        let both : both_values (slice_get W w) (slice_get R node) ≡ Some (is.0, f.0) = ap (λ (o : Option Node). both_values o (slice_get R node)) is.1 ∙ ap (λ (o : Option Node). both_values (Some (MapNode is.0)) o) f.1 in
+        let made = bound (resolved_values W R is.0 f.0 ps) MapDatum d (sym (ap (λ (o : Option (ℕ × ℕ)). given o (mismatch NoMatch w node) (λ p. resolved_values W R p.0 p.1 ps >>= λ qs. Ok (MapDatum qs))) both) ∙ h) in
+        subst (Conforms R node) made.2 (f.0, f.1, values f.0 made.0 made.1)
 
-  for_long : (k : Option Node) → both_match (Some LongNode) k ≡ true → k ≡ Some LongNode
-  for_long None h = absurd cc
-  for_long (Some IntNode) h = absurd cc
-  for_long (Some LongNode) h = refl
-  for_long (Some TextNode) h = absurd cc
-  for_long (Some (RecordNode m gs)) h = absurd cc
+    record_inside : (ds : Data) → (is : Conforms W w (RecordDatum ds)) → ((gs : List FieldNode) (came : Came) → resolved_fields W R is.1 gs ds ≡ Ok came → Arrive W R is.1 gs came) → given (field_lists (slice_get W w) (slice_get R node)) (mismatch NoMatch w node) (λ p. unless_lacking (lacking p.0 p.1) w (resolved_fields W R p.0 p.1 ds >>= λ came. Ok (RecordDatum (gathered p.1 came)))) ≡ Ok d → Conforms R node d
+    record_inside ds is fields h =
+        let fs = is.1 in
+        let f = node_fits W R w node (RecordNode is.0 fs) is.2 m u in
+        let gs = f.1 in
+        let lists : field_lists (slice_get W w) (slice_get R node) ≡ Some (fs, gs) = ap (λ (o : Option Node). field_lists o (slice_get R node)) is.2 ∙ ap (λ (o : Option Node). field_lists (Some (RecordNode is.0 fs)) o) f.2 in
+        let inner : unless_lacking (lacking fs gs) w (resolved_fields W R fs gs ds >>= λ came. Ok (RecordDatum (gathered gs came))) ≡ Ok d =
+        sym (ap (λ (o : Option (List FieldNode × List FieldNode)). given o (mismatch NoMatch w node) (λ p. unless_lacking (lacking p.0 p.1) w (resolved_fields W R p.0 p.1 ds >>= λ came. Ok (RecordDatum (gathered p.1 came))))) lists) ∙ h in
+        let p = none_lacks (lacking fs gs) w (resolved_fields W R fs gs ds) gs d inner in
+        let distinct = (formed.each node (RecordNode f.0 gs) f.2).1 in
+        let came = p.1.0 in
+        subst (Conforms R node) p.1.2 (f.0, gs, f.2, all_arrived W R fs gs gs came p.0 (each_found gs distinct) (defaults node f.0 gs f.2) (fields gs came p.1.1) (nothing_else W R fs gs ds came p.1.1))
 
-  for_text : (k : Option Node) → both_match (Some TextNode) k ≡ true → k ≡ Some TextNode
-  for_text None h = absurd cc
-  for_text (Some IntNode) h = absurd cc
-  for_text (Some LongNode) h = absurd cc
-  for_text (Some TextNode) h = refl
-  for_text (Some (RecordNode m gs)) h = absurd cc
-
-  for_record : (name : List ℕ) (fs : List FieldNode) (k : Option Node) → both_match (Some (RecordNode name fs)) k ≡ true → (m : List ℕ) × (gs : List FieldNode) × (k ≡ Some (RecordNode m gs))
-  for_record name fs None h = absurd cc
-  for_record name fs (Some IntNode) h = absurd cc
-  for_record name fs (Some LongNode) h = absurd cc
-  for_record name fs (Some TextNode) h = absurd cc
-  for_record name fs (Some (RecordNode m gs)) h = (m, gs, refl)
-
-  wider : (n : ℤ) → HasBits 31 n → HasBits 63 n
-  wider (pos n) h = omega arith
-  wider (negsuc n) h = omega arith
-
-  made_of : Datum → Resolved Datum
-  made_of d = Ok d
-
-  int_whole : (w r : ℕ) (n : ℤ) (e : Datum) → Conforms W w (IntDatum n) → placed (place W R w r) w r (λ node. Ok (promoted (slice_get R node) (IntDatum n))) ≡ Ok e → Conforms R r e
+  -- one and another
+  two : {A B C : Type 0} (x : Resolved A) (y : Resolved B) (f : A → B → C) (c : C) → (x >>= λ a. y >>= λ b. made_of (f a b)) ≡ Ok c → (a : A) × (b : B) × (x ≡ Ok a) × (y ≡ Ok b) × (f a b ≡ c)
   unfolding made_of
-  int_whole w r n e is h =
-      let m = matched w r IntNode _ e is.0 h in
-      let made : (k : Option Node) → slice_get R r ≡ k → promoted k (IntDatum n) ≡ e = λ k at. let same = ap (λ (o : Option Node). made_of (promoted o (IntDatum n))) (sym at) ∙ m.1 in cc in
-      elim (for_int (slice_get R r) m.0) [
-        | inl at ↦ subst (Conforms R r) (made (Some IntNode) at) (at, is.1)
-        | inr at ↦ subst (Conforms R r) (made (Some LongNode) at) (at, wider n is.1)
-      ]
-
-  long_whole : (w r : ℕ) (n : ℤ) (e : Datum) → Conforms W w (LongDatum n) → placed (place W R w r) w r (λ node. Ok (LongDatum n)) ≡ Ok e → Conforms R r e
-  long_whole w r n e is h =
-      let m = matched w r LongNode _ e is.0 h in
-      let same : LongDatum n ≡ e = let s = m.1 in cc in
-      subst (Conforms R r) same (for_long (slice_get R r) m.0, is.1)
-
-  text_whole : (w r : ℕ) (text : List ℕ) (e : Datum) → Conforms W w (TextDatum text) → placed (place W R w r) w r (λ node. Ok (TextDatum text)) ≡ Ok e → Conforms R r e
-  text_whole w r text e is h =
-      let m = matched w r TextNode _ e is.0 h in
-      let same : TextDatum text ≡ e = let s = m.1 in cc in
-      subst (Conforms R r) same (for_text (slice_get R r) m.0, is.1)
-
-  node_at : (P : Node → Type 0) (nodes : List Node) (i : ℕ) (k : Node) → AllByRecursion P nodes → slice_get nodes i ≡ Some k → P k
-  node_at P [] i k all at = absurd cc
-  node_at P (x ∷ nodes) zero k all at = let same : x ≡ k = cc in subst P same all.0
-  node_at P (x ∷ nodes) (suc i) k all at = node_at P nodes i k all.1 at
-
-  none_lacks : (o : Option FieldNode) (w : ℕ) (came : Resolved Came) (gs : List FieldNode) (e : Datum) → unless_lacking o w (came >>= λ came. Ok (RecordDatum (gathered gs came))) ≡ Ok e → (o ≡ None) × ((c : Came) × (came ≡ Ok c) × (RecordDatum (gathered gs c) ≡ e))
-  none_lacks (Some g) w came gs e h = absurd cc
-  none_lacks None w (Err m) gs e h = absurd cc
-  none_lacks None w (Ok c) gs e h = (refl, (c, refl, cc))
-
-  record_whole : (w r : ℕ) (ds : Data) (e : Datum) → IsWellFormed R → (is : Conforms W w (RecordDatum ds)) → ((gs : List FieldNode) (came : Came) → resolved_fields W R is.1 gs ds ≡ Ok came → Arrive is.1 gs came) → placed (place W R w r) w r (λ node. given (field_lists (slice_get W w) (slice_get R node)) (mismatch NoMatch w node) (λ p. unless_lacking (lacking p.0 p.1) w (resolved_fields W R p.0 p.1 ds >>= λ came. Ok (RecordDatum (gathered p.1 came))))) ≡ Ok e → Conforms R r e
-  record_whole w r ds e formed is fields h =
-      let fs = is.1 in
-      let m = matched w r (RecordNode is.0 fs) _ e is.2 h in
-      let other = for_record is.0 fs (slice_get R r) m.0 in
-      let gs = other.1 in
-      let lists : field_lists (slice_get W w) (slice_get R r) ≡ Some (fs, gs) = ap (λ (k : Option Node). field_lists k (slice_get R r)) is.2 ∙ ap (λ (k : Option Node). field_lists (Some (RecordNode is.0 fs)) k) other.2 in
-      let inner : unless_lacking (lacking fs gs) w (resolved_fields W R fs gs ds >>= λ came. Ok (RecordDatum (gathered gs came))) ≡ Ok e =
-      sym (ap (λ (o : Option (List FieldNode × List FieldNode)). given o (mismatch NoMatch w r) (λ p. unless_lacking (lacking p.0 p.1) w (resolved_fields W R p.0 p.1 ds >>= λ came. Ok (RecordDatum (gathered p.1 came))))) lists) ∙ m.1 in
-      let p = none_lacks (lacking fs gs) w (resolved_fields W R fs gs ds) gs e inner in
-      let distinct = (node_at (NodeIsWellFormed (length R)) R r (RecordNode other.0 gs) formed.each other.2).1 in
-      subst (Conforms R r) p.1.2 (other.0, gs, other.2, all_arrived fs gs gs p.1.0 p.0 (each_found gs distinct) (fields gs p.1.0 p.1.1))
+  two (Ok a) (Ok b) f c h = (a, b, refl, refl, cc)
+  two (Ok a) (Err m) f c h = absurd cc
+  two (Err m) y f c h = absurd cc
 
   mutual
-    unfolding resolved
+    unfolding resolved resolved_items resolved_values resolved_fields made_of
 
-    datum_whole : (d : Datum) (w r : ℕ) (e : Datum) → IsWellFormed R → Conforms W w d → resolved W R w r d ≡ Ok e → Conforms R r e
-    datum_whole (IntDatum n) w r e formed is h = int_whole w r n e is h
-    datum_whole (LongDatum n) w r e formed is h = long_whole w r n e is h
-    datum_whole (TextDatum text) w r e formed is h = text_whole w r text e is h
-    datum_whole (RecordDatum ds) w r e formed is h = record_whole w r ds e formed is (λ gs came k. fields_whole ds is.1 gs came formed is.3 k) h
+    datum_whole : (d : Datum) (w r : ℕ) (e : Datum) → Conforms W w d → resolved W R w r d ≡ Ok e → Conforms R r e
+    datum_whole NullDatum w r e is h = placed_whole W R formed w (λ node. Ok NullDatum) (λ node d u m k. same_kind w node d u m NullNode NullDatum (node_fits W R w node NullNode is m u) k) r e h
+    datum_whole (BooleanDatum b) w r e is h = placed_whole W R formed w (λ node. Ok (BooleanDatum b)) (λ node d u m k. same_kind w node d u m BooleanNode (BooleanDatum b) (node_fits W R w node BooleanNode is m u) k) r e h
+    datum_whole (IntDatum n) w r e is h = placed_whole W R formed w (λ node. Ok (int_for (slice_get R node) (IntDatum n))) (λ node d u m k. int_inside w node d u m n is k) r e h
+    datum_whole (LongDatum n) w r e is h = placed_whole W R formed w (λ node. Ok (LongDatum n)) (λ node d u m k. same_kind w node d u m LongNode (LongDatum n) (node_fits W R w node LongNode is.0 m u, is.1) k) r e h
+    datum_whole (BytesDatum bytes) w r e is h = placed_whole W R formed w (λ node. bytes_for (slice_get R node) w node bytes) (λ node d u m k. bytes_inside w node d u m bytes is k) r e h
+    datum_whole (TextDatum text) w r e is h = placed_whole W R formed w (λ node. Ok (text_for (slice_get R node) text)) (λ node d u m k. text_inside w node d u m text is k) r e h
+    datum_whole (FixedDatum bytes) w r e is h = placed_whole W R formed w (λ node. Ok (FixedDatum bytes)) (λ node d u m k. same_kind w node d u m (FixedNode is.0 (length bytes)) (FixedDatum bytes) (node_fits W R w node (FixedNode is.0 (length bytes)) is.1 m u) k) r e h
+    datum_whole (EnumDatum n) w r e is h = placed_whole W R formed w _ (λ node d u m k. enum_inside w node d u m n is k) r e h
+    datum_whole (ArrayDatum ds) w r e is h = placed_whole W R formed w _ (λ node d u m k. array_inside w node d u m ds is (λ j es l. items_whole ds is.0 j es is.2 l) k) r e h
+    datum_whole (MapDatum ps) w r e is h = placed_whole W R formed w _ (λ node d u m k. map_inside w node d u m ps is (λ j qs l. values_whole ps is.0 j qs is.2 l) k) r e h
+    datum_whole (RecordDatum ds) w r e is h = placed_whole W R formed w _ (λ node d u m k. record_inside w node d u m ds is (λ gs came l. fields_whole ds is.1 gs came is.3 l) k) r e h
+    datum_whole (UnionDatum n d) w r e is h =
+        let at : member_at (slice_get W w) n ≡ Some is.2 = ap (λ (o : Option Node). member_at o n) is.1 ∙ is.3 in
+        datum_whole d is.2 r e is.4 (member_made (member_at (slice_get W w) n) w r is.2 (λ member. resolved W R member r d) e at h)
 
-    fields_whole : (ds : Data) (ws rs : List FieldNode) (came : Came) → IsWellFormed R → ConformsEach W ws ds → resolved_fields W R ws rs ds ≡ Ok came → Arrive ws rs came
-    fields_whole no_more [] rs came formed is h = λ name f g at there. absurd cc
-    fields_whole no_more (f ∷ ws) rs came formed is h = absurd is
-    fields_whole (more d ds) [] rs came formed is h = absurd is
-    fields_whole (more d ds) (f ∷ ws) rs came formed is h =
-        field_arrives f ws rs d (resolved_fields W R ws rs ds) (λ g e k. datum_whole d f.node g.node e formed is.0 k) (λ c k. fields_whole ds ws rs c formed is.1 k) (field_named f.name rs) refl came h
+    items_whole : (ds : Data) (i j : ℕ) (es : Data) → ConformAll W i ds → resolved_items W R i j ds ≡ Ok es → ConformAll R j es
+    items_whole no_more i j es is h = subst (ConformAll R j) (let e : no_more ≡ es = cc in e) tt
+    items_whole (more d ds) i j es is h =
+        let p = two (resolved W R i j d) (resolved_items W R i j ds) more es h in
+        subst (ConformAll R j) p.4 (datum_whole d i j p.0 is.0 p.2, items_whole ds i j p.1 is.1 p.3)
+
+    values_whole : (ps : Pairs) (i j : ℕ) (qs : Pairs) → ConformPairs W i ps → resolved_values W R i j ps ≡ Ok qs → ConformPairs R j qs
+    values_whole no_pairs i j qs is h = subst (ConformPairs R j) (let e : no_pairs ≡ qs = cc in e) tt
+    values_whole (pair key d ps) i j qs is h =
+        let p = two (resolved W R i j d) (resolved_values W R i j ps) (pair key) qs h in
+        subst (ConformPairs R j) p.4 (is.0, datum_whole d i j p.0 is.1 p.2, values_whole ps i j p.1 is.2 p.3)
+
+    fields_whole : (ds : Data) (ws rs : List FieldNode) (came : Came) → ConformsEach W ws ds → resolved_fields W R ws rs ds ≡ Ok came → Arrive W R ws rs came
+    fields_whole no_more [] rs came is h = λ name f g at there. absurd cc
+    fields_whole no_more (f ∷ ws) rs came is h = absurd is
+    fields_whole (more d ds) [] rs came is h = absurd is
+    fields_whole (more d ds) (f ∷ ws) rs came is h =
+        field_arrives W R f ws rs d (resolved_fields W R ws rs ds) (λ g e k. datum_whole d f.node g.node e is.0 k) (λ c k. fields_whole ds ws rs c is.1 k) (field_named f.name rs) refl came h
 
 pub whole : ResolutionIsWhole
-whole W R w r d e _ formed is h = datum_whole W R d w r e formed is h
+whole W R w r d e _ formed defaults is h = datum_whole W R formed defaults d w r e is h

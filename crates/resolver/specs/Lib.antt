@@ -1,7 +1,8 @@
 pub mod Conforming
 pub mod Matching
 pub mod MismatchKind
-pub mod Outcome
 pub mod Resolution
-pub mod Stage
 pub mod Steps
+pub mod Safety
+pub mod Pairs
+pub mod Outcome

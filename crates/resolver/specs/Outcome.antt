@@ -12,9 +12,8 @@ use Rattle.resolver.specs.declared.outcome.TheConstants.{MOST_PAYLOAD}
 use Rattle.resolver.specs.declared.outcome.Outcome as rust
 use Rattle.resolver.specs.declared.outcome.Outcome.TheVariants as variants
 use Rattle.resolver.specs.declared.outcome.TranscodeError.{TranscodeError}
-use Rattle.resolver.specs.declared.outcome.TranscodeError.TheVariants.{NotYet, TooLarge, NoMemory}
+use Rattle.resolver.specs.declared.outcome.TranscodeError.TheVariants.{TooLarge, NoMemory}
 use Rattle.resolver.specs.Resolution.{resolved}
-use Rattle.resolver.specs.Stage.{differ_in_fields}
 
 -- what becomes of a payload, wherever its bytes lie in memory
 pub data Outcome : Type 0 where
@@ -37,19 +36,15 @@ IsOutcome W R payload (Mismatched m) = (d : Datum) × IsPayload W d payload × (
 IsOutcome W R payload OutputTooLarge = (d : Datum) × (e : Datum) × IsPayload W d payload × (resolved W R 0 0 d ≡ Ok e) × (MOST_OUTPUT < length (written e))
 IsOutcome W R payload (Done bytes) = (d : Datum) × (e : Datum) × IsPayload W d payload × (resolved W R 0 0 d ≡ Ok e) × (bytes ≡ written e) × (length (written e) ≤ MOST_OUTPUT)
 
--- why a payload has no outcome, the first reason
-abbrev pub refusal : List Node → List Node → List ℕ → Option TranscodeError
-refusal W R payload =
-    if differ_in_fields W R then Some NotYet
-    else if nat_lt MOST_PAYLOAD (length payload) then Some TooLarge
-    else None
+-- why a payload has no outcome
+abbrev pub refusal : List ℕ → Option TranscodeError
+refusal payload = if nat_lt MOST_PAYLOAD (length payload) then Some TooLarge else None
 
 -- what transcoding answers: the outcome, or the refusal, unless memory ran out
 abbrev pub Transcodes : List Node → List Node → List ℕ → Result rust.Outcome TranscodeError → Type 0
-Transcodes W R payload (Ok outcome) = (refusal W R payload ≡ None) × IsOutcome W R payload (outcome_of outcome)
-Transcodes W R payload (Err NoMemory) = refusal W R payload ≡ None
-Transcodes W R payload (Err NotYet) = refusal W R payload ≡ Some NotYet
-Transcodes W R payload (Err TooLarge) = refusal W R payload ≡ Some TooLarge
+Transcodes W R payload (Ok outcome) = (refusal payload ≡ None) × IsOutcome W R payload (outcome_of outcome)
+Transcodes W R payload (Err NoMemory) = refusal payload ≡ None
+Transcodes W R payload (Err TooLarge) = refusal payload ≡ Some TooLarge
 
 -- for a private clause: the outcome of a datum that was resolved
 abbrev pub WritesOutcome : Result rust.Outcome TranscodeError → Datum → Type 0
@@ -58,5 +53,4 @@ WritesOutcome (Ok variants.OutputTooLarge) e = MOST_OUTPUT < length (written e)
 WritesOutcome (Ok (variants.Mismatch m)) e = ⊥
 WritesOutcome (Ok (variants.Malformed kind at)) e = ⊥
 WritesOutcome (Err NoMemory) e = Unit {0}
-WritesOutcome (Err NotYet) e = ⊥
 WritesOutcome (Err TooLarge) e = ⊥

@@ -1,16 +1,16 @@
 -- What resolution makes of a datum (Avro 1.11, "Schema Resolution").
-use Rattle.std.specs.Prelude.{◌≡◌, ℕ, List, [], ◌∷◌, Option, Some, None, Result, Ok, Err, if◌then◌else◌, slice_get}
-use Rattle.std.specs.Str.{bytes_eq}
-use Rattle.avro_schema.specs.Node.{Node, FieldNode, LongNode, RecordNode}
-use Rattle.avro_schema.specs.Datum.{Datum, Data, IntDatum, LongDatum, TextDatum, RecordDatum, no_more, more}
-use Rattle.resolver.specs.declared.matching.Place.{Place}
-use Rattle.resolver.specs.declared.matching.Place.TheVariants.{Straight, Unmatched}
+use Rattle.std.specs.Prelude.{◌≡◌, ℕ, Bool, ◌&&◌, List, [], ◌∷◌, Option, Some, None, is_none, position, Result, Ok, Err, if◌then◌else◌, slice_get}
+use Rattle.std.specs.Str.{bytes_eq, is_utf8}
+use Rattle.avro_schema.specs.Node.{Node, FieldNode, LongNode, BytesNode, TextNode, EnumNode, UnionNode, RecordNode}
+use Rattle.avro_schema.specs.Datum.{Datum, Data, Pairs, NullDatum, BooleanDatum, IntDatum, LongDatum, BytesDatum, TextDatum, FixedDatum, EnumDatum, ArrayDatum, MapDatum, UnionDatum, RecordDatum, no_more, more, no_pairs, pair}
+use Rattle.resolver.specs.declared.place.Place.{Place}
+use Rattle.resolver.specs.declared.place.Place.TheVariants.{Straight, IntoMember, Nowhere, Unmatched}
 use Rattle.resolver.specs.declared.mismatch.Mismatch.{Mismatch}
 use Rattle.resolver.specs.declared.mismatch.MismatchKind.{MismatchKind}
-use Rattle.resolver.specs.declared.mismatch.MismatchKind.TheVariants.{NoMatch, NoDefault}
+use Rattle.resolver.specs.declared.mismatch.MismatchKind.TheVariants.{NoMatch, NoBranch, NoSymbol, NoDefault, BytesNotText}
 use Rattle.resolver.specs.declared.mismatch.ResolveError.{ResolveError}
 use Rattle.resolver.specs.declared.mismatch.ResolveError.TheVariants as errors
-use Rattle.resolver.specs.Matching.{place}
+use Rattle.resolver.specs.Matching.{given, both_items, both_values, place}
 
 -- a value of the reader, or the first mismatch
 abbrev pub Resolved : Type 0 → Type 0
@@ -27,17 +27,52 @@ mismatch kind w r = Err (record { kind = kind; writer_node = w; reader_node = r 
 -- the value in its place
 abbrev pub placed : Place → ℕ → ℕ → (ℕ → Resolved Datum) → Resolved Datum
 placed Straight w r value = value r
+placed (IntoMember position node) w r value = value node >>= λ e. Ok (UnionDatum position e)
+placed Nowhere w r value = mismatch NoBranch w r
 placed Unmatched w r value = mismatch NoMatch w r
 
 -- "int is promotable to long"
-abbrev pub promoted : Option Node → Datum → Datum
-promoted (Some LongNode) (IntDatum n) = LongDatum n
-promoted _ d = d
+abbrev pub int_for : Option Node → Datum → Datum
+int_for (Some LongNode) (IntDatum n) = LongDatum n
+int_for _ d = d
 
--- the first thing, where there is one, and what is made of it
-abbrev pub given : {X A : Type 0} → Option X → A → (X → A) → A
-given None none some = none
-given (Some x) none some = some x
+-- "string is promotable to bytes"
+abbrev pub text_for : Option Node → List ℕ → Datum
+text_for (Some BytesNode) text = BytesDatum text
+text_for _ text = TextDatum text
+
+-- "bytes is promotable to string", where they are UTF-8
+abbrev pub bytes_for : Option Node → ℕ → ℕ → List ℕ → Resolved Datum
+bytes_for (Some TextNode) w r bytes = if is_utf8 bytes then Ok (TextDatum bytes) else mismatch BytesNotText w r
+bytes_for _ w r bytes = Ok (BytesDatum bytes)
+
+-- the first, or else the second
+abbrev pub or_else : {A : Type 0} → Option A → Option A → Option A
+or_else (Some a) other = Some a
+or_else None other = other
+
+-- ---- enums: "if the symbol is not present in the reader's enum and the reader has a default value, then that value is used"
+
+-- the position of a symbol among others, or else the default
+abbrev pub symbol_in : List (List ℕ) → Option ℕ → List ℕ → Option ℕ
+symbol_in symbols default symbol = or_else (position (bytes_eq symbol) symbols) default
+
+-- the symbol of a position in an enum
+abbrev pub symbol_at : Option Node → ℕ → Option (List ℕ)
+symbol_at (Some (EnumNode name symbols default)) n = slice_get symbols n
+symbol_at _ n = None
+
+-- the position of a symbol in an enum, or else its default
+abbrev pub symbol_for : Option Node → List ℕ → Option ℕ
+symbol_for (Some (EnumNode name symbols default)) symbol = symbol_in symbols default symbol
+symbol_for _ symbol = None
+
+-- ---- unions
+
+-- the node of the member of that position
+abbrev pub member_at : Option Node → ℕ → Option ℕ
+member_at (Some (UnionNode members)) n = slice_get members n
+member_at _ n = None
 
 -- ---- records: fields go by name
 
@@ -50,10 +85,14 @@ abbrev pub field_lists : Option Node → Option Node → Option (List FieldNode 
 field_lists (Some (RecordNode n fs)) (Some (RecordNode m gs)) = Some (fs, gs)
 field_lists _ _ = None
 
--- the first reader's field without a partner (in this stage no field has a default)
+-- a reader's field with neither a partner nor a default
+abbrev pub lacks : List FieldNode → FieldNode → Bool
+lacks ws g = is_none (field_named g.name ws) && is_none g.default
+
+-- the first such field
 abbrev pub lacking : List FieldNode → List FieldNode → Option FieldNode
 lacking ws [] = None
-lacking ws (g ∷ rs) = given (field_named g.name ws) (Some g) (λ _. lacking ws rs)
+lacking ws (g ∷ rs) = if lacks ws g then Some g else lacking ws rs
 
 abbrev pub unless_lacking : Option FieldNode → ℕ → Resolved Datum → Resolved Datum
 unless_lacking None w value = value
@@ -67,21 +106,46 @@ abbrev pub came_as : List ℕ → Came → Option Datum
 came_as name [] = None
 came_as name (c ∷ came) = if bytes_eq name c.0 then Some c.1 else came_as name came
 
--- the reader's fields in the reader's order
+-- the reader's fields in the reader's order, what came or else the default
 abbrev pub gathered : List FieldNode → Came → Data
 gathered [] came = no_more
-gathered (g ∷ rs) came = given (came_as g.name came) (gathered rs came) (λ d. more d (gathered rs came))
+gathered (g ∷ rs) came = given (or_else (came_as g.name came) g.default) (gathered rs came) (λ d. more d (gathered rs came))
 
 module _ (W R : List Node) where
   unfoldable mutual
     -- a datum of the writer's node, for the reader's node
     pub resolved : ℕ → ℕ → Datum → Resolved Datum
-    resolved w r (IntDatum n) = placed (place W R w r) w r (λ node. Ok (promoted (slice_get R node) (IntDatum n)))
+    resolved w r NullDatum = placed (place W R w r) w r (λ node. Ok NullDatum)
+    resolved w r (BooleanDatum b) = placed (place W R w r) w r (λ node. Ok (BooleanDatum b))
+    resolved w r (IntDatum n) = placed (place W R w r) w r (λ node. Ok (int_for (slice_get R node) (IntDatum n)))
     resolved w r (LongDatum n) = placed (place W R w r) w r (λ node. Ok (LongDatum n))
-    resolved w r (TextDatum text) = placed (place W R w r) w r (λ node. Ok (TextDatum text))
+    resolved w r (BytesDatum bytes) = placed (place W R w r) w r (λ node. bytes_for (slice_get R node) w node bytes)
+    resolved w r (TextDatum text) = placed (place W R w r) w r (λ node. Ok (text_for (slice_get R node) text))
+    resolved w r (FixedDatum bytes) = placed (place W R w r) w r (λ node. Ok (FixedDatum bytes))
+    resolved w r (EnumDatum n) = placed (place W R w r) w r (λ node.
+        given (symbol_at (slice_get W w) n) (mismatch NoMatch w node) (λ symbol.
+        given (symbol_for (slice_get R node) symbol) (mismatch NoSymbol w node) (λ m. Ok (EnumDatum m))))
+    resolved w r (ArrayDatum ds) = placed (place W R w r) w r (λ node.
+        given (both_items (slice_get W w) (slice_get R node)) (mismatch NoMatch w node) (λ p.
+        resolved_items p.0 p.1 ds >>= λ es. Ok (ArrayDatum es)))
+    resolved w r (MapDatum ps) = placed (place W R w r) w r (λ node.
+        given (both_values (slice_get W w) (slice_get R node)) (mismatch NoMatch w node) (λ p.
+        resolved_values p.0 p.1 ps >>= λ qs. Ok (MapDatum qs)))
     resolved w r (RecordDatum ds) = placed (place W R w r) w r (λ node.
         given (field_lists (slice_get W w) (slice_get R node)) (mismatch NoMatch w node) (λ p.
         unless_lacking (lacking p.0 p.1) w (resolved_fields p.0 p.1 ds >>= λ came. Ok (RecordDatum (gathered p.1 came)))))
+    -- the writer's union goes first: its datum, whose place is its own
+    resolved w r (UnionDatum n d) = given (member_at (slice_get W w) n) (mismatch NoMatch w r) (λ member. resolved member r d)
+
+    -- items, one after another
+    pub resolved_items : ℕ → ℕ → Data → Resolved Data
+    resolved_items w r no_more = Ok no_more
+    resolved_items w r (more d ds) = resolved w r d >>= λ e. resolved_items w r ds >>= λ es. Ok (more e es)
+
+    -- values, each under its key
+    pub resolved_values : ℕ → ℕ → Pairs → Resolved Pairs
+    resolved_values w r no_pairs = Ok no_pairs
+    resolved_values w r (pair key d ps) = resolved w r d >>= λ e. resolved_values w r ps >>= λ qs. Ok (pair key e qs)
 
     -- the writer's fields in the writer's order, less those that the reader lacks
     pub resolved_fields : List FieldNode → List FieldNode → Data → Resolved Came

@@ -1,8 +1,8 @@
-ghost use Rattle.std.specs.Prelude.{◌≡◌, ◌<◌, length, map, slice_get, IfOk, IfSome, option_map, option_to_list, position};
-ghost use Rattle.std.specs.List.{flat_map};
+ghost use Rattle.std.specs.Prelude.{◌≡◌, ◌<◌, length, map, slice_get, IfOk, IfSome, option_map, position};
+ghost use Rattle.avro_schema.specs.Datum.{data_of, datum_of};
 ghost use Rattle.avro_schema.specs.Node.{field_of, fields_of};
-ghost use Rattle.resolver.specs.Resolution.{field_lists, lacking};
-ghost use Rattle.resolver.specs.Steps.{AreFields, both_lists, is_named, kept};
+ghost use Rattle.resolver.specs.Resolution.{field_lists, lacking, lacks, or_else};
+ghost use Rattle.resolver.specs.Steps.{AreFields, both_lists, filled, is_named, kept, slots_of};
 
 use avro_schema::{Datum, Field, Kind, Schema};
 use std::alloc::{AllocError, Global};
@@ -38,12 +38,21 @@ pub(crate) fn place_of_name(name: &str, fields: &[Field]) -> Option<usize>
     fields.iter().position(|field| name == field.name.as_str())
 }
 
-/// The first of the reader's fields that has no partner.
+/// Whether a reader's field has neither a partner nor a default.
+#[tactic(auto, using(crate::proofs::Named::none_named))]
+fn lacks(writers: &[Field], field: &Field) -> bool
+    ensures { result ≡ lacks (fields_of writers.now) (field_of field.now) }
+{
+    place_of_name(&field.name, writers).is_none() && field.default.is_none()
+}
+
+/// The first of the reader's fields that has neither a partner nor a default.
+#[tactic(auto, using(crate::proofs::Named::lacking_here))]
 pub(crate) fn first_lacking<'a>(writers: &[Field], readers: &'a [Field]) -> Option<&'a Field>
     ensures { option_map (λ g. field_of g.now) result ≡ lacking (fields_of writers.now) (fields_of readers.now) }
 {
     for field in readers {
-        if place_of_name(&field.name, writers).is_none() {
+        if lacks(writers, field) {
             return Some(field);
         }
     }
@@ -54,7 +63,11 @@ pub(crate) fn first_lacking<'a>(writers: &[Field], readers: &'a [Field]) -> Opti
 pub(crate) fn empty_slots(alloc: Global, fields: &[Field]) -> Result<Vec<Option<Datum>>, AllocError>
     ensures { IfOk result (λ v. v.items ≡ map (λ _. None) fields.now) }
 {
-    fields.iter().map(|_| None).collect(alloc)
+    let mut slots = Vec::new(alloc);
+    for _field in fields {
+        slots.push(None)?;
+    }
+    Ok(slots)
 }
 
 /// The slots with a value in its own, which is at the place that comes with it.
@@ -69,9 +82,40 @@ pub(crate) fn keep(slots: Vec<Option<Datum>>, value: Option<(usize, Datum)>) -> 
     slots
 }
 
-/// What the slots hold.
-pub(crate) fn held(alloc: Global, slots: Vec<Option<Datum>>) -> Result<Vec<Datum>, AllocError>
-    ensures { IfOk result (λ v. v.items ≡ flat_map option_to_list slots.items) }
+/// What a slot holds, and else the default of its field.
+fn or_default(
+    alloc: Global,
+    slot: Option<Datum>,
+    field: &Field,
+) -> Result<Option<Datum>, AllocError>
+    ensures { IfOk result (λ o. option_map datum_of o ≡ or_else (option_map datum_of slot) (field_of field.now).default) }
 {
-    slots.into_iter().flatten().collect(alloc)
+    match slot {
+        Some(datum) => Ok(Some(datum)),
+        None => match &field.default {
+            Some(default) => {
+                let datum = default.copy(alloc)?;
+                Ok(Some(datum))
+            }
+            None => Ok(None),
+        },
+    }
+}
+
+/// What the slots hold, and else copies of the fields' defaults.
+pub(crate) fn fill(
+    alloc: Global,
+    fields: &[Field],
+    slots: Vec<Option<Datum>>,
+) -> Result<Vec<Datum>, AllocError>
+    ensures { IfOk result (λ v. data_of v.items ≡ filled (fields_of fields.now) (slots_of slots.items)) }
+{
+    let mut data = Vec::new(alloc);
+    for (field, slot) in fields.iter().zip(slots) {
+        let value = or_default(alloc, slot, field)?;
+        if let Some(datum) = value {
+            data.push(datum)?;
+        }
+    }
+    Ok(data)
 }

@@ -1,11 +1,23 @@
-ghost use Rattle.resolver.specs.Conforming.{ResolutionIsWhole};
 ghost use Rattle.std.specs.Prelude.{◌≡◌, ℕ, List};
 ghost use Rattle.avro_schema.specs.Node.{Node};
 ghost use Rattle.resolver.specs.Outcome as outcome;
+ghost use Rattle.resolver.specs.Safety.{SafeDataAreReadable};
+ghost use Rattle.resolver.specs.Conforming.{ResolutionIsWhole};
+ghost use Rattle.resolver.specs.Matching.{MatchesByRule};
+
+/// The law that matching is the rule as the standard writes it, however deep arrays and maps nest.
+pub fn matches_by_rule()
+    ensures { MatchesByRule }
+{}
 
 /// The law that what comes of a writer's datum is a datum of the reader's node, whole and in range.
 pub fn resolution_is_whole()
     ensures { ResolutionIsWhole }
+{}
+
+/// The law that each datum of a writer that a reader is safe with is read, but for bytes that are no UTF-8.
+pub fn what_is_safe_can_be_read()
+    ensures { SafeDataAreReadable }
 {}
 
 /// The law that each payload has just one outcome.

@@ -2,20 +2,32 @@
 #![tactic(auto)]
 
 mod fields;
+#[cfg(test)]
+mod kinds_tests;
 mod laws;
+mod leaves;
 mod matching;
+mod memory;
 mod mismatch;
 mod outcome;
+mod pairs;
+mod place;
+mod reading;
 mod resolving;
-mod stage;
+mod symbols;
 #[cfg(test)]
 mod tests;
 mod transcoding;
+mod unions;
 
-pub use laws::{payload_has_one_outcome, resolution_is_whole};
-pub use matching::{Place, matches, place_of};
+pub use laws::{
+    matches_by_rule, payload_has_one_outcome, resolution_is_whole, what_is_safe_can_be_read,
+};
+pub use matching::matches;
+pub use memory::NoMemory;
 pub use mismatch::{Mismatch, MismatchKind, ResolveError};
 pub use outcome::{MOST_PAYLOAD, Outcome, TranscodeError};
+pub use place::{Place, place_of};
+pub use reading::can_read;
 pub use resolving::resolve;
-pub use stage::differ_in_fields;
 pub use transcoding::transcode_tree;

@@ -1,17 +1,9 @@
-ghost use Rattle.std.specs.Prelude.{◌≡◌, ◌<◌, length};
+ghost use Rattle.std.specs.Prelude.{◌≡◌, ◌<◌, Some, false, length, slice_get, suc, IfSome};
 ghost use Rattle.std.specs.List.{after_last};
-ghost use Rattle.resolver.specs.Matching.{matches, place, unqualified};
+ghost use Rattle.avro_schema.specs.Node.{is_union, node_of};
+ghost use Rattle.resolver.specs.Matching.{ArePair, both_items, both_values, given, have_same_name, kinds_match, matches, matches_within, names_match, primitives_match, unqualified};
 
 use avro_schema::{Kind, Schema};
-
-/// Where a value of a writer's node goes with a reader's node.
-#[derive(Clone, Copy, Debug, PartialEq, Eq)]
-pub enum Place {
-    /// Into the reader's node itself.
-    Straight,
-    /// Nowhere, since the reader's node does not match.
-    Unmatched,
-}
 
 /// The last part of a full name.
 fn unqualified(name: &str) -> &str
@@ -23,33 +15,125 @@ fn unqualified(name: &str) -> &str
     }
 }
 
-/// Whether a writer's node and a reader's node match.
-#[tactic(auto, unfolding(crate::specs::Matching::matches))]
-pub fn matches(w: &Schema, wn: usize, r: &Schema, rn: usize) -> bool
-    requires writer { wn < length w.now.nodes }
-    requires reader { rn < length r.now.nodes }
-    ensures { result ≡ matches w.now.nodes r.now.nodes wn rn }
+/// Whether the last parts of two full names are the same.
+fn have_same_name(name: &str, other: &str) -> bool
+    ensures { result ≡ have_same_name name.now other.now }
 {
-    match (w.kind(wn), r.kind(rn)) {
+    unqualified(name) == unqualified(other)
+}
+
+/// Whether a node is a union.
+fn is_union(kind: &Kind) -> bool
+    ensures { result ≡ is_union (Some (node_of kind.now)) }
+{
+    match kind {
+        Kind::Union(_) => true,
+        _ => false,
+    }
+}
+
+/// Whether both are the same primitive type, or the writer's is promoted to the reader's.
+fn primitives_match(writer: &Kind, reader: &Kind) -> bool
+    ensures { result ≡ primitives_match (node_of writer.now) (node_of reader.now) }
+{
+    match (writer, reader) {
+        (Kind::Null, Kind::Null) => true,
+        (Kind::Boolean, Kind::Boolean) => true,
         (Kind::Int, Kind::Int | Kind::Long) => true,
         (Kind::Long, Kind::Long) => true,
-        (Kind::Text, Kind::Text) => true,
+        (Kind::Bytes, Kind::Bytes | Kind::Text) => true,
+        (Kind::Text, Kind::Text | Kind::Bytes) => true,
+        _ => false,
+    }
+}
+
+/// Whether both are enums, fixed or records that match by their names, fixed by their sizes too.
+fn names_match(writer: &Kind, reader: &Kind) -> bool
+    ensures { result ≡ names_match (node_of writer.now) (node_of reader.now) }
+{
+    match (writer, reader) {
+        (Kind::Enum { name, .. }, Kind::Enum { name: other, .. }) => have_same_name(name, other),
+        (
+            Kind::Fixed { name, size },
+            Kind::Fixed {
+                name: other,
+                size: most,
+            },
+        ) => { have_same_name(name, other) && size == most }
         (Kind::Record { name, .. }, Kind::Record { name: other, .. }) => {
-            unqualified(name) == unqualified(other)
+            have_same_name(name, other)
         }
         _ => false,
     }
 }
 
-/// Where a value of a writer's node goes with a reader's node.
-pub fn place_of(w: &Schema, wn: usize, r: &Schema, rn: usize) -> Place
+/// The nodes of the items of two arrays.
+pub(crate) fn both_items(w: &Schema, wn: usize, r: &Schema, rn: usize) -> Option<(usize, usize)>
     requires writer { wn < length w.now.nodes }
     requires reader { rn < length r.now.nodes }
-    ensures { result ≡ place w.now.nodes r.now.nodes wn rn }
+    ensures nodes { result ≡ both_items (slice_get w.now.nodes wn) (slice_get r.now.nodes rn) }
+    ensures within { IfSome result (ArePair w.now.nodes r.now.nodes) }
 {
-    if matches(w, wn, r, rn) {
-        Place::Straight
-    } else {
-        Place::Unmatched
+    match (w.kind(wn), r.kind(rn)) {
+        (Kind::Array(item), Kind::Array(other)) => Some((*item, *other)),
+        _ => None,
     }
+}
+
+/// The nodes of the values of two maps.
+pub(crate) fn both_values(w: &Schema, wn: usize, r: &Schema, rn: usize) -> Option<(usize, usize)>
+    requires writer { wn < length w.now.nodes }
+    requires reader { rn < length r.now.nodes }
+    ensures nodes { result ≡ both_values (slice_get w.now.nodes wn) (slice_get r.now.nodes rn) }
+    ensures within { IfSome result (ArePair w.now.nodes r.now.nodes) }
+{
+    match (w.kind(wn), r.kind(rn)) {
+        (Kind::Map(value), Kind::Map(other)) => Some((*value, *other)),
+        _ => None,
+    }
+}
+
+/// Whether two nodes match by what they are, whatever their parts.
+fn kinds_match(writer: &Kind, reader: &Kind) -> bool
+    ensures { result ≡ kinds_match (node_of writer.now) (node_of reader.now) }
+{
+    is_union(writer)
+        || is_union(reader)
+        || primitives_match(writer, reader)
+        || names_match(writer, reader)
+}
+
+/// Whether the items or values of two nodes match, where there are such, by so many steps.
+#[tactic(auto, unfolding(crate::specs::Matching::matches_within))]
+#[cycle(matches)]
+fn parts_match(steps: usize, w: &Schema, r: &Schema, parts: Option<(usize, usize)>) -> bool
+    requires { IfSome parts (ArePair w.now.nodes r.now.nodes) }
+    ensures { result ≡ given parts false (λ p. matches_within w.now.nodes r.now.nodes steps p.0 p.1) }
+{
+    match parts {
+        Some((wn, rn)) => steps > 0 && matches_within(steps - 1, w, wn, r, rn),
+        None => false,
+    }
+}
+
+/// Whether a writer's node and a reader's node match, by so many steps into items and values.
+#[tactic(auto, unfolding(crate::specs::Matching::matches_within))]
+#[cycle(matches)]
+fn matches_within(steps: usize, w: &Schema, wn: usize, r: &Schema, rn: usize) -> bool
+    requires writer { wn < length w.now.nodes }
+    requires reader { rn < length r.now.nodes }
+    ensures { result ≡ matches_within w.now.nodes r.now.nodes (suc steps) wn rn }
+{
+    kinds_match(w.kind(wn), r.kind(rn))
+        || parts_match(steps, w, r, both_items(w, wn, r, rn))
+        || parts_match(steps, w, r, both_values(w, wn, r, rn))
+}
+
+/// Whether a writer's node and a reader's node match.
+pub fn matches(w: &Schema, wn: usize, r: &Schema, rn: usize) -> bool
+    requires writer { wn < length w.now.nodes }
+    requires reader { rn < length r.now.nodes }
+    ensures { result ≡ matches w.now.nodes r.now.nodes wn rn }
+{
+    matches_within(w.len(), w, wn, r, rn)
 }

@@ -1,3 +1,5 @@
+ghost use Rattle.std.specs.Prelude.{◌≡◌};
+
 use std::alloc::{AllocError, AllocFailed};
 use thiserror::Error;
 
@@ -71,4 +73,15 @@ impl<T: Drop> From<AllocFailed<T>> for ResolveError {
     fn from(_error: AllocFailed<T>) -> ResolveError {
         ResolveError::NoMemory
     }
+}
+
+/// The error of a mismatch of two nodes.
+pub(crate) fn mismatched(kind: MismatchKind, writer_node: usize, reader_node: usize) -> ResolveError
+    ensures { result ≡ ResolveError.Mismatch (record { kind = kind; writer_node = writer_node; reader_node = reader_node }) }
+{
+    ResolveError::Mismatch(Mismatch {
+        kind,
+        writer_node,
+        reader_node,
+    })
 }

@@ -20,9 +20,6 @@ pub enum Outcome {
 /// Why there is no outcome, the first reason.
 #[derive(Clone, Copy, Debug, PartialEq, Eq, Error)]
 pub enum TranscodeError {
-    /// Both roots are records, and their lists of field names differ.
-    #[error("records with different fields are not transcoded yet")]
-    NotYet,
     #[error("the payload passes its limit")]
     TooLarge,
     #[error("out of memory")]

@@ -1,27 +1,21 @@
 ghost use Rattle.std.specs.Prelude.{◌≡◌, ◌<◌, length, position, string_bytes, IfOk, IfSome, option_map};
 ghost use Rattle.avro_schema.specs.Node.{field_of, fields_of};
-ghost use Rattle.avro_schema.specs.Datum.{RecordDatum, data_of, datum_of};
+ghost use Rattle.avro_schema.specs.Datum.{ArrayDatum, MapDatum, RecordDatum, data_of, datum_of, pairs_of};
+ghost use Rattle.resolver.specs.Matching.{place};
 ghost use Rattle.resolver.specs.Steps.{AreFields, inside, into_slots, is_named, one_field, slots_of, value_of};
-ghost use Rattle.resolver.specs.Resolution.{Resolves, resolved, resolved_fields};
+ghost use Rattle.resolver.specs.Resolution.{Resolves, placed, resolved, resolved_fields, resolved_items, resolved_values};
 
-use crate::fields::{empty_slots, field_lists, first_lacking, held, keep, place_of_name};
-use crate::matching::{Place, place_of};
-use crate::mismatch::{Mismatch, MismatchKind, ResolveError};
-use avro_schema::{Datum, Field, Kind, Schema};
+use crate::fields::{empty_slots, field_lists, fill, first_lacking, keep, place_of_name};
+use crate::leaves::{bytes_for, enum_for, int_for, text_for};
+use crate::matching::{both_items, both_values};
+use crate::mismatch::{MismatchKind, ResolveError, mismatched};
+use crate::place::{Place, place_of};
+use crate::unions::member_of;
+use avro_schema::{Datum, Field, Schema};
 use std::alloc::Global;
 
-/// The error of a mismatch of two nodes.
-fn mismatch(kind: MismatchKind, writer_node: usize, reader_node: usize) -> ResolveError
-    ensures { result ≡ ResolveError.Mismatch (record { kind = kind; writer_node = writer_node; reader_node = reader_node }) }
-{
-    ResolveError::Mismatch(Mismatch {
-        kind,
-        writer_node,
-        reader_node,
-    })
-}
-
-/// Resolves a datum of a writer's node for a reader's node.
+/// Resolves a datum of a writer's node for a reader's node. A writer's union goes first.
+#[tactic(auto, unfolding(crate::specs::Resolution::resolved))]
 #[cycle(resolve)]
 fn resolve_at(
     alloc: Global,
@@ -35,13 +29,42 @@ fn resolve_at(
     requires reader { rn < length r.now.nodes }
     ensures { Resolves datum_of result (resolved w.now.nodes r.now.nodes wn rn (datum_of datum)) }
 {
-    match place_of(w, wn, r, rn) {
-        Place::Straight => resolve_inside(alloc, w, wn, r, rn, datum),
-        Place::Unmatched => Err(mismatch(MismatchKind::NoMatch, wn, rn)),
+    match datum {
+        Datum::Union(position, inner) => match member_of(w, wn, position) {
+            Some(member) => resolve_at(alloc, w, member, r, rn, Box::into_inner(inner)),
+            None => Err(mismatched(MismatchKind::NoMatch, wn, rn)),
+        },
+        datum => resolve_placed(alloc, w, wn, r, rn, datum),
     }
 }
 
-/// Resolves a datum into the reader's node itself, which matches.
+/// Resolves a datum that is no union's into its place.
+#[cycle(resolve)]
+fn resolve_placed(
+    alloc: Global,
+    w: &Schema,
+    wn: usize,
+    r: &Schema,
+    rn: usize,
+    datum: Datum,
+) -> Result<Datum, ResolveError>
+    requires writer { wn < length w.now.nodes }
+    requires reader { rn < length r.now.nodes }
+    ensures { Resolves datum_of result (placed (place w.now.nodes r.now.nodes wn rn) wn rn (λ node. inside w.now.nodes r.now.nodes wn node (datum_of datum))) }
+{
+    match place_of(w, wn, r, rn) {
+        Place::Straight => resolve_inside(alloc, w, wn, r, rn, datum),
+        Place::IntoMember { position, node } => {
+            let inner = resolve_inside(alloc, w, wn, r, node, datum)?;
+            let inner = Box::new(alloc, inner)?;
+            Ok(Datum::Union(position, inner))
+        }
+        Place::Nowhere => Err(mismatched(MismatchKind::NoBranch, wn, rn)),
+        Place::Unmatched => Err(mismatched(MismatchKind::NoMatch, wn, rn)),
+    }
+}
+
+/// Resolves a datum into the reader's node itself.
 #[tactic(auto, unfolding(crate::specs::Steps::inside))]
 #[cycle(resolve)]
 fn resolve_inside(
@@ -57,14 +80,127 @@ fn resolve_inside(
     ensures { Resolves datum_of result (inside w.now.nodes r.now.nodes wn rn (datum_of datum)) }
 {
     match datum {
-        Datum::Int(n) => match r.kind(rn) {
-            Kind::Long => Ok(Datum::Long(i64::from(n))),
-            _ => Ok(Datum::Int(n)),
-        },
+        Datum::Null => Ok(Datum::Null),
+        Datum::Boolean(b) => Ok(Datum::Boolean(b)),
+        Datum::Int(n) => Ok(int_for(r, rn, n)),
         Datum::Long(n) => Ok(Datum::Long(n)),
-        Datum::Text(text) => Ok(Datum::Text(text)),
+        Datum::Bytes(bytes) => bytes_for(wn, r, rn, bytes),
+        Datum::Text(text) => Ok(text_for(r, rn, text)),
+        Datum::Fixed(bytes) => Ok(Datum::Fixed(bytes)),
+        Datum::Enum(position) => enum_for(w, wn, r, rn, position),
+        Datum::Array(items) => resolve_array(alloc, items, w, wn, r, rn),
+        Datum::Map(pairs) => resolve_map(alloc, pairs, w, wn, r, rn),
         Datum::Record(fields) => resolve_record(alloc, fields, w, wn, r, rn),
+        Datum::Union(_, _) => Err(mismatched(MismatchKind::NoMatch, wn, rn)),
     }
+}
+
+/// Resolves an array of the writer's into one of the reader's.
+#[tactic(auto, unfolding(crate::specs::Steps::inside))]
+#[cycle(resolve)]
+fn resolve_array(
+    alloc: Global,
+    items: Vec<Datum>,
+    w: &Schema,
+    wn: usize,
+    r: &Schema,
+    rn: usize,
+) -> Result<Datum, ResolveError>
+    requires writer { wn < length w.now.nodes }
+    requires reader { rn < length r.now.nodes }
+    ensures { Resolves datum_of result (inside w.now.nodes r.now.nodes wn rn (ArrayDatum (data_of items.items))) }
+{
+    let Some((item, other)) = both_items(w, wn, r, rn) else {
+        return Err(mismatched(MismatchKind::NoMatch, wn, rn));
+    };
+    let all = resolve_items(alloc, items, w, item, r, other)?;
+    Ok(Datum::Array(all))
+}
+
+/// Resolves items, one after another.
+#[cycle(resolve)]
+fn resolve_items(
+    alloc: Global,
+    items: Vec<Datum>,
+    w: &Schema,
+    wn: usize,
+    r: &Schema,
+    rn: usize,
+) -> Result<Vec<Datum>, ResolveError>
+    requires writer { wn < length w.now.nodes }
+    requires reader { rn < length r.now.nodes }
+    ensures { Resolves (λ v. data_of v.items) result (resolved_items w.now.nodes r.now.nodes wn rn (data_of items.items)) }
+{
+    let mut all = Vec::new(alloc);
+    for item in items {
+        let datum = resolve_at(alloc, w, wn, r, rn, item)?;
+        all.push(datum)?;
+    }
+    Ok(all)
+}
+
+/// Resolves a map of the writer's into one of the reader's.
+#[tactic(auto, unfolding(crate::specs::Steps::inside))]
+#[cycle(resolve)]
+fn resolve_map(
+    alloc: Global,
+    pairs: Vec<(String, Datum)>,
+    w: &Schema,
+    wn: usize,
+    r: &Schema,
+    rn: usize,
+) -> Result<Datum, ResolveError>
+    requires writer { wn < length w.now.nodes }
+    requires reader { rn < length r.now.nodes }
+    ensures { Resolves datum_of result (inside w.now.nodes r.now.nodes wn rn (MapDatum (pairs_of pairs.items))) }
+{
+    let Some((value, other)) = both_values(w, wn, r, rn) else {
+        return Err(mismatched(MismatchKind::NoMatch, wn, rn));
+    };
+    let all = resolve_values(alloc, pairs, w, value, r, other)?;
+    Ok(Datum::Map(all))
+}
+
+/// Resolves values, each under its key.
+#[cycle(resolve)]
+fn resolve_values(
+    alloc: Global,
+    pairs: Vec<(String, Datum)>,
+    w: &Schema,
+    wn: usize,
+    r: &Schema,
+    rn: usize,
+) -> Result<Vec<(String, Datum)>, ResolveError>
+    requires writer { wn < length w.now.nodes }
+    requires reader { rn < length r.now.nodes }
+    ensures { Resolves (λ v. pairs_of v.items) result (resolved_values w.now.nodes r.now.nodes wn rn (pairs_of pairs.items)) }
+{
+    let mut all = Vec::new(alloc);
+    for pair in pairs {
+        let resolved = resolve_value(alloc, pair, w, wn, r, rn)?;
+        all.push(resolved)?;
+    }
+    Ok(all)
+}
+
+/// Resolves a value, which stays under its key.
+#[cycle(resolve)]
+fn resolve_value(
+    alloc: Global,
+    pair: (String, Datum),
+    w: &Schema,
+    wn: usize,
+    r: &Schema,
+    rn: usize,
+) -> Result<(String, Datum), ResolveError>
+    requires writer { wn < length w.now.nodes }
+    requires reader { rn < length r.now.nodes }
+    ensures value { Resolves (λ p. datum_of p.1) result (resolved w.now.nodes r.now.nodes wn rn (datum_of pair.1)) }
+    ensures key { IfOk result (λ p. p.0 ≡ pair.0) }
+{
+    let (key, value) = pair;
+    let datum = resolve_at(alloc, w, wn, r, rn, value)?;
+    Ok((key, datum))
 }
 
 /// Resolves a record of the writer's into one of the reader's.
@@ -83,13 +219,13 @@ fn resolve_record(
     ensures { Resolves datum_of result (inside w.now.nodes r.now.nodes wn rn (RecordDatum (data_of fields.items))) }
 {
     let Some((ws, rs)) = field_lists(w, wn, r, rn) else {
-        return Err(mismatch(MismatchKind::NoMatch, wn, rn));
+        return Err(mismatched(MismatchKind::NoMatch, wn, rn));
     };
     if let Some(field) = first_lacking(ws, rs) {
-        return Err(mismatch(MismatchKind::NoDefault, wn, field.node));
+        return Err(mismatched(MismatchKind::NoDefault, wn, field.node));
     }
     let slots = resolve_fields(alloc, fields, w, ws, r, rs)?;
-    let all = held(alloc, slots)?;
+    let all = fill(alloc, rs, slots)?;
     Ok(Datum::Record(all))
 }
 

@@ -4,7 +4,6 @@ ghost use Rattle.avro_schema.specs.Datum.{datum_of};
 use crate::mismatch::ResolveError;
 use crate::outcome::{MOST_PAYLOAD, Outcome, TranscodeError};
 use crate::resolving::resolve;
-use crate::stage::differ_in_fields;
 use avro_bytes::Fault;
 use avro_datum::{WriteError, read_all, write};
 use avro_schema::{Datum, Schema};
@@ -31,9 +30,6 @@ pub fn transcode_tree(
 ) -> Result<Outcome, TranscodeError>
     ensures { Transcodes w.now.nodes r.now.nodes payload.now result }
 {
-    if differ_in_fields(w, r) {
-        return Err(TranscodeError::NotYet);
-    }
     if payload.len() > MOST_PAYLOAD {
         return Err(TranscodeError::TooLarge);
     }

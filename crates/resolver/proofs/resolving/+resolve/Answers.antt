@@ -2,15 +2,14 @@
 use Rattle.std.proofs.Common.{rules, inl, inr, sym, ◌∙◌}
 use Rattle.std.proofs.lemmas.Result.{err_from_is_err_and}
 use Rattle.avro_schema.specs.Datum.{datum_of}
-use Rattle.resolver.proofs.Steps.{in_place, no_place, record_made, record_result, field_below, field_err, field_ok, field_none}
+use Rattle.resolver.proofs.Steps.{into_place, array_made, map_made, array_result, map_result, record_made, record_result, field_below, field_err, field_ok, field_none}
+use Rattle.resolver.proofs.Deeper.{at_first, falls, one_on}
+use Rattle.resolver.proofs.Items.{pairs_begin, item_on, item_wrong, items_end, pair_on, pair_wrong, pairs_end, no_length}
 use Rattle.resolver.proofs.Loop.{begins, goes_wrong, goes_on, goes_out}
 use Rattle.resolver.proofs.resolving.+resolve.Goals as goal
 
-pub resolve_at-returns-in-Straight : goal.resolve_at-returns-in-Straight
-resolve_at-returns-in-Straight t c = in_place _ _ _ _ (datum_of c.args.datum) c.in-Straight.ensures c.resolve_inside.result c.resolve_inside.ensures
-
-pub resolve_at-returns-in-Unmatched : goal.resolve_at-returns-in-Unmatched
-resolve_at-returns-in-Unmatched t c = rw c.mismatch.ensures (no_place _ _ _ _ (datum_of c.args.datum) c.in-Unmatched.ensures)
+pub resolve_at-returns-in_default : goal.resolve_at-returns-in_default
+resolve_at-returns-in_default t c = into_place _ _ _ _ c.args.datum c.in_default.not-Union c.resolve_placed.result c.resolve_placed.ensures
 
 pub resolve_field-resolve_at-requires : goal.resolve_field-resolve_at-requires
 resolve_field-resolve_at-requires t c = (search rules, (c.requires.writer, field_below _ c.args.rs.now c.in-Some.place _ c.requires.reader.below c.in-Some.ensures.within))
@@ -52,3 +51,60 @@ resolve_inside-returns-in-Record t c = record_result _ _ _ _ c.args.datum c.in-R
 
 pub resolve_record-returns : goal.resolve_record-returns
 resolve_record-returns t c = record_made _ _ _ _ _ _ _ c.in_ok-slots.slots.items c.in_ok-all.all c.in-Some.ensures.lists c.in_default-first_lacking.ensures c.in_ok-slots.ensures c.in_ok-all.ensures
+
+pub resolve_inside-returns-in-Array : goal.resolve_inside-returns-in-Array
+resolve_inside-returns-in-Array t c = array_result _ _ _ _ c.args.datum c.in-Array.items c.in-Array.is c.resolve_array.result c.resolve_array.ensures
+
+pub resolve_inside-returns-in-Map : goal.resolve_inside-returns-in-Map
+resolve_inside-returns-in-Map t c = map_result _ _ _ _ c.args.datum c.in-Map.pairs c.in-Map.is c.resolve_map.result c.resolve_map.ensures
+
+pub resolve_array-returns : goal.resolve_array-returns
+resolve_array-returns t c = array_made _ _ _ _ (c.in-Some.item, c.in-Some.other) _ c.in_ok-all.all c.in-Some.ensures.nodes c.in_ok-all.ensures
+
+pub resolve_map-returns : goal.resolve_map-returns
+resolve_map-returns t c = map_made _ _ _ _ (c.in-Some.value, c.in-Some.other) _ c.in_ok-all.all c.in-Some.ensures.nodes c.in_ok-all.ensures
+
+pub resolve_items-loop-item-preserved : goal.resolve_items-loop-item-preserved
+resolve_items-loop-item-preserved t c = record {
+  can = tt;
+  finite = tt;
+  len = search rules;
+  so_far = item_on _ _ _ _ _ _ _ _ _ c.loop-item.invariant.so_far c.in-Some.ensures.steps.0 c.in_ok-datum.datum _ c.in_ok-push.ensures.items c.in_ok-datum.ensures;
+}
+
+pub resolve_items-returns-in_err-datum : goal.resolve_items-returns-in_err-datum
+resolve_items-returns-in_err-datum t c =
+    let p = err_from_is_err_and c.from_residual.result c.from_residual.ensures.1 in
+    rw (p.1, p.2) (item_wrong _ _ _ _ _ _ _ _ _ c.loop-item.invariant.so_far c.in-Some.ensures.steps.0 c.in_err-datum.field-0.0 c.in_err-datum.ensures)
+
+pub resolve_items-returns : goal.resolve_items-returns
+resolve_items-returns t c = items_end _ _ _ _ _ _ _ c.loop-item.invariant.so_far (no_length _ (sym c.loop-item.invariant.len ∙ c.in-None.ensures.steps.0))
+
+pub resolve_values-loop-pair-preserved : goal.resolve_values-loop-pair-preserved
+resolve_values-loop-pair-preserved t c = record {
+  can = tt;
+  finite = tt;
+  len = search rules;
+  left = one_on _ _ _ _ c.loop-pair.invariant.left c.in-Some.ensures.steps.0;
+  so_far = pair_on _ _ _ _ _ _ _ _ _ c.loop-pair.invariant.so_far c.in-Some.ensures.steps.0 c.in_ok-resolved.resolved _ c.in_ok-resolved.ensures.key c.in_ok-push.ensures.items c.in_ok-resolved.ensures.value;
+}
+
+pub resolve_values-returns-in_err-resolved : goal.resolve_values-returns-in_err-resolved
+resolve_values-returns-in_err-resolved t c =
+    let p = err_from_is_err_and c.from_residual.result c.from_residual.ensures.1 in
+    rw (p.1, p.2) (pair_wrong _ _ _ _ _ _ _ _ _ c.loop-pair.invariant.so_far c.in-Some.ensures.steps.0 c.in_err-resolved.field-0.0 c.in_err-resolved.ensures.value)
+
+pub resolve_values-returns : goal.resolve_values-returns
+resolve_values-returns t c = pairs_end _ _ _ _ _ _ _ c.loop-pair.invariant.so_far (no_length _ (sym c.loop-pair.invariant.len ∙ c.in-None.ensures.steps.0))
+
+pub resolve_values-loop-pair-init : goal.resolve_values-loop-pair-init
+resolve_values-loop-pair-init t c = record {
+  can = tt;
+  finite = tt;
+  len = search rules;
+  so_far = search (rules, pairs_begin);
+  left = at_first _ _ (search rules);
+}
+
+pub resolve_values-resolve_value-requires : goal.resolve_values-resolve_value-requires
+resolve_values-resolve_value-requires t c = (falls _ t c.args.pairs.items _ _ _ c.decreases c.loop-pair.invariant.left c.in-Some.ensures.steps.0, (c.requires.writer, c.requires.reader))

@@ -1,0 +1,127 @@
+-- A closed list of good pairs with the root shows safety.
+use Rattle.std.proofs.Common.{◌≡◌, ℕ, zero, suc, ◌+◌, ◌<◌, ◌≤◌, false, List, [], ◌∷◌, ◌++◌, length, take, get_or, refl, sym, ap, subst, ◌∙◌, inl, inr, arith, append_assoc}
+use Rattle.std.proofs.lemmas.List.{take-append-le, take_more, length-append}
+use Rattle.std.proofs.Math.Seq.{take-length}
+use Rattle.resolver.specs.Pairs.{Listed, Adds, AddsAll}
+use Rattle.std.specs.List.{AllByRecursion}
+use Rattle.avro_schema.specs.Node.{Node}
+use Rattle.resolver.specs.Safety.{Pair, Among, Reached, root, step, IsSafe, next_pairs, is_bad}
+
+-- good, and all that comes next is there
+abbrev pub IsFine : List Node → List Node → List Pair → Pair → Type 0
+IsFine W R all p = (is_bad W R p ≡ false) × AllByRecursion (λ q. Among q all) (next_pairs W R p)
+
+fine_one : (W R : List Node) (all ps : List Pair) → AllByRecursion (IsFine W R all) ps → (p : Pair) → Among p ps → IsFine W R all p
+fine_one W R all [] f p a = absurd a
+fine_one W R all (x ∷ ps) f p (inl e) = subst (IsFine W R all) (sym e) f.0
+fine_one W R all (x ∷ ps) f p (inr a) = fine_one W R all ps f.1 p a
+
+among_one : (all ps : List Pair) → AllByRecursion (λ q. Among q all) ps → (q : Pair) → Among q ps → Among q all
+among_one all [] f q a = absurd a
+among_one all (x ∷ ps) f q (inl e) = subst (λ (y : Pair). Among y all) (sym e) f.0
+among_one all (x ∷ ps) f q (inr a) = among_one all ps f.1 q a
+
+-- each reached pair is among them
+closed_among : (W R : List Node) (all : List Pair) → Among (0, 0) all → AllByRecursion (IsFine W R all) all → (p : Pair) → Reached W R p → Among p all
+closed_among W R all top fine p root = top
+closed_among W R all top fine p (step o q r a) = among_one all (next_pairs W R o) (fine_one W R all all fine o (closed_among W R all top fine o r)).1 p a
+
+pub safe_if_closed : (W R : List Node) (all : List Pair) → Among (0, 0) all → AllByRecursion (IsFine W R all) all → IsSafe W R
+safe_if_closed W R all top fine p r = (fine_one W R all all fine p (closed_among W R all top fine p r)).0
+
+pub reached_next : (W R : List Node) (p : Pair) (qs : List Pair) → Reached W R p → ((q : Pair) → Among q qs → Among q (next_pairs W R p)) → AllByRecursion (Reached W R) qs
+reached_next W R p [] r sub = tt
+reached_next W R p (q ∷ qs) r sub = (step p q r (sub q (inl refl)), reached_next W R p qs r (λ x a. sub x (inr a)))
+
+pub among_more : (q : Pair) (ps more : List Pair) → Among q ps → Among q (ps ++ more)
+among_more q [] more a = absurd a
+among_more q (p ∷ ps) more (inl e) = inl e
+among_more q (p ∷ ps) more (inr a) = inr (among_more q ps more a)
+
+pub among_last : (q : Pair) (ps : List Pair) → Among q (ps ++ q ∷ [])
+among_last q [] = inl refl
+among_last q (p ∷ ps) = inr (among_last q ps)
+
+pub all_among_more : (qs ps more : List Pair) → AllByRecursion (λ q. Among q ps) qs → AllByRecursion (λ q. Among q (ps ++ more)) qs
+all_among_more [] ps more a = tt
+all_among_more (q ∷ qs) ps more a = (among_more q ps more a.0, all_among_more qs ps more a.1)
+
+pub fine_more : (W R : List Node) (qs ps more : List Pair) → AllByRecursion (IsFine W R ps) qs → AllByRecursion (IsFine W R (ps ++ more)) qs
+fine_more W R [] ps more a = tt
+fine_more W R (q ∷ qs) ps more a = ((a.0.0, all_among_more (next_pairs W R q) ps more a.0.1), fine_more W R qs ps more a.1)
+
+pub all_behind : (P : Pair → Type 0) (ps more : List Pair) → AllByRecursion P ps → AllByRecursion P more → AllByRecursion P (ps ++ more)
+all_behind P [] more a b = b
+all_behind P (p ∷ ps) more a b = (a.0, all_behind P ps more a.1 b)
+
+pub all_at : (P : Pair → Type 0) (ps : List Pair) (i : ℕ) (p : Pair) → AllByRecursion P ps → i < length ps → p ≡ get_or ps i p → P p
+all_at P [] i p a lt e = absurd (omega arith)
+all_at P (x ∷ ps) zero p a lt e = subst P (sym e) a.0
+all_at P (x ∷ ps) (suc i) p a lt e = all_at P ps i p a.1 (omega arith) e
+
+all_of_behind : (P : Pair → Type 0) (ps more : List Pair) → AllByRecursion P (ps ++ more) → AllByRecursion P ps
+all_of_behind P [] more a = tt
+all_of_behind P (p ∷ ps) more a = (a.0, all_of_behind P ps more a.1)
+
+among_front : (q : Pair) (extra ps more : List Pair) → AllByRecursion (λ q. Among q ps) extra → AllByRecursion (λ q. Among q (ps ++ more)) extra
+among_front q extra ps more a = all_among_more extra ps more a
+
+pub adds_more : (qs : List Pair) (q : Pair) (old mid new : Listed) → AddsAll qs old mid → Adds q mid new → AddsAll (qs ++ q ∷ []) old new
+adds_more qs q old mid new a b = elim b.added as (λ _. AddsAll (qs ++ q ∷ []) old new) [
+  | inl s ↦ record {
+    writers = b.writers ∙ a.writers;
+    readers = b.readers ∙ a.readers;
+    extra = a.extra;
+    pairs = s.0 ∙ a.pairs;
+    all = rw s.0 (all_behind (λ q. Among q mid.pairs) qs (q ∷ []) a.all (s.1, tt));
+    only = all_among_more a.extra qs (q ∷ []) a.only;
+  }
+  | inr s ↦ record {
+    writers = b.writers ∙ a.writers;
+    readers = b.readers ∙ a.readers;
+    extra = a.extra ++ q ∷ [];
+    pairs = s ∙ ap (λ (x : List Pair). x ++ q ∷ []) a.pairs ∙ append_assoc old.pairs a.extra (q ∷ []);
+    all = rw s (all_behind (λ y. Among y (mid.pairs ++ q ∷ [])) qs (q ∷ []) (all_among_more qs mid.pairs (q ∷ []) a.all) (among_last q mid.pairs, tt));
+    only = all_behind (λ y. Among y (qs ++ q ∷ [])) a.extra (q ∷ []) (all_among_more a.extra qs (q ∷ []) a.only) (among_last q qs, tt);
+  }
+]
+
+-- what the loop keeps
+pub record Kept (W R : List Node) (i : ℕ) (ps : List Pair) : Type 0 where
+  pub bound : i ≤ length ps
+  pub top : Among (0, 0) ps
+  pub reached : AllByRecursion (Reached W R) ps
+  pub fine : AllByRecursion (IsFine W R ps) (take i ps)
+
+only_next : (W R : List Node) (p : Pair) (extra : List Pair) → Reached W R p → AllByRecursion (λ q. Among q (next_pairs W R p)) extra → AllByRecursion (Reached W R) extra
+only_next W R p [] r a = tt
+only_next W R p (q ∷ qs) r a = (step p q r a.0, only_next W R p qs r a.1)
+
+take_front : (ps more : List Pair) (i : ℕ) → i ≤ length ps → take i (ps ++ more) ≡ take i ps
+take_front ps more i le = take-append-le i ps more le
+
+pub kept_on : (W R : List Node) (i : ℕ) (p : Pair) (old new : Listed) → Kept W R i old.pairs → i < length old.pairs → p ≡ get_or old.pairs i p → is_bad W R p ≡ false → AddsAll (next_pairs W R p) old new → Kept W R (i + 1) new.pairs
+kept_on W R i p old new k lt is good a =
+    let here = all_at (Reached W R) old.pairs i p k.reached lt is in
+    let long : length old.pairs ≤ length new.pairs = omega (arith, ap length a.pairs, length-append old.pairs a.extra) in
+    let front : take (i + 1) new.pairs ≡ take i old.pairs ++ p ∷ [] = ap (take (i + 1)) a.pairs ∙ take_front old.pairs a.extra (i + 1) (omega arith) ∙ take_more old.pairs i p lt ∙ ap (λ (x : Pair). take i old.pairs ++ x ∷ []) (sym is) in
+    record {
+      bound = omega arith;
+      top = rw a.pairs (among_more (0, 0) old.pairs a.extra k.top);
+      reached = rw a.pairs (all_behind (Reached W R) old.pairs a.extra k.reached (only_next W R p a.extra here a.only));
+      fine = rw front (all_behind (IsFine W R new.pairs) (take i old.pairs) (p ∷ []) (rw a.pairs (fine_more W R (take i old.pairs) old.pairs a.extra k.fine)) ((good, a.all), tt));
+    }
+
+pub kept_end : (W R : List Node) (i : ℕ) (ps : List Pair) → Kept W R i ps → length ps ≤ i → IsSafe W R
+kept_end W R i ps k le =
+    let e : i ≡ length ps = omega (arith, k.bound) in
+    safe_if_closed W R ps k.top (subst (λ (x : List Pair). AllByRecursion (IsFine W R ps) x) (take-length ps) (subst (λ (n : ℕ). AllByRecursion (IsFine W R ps) (take n ps)) e k.fine))
+
+pub all_added : (ps : List Pair) (i : ℕ) (old mid new : Listed) → i < length ps → AddsAll (take i ps) old mid → Adds (get_or ps i (0, 0)) mid new → AddsAll (take (i + 1) ps) old new
+all_added ps i old mid new lt a b = rw (take_more ps i (0, 0) lt) (adds_more (take i ps) (get_or ps i (0, 0)) old mid new a b)
+
+pub kept_first : (W R : List Node) (old new : Listed) → old.pairs ≡ [] → Adds (0, 0) old new → Kept W R 0 new.pairs
+kept_first W R old new e b = elim b.added as (λ _. Kept W R 0 new.pairs) [
+  | inl s ↦ absurd (subst (Among (0, 0)) e s.1)
+  | inr s ↦ (let one : new.pairs ≡ (0, 0) ∷ [] = s ∙ ap (λ (x : List Pair). x ++ (0, 0) ∷ []) e in record { bound = omega arith; top = rw one (inl refl); reached = rw one (root, tt); fine = tt })
+]

@@ -1,0 +1,29 @@
+-- A bad pair that is reached is the answer, and a list that all that it leads to is in has all that is reached.
+use Rattle.std.proofs.Common.{rules, ◌<◌, length, arith, ap, ◌∙◌, sym}
+use Rattle.resolver.specs.Pairs.{Listed, AddsAll}
+use Rattle.resolver.specs.Safety.{next_pairs}
+use Rattle.resolver.proofs.Closed.{kept_on, kept_end, kept_first}
+use Rattle.resolver.proofs.reading.can_read.Goals as goal
+
+pub loop-place-init : goal.loop-place-init
+loop-place-init c = record {
+  writers = c.in_ok-add.ensures.writers ∙ ap (λ (s : Listed). s.writers) c.in_ok-pairs.ensures ∙ c.len.ensures;
+  readers = c.in_ok-add.ensures.readers ∙ ap (λ (s : Listed). s.readers) c.in_ok-pairs.ensures ∙ c.len-2.ensures;
+  kept = kept_first _ _ _ _ (ap (λ (s : Listed). s.pairs) c.in_ok-pairs.ensures) c.in_ok-add.ensures;
+}
+
+pub add_all-requires : goal.add_all-requires
+add_all-requires c = rw (c.deref.ensures.value, c.loop-place.invariant.writers, c.loop-place.invariant.readers) c.in_ok-next.ensures.within
+
+pub loop-place-preserved : goal.loop-place-preserved
+loop-place-preserved c =
+    let lt : c.loop-place.place < length c.loop-place.pairs.pairs = omega (arith, c.loop-place-test.true, c.len-in-loop-place.ensures.len) in
+    let added : AddsAll (next_pairs c.args.w.now.nodes c.args.r.now.nodes (c.get-wn.result.0, c.get-wn.result.1)) c.loop-place.pairs c.add_all.new.pairs = rw (c.deref.ensures.value, c.in_ok-next.ensures.pairs) at c.in_ok-add_all.ensures in
+    record {
+      writers = c.in_ok-add_all.ensures.writers ∙ c.loop-place.invariant.writers;
+      readers = c.in_ok-add_all.ensures.readers ∙ c.loop-place.invariant.readers;
+      kept = kept_on _ _ _ c.get-wn.result _ _ c.loop-place.invariant.kept lt c.get-wn.ensures.pair (sym c.is_bad.ensures ∙ c.if-is_bad.false) added;
+    }
+
+pub returns : goal.returns
+returns c = (λ _. kept_end _ _ _ _ c.loop-place.invariant.kept (omega (arith, c.loop-place-test.false, c.len-in-loop-place.ensures.len)), λ _. search rules)

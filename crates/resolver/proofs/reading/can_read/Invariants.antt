@@ -1,0 +1,14 @@
+-- The pairs so far are reached, and those before the place are good, with all that they lead to among the pairs.
+use Rattle.std.proofs.Common.{◌≡◌, ◌-◌, ◌*◌, length}
+use Rattle.resolver.proofs.Closed.{Kept}
+use Rattle.resolver.proofs.reading.can_read.Given as goal
+
+abbrev pub invariant-loop-place : goal.invariant-loop-place
+invariant-loop-place l = record {
+  writers : l.pairs.writers ≡ length l.w.nodes;
+  readers : l.pairs.readers ≡ length l.r.nodes;
+  kept : Kept l.w.nodes l.r.nodes l.place l.pairs.pairs;
+}
+
+abbrev pub decreases-loop-place : goal.decreases-loop-place
+decreases-loop-place l = length l.w.nodes * length l.r.nodes - l.place
