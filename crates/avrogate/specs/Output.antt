@@ -1,5 +1,5 @@
 -- The output for an input, and the status.
-use Rattle.std.specs.Prelude.{◌≡◌, ℕ, List, [], ◌∷◌, ◌++◌, codes, drop, slice_index_or, if◌then◌else◌, Result, Ok, Err, MatchBool}
+use Rattle.std.specs.Prelude.{◌≡◌, ℕ, List, [], ◌∷◌, ◌++◌, codes, drop, slice_index_or, if◌then◌else◌, Result, Ok, Err}
 use Rattle.std.specs.Fmt.{decimal}
 use Rattle.std.specs.Str.{is_utf8}
 use Rattle.avro_schema.specs.Node.{Node}
@@ -7,7 +7,6 @@ use Rattle.avro_schema.specs.Schema.{schema_of}
 use Rattle.avro_schema.specs.SchemaError.{name_of}
 use Rattle.avro_schema.specs.declared.error.SchemaError.{SchemaError}
 use Rattle.avro_schema.specs.declared.error.SchemaError.TheVariants.{NotJson}
-use Rattle.resolver.specs.Stage.{differ_in_fields}
 use Rattle.avrogate.specs.Answer.{IsAnswers}
 use Rattle.avrogate.specs.Lines.{lines}
 use Rattle.avrogate.specs.declared.command.Verb.{Verb}
@@ -21,17 +20,11 @@ schema_of_line line = if is_utf8 line then schema_of line else Err NotJson
 abbrev pub bad_schema : ℕ → SchemaError → List ℕ
 bad_schema number error = codes "bad schema " ++ decimal number ++ codes " " ++ name_of error ++ 10 ∷ []
 
--- the output and the status for payload lines, between a writer's nodes and a reader's
-abbrev pub IsExchange : List Node → List Node → List (List ℕ) → List ℕ → ℕ → Type 0
-IsExchange W R payloads output status =
-    MatchBool (differ_in_fields W R) ((output ≡ codes "not yet" ++ 10 ∷ []) × (status ≡ 1))
-    (IsAnswers W R payloads output × (status ≡ 0))
-
--- the same, where either schema may be bad: the writer's is told first
+-- the output and the status for payload lines, where either schema may be bad: the writer's is told first
 abbrev pub IsReport : Result (List Node) SchemaError → Result (List Node) SchemaError → List (List ℕ) → List ℕ → ℕ → Type 0
 IsReport (Err error) reader payloads output status = (output ≡ bad_schema 1 error) × (status ≡ 1)
 IsReport (Ok W) (Err error) payloads output status = (output ≡ bad_schema 2 error) × (status ≡ 1)
-IsReport (Ok W) (Ok R) payloads output status = IsExchange W R payloads output status
+IsReport (Ok W) (Ok R) payloads output status = IsAnswers W R payloads output × (status ≡ 0)
 
 -- a line of the input, which is the empty text where it is missing
 abbrev pub line_at : List (List ℕ) → ℕ → List ℕ

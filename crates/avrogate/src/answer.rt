@@ -1,6 +1,5 @@
 ghost use Rattle.std.specs.Prelude.{◌≡◌, ◌++◌, ℕ, List, false, string_bytes, OnOk};
 ghost use Rattle.resolver.specs.Outcome.{outcome_of};
-ghost use Rattle.resolver.specs.Stage.{differ_in_fields};
 ghost use Rattle.avrogate.specs.Answer.{IsAnswer, IsPayloadAnswer, hex_of, line_of};
 
 use crate::payload::payload_of;
@@ -54,7 +53,6 @@ pub(crate) fn push_payload_answer(
     payload: &[u8],
     output: &mut String,
 ) -> Result<(), AllocError>
-    requires { differ_in_fields writer.now.nodes reader.now.nodes ≡ false }
     ensures { OnOk result ((answer : List ℕ) × IsPayloadAnswer writer.now.nodes reader.now.nodes answer payload.now
         × (string_bytes output.new ≡ string_bytes output.old ++ answer)) }
 {
@@ -62,7 +60,6 @@ pub(crate) fn push_payload_answer(
         Ok(outcome) => push_outcome(alloc, output, &outcome),
         Err(TranscodeError::TooLarge) => output.push_str("too large"),
         Err(TranscodeError::NoMemory) => Err(AllocError),
-        Err(TranscodeError::NotYet) => unreachable!(),
     }
 }
 
@@ -74,7 +71,6 @@ pub(crate) fn push_answer(
     line: &[u8],
     output: &mut String,
 ) -> Result<(), AllocError>
-    requires { differ_in_fields writer.now.nodes reader.now.nodes ≡ false }
     ensures { OnOk result ((answer : List ℕ) × IsAnswer writer.now.nodes reader.now.nodes line.now answer
         × (string_bytes output.new ≡ string_bytes output.old ++ answer)) }
 {

@@ -5,7 +5,7 @@ use crate::payload::payload_of;
 use crate::{command_line, verb_of};
 use avro_bytes::MalformedKind;
 use avro_schema::Schema;
-use resolver::{Mismatch, MismatchKind, Outcome, differ_in_fields};
+use resolver::{Mismatch, MismatchKind, Outcome};
 use std::alloc::{AllocError, Global};
 use std::io::{self, ErrorKind, Read, Write};
 use std::process::Abort;
@@ -15,14 +15,6 @@ use std::test::Fail;
 const EXAMPLE: &[u8] = b"\"long\"\n\"long\"\n02\n7f\n";
 
 const EXAMPLE_OUTPUT: &[u8] = b"done 02\ndone 7f\n";
-
-/// Records with different field names.
-const TWO_NAMES: &str =
-    "{\"type\":\"record\",\"name\":\"T\",\"fields\":[{\"name\":\"a\",\"type\":\"long\"}]}\n{\"type\":\"record\",\"name\":\"T\",\"fields\":[{\"name\":\"b\",\"type\":\"long\"}]}";
-
-/// The same, with a payload.
-const TWO_NAMES_AND_A_PAYLOAD: &str =
-    "{\"type\":\"record\",\"name\":\"T\",\"fields\":[{\"name\":\"a\",\"type\":\"long\"}]}\n{\"type\":\"record\",\"name\":\"T\",\"fields\":[{\"name\":\"b\",\"type\":\"long\"}]}\n02\n";
 
 /// Records of no field, and the empty payload.
 const NO_FIELDS: &str =
@@ -35,10 +27,6 @@ const PROMOTED: &str =
 /// A record of a long and a string, to itself, and two lines that are no lower-case hexadecimal in pairs.
 const BAD_HEX: &str =
     "{\"type\":\"record\",\"name\":\"T\",\"fields\":[{\"name\":\"a\",\"type\":\"long\"},{\"name\":\"b\",\"type\":\"string\"}]}\n{\"type\":\"record\",\"name\":\"T\",\"fields\":[{\"name\":\"a\",\"type\":\"long\"},{\"name\":\"b\",\"type\":\"string\"}]}\n3\n3606666F6F\n";
-
-/// The same record, to one with its fields the other way, and a payload.
-const REORDERED: &str =
-    "{\"type\":\"record\",\"name\":\"T\",\"fields\":[{\"name\":\"a\",\"type\":\"long\"},{\"name\":\"b\",\"type\":\"string\"}]}\n{\"type\":\"record\",\"name\":\"T\",\"fields\":[{\"name\":\"b\",\"type\":\"string\"},{\"name\":\"a\",\"type\":\"long\"}]}\n3606666f6f\n";
 
 /// A number of a call that is never reached.
 const NEVER: usize = usize::MAX;
@@ -271,18 +259,16 @@ fn reads_the_command_line(rt: HostRuntime) -> Result<(), Fail> {
 
 #[test]
 fn answers_schemas(rt: HostRuntime) {
-    let table: [(&str, &str, u8); 11] = [
+    let table: [(&str, &str, u8); 9] = [
         ("", "bad schema 1 NotJson\n", 1),
         ("{\n\"long\"\n02\n", "bad schema 1 NotJson\n", 1),
         ("\"long\"", "bad schema 2 NotJson\n", 1),
-        ("\"long\"\n\"nobody\"\n02", "bad schema 2 OutOfProfile\n", 1),
+        ("\"long\"\n\"nobody\"\n02", "bad schema 2 Unknown\n", 1),
         ("{\n\"nobody\"\n", "bad schema 1 NotJson\n", 1),
-        ("\"nobody\"\n{\n", "bad schema 1 OutOfProfile\n", 1),
+        ("\"float\"\n{\n", "bad schema 1 OutOfProfile\n", 1),
+        ("[\"int\",\"int\"]\n\"int\"\n", "bad schema 1 BadUnion\n", 1),
         ("\"long\"\n\"long\"\n", "", 0),
         ("\"long\"\n\"long\"", "", 0),
-        (TWO_NAMES, "not yet\n", 1),
-        (TWO_NAMES_AND_A_PAYLOAD, "not yet\n", 1),
-        (REORDERED, "not yet\n", 1),
     ];
     for (input, output, status) in table {
         assert_answers(&rt, input.as_bytes(), output.as_bytes(), status);
@@ -320,10 +306,124 @@ fn answers_payloads(rt: HostRuntime) {
 }
 
 #[test]
+fn resolves_every_kind(rt: HostRuntime) {
+    let table = [
+        (
+            r#"{"type":"record","name":"T","fields":[{"name":"a","type":"long"},{"name":"b","type":"string"}]}"#,
+            r#"{"type":"record","name":"T","fields":[{"name":"b","type":"string"},{"name":"a","type":"long"}]}"#,
+            "3606666f6f\n",
+            "done 06666f6f36\n",
+        ),
+        (
+            r#"{"type":"record","name":"T","fields":[{"name":"a","type":"long"},{"name":"b","type":"string"}]}"#,
+            r#"{"type":"record","name":"T","fields":[{"name":"b","type":"string"},{"name":"c","type":"int","default":7}]}"#,
+            "3606666f6f\n",
+            "done 06666f6f0e\n",
+        ),
+        (
+            r#"{"type":"array","items":"long"}"#,
+            r#"{"type":"array","items":"long"}"#,
+            "010206023600\n01040600\n",
+            "done 04063600\nmalformed BadBlock at 0\n",
+        ),
+        (
+            r#""int""#,
+            r#"["null","long","int"]"#,
+            "02\n",
+            "done 0202\n",
+        ),
+        (
+            r#"["null","string"]"#,
+            r#""string""#,
+            "020261\n00\n",
+            "done 0261\nmismatch NoMatch 1 0\n",
+        ),
+        (
+            r#"{"type":"enum","name":"E","symbols":["A","B","C"]}"#,
+            r#"{"type":"enum","name":"E","symbols":["A","C"],"default":"A"}"#,
+            "02\n",
+            "done 00\n",
+        ),
+        (
+            r#"{"type":"enum","name":"E","symbols":["A","B","C"]}"#,
+            r#"{"type":"enum","name":"E","symbols":["A","C"]}"#,
+            "02\n",
+            "mismatch NoSymbol 0 0\n",
+        ),
+        (
+            r#"{"type":"record","name":"U","fields":[{"name":"u","type":["null","string"]},{"name":"n","type":"long"}]}"#,
+            r#"{"type":"record","name":"U","fields":[{"name":"u","type":"string"},{"name":"n","type":"long"}]}"#,
+            "0036\n0080\n",
+            "mismatch NoMatch 2 1\nmalformed Truncated at 2\n",
+        ),
+        (
+            r#""bytes""#,
+            r#""string""#,
+            "02ff\n",
+            "mismatch BytesNotText 0 0\n",
+        ),
+        (
+            r#"{"type":"record","name":"LongList","fields":[{"name":"value","type":"long"},{"name":"next","type":["null","LongList"]}]}"#,
+            r#"{"type":"record","name":"LongList","fields":[{"name":"value","type":"long"},{"name":"next","type":["null","LongList"]}]}"#,
+            "02020400\n",
+            "done 02020400\n",
+        ),
+        (
+            r#"{"type":"array","items":"null"}"#,
+            r#"{"type":"array","items":"null"}"#,
+            "8280800100\n8080800100\n",
+            "malformed TooMany at 4\ndone 8080800100\n",
+        ),
+        (
+            r#"{"type":"record","name":"T","fields":[{"name":"a","type":"long"},{"name":"b","type":"string"}]}"#,
+            r#"{"type":"record","name":"T","fields":[{"name":"a","type":"long"},{"name":"b","type":"string"}]}"#,
+            "\n",
+            "malformed Truncated at 0\n",
+        ),
+        (
+            r#"{"type":"record","name":"T","fields":[{"name":"a","type":"long"},{"name":"b","type":"string"}]}"#,
+            r#"{"type":"record","name":"T","fields":[{"name":"a","type":"long"},{"name":"b","type":"string"},{"name":"d","type":"int"}]}"#,
+            "3606666f6f\n36\n",
+            "mismatch NoDefault 0 3\nmalformed Truncated at 1\n",
+        ),
+        (
+            r#"{"type":"record","name":"R","fields":[{"name":"r","type":"R"}]}"#,
+            r#"{"type":"record","name":"R","fields":[{"name":"r","type":"R"}]}"#,
+            "\n",
+            "malformed TooDeep at 0\n",
+        ),
+        (
+            r#"{"type":"map","values":"int"}"#,
+            r#"{"type":"map","values":"int"}"#,
+            "0402610202610400\n",
+            "done 0402610202610400\n",
+        ),
+        (
+            r#"{"type":"record","name":"T","fields":[{"name":"a","type":"long"}]}"#,
+            r#"{"type":"record","name":"T","fields":[{"name":"a","type":"long"},{"name":"u","type":["null","string"],"default":null}]}"#,
+            "36\n",
+            "done 3600\n",
+        ),
+        (
+            r#"["long","int"]"#,
+            r#"["long","int"]"#,
+            "0202\n",
+            "done 0002\n",
+        ),
+    ];
+    for (writer, reader, payloads, output) in table {
+        let input = format!(in rt.alloc(); "{writer}\n{reader}\n{payloads}").expect(
+            &rt,
+            "no memory",
+        );
+        assert_answers(&rt, input.as_bytes(), output.as_bytes(), 0);
+    }
+}
+
+#[test]
 fn measures_payloads(rt: HostRuntime) -> Result<(), Fail> {
     let alloc = rt.alloc();
     let long = Schema::parse(alloc, "\"long\"")?;
-    assert!(rt; !differ_in_fields(&long, &long));
     let table = [
         (16_777_216, "malformed Trailing at 1"),
         (16_777_217, "too large"),

@@ -1,15 +1,13 @@
 ghost use Rattle.std.specs.Prelude.{◌≡◌, ◌≢◌, false, string_bytes, Err, Ok, IfOk, IfErr};
 ghost use Rattle.avro_schema.specs.declared.error.SchemaError.TheVariants.{NoMemory};
-ghost use Rattle.resolver.specs.Stage.{differ_in_fields};
 ghost use Rattle.avrogate.specs.Answer.{IsAnswers};
 ghost use Rattle.avrogate.specs.Lines.{lines};
-ghost use Rattle.avrogate.specs.Output.{IsExchange, IsOutput, bad_schema, schema_of_line};
+ghost use Rattle.avrogate.specs.Output.{IsOutput, bad_schema, schema_of_line};
 ghost use Rattle.avrogate.specs.declared.command.Verb.TheVariants.{Transcode};
 
 use crate::answer::push_answer;
 use crate::lines::{split_line, split_line_or_empty};
 use avro_schema::{Schema, SchemaError};
-use resolver::differ_in_fields;
 use std::alloc::{AllocError, Global};
 
 /// The schema of a line.
@@ -43,7 +41,6 @@ fn answers(
     reader: &Schema,
     payloads: &[u8],
 ) -> Result<String, AllocError>
-    requires { differ_in_fields writer.now.nodes reader.now.nodes ≡ false }
     ensures { IfOk result (λ output. IsAnswers writer.now.nodes reader.now.nodes (lines payloads.now) (string_bytes output)) }
 {
     let mut output = String::new(alloc);
@@ -54,21 +51,6 @@ fn answers(
         rest = later;
     }
     Ok(output)
-}
-
-/// The output and the status for payload lines.
-fn exchange(
-    alloc: Global,
-    writer: &Schema,
-    reader: &Schema,
-    payloads: &[u8],
-) -> Result<(String, u8), AllocError>
-    ensures { IfOk result (λ r. IsExchange writer.now.nodes reader.now.nodes (lines payloads.now) (string_bytes r.0) r.1) }
-{
-    if differ_in_fields(writer, reader) {
-        return Ok((String::from_str(alloc, "not yet\n")?, 1));
-    }
-    Ok((answers(alloc, writer, reader, payloads)?, 0))
 }
 
 /// The output for an input, and the status.
@@ -85,5 +67,5 @@ pub(crate) fn transcode(alloc: Global, input: &[u8]) -> Result<(String, u8), All
         Ok(schema) => schema,
         Err(error) => return bad_schema(alloc, 2, error),
     };
-    exchange(alloc, &writer, &reader, payloads)
+    Ok((answers(alloc, &writer, &reader, payloads)?, 0))
 }
