@@ -1,0 +1,52 @@
+#!/usr/bin/env bash
+# Whether time is linear: the program on payloads of nested arrays of records, and on schemas, each of one size and of twice that
+# size, in one run. Not part of the gate. Usage: bench/doubling.sh PROGRAM
+set -euo pipefail
+program=$(realpath "$1")
+exec python3 - "$program" <<'PYTHON'
+import subprocess, sys, time
+
+program = sys.argv[1]
+
+def number(n):
+    n = n * 2 if n >= 0 else -2 * n - 1
+    out = bytearray()
+    while n > 127:
+        out.append(n & 127 | 128)
+        n >>= 7
+    out.append(n)
+    return bytes(out)
+
+POINTS = ('{"type":"array","items":{"type":"array","items":{"type":"record","name":"Point","fields":'
+          '[{"name":"x","type":"long"},{"name":"label","type":"string"}]}}}')
+
+def points(size):
+    row = number(100) + b"".join(number(i * 1000) + number(8) + b"point%03d" % i for i in range(100)) + b"\0"
+    rows = size // len(row)
+    return POINTS + "\n" + POINTS + "\n" + (number(rows) + row * rows + b"\0").hex() + "\n"
+
+def enum(i):
+    symbols = ",".join('"S%05d"' % (i * 40 + j) for j in range(40))
+    return '{"name":"f%d","type":{"type":"enum","name":"E%d","symbols":[%s]}}' % (i, i, symbols)
+
+def schema(size):
+    fields = []
+    while sum(map(len, fields)) + len(fields) < size:
+        fields.append(enum(len(fields)))
+    text = '{"type":"record","name":"R","fields":[%s]}' % ",".join(fields)
+    return text + "\n" + text + "\n"
+
+def seconds(data, times):
+    best = float("inf")
+    for _ in range(times):
+        begin = time.perf_counter()
+        done = subprocess.run([program, "transcode"], input=data.encode(), capture_output=True)
+        best = min(best, time.perf_counter() - begin)
+        assert done.returncode == 0, done.stdout[:200]
+    return best
+
+start = seconds('"int"\n"int"\n', 20)
+for name, make, size, times in [("payload", points, 1 << 21, 5), ("schema", schema, 100_000, 20)]:
+    once, twice = (seconds(make(size * k), times) - start for k in (1, 2))
+    print("%s of %d and %d bytes: %.1f ms and %.1f ms, ratio %.2f" % (name, size, size * 2, once * 1000, twice * 1000, twice / once))
+PYTHON
