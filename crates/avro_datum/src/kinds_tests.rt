@@ -113,3 +113,29 @@ fn a_map_is_skipped(rt: HostRuntime) -> Result<(), Fail> {
     assert_eq!(rt; form.skip(&payload, 1, Meter::START), Ok((7, after)));
     Ok(())
 }
+
+const CHAIN: &str =
+    "{\"type\":\"record\",\"name\":\"C\",\"fields\":[{\"name\":\"next\",\"type\":[\"null\",\"C\"]}]}";
+
+#[test]
+fn a_thousand_records_nest(rt: HostRuntime) -> Result<(), Fail> {
+    let schema = parsed(rt.alloc(), CHAIN)?;
+    let mut payload = vec![in rt.alloc(); 2u8; 999]?;
+    payload.push(0)?;
+    let datum = read_again(rt.alloc(), &schema, &payload)?;
+    let again = read_again(rt.alloc(), &schema, &payload)?;
+    assert!(rt; datum == again);
+    let out = written(&rt, &datum)?;
+    assert_eq!(rt; out.len(), 1001);
+    assert!(rt; out.ends_with(&payload));
+    let deeper = vec![in rt.alloc(); 2u8; 1000]?;
+    let refused = Fault::Malformed {
+        kind: MalformedKind::TooDeep,
+        at: 1000,
+    };
+    assert_eq!(rt;
+        read_again(rt.alloc(), &schema, &deeper).err(),
+        Some(refused)
+    );
+    Ok(())
+}
