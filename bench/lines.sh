@@ -1,8 +1,10 @@
 #!/usr/bin/env bash
-# Measures `avrogate transcode` on payload lines of mixed flat records, in one go:
+# Measures `avrogate transcode` on payload lines, in one go: to a reader that is flat (the fields as they were, int to
+# long), and to one that is evolved (a field dropped, one added by default, two reordered, int to long). For each
 #   the time on 100,000 and on 1,000,000 lines and their ratio, which should be near 10 (11 at most),
 #   the peak memory on 1,000,000 lines as a multiple of input and output together (4 at most),
-#   and lines per second beside Apache Avro for Python (Debian's package python3-avro) on the same 100,000 lines.
+#   and lines per second beside Apache Avro for Python (Debian's package python3-avro) on the same 100,000 lines;
+# and how much longer the evolved reader takes than the flat one.
 # Usage: bench/lines.sh PROGRAM   (PROGRAM is the built avrogate: crates/avrogate/out/avrogate after `rt run`)
 set -euo pipefail
 program=$(realpath "$1")
@@ -18,8 +20,22 @@ except ImportError:
     sys.exit("bench/lines.sh needs Debian's package python3-avro")
 
 program, folder = os.environ["program"], os.environ["folder"]
-writer = '{"type":"record","name":"Order","fields":[{"name":"id","type":"long"},{"name":"count","type":"int"},{"name":"item","type":"string"},{"name":"note","type":"string"}]}'
-reader = writer.replace('"type":"int"', '"type":"long"')
+
+
+def record(*fields):
+    return '{"type":"record","name":"Order","fields":[%s]}' % ",".join(fields)
+
+
+def field(name, kind, more=""):
+    return '{"name":"%s","type":"%s"%s}' % (name, kind, more)
+
+
+ID, ITEM, NOTE = field("id", "long"), field("item", "string"), field("note", "string")
+writer = record(ID, field("count", "int"), ITEM, NOTE)
+readers = {
+    "flat": record(ID, field("count", "long"), ITEM, NOTE),
+    "evolved": record(field("count", "long"), ID, ITEM, field("currency", "string", ',"default":"EUR"')),
+}
 
 
 def number(n):
@@ -41,11 +57,11 @@ def payload(rng):
     return number(rng.randrange(-2**40, 2**40)) + number(rng.randrange(0, 1000)) + text("item-%d" % rng.randrange(10**6)) + text(note)
 
 
-def lines_file(count):
+def lines_file(name, count):
     rng = random.Random(count)
-    path = os.path.join(folder, "%d.in" % count)
+    path = os.path.join(folder, "%s-%d.in" % (name, count))
     with open(path, "w") as out:
-        out.write(writer + "\n" + reader + "\n")
+        out.write(writer + "\n" + readers[name] + "\n")
         for _ in range(count):
             out.write(payload(rng).hex() + "\n")
     return path
@@ -66,7 +82,7 @@ def run(path):
     return best, peak / size
 
 
-def python_avro(path):
+def python_avro(path, reader):
     w, r = avro.schema.parse(writer), avro.schema.parse(reader)
     read, write = avro.io.DatumReader(w, r), avro.io.DatumWriter(r)
     with open(path) as given:
@@ -84,14 +100,19 @@ def python_avro(path):
     return took
 
 
-small, large = lines_file(100_000), lines_file(1_000_000)
-short, _ = run(small)
-long, memory = run(large)
-peer = python_avro(small)
-print("100,000 lines: %.3f s" % short)
-print("1,000,000 lines: %.3f s" % long)
-print("ratio: %.2f (11 at most)" % (long / short))
-print("peak memory: %.2f times input and output (4 at most)" % memory)
-print("lines per second: %.1f times those of python3-avro" % (peer / short))
-sys.exit(0 if long / short <= 11 and memory <= 4 else 1)
+def measure(name):
+    small, large = lines_file(name, 100_000), lines_file(name, 1_000_000)
+    short, _ = run(small)
+    long, memory = run(large)
+    peer = python_avro(small, readers[name])
+    print("%s: 100,000 lines %.3f s, 1,000,000 lines %.3f s, ratio %.2f (11 at most)" % (name, short, long, long / short))
+    print("%s: peak memory %.2f times input and output (4 at most)" % (name, memory))
+    print("%s: %.1f times as many lines per second as python3-avro" % (name, peer / short))
+    return long, long / short <= 11 and memory <= 4
+
+
+flat, flat_holds = measure("flat")
+evolved, evolved_holds = measure("evolved")
+print("evolved takes %.2f times as long as flat" % (evolved / flat))
+sys.exit(0 if flat_holds and evolved_holds else 1)
 PYTHON
