@@ -40,6 +40,10 @@ walked text d e f = rw (e, ← f) refl
 
 -- ---- the walk, and then the defaults
 
+pub some-defaults : {A : Type 0} (o : Option A) (a : A) → ok_or o BadDefault ≡ Ok a → o ≡ Some a
+some-defaults None a h = absurd (let no : ⊥ = cc in no)
+some-defaults (Some b) a h = let same : b ≡ a = cc in ap Some same
+
 from-nothing : {A : Type 0} (r : Result (A × List Draft) SchemaError) → added [] r ≡ r
 from-nothing (Ok p) = refl
 from-nothing (Err e) = refl

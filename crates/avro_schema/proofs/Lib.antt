@@ -7,6 +7,7 @@ pub mod DefaultParts
 pub mod DefaultValues
 pub mod DefaultsConform
 pub mod DottedNames
+pub mod DraftsConform
 pub mod EndsAs
 pub mod FieldList
 pub mod Finished
@@ -30,3 +31,4 @@ pub mod Texts
 pub mod UnionFits
 pub mod WellFormed
 pub mod WholeNodes
+pub mod ValueTexts

@@ -3,6 +3,7 @@ ghost use Rattle.std.specs.Option.{ok_or};
 ghost use Rattle.serde_json.specs.Data.{Data, depth};
 ghost use Rattle.serde_json.specs.Read.{read, max_depth};
 ghost use Rattle.serde_json.specs.View.{view};
+ghost use Rattle.avro_schema.specs.Conforming.{DefaultsConform};
 ghost use Rattle.avro_schema.specs.Declaring.{DeclaresNode};
 ghost use Rattle.avro_schema.specs.Fault.{Tells};
 ghost use Rattle.avro_schema.specs.Node.{IsWellFormed, NodeIsWellFormed, node_of, nodes_of};
@@ -93,6 +94,13 @@ impl Schema {
         let _opened = &self.nodes;
     }
 
+    /// The law that each default of a field is of the field's type.
+    pub fn defaults_conform(&self)
+        ensures { DefaultsConform self.now.nodes }
+    {
+        let _opened = &self.nodes;
+    }
+
     /// The law that the root is what the JSON value of its text declares.
     pub fn is_declared(&self)
         ensures { (d : Data) × (read self.now.text ≡ Some d) × DeclaresNode d null_namespace self.now.nodes 0 }
@@ -103,7 +111,8 @@ impl Schema {
 
 /// The nodes that a JSON value declares.
 fn nodes_in(alloc: Global, value: &Value) -> Result<Vec<Kind>, SchemaError>
-    ensures { Tells (λ v. nodes_of v.items) result (declared (view value.now)) }
+    ensures declared { Tells (λ v. nodes_of v.items) result (declared (view value.now)) }
+    ensures defaults { IfOk result (λ v. DefaultsConform (nodes_of v.items)) }
 {
     let mut drafts = Vec::new(alloc);
     walk(alloc, value, "", &mut drafts)?;
