@@ -14,6 +14,7 @@ pub mod Finished
 pub mod FinishedNodes
 pub mod Fits
 pub mod Heads
+pub mod Index
 pub mod LastDot
 pub mod MemberList
 pub mod Members

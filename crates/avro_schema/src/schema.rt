@@ -10,6 +10,7 @@ ghost use Rattle.avro_schema.specs.Node.{IsWellFormed, NodeIsWellFormed, node_of
 ghost use Rattle.avro_schema.specs.Schema.{Parses, declared};
 ghost use Rattle.avro_schema.specs.Walk.{null_namespace};
 
+use crate::drafts::Drafts;
 use crate::error::SchemaError;
 use crate::finishing::{all_defaults, nodes_with};
 use crate::kind::Kind;
@@ -114,10 +115,10 @@ fn nodes_in(alloc: Global, value: &Value) -> Result<Vec<Kind>, SchemaError>
     ensures declared { Tells (λ v. nodes_of v.items) result (declared (view value.now)) }
     ensures defaults { IfOk result (λ v. DefaultsConform (nodes_of v.items)) }
 {
-    let mut drafts = Vec::new(alloc);
+    let mut drafts = Drafts::new(alloc);
     walk(alloc, value, "", &mut drafts)?;
-    let defaults = all_defaults(alloc, &drafts)?;
-    Ok(nodes_with(alloc, drafts, defaults)?)
+    let defaults = all_defaults(alloc, &drafts.nodes)?;
+    Ok(nodes_with(alloc, drafts.nodes, defaults)?)
 }
 
 /// The JSON value of a text.
