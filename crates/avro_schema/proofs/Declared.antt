@@ -9,7 +9,6 @@ use Rattle.avro_schema.specs.declared.error.SchemaError.{SchemaError}
 use Rattle.avro_schema.specs.declared.error.SchemaError.TheVariants.{TooLarge, NotJson, BadNumber, BadDefault}
 use Rattle.avro_schema.specs.Contract.{run}
 use Rattle.avro_schema.specs.Fault.{◌>>=◌}
-use Rattle.avro_schema.specs.Node.{Node}
 use Rattle.avro_schema.specs.Datum.{Datum}
 use Rattle.avro_schema.specs.Defaults.{all_defaults, finished, nodes_with}
 use Rattle.avro_schema.specs.Draft.{Draft}

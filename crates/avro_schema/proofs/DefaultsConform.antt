@@ -1,5 +1,5 @@
 -- What a default is by a node conforms to that node among the finished ones.
-use Rattle.std.proofs.Common.{◌≡◌, ℕ, ℤ, pos, negsuc, ◌<◌, ◌^◌, ◌==◌, zero, suc, List, [], ◌∷◌, length, get_or, map, Bool, true, false, cond, ltb, eqb, Option, Some, None, option_map, option_and_then, slice_get, position, refl, sym, ap, ◌∙◌, subst}
+use Rattle.std.proofs.Common.{◌≡◌, ℕ, ℤ, pos, negsuc, ◌^◌, List, [], ◌∷◌, length, Bool, true, false, cond, eqb, Option, Some, None, option_map, option_and_then, slice_get, position, refl, subst}
 use Rattle.std.specs.Str.{IsUtf8, bytes_eq}
 use Rattle.std.specs.Ordering.{nat_cmp, match_ordering}
 use Rattle.std.specs.Cmp.Lexicographic.{slice_cmp}
@@ -14,7 +14,7 @@ use Rattle.avro_schema.specs.Conforming.{Conforms, ConformAll, ConformPairs, Con
 use Rattle.avro_schema.specs.Datum.{Datum, Data, Pairs, NullDatum, BooleanDatum, IntDatum, LongDatum, BytesDatum, TextDatum, FixedDatum, EnumDatum, ArrayDatum, MapDatum, UnionDatum, RecordDatum, no_more, more, no_pairs, pair}
 use Rattle.avro_schema.specs.Defaults.{Reading, all_defaults, array_value, at_node, by_first, bytes_in, default_of, field_default, field_defaults, fields_value, fields_with, fixed_value, has_bits, int_value, items_value, leaf_value, long_value, member_value, node_defaults, node_with, nodes_with, number_value, object_value, pairs_value, text_value, value_of}
 use Rattle.avro_schema.specs.Draft.{Draft, Whole, RecordDraft, DraftField}
-use Rattle.avro_schema.specs.Node.{Node, FieldNode, NullNode, BooleanNode, IntNode, LongNode, BytesNode, TextNode, FixedNode, EnumNode, ArrayNode, MapNode, UnionNode, RecordNode}
+use Rattle.avro_schema.specs.Node.{Node, NullNode, BooleanNode, IntNode, LongNode, BytesNode, TextNode, FixedNode, EnumNode, ArrayNode, MapNode, UnionNode, RecordNode}
 use Rattle.avro_schema.proofs.FinishedNodes.{in-row, finished-at}
 use Rattle.avro_schema.proofs.ValueTexts.{HasUtf8, ItemsHaveUtf8, MembersHaveUtf8}
 

@@ -1,6 +1,6 @@
 -- Names in order beside nodes and fields, when one more comes.
-use Rattle.std.proofs.Common.{◌≡◌, ℕ, zero, suc, ◌+◌, List, [], ◌∷◌, ◌++◌, length, map, Bool, true, false, cond, ◌||◌, Option, Some, None, refl, sym, ap, subst, ◌∙◌, arith, String, string_bytes, set, slice_get}
-use Rattle.std.specs.BTreeMap.{BTreeMap, UpdatesBy, get_by_text}
+use Rattle.std.proofs.Common.{◌≡◌, ℕ, zero, suc, ◌+◌, List, [], ◌∷◌, ◌++◌, length, Bool, true, false, cond, ◌||◌, Option, Some, None, refl, sym, ap, subst, ◌∙◌, arith, String, string_bytes, set, slice_get}
+use Rattle.std.specs.BTreeMap.{BTreeMap, UpdatesBy}
 use Rattle.std.specs.BTreeSet as sorted
 use Rattle.std.specs.BTreeSet.{BTreeSet, contains_text}
 use Rattle.std.specs.List.{position_from}
@@ -16,7 +16,6 @@ use Rattle.avro_schema.specs.Contract.{names_of}
 use Rattle.avro_schema.specs.Draft.{Draft, draft_of, drafts_of}
 use Rattle.avro_schema.specs.Head.{Head, IsUnnamed, Named, defined_at, defines, head_of, heads_of}
 use Rattle.avro_schema.specs.Index.{AreNamesOf, IsIndexOf}
-use Rattle.avro_schema.specs.Names.{is_used}
 use Rattle.avro_schema.proofs.FieldList.{map-push}
 use Rattle.avro_schema.proofs.Runs.{drafts_of-append, drafts_of-set, heads_of-append, length-drafts_of, length-heads_of}
 use Rattle.avro_schema.proofs.Texts.{cond_or, used-push}

@@ -1,10 +1,10 @@
 -- The texts and keys of a value are UTF-8.
-use Rattle.std.proofs.Common.{ℕ, List, [], ◌∷◌, map, String, Global, string_bytes, subst, sym}
+use Rattle.std.proofs.Common.{List, [], ◌∷◌, map, String, Global, subst, sym}
 use Rattle.std.specs.Str.{IsUtf8}
 use Rattle.std.proofs.lemmas.Str.{IsUtf8-string_bytes}
 use Rattle.serde_json.specs.Data.{Data, null, boolean, number, string, array, object, Items, no_items, item, Members, no_members, member}
 use Rattle.serde_json.specs.View.{view, view_step, items_of, members_of}
-use Rattle.serde_json.specs.declared.value.Value.{Value, map-Value, roll-Value}
+use Rattle.serde_json.specs.declared.value.Value.{Value, map-Value}
 use Rattle.serde_json.specs.declared.value.Value.TheOpen.{Value-F}
 use Rattle.serde_json.specs.declared.value.Value.TheFolds.{fold-roll-Value, ind-Value}
 

@@ -1,5 +1,5 @@
 -- The law of declared nodes: they are well formed.
-use Rattle.std.proofs.Common.{◌≡◌, ℕ, zero, suc, ◌+◌, ◌<◌, ◌≤◌, inl, inr, List, [], ◌∷◌, ◌++◌, length, map, Bool, true, false, cond, Option, Some, None, Result, Ok, Err, refl, sym, ap, subst, ◌∙◌, arith, slice_get, append-nil, option_map, option_and_then}
+use Rattle.std.proofs.Common.{◌≡◌, ℕ, zero, suc, ◌+◌, ◌<◌, inl, inr, List, [], ◌∷◌, length, map, Bool, true, false, cond, Option, Some, None, Result, Ok, Err, refl, sym, ap, subst, ◌∙◌, arith, slice_get, append-nil, option_map}
 use Rattle.std.specs.List.{AllByRecursion, IsDistinct}
 use Rattle.std.specs.Option.{ok_or}
 use Rattle.std.specs.Str.{bytes_eq}
@@ -14,10 +14,10 @@ use Rattle.avro_schema.specs.Defaults.{all_defaults, field_defaults, fields_with
 use Rattle.avro_schema.specs.Draft.{Draft, Whole, RecordDraft, DraftField, HasFewSymbols, HaveFewSymbols}
 use Rattle.avro_schema.specs.Fault.{◌>>=◌}
 use Rattle.avro_schema.specs.Head.{Head, head_of, head_of_node, heads_of}
-use Rattle.avro_schema.specs.Node.{Node, NullNode, BooleanNode, IntNode, LongNode, BytesNode, TextNode, FixedNode, EnumNode, ArrayNode, MapNode, UnionNode, RecordNode, FieldNode, is_array_or_map, is_union, HoldsItem, IsMember, FieldsBelow, NodeIsWellFormed, IsWellFormed}
+use Rattle.avro_schema.specs.Node.{Node, NullNode, BooleanNode, IntNode, LongNode, BytesNode, TextNode, FixedNode, EnumNode, ArrayNode, MapNode, UnionNode, RecordNode, is_array_or_map, is_union, HoldsItem, IsMember, FieldsBelow, NodeIsWellFormed, IsWellFormed}
 use Rattle.avro_schema.specs.Schema.{declared, nodes_in_read}
-use Rattle.avro_schema.specs.Walk.{added, walk, null_namespace, most_nodes}
-use Rattle.avro_schema.proofs.FinishedNodes.{IsFinishedAt, IsInRow, in-row, node-finished, length-finished, head-finished}
+use Rattle.avro_schema.specs.Walk.{added, walk, null_namespace}
+use Rattle.avro_schema.proofs.FinishedNodes.{in-row, node-finished, length-finished, head-finished}
 use Rattle.avro_schema.proofs.Fits.{Gives, DraftFits, ItemFits, MemberFits, AllFrom, holds_items, is_union_there}
 use Rattle.avro_schema.proofs.Runs.{length-heads_of}
 use Rattle.avro_schema.proofs.Sound.{Fine}

@@ -1,8 +1,5 @@
-use Rattle.std.proofs.Common.{◌≡◌, ◌∙◌, [], Ok, refl, ap}
+use Rattle.std.proofs.Common.{◌∙◌, refl}
 use Rattle.std.proofs.lemmas.Result.{err_from_is_err_and}
-use Rattle.avro_schema.specs.Contract.{run}
-use Rattle.avro_schema.specs.Draft.{drafts_of}
-use Rattle.avro_schema.specs.Walk.{walk, null_namespace}
 use Rattle.serde_json.specs.View.{view}
 use Rattle.avro_schema.proofs.Declared.{declared-is, finished-ok, finished-err, some-defaults}
 use Rattle.avro_schema.proofs.DraftsConform.{walked-conform}

@@ -1,19 +1,19 @@
-use Rattle.std.proofs.Common.{rules, codes, string_bytes, ◌≤◌, ◌<◌, ◌≡◌, ◌∙◌, sym, ap, refl, arith, option_map, length, map, [], ◌++◌, ◌∷◌}
+use Rattle.std.proofs.Common.{rules, codes, string_bytes, ◌≤◌, ◌<◌, ◌≡◌, ◌∙◌, sym, ap, refl, arith, option_map, length, map, []}
 use Rattle.std.proofs.lemmas.Result.{err_from_is_err_and}
 use Rattle.serde_json.specs.Data.{string, depth, items_depth}
 use Rattle.serde_json.specs.View.{view, items_view}
 use Rattle.serde_json.specs.declared.value.Value.{the_lemmas}
 use Rattle.serde_json.proofs.Views.{view-Array, view-Object}
-use Rattle.avro_schema.specs.Contract.{run, names_of, object_walk}
+use Rattle.avro_schema.specs.Contract.{names_of, object_walk}
 use Rattle.avro_schema.specs.Draft.{Whole, RecordDraft, draft_field_of, drafts_of}
 use Rattle.avro_schema.specs.Head.{Named}
 use Rattle.avro_schema.specs.Node.{ArrayNode, MapNode, UnionNode}
-use Rattle.avro_schema.specs.Walk.{walk, members, most_nodes, most_fields}
+use Rattle.avro_schema.specs.Walk.{walk, most_nodes, most_fields}
 use Rattle.avro_schema.proofs.FieldList.{fields-on, fields-fail, fields-end, map-push, run-field, run-many}
 use Rattle.avro_schema.proofs.MemberList.{members-on, members-fail, members-end, union-failed, union-bad, union-done, pushed_union}
-use Rattle.avro_schema.proofs.Members.{walk-scalar, walk-object, field-other, fields-none, fields-some, option_depth, found-depth, item-depth, listed-depth}
+use Rattle.avro_schema.proofs.Members.{walk-scalar, walk-object, field-other, fields-none, fields-some, found-depth, item-depth}
 use Rattle.avro_schema.proofs.Records.{run-record, record-done, record-failed, pushed-record}
-use Rattle.avro_schema.proofs.Runs.{length-drafts_of, drafts_of-set, run-if_room, run-no_room, run-keeps, run-fault, closed, unclosed, pushed}
+use Rattle.avro_schema.proofs.Runs.{drafts_of-set, run-if_room, run-no_room, run-keeps, run-fault, closed, unclosed, pushed}
 use Rattle.avro_schema.proofs.walk.+walk.Goals as goal
 
 -- ---- a value

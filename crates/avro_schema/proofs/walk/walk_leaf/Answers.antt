@@ -1,4 +1,4 @@
-use Rattle.std.proofs.Common.{arith, rules, ◌∙◌, ◌≡◌, ap, sym, length, ◌<◌}
+use Rattle.std.proofs.Common.{arith, rules, ◌≡◌, length, ◌<◌}
 use Rattle.avro_schema.specs.Walk.{most_nodes}
 use Rattle.avro_schema.proofs.Runs.{run-no_room, run-leaf, pushed}
 use Rattle.avro_schema.proofs.walk.walk_leaf.Goals as goal

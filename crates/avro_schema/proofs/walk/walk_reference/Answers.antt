@@ -1,4 +1,4 @@
-use Rattle.std.proofs.Common.{◌≡◌, ◌∙◌, ap, sym, Some, None, rules}
+use Rattle.std.proofs.Common.{◌≡◌, ◌∙◌, sym, Some, None}
 use Rattle.avro_schema.specs.Draft.{drafts_of}
 use Rattle.avro_schema.specs.Head.{defined_at, heads_of}
 use Rattle.avro_schema.specs.Names.{full_name}
