@@ -9,7 +9,6 @@ use Rattle.avro_schema.specs.declared.error.SchemaError.{SchemaError}
 use Rattle.avro_schema.specs.declared.error.SchemaError.TheVariants.{TooLarge, NotJson, BadNumber, BadDefault}
 use Rattle.avro_schema.specs.Contract.{run}
 use Rattle.avro_schema.specs.Fault.{◌>>=◌}
-use Rattle.avro_schema.specs.Node.{Node}
 use Rattle.avro_schema.specs.Datum.{Datum}
 use Rattle.avro_schema.specs.Defaults.{all_defaults, finished, nodes_with}
 use Rattle.avro_schema.specs.Draft.{Draft}
@@ -39,6 +38,10 @@ pub walked : (text : List ℕ) (d : Data) → read text ≡ Some d → false ≡
 walked text d e f = rw (e, ← f) refl
 
 -- ---- the walk, and then the defaults
+
+pub some-defaults : {A : Type 0} (o : Option A) (a : A) → ok_or o BadDefault ≡ Ok a → o ≡ Some a
+some-defaults None a h = absurd (let no : ⊥ = cc in no)
+some-defaults (Some b) a h = let same : b ≡ a = cc in ap Some same
 
 from-nothing : {A : Type 0} (r : Result (A × List Draft) SchemaError) → added [] r ≡ r
 from-nothing (Ok p) = refl

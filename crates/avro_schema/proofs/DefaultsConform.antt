@@ -1,5 +1,5 @@
 -- What a default is by a node conforms to that node among the finished ones.
-use Rattle.std.proofs.Common.{◌≡◌, ℕ, ℤ, pos, negsuc, ◌<◌, ◌^◌, ◌==◌, zero, suc, List, [], ◌∷◌, length, get_or, map, Bool, true, false, cond, ltb, eqb, Option, Some, None, option_map, option_and_then, slice_get, position, refl, sym, ap, ◌∙◌, subst}
+use Rattle.std.proofs.Common.{◌≡◌, ℕ, ℤ, pos, negsuc, ◌^◌, List, [], ◌∷◌, length, Bool, true, false, cond, eqb, Option, Some, None, option_map, option_and_then, slice_get, position, refl, subst}
 use Rattle.std.specs.Str.{IsUtf8, bytes_eq}
 use Rattle.std.specs.Ordering.{nat_cmp, match_ordering}
 use Rattle.std.specs.Cmp.Lexicographic.{slice_cmp}
@@ -8,45 +8,22 @@ use Rattle.std.specs.declared.cmp.Ordering.TheVariants.{Less, Equal, Greater}
 use Rattle.std.proofs.lemmas.Bool.{ltb-true, eqb-true}
 use Rattle.std.proofs.lemmas.List.Quantifiers.{position-Some}
 use Rattle.serde_json.specs.Data as json
-use Rattle.serde_json.specs.Data.{Num, unsigned, negative, float, null, boolean, number, string, array, object, Items, no_items, item, Members, no_members, member}
+use Rattle.serde_json.specs.Data.{Num, null, boolean, number, string, array, object, Items, no_items, item, Members, no_members, member}
 use Rattle.serde_json.specs.Find.{as_i64}
 use Rattle.avro_schema.specs.Conforming.{Conforms, ConformAll, ConformPairs, ConformsEach, HasBits}
 use Rattle.avro_schema.specs.Datum.{Datum, Data, Pairs, NullDatum, BooleanDatum, IntDatum, LongDatum, BytesDatum, TextDatum, FixedDatum, EnumDatum, ArrayDatum, MapDatum, UnionDatum, RecordDatum, no_more, more, no_pairs, pair}
-use Rattle.avro_schema.specs.Defaults.{Reading, all_defaults, array_value, at_node, by_first, bytes_in, default_of, field_default, field_defaults, fields_value, fields_with, fixed_value, has_32_bits, int_value, items_value, leaf_value, member_value, node_defaults, node_with, nodes_with, number_value, object_value, pairs_value, text_value, value_of}
+use Rattle.avro_schema.specs.Defaults.{Reading, all_defaults, array_value, at_node, by_first, bytes_in, default_of, field_default, field_defaults, fields_value, fields_with, fixed_value, has_bits, int_value, items_value, leaf_value, long_value, member_value, node_defaults, node_with, nodes_with, number_value, object_value, pairs_value, text_value, value_of}
 use Rattle.avro_schema.specs.Draft.{Draft, Whole, RecordDraft, DraftField}
-use Rattle.avro_schema.specs.Node.{Node, FieldNode, NullNode, BooleanNode, IntNode, LongNode, BytesNode, TextNode, FixedNode, EnumNode, ArrayNode, MapNode, UnionNode, RecordNode}
+use Rattle.avro_schema.specs.Node.{Node, NullNode, BooleanNode, IntNode, LongNode, BytesNode, TextNode, FixedNode, EnumNode, ArrayNode, MapNode, UnionNode, RecordNode}
 use Rattle.avro_schema.proofs.FinishedNodes.{in-row, finished-at}
-
--- ---- values as they are read: strings and keys in UTF-8, negative numbers of 64 bits
-
-abbrev pub IsReadableNumber : Num → Type 0
-IsReadableNumber (unsigned n) = Unit {0}
-IsReadableNumber (negative z) = HasBits 63 z
-IsReadableNumber (float x) = Unit {0}
-
-abbrev mutual
-  pub IsReadable : json.Data → Type 0
-  IsReadable null = Unit {0}
-  IsReadable (boolean b) = Unit {0}
-  IsReadable (number n) = IsReadableNumber n
-  IsReadable (string s) = IsUtf8 s
-  IsReadable (array ds) = AreReadable ds
-  IsReadable (object ms) = HasReadableMembers ms
-
-  pub AreReadable : Items → Type 0
-  AreReadable no_items = Unit {0}
-  AreReadable (item d ds) = IsReadable d × AreReadable ds
-
-  pub HasReadableMembers : Members → Type 0
-  HasReadableMembers no_members = Unit {0}
-  HasReadableMembers (member k d ms) = IsUtf8 k × IsReadable d × HasReadableMembers ms
+use Rattle.avro_schema.proofs.ValueTexts.{HasUtf8, ItemsHaveUtf8, MembersHaveUtf8}
 
 -- ---- options that give something
 
-abbrev IsMapOf : {A B : Type 0} → (A → B) → Option A → B → Type 0
+abbrev pub IsMapOf : {A B : Type 0} → (A → B) → Option A → B → Type 0
 IsMapOf {A} f o b = (a : A) × (o ≡ Some a) × (b ≡ f a)
 
-map-inv : {A B : Type 0} (f : A → B) (o : Option A) (b : B) → option_map f o ≡ Some b → IsMapOf f o b
+pub map-inv : {A B : Type 0} (f : A → B) (o : Option A) (b : B) → option_map f o ≡ Some b → IsMapOf f o b
 map-inv f None b e = absurd (let no : ⊥ = cc in no)
 map-inv f (Some a) b e = (a, refl, let same : b ≡ f a = cc in same)
 
@@ -60,18 +37,17 @@ cond-inv false a b e = absurd (let no : ⊥ = cc in no)
 
 -- ---- numbers and texts
 
-int-bits : (z : ℤ) → has_32_bits z ≡ true → HasBits 31 z
-int-bits (pos n) e = ltb-true n (2 ^ 31) e
-int-bits (negsuc n) e = ltb-true n (2 ^ 31) e
+bits-inv : (bits : ℕ) (z : ℤ) → has_bits bits z ≡ true → HasBits bits z
+bits-inv bits (pos n) e = ltb-true n (2 ^ bits) e
+bits-inv bits (negsuc n) e = ltb-true n (2 ^ bits) e
 
 int-inv : (o : Option ℤ) (t : Datum) → int_value o ≡ Some t → (z : ℤ) × (t ≡ IntDatum z) × HasBits 31 z
 int-inv None t e = absurd (let no : ⊥ = cc in no)
-int-inv (Some z) t e = let p = cond-inv (has_32_bits z) (IntDatum z) t e in (z, p.1, int-bits z p.0)
+int-inv (Some z) t e = let p = cond-inv (has_bits 31 z) (IntDatum z) t e in (z, p.1, bits-inv 31 z p.0)
 
-long-bits : (n : Num) (z : ℤ) → IsReadableNumber n → as_i64 n ≡ Some z → HasBits 63 z
-long-bits (unsigned n) z fits e = let p = cond-inv (ltb n (2 ^ 63)) (pos n) z e in rw p.1 (ltb-true n (2 ^ 63) p.0)
-long-bits (negative y) z fits e = let same : z ≡ y = cc in rw same fits
-long-bits (float x) z fits e = absurd (let no : ⊥ = cc in no)
+long-inv : (o : Option ℤ) (t : Datum) → long_value o ≡ Some t → (z : ℤ) × (t ≡ LongDatum z) × HasBits 63 z
+long-inv None t e = absurd (let no : ⊥ = cc in no)
+long-inv (Some z) t e = let p = cond-inv (has_bits 63 z) (LongDatum z) t e in (z, p.1, bits-inv 63 z p.0)
 
 fixed-inv : (size : ℕ) (o : Option (List ℕ)) (t : Datum) → fixed_value size o ≡ Some t → (bytes : List ℕ) × (t ≡ FixedDatum bytes) × (length bytes ≡ size)
 fixed-inv size None t e = absurd (let no : ⊥ = cc in no)
@@ -118,20 +94,20 @@ module _ (drafts : List Draft) (ns : List Node)
   boolean-sound b (Whole (RecordNode name fields)) n t at e = absurd (let no : ⊥ = cc in no)
   boolean-sound b (RecordDraft name fs) n t at e = absurd (let no : ⊥ = cc in no)
 
-  number-sound : (x : Num) → IsReadableNumber x → (d : Draft) (n : ℕ) (t : Datum) → slice_get drafts n ≡ Some d → number_value x d ≡ Some t → Conforms ns n t
-  number-sound x fits (Whole NullNode) n t at e = absurd (let no : ⊥ = cc in no)
-  number-sound x fits (Whole BooleanNode) n t at e = absurd (let no : ⊥ = cc in no)
-  number-sound x fits (Whole IntNode) n t at e = let p = int-inv (as_i64 x) t e in rw p.1 (whole n IntNode at, p.2)
-  number-sound x fits (Whole LongNode) n t at e = let p = map-inv (λ z. LongDatum z) (as_i64 x) t e in rw p.2 (whole n LongNode at, long-bits x p.0 fits p.1)
-  number-sound x fits (Whole BytesNode) n t at e = absurd (let no : ⊥ = cc in no)
-  number-sound x fits (Whole TextNode) n t at e = absurd (let no : ⊥ = cc in no)
-  number-sound x fits (Whole (FixedNode name size)) n t at e = absurd (let no : ⊥ = cc in no)
-  number-sound x fits (Whole (EnumNode name symbols default)) n t at e = absurd (let no : ⊥ = cc in no)
-  number-sound x fits (Whole (ArrayNode m)) n t at e = absurd (let no : ⊥ = cc in no)
-  number-sound x fits (Whole (MapNode m)) n t at e = absurd (let no : ⊥ = cc in no)
-  number-sound x fits (Whole (UnionNode members)) n t at e = absurd (let no : ⊥ = cc in no)
-  number-sound x fits (Whole (RecordNode name fields)) n t at e = absurd (let no : ⊥ = cc in no)
-  number-sound x fits (RecordDraft name fs) n t at e = absurd (let no : ⊥ = cc in no)
+  number-sound : (x : Num) (d : Draft) (n : ℕ) (t : Datum) → slice_get drafts n ≡ Some d → number_value x d ≡ Some t → Conforms ns n t
+  number-sound x (Whole NullNode) n t at e = absurd (let no : ⊥ = cc in no)
+  number-sound x (Whole BooleanNode) n t at e = absurd (let no : ⊥ = cc in no)
+  number-sound x (Whole IntNode) n t at e = let p = int-inv (as_i64 x) t e in rw p.1 (whole n IntNode at, p.2)
+  number-sound x (Whole LongNode) n t at e = let p = long-inv (as_i64 x) t e in rw p.1 (whole n LongNode at, p.2)
+  number-sound x (Whole BytesNode) n t at e = absurd (let no : ⊥ = cc in no)
+  number-sound x (Whole TextNode) n t at e = absurd (let no : ⊥ = cc in no)
+  number-sound x (Whole (FixedNode name size)) n t at e = absurd (let no : ⊥ = cc in no)
+  number-sound x (Whole (EnumNode name symbols default)) n t at e = absurd (let no : ⊥ = cc in no)
+  number-sound x (Whole (ArrayNode m)) n t at e = absurd (let no : ⊥ = cc in no)
+  number-sound x (Whole (MapNode m)) n t at e = absurd (let no : ⊥ = cc in no)
+  number-sound x (Whole (UnionNode members)) n t at e = absurd (let no : ⊥ = cc in no)
+  number-sound x (Whole (RecordNode name fields)) n t at e = absurd (let no : ⊥ = cc in no)
+  number-sound x (RecordDraft name fs) n t at e = absurd (let no : ⊥ = cc in no)
 
   text-sound : (s : List ℕ) → IsUtf8 s → (d : Draft) (n : ℕ) (t : Datum) → slice_get drafts n ≡ Some d → text_value s d ≡ Some t → Conforms ns n t
   text-sound s utf8 (Whole NullNode) n t at e = absurd (let no : ⊥ = cc in no)
@@ -237,35 +213,34 @@ module _ (drafts : List Draft) (ns : List Node)
   mutual
     unfolding value_of
 
-    value-sound : (v : json.Data) → IsReadable v → (n : ℕ) (d : Draft) (t : Datum) → slice_get drafts n ≡ Some d → value_of v drafts d ≡ Some t → Conforms ns n t
+    value-sound : (v : json.Data) → HasUtf8 v → (n : ℕ) (d : Draft) (t : Datum) → slice_get drafts n ≡ Some d → value_of v drafts d ≡ Some t → Conforms ns n t
     value-sound null fits n d t at e = null-sound d n t at e
     value-sound (boolean b) fits n d t at e = boolean-sound b d n t at e
-    value-sound (number x) fits n d t at e = number-sound x fits d n t at e
+    value-sound (number x) fits n d t at e = number-sound x d n t at e
     value-sound (string s) fits n d t at e = text-sound s fits d n t at e
     value-sound (array vs) fits n d t at e = array-sound (items_value vs drafts) (items-sound vs fits) d n t at e
     value-sound (object ms) fits n d t at e = object-sound (member_value ms drafts) (member-sound ms fits) (pairs_value ms drafts) (pairs-sound ms fits) d n t at e
 
-    items-sound : (vs : Items) → AreReadable vs → (m : ℕ) (es : Data) → items_value vs drafts m ≡ Some es → ConformAll ns m es
+    items-sound : (vs : Items) → ItemsHaveUtf8 vs → (m : ℕ) (es : Data) → items_value vs drafts m ≡ Some es → ConformAll ns m es
     items-sound no_items fits m es e = let same : es ≡ no_more = cc in rw same tt
     items-sound (item v vs) fits m es e =
         let p = then-inv (λ d. option_map (more d) (items_value vs drafts m)) (at_node drafts m (value_of v drafts)) es e in
         let q = map-inv (more p.0) (items_value vs drafts m) es p.2 in
         rw q.2 (node-sound (value_of v drafts) (value-sound v fits.0) m p.0 p.1, items-sound vs fits.1 m q.0 q.1)
 
-    pairs-sound : (ms : Members) → HasReadableMembers ms → (m : ℕ) (ps : Pairs) → pairs_value ms drafts m ≡ Some ps → ConformPairs ns m ps
+    pairs-sound : (ms : Members) → MembersHaveUtf8 ms → (m : ℕ) (ps : Pairs) → pairs_value ms drafts m ≡ Some ps → ConformPairs ns m ps
     pairs-sound no_members fits m ps e = let same : ps ≡ no_pairs = cc in rw same tt
     pairs-sound (member k v ms) fits m ps e =
         let p = then-inv (λ d. option_map (pair k d) (pairs_value ms drafts m)) (at_node drafts m (value_of v drafts)) ps e in
         let q = map-inv (pair k p.0) (pairs_value ms drafts m) ps p.2 in
         rw q.2 (fits.0, node-sound (value_of v drafts) (value-sound v fits.1) m p.0 p.1, pairs-sound ms fits.2 m q.0 q.1)
 
-    member-sound : (ms : Members) → HasReadableMembers ms → (k : List ℕ) (r : Reading) → member_value ms drafts k ≡ Some r → IsSound r
+    member-sound : (ms : Members) → MembersHaveUtf8 ms → (k : List ℕ) (r : Reading) → member_value ms drafts k ≡ Some r → IsSound r
     member-sound no_members fits k r e = absurd (let no : ⊥ = cc in no)
     member-sound (member l v ms) fits k r e = key-sound (slice_cmp nat_cmp k l) (value_of v drafts) (member_value ms drafts k) r (value-sound v fits.1) (member-sound ms fits.2 k) e
 
--- the datum that a readable value is by a node conforms to the finished node
-pub default-conforms : (drafts : List Draft) (all : List (List (Option Datum))) (ns : List Node) → all_defaults drafts drafts ≡ Some all → nodes_with drafts all ≡ ns
-    → (n : ℕ) (v : json.Data) (t : Datum) → default_of drafts n v ≡ Some t → IsReadable v → Conforms ns n t
-default-conforms drafts all ns read are n v t e fits =
-    subst (λ (ns : List Node). Conforms ns n t) are
-    (node-sound drafts (nodes_with drafts all) (finished-at drafts drafts all read) (value_of v drafts) (value-sound drafts (nodes_with drafts all) (finished-at drafts drafts all read) v fits) n t e)
+-- the datum that a value with texts in UTF-8 is by a node conforms to the finished node
+pub default-conforms : (drafts : List Draft) (all : List (List (Option Datum))) → all_defaults drafts drafts ≡ Some all
+    → (n : ℕ) (v : json.Data) (t : Datum) → default_of drafts n v ≡ Some t → HasUtf8 v → Conforms (nodes_with drafts all) n t
+default-conforms drafts all read n v t e fits =
+    node-sound drafts (nodes_with drafts all) (finished-at drafts drafts all read) (value_of v drafts) (value-sound drafts (nodes_with drafts all) (finished-at drafts drafts all read) v fits) n t e

@@ -1,5 +1,5 @@
 -- A full name, part by part.
-use Rattle.std.proofs.Common.{◌≡◌, ◌+◌, ◌<◌, ℕ, List, [], ◌∷◌, length, Bool, true, false, cond, not, ◌&&◌, refl, ap, ◌∙◌, arith, suc, sym}
+use Rattle.std.proofs.Common.{◌≡◌, ◌+◌, ◌<◌, ℕ, List, [], ◌∷◌, length, Bool, true, false, cond, not, ◌&&◌, refl, ap, ◌∙◌, arith, suc}
 use Rattle.std.specs.List.{list_all, slice_split, onto_first, position_or_len, before_first, after_first}
 use Rattle.std.proofs.lemmas.List.Splits.{slice_split_first}
 use Rattle.avro_schema.specs.Names.{is_dot, is_name, is_full_name}

@@ -1,5 +1,5 @@
 -- The walk of a record's fields, one after another.
-use Rattle.std.proofs.Common.{◌≡◌, ℕ, ◌+◌, ◌<◌, ◌≤◌, suc, List, [], ◌∷◌, ◌++◌, length, drop, get_or, map, Bool, true, false, Option, option_map, Result, Ok, Err, refl, sym, ap, ◌∙◌, append_assoc, append-nil, add-one, codes, is_some, is_none}
+use Rattle.std.proofs.Common.{◌≡◌, ℕ, ◌+◌, ◌<◌, ◌≤◌, suc, List, [], ◌∷◌, ◌++◌, length, drop, get_or, map, true, Option, option_map, Result, Ok, Err, refl, sym, ap, ◌∙◌, append_assoc, append-nil, add-one, codes, is_some}
 use Rattle.std.proofs.lemmas.Bool.{lt-ltb, le-ltb}
 use Rattle.std.proofs.Math.Seq.{drop-cons}
 use Rattle.std.proofs.Math.ListN.{drop_of_length-le}
@@ -8,10 +8,10 @@ use Rattle.serde_json.specs.Find.{get, as_object}
 use Rattle.serde_json.specs.View.{view, items_view}
 use Rattle.serde_json.specs.declared.value.Value.{Value}
 use Rattle.avro_schema.specs.declared.error.SchemaError.{SchemaError}
-use Rattle.avro_schema.specs.declared.error.SchemaError.TheVariants.{TooLarge, OutOfProfile}
+use Rattle.avro_schema.specs.declared.error.SchemaError.TheVariants.{TooLarge}
 use Rattle.avro_schema.specs.declared.draft.DraftField as rust
 use Rattle.avro_schema.specs.Contract.{run, names_of, field_walk}
-use Rattle.avro_schema.specs.Fault.{◌>>=◌, require}
+use Rattle.avro_schema.specs.Fault.{◌>>=◌}
 use Rattle.avro_schema.specs.Names.{field_name}
 use Rattle.avro_schema.specs.Draft.{Draft, DraftField}
 use Rattle.avro_schema.specs.Head.{heads_of}

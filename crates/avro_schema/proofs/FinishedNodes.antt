@@ -1,5 +1,5 @@
 -- A finished node is a draft with the data of its fields' defaults, at the same place.
-use Rattle.std.proofs.Common.{◌≡◌, ℕ, zero, suc, List, [], ◌∷◌, length, Option, Some, None, option_map, option_and_then, slice_get, refl, sym, ap, ◌∙◌, subst}
+use Rattle.std.proofs.Common.{◌≡◌, ℕ, zero, suc, List, [], ◌∷◌, length, Option, Some, None, option_map, option_and_then, slice_get, refl, sym, ap, ◌∙◌}
 use Rattle.avro_schema.specs.Datum.{Datum}
 use Rattle.avro_schema.specs.Defaults.{all_defaults, node_defaults, node_with, nodes_with}
 use Rattle.avro_schema.specs.Draft.{Draft, Whole, RecordDraft}

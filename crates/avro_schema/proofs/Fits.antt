@@ -1,8 +1,8 @@
 -- What holds of the nodes that a walk makes, by the heads of all nodes.
-use Rattle.std.proofs.Common.{◌≡◌, ℕ, zero, suc, ◌+◌, ◌<◌, ◌≤◌, ◌⊎◌, List, [], ◌∷◌, ◌++◌, length, map, Bool, true, false, Option, Some, None, refl, sym, ap, subst, ◌∙◌, arith, slice_get, IfSome, eqb}
+use Rattle.std.proofs.Common.{◌≡◌, ℕ, zero, suc, ◌+◌, ◌<◌, ◌≤◌, ◌⊎◌, List, [], ◌∷◌, ◌++◌, length, map, Bool, true, false, Option, Some, refl, ap, subst, ◌∙◌, arith, slice_get, IfSome}
 use Rattle.std.specs.List.{AllByRecursion, IsDistinct}
 use Rattle.std.specs.Str.{bytes_eq}
-use Rattle.avro_schema.specs.Draft.{Draft, Whole, RecordDraft, DraftField}
+use Rattle.avro_schema.specs.Draft.{Draft, Whole, RecordDraft}
 use Rattle.avro_schema.specs.Head.{Head, ArrayHead, MapHead, UnionHead, Named}
 use Rattle.avro_schema.specs.Node.{FixedNode, EnumNode, ArrayNode, MapNode, UnionNode, RecordNode, most_symbols, most_fixed, most_members}
 

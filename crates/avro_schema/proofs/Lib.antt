@@ -7,12 +7,14 @@ pub mod DefaultParts
 pub mod DefaultValues
 pub mod DefaultsConform
 pub mod DottedNames
+pub mod DraftsConform
 pub mod EndsAs
 pub mod FieldList
 pub mod Finished
 pub mod FinishedNodes
 pub mod Fits
 pub mod Heads
+pub mod Index
 pub mod LastDot
 pub mod MemberList
 pub mod Members
@@ -30,3 +32,4 @@ pub mod Texts
 pub mod UnionFits
 pub mod WellFormed
 pub mod WholeNodes
+pub mod ValueTexts

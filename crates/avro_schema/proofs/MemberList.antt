@@ -13,7 +13,7 @@ use Rattle.avro_schema.specs.declared.error.SchemaError.TheVariants.{BadUnion}
 use Rattle.avro_schema.specs.Contract.{run}
 use Rattle.avro_schema.specs.Draft.{Draft, Whole, drafts_of}
 use Rattle.avro_schema.specs.Fault.{◌>>=◌}
-use Rattle.avro_schema.specs.Head.{Head, UnionHead, head_of, heads_of}
+use Rattle.avro_schema.specs.Head.{UnionHead, heads_of}
 use Rattle.avro_schema.specs.Node.{UnionNode}
 use Rattle.avro_schema.specs.Walk.{Walk, added, done, followed_by, if_room, most_nodes, walk, members, are_apart, head_at, apart_union, union_of}
 use Rattle.avro_schema.proofs.FieldList.{behind, behind-one}

@@ -1,10 +1,7 @@
 -- The rule for names, by a text's first byte and the rest; a name among those of fields.
-use Rattle.std.proofs.Common.{◌≡◌, ℕ, ◌<◌, ◌≤◌, List, [], ◌∷◌, length, get_or, drop, true, false, ◌&&◌, ◌||◌, refl, sym, ap, arith, string_bytes, Option, Some, None, option_map, is_some, is_none}
-use Rattle.std.specs.List.{list_any, list_all}
-use Rattle.std.specs.Str.{bytes_eq}
-use Rattle.avro_schema.specs.Contract.{names_of}
-use Rattle.avro_schema.specs.Names.{is_letter, is_letter_or_digit, is_name, is_used}
-use Rattle.avro_schema.specs.declared.draft.DraftField.{DraftField}
+use Rattle.std.proofs.Common.{◌≡◌, ℕ, ◌<◌, ◌≤◌, List, [], ◌∷◌, length, get_or, drop, true, false, ◌&&◌, refl, sym, arith, Option, Some, None, option_map, is_some, is_none}
+use Rattle.std.specs.List.{list_all}
+use Rattle.avro_schema.specs.Names.{is_letter, is_letter_or_digit, is_name}
 
 pub name-empty : (s : List ℕ) → length s < 1 → false ≡ is_name s
 unfolding is_name
@@ -15,10 +12,6 @@ pub name-starts : (s : List ℕ) → 1 ≤ length s → is_name s ≡ (is_letter
 unfolding is_name
 name-starts [] le = absurd (omega arith)
 name-starts (c ∷ cs) le = refl
-
-pub used_field : (name : List ℕ) (fs : List DraftField) → is_used name (names_of fs) ≡ list_any (λ f. bytes_eq (string_bytes f.name) name) fs
-used_field name [] = refl
-used_field name (f ∷ fs) = ap (λ b. bytes_eq (string_bytes f.name) name || b) (used_field name fs)
 
 -- ---- an attribute that is there, and one that is not
 

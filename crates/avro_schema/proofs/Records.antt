@@ -1,5 +1,5 @@
 -- The walk of a named type, step by step.
-use Rattle.std.proofs.Common.{◌≡◌, ℕ, ◌<◌, List, [], ◌∷◌, ◌++◌, length, map, Option, Result, Ok, Err, refl, ◌∙◌, set, String, Vec, Global, string_bytes}
+use Rattle.std.proofs.Common.{◌≡◌, ℕ, ◌<◌, List, [], ◌∷◌, ◌++◌, length, Option, Result, Ok, Err, refl, ◌∙◌, set, String, Vec, Global, string_bytes}
 use Rattle.serde_json.specs.Data.{Data}
 use Rattle.avro_schema.specs.declared.error.SchemaError.{SchemaError}
 use Rattle.avro_schema.specs.declared.draft.Draft as rust
@@ -7,7 +7,7 @@ use Rattle.avro_schema.specs.declared.draft.Draft.TheVariants as drafts
 use Rattle.avro_schema.specs.declared.draft.DraftField as rust_field
 use Rattle.avro_schema.specs.Attributes.{symbols_of, default_symbol, size_of}
 use Rattle.avro_schema.specs.Contract.{run}
-use Rattle.avro_schema.specs.Draft.{Draft, Whole, RecordDraft, DraftField, draft_field_of, drafts_of}
+use Rattle.avro_schema.specs.Draft.{Draft, Whole, RecordDraft, DraftField, drafts_of}
 use Rattle.avro_schema.specs.Fault.{◌>>=◌}
 use Rattle.avro_schema.specs.Head.{Named, heads_of}
 use Rattle.avro_schema.specs.Names.{namespace_of, new_name}

@@ -1,5 +1,5 @@
 -- What a text refers to.
-use Rattle.std.proofs.Common.{◌≡◌, ◌∙◌, ℕ, List, Option, Some, None, Ok, Err, refl, ap, append-nil}
+use Rattle.std.proofs.Common.{◌≡◌, ◌∙◌, ℕ, List, Some, None, Ok, Err, ap, append-nil}
 use Rattle.avro_schema.specs.declared.error.SchemaError.TheVariants.{Unknown}
 use Rattle.avro_schema.specs.Contract.{run}
 use Rattle.avro_schema.specs.Draft.{Draft}

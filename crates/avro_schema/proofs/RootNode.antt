@@ -17,7 +17,7 @@ use Rattle.avro_schema.specs.Fault.{◌>>=◌}
 use Rattle.avro_schema.specs.Head.{Head, ArrayHead, MapHead, UnionHead, Named, heads_of, defined_at}
 use Rattle.avro_schema.specs.Names.{new_name, namespace_of}
 use Rattle.avro_schema.specs.Node.{Node}
-use Rattle.avro_schema.specs.Schema.{schema_of, nodes_in_read, Declares}
+use Rattle.avro_schema.specs.Schema.{schema_of, nodes_in_read}
 use Rattle.avro_schema.specs.Walk.{Walk, are_apart, fault, head_at, leaf_or_reference, reference, named, or_unknown, around, union_of, record_of, enum_of, fixed_of, declared_by, walk, members, walk_member, walk_fields, null_namespace}
 use Rattle.avro_schema.specs.Word.{word_of, leaf_of, is_left_out}
 use Rattle.avro_schema.proofs.DeclaredNodes.{places-walk}
@@ -120,15 +120,12 @@ root_at d (Ok p) n drafts f first e =
     subst (λ m. Ends (DeclaresNode d null_namespace) drafts m) first (subst (λ ds. Ends (DeclaresNode d null_namespace) ds p.0) (append-nil p.1 ∙ same) (f [] [] refl))
 root_at d (Err x) n drafts f first e = absurd (let wrong : ⊥ = cc in wrong)
 
-read-nodes : (text : List ℕ) (ns : List Node) → nodes_in_read (read text) ≡ Ok ns → (d : Data) × (read text ≡ Some d) × DeclaresNode d null_namespace ns 0
+pub read-nodes : (text : List ℕ) (ns : List Node) → nodes_in_read (read text) ≡ Ok ns → (d : Data) × (read text ≡ Some d) × DeclaresNode d null_namespace ns 0
 read-nodes text ns e =
     let f = declared_from text ns e in
     let w = finished-with f.2.drafts ns f.2.finish in
     let root = root_at f.0 (walk f.0 null_namespace []) f.2.root f.2.drafts (places-walk f.0 null_namespace []) (first-walk f.0 null_namespace) f.2.walked in
-    (f.0, f.1, root ns (record { all = w.0; read = w.1; are = w.2; well_formed = declared-well_formed text ns (record { nodes_are = e }) }))
-
-pub declared-nodes : (text : List ℕ) (ns : List Node) → Declares text ns → (d : Data) × (read text ≡ Some d) × DeclaresNode d null_namespace ns 0
-declared-nodes text ns h = read-nodes text ns h.nodes_are
+    (f.0, f.1, root ns (record { all = w.0; read = w.1; are = w.2; well_formed = declared-well_formed text ns e }))
 
 size_at : (b : Bool) (text : List ℕ) (ns : List Node) → cond b (nodes_in_read (read text)) (Err TooLarge) ≡ Ok ns → nodes_in_read (read text) ≡ Ok ns
 size_at true text ns e = e

@@ -1,5 +1,5 @@
 -- Walks run behind nodes that are already there.
-use Rattle.std.proofs.Common.{◌≡◌, ℕ, zero, suc, ◌<◌, ◌≤◌, List, [], ◌∷◌, ◌++◌, length, Result, Ok, Err, refl, sym, ap, ◌∙◌, arith, append_assoc, append-nil, length-append, set}
+use Rattle.std.proofs.Common.{◌≡◌, ℕ, zero, suc, ◌<◌, ◌≤◌, List, [], ◌∷◌, ◌++◌, length, Some, Result, Ok, Err, slice_get, refl, sym, ap, subst, ◌∙◌, arith, append_assoc, append-nil, length-append, set}
 use Rattle.std.proofs.lemmas.Bool.{lt-ltb, le-ltb}
 use Rattle.std.proofs.Math.Seq.{set-append_seam}
 use Rattle.avro_schema.specs.declared.error.SchemaError.{SchemaError}
@@ -89,6 +89,19 @@ grows_at ns (Err x) a ms e = absurd (ok_err x (a, ms) e)
 pub run-grows : {A : Type 0} (w : Walk A) (space : List ℕ) (ns : List Draft) (a : A) (ms : List Draft) → run w space ns ≡ Ok (a, ms) → length ns ≤ length ms
 unfolding run
 run-grows w space ns a ms e = grows_at ns (w space (heads_of ns)) a ms e
+
+-- a node that was put there before is there after
+head-kept : (ns : List Draft) (held : Draft) (more : List Draft) → slice_get (heads_of ((ns ++ held ∷ []) ++ more)) (length ns) ≡ Some (head_of held)
+head-kept [] held more = refl
+head-kept (n ∷ ns) held more = head-kept ns held more
+
+kept_at : {A : Type 0} (ns : List Draft) (held : Draft) (r : Result (A × List Draft) SchemaError) (a : A) (ms : List Draft) → added (ns ++ held ∷ []) r ≡ Ok (a, ms) → slice_get (heads_of ms) (length ns) ≡ Some (head_of held)
+kept_at ns held (Ok p) a ms e = let same : (ns ++ held ∷ []) ++ p.1 ≡ ms = ap all_of e in subst (λ (xs : List Draft). slice_get (heads_of xs) (length ns) ≡ Some (head_of held)) same (head-kept ns held p.1)
+kept_at ns held (Err x) a ms e = absurd (ok_err x (a, ms) e)
+
+pub run-keeps : {A : Type 0} (w : Walk A) (space : List ℕ) (ks : List rust.Draft) (held : Draft) (a : A) (ms : List Draft) → run w space (drafts_of ks ++ held ∷ []) ≡ Ok (a, ms) → slice_get (heads_of ms) (length ks) ≡ Some (head_of held)
+unfolding run
+run-keeps w space ks held a ms e = subst (λ n. slice_get (heads_of ms) n ≡ Some (head_of held)) (length-drafts_of ks) (kept_at (drafts_of ks) held (w space (heads_of (drafts_of ks ++ held ∷ []))) a ms e)
 
 -- ---- a node without parts
 

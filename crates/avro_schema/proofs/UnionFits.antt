@@ -1,7 +1,6 @@
 -- Members that are apart: none is a union, and none is another's node.
-use Rattle.std.proofs.Common.{◌≡◌, ℕ, zero, suc, ◌+◌, ◌<◌, ◌≤◌, inl, inr, List, [], ◌∷◌, ◌++◌, length, map, Bool, true, false, not, ◌&&◌, ◌||◌, cond, Option, Some, None, Result, Ok, Err, refl, sym, ap, subst, ◌∙◌, arith, append_assoc, append-nil, length-append, slice_get, slice_index_or, eqb}
+use Rattle.std.proofs.Common.{◌≡◌, ℕ, zero, suc, ◌+◌, ◌<◌, ◌≤◌, inl, List, [], ◌∷◌, ◌++◌, length, map, Bool, true, false, not, ◌&&◌, ◌||◌, cond, Some, Result, Ok, Err, refl, sym, ap, subst, ◌∙◌, arith, append_assoc, append-nil, length-append, slice_get, eqb}
 use Rattle.std.specs.List.{AllByRecursion, IsDistinct, list_any}
-use Rattle.std.specs.Str.{bytes_eq}
 use Rattle.std.proofs.lemmas.Slice.Eq.{bytes_eq-Decides}
 use Rattle.std.proofs.lemmas.Bool.{eqb-true}
 use Rattle.std.proofs.lemmas.Map.Steps.{length-le_from_distinct_below}
@@ -15,7 +14,7 @@ use Rattle.avro_schema.specs.Walk.{Walk, are_apart, apart_union, head_at, union_
 use Rattle.avro_schema.proofs.Fits.{Gives, MemberFits, DraftFits, AllFrom, is_union_there, get-extended, distinct-more}
 use Rattle.avro_schema.proofs.Heads.{map-one}
 use Rattle.avro_schema.proofs.Runs.{length-heads_of}
-use Rattle.avro_schema.proofs.Sound.{Fine, Sound, Whatever, sound-room}
+use Rattle.avro_schema.proofs.Sound.{Fine, Sound, sound-room}
 
 -- the members are nodes
 abbrev pub AllBelow : List Head → List Head → List ℕ → Type 0

@@ -1,5 +1,5 @@
 -- The law of the walk: whatever nodes it makes fit.
-use Rattle.std.proofs.Common.{◌≡◌, ℕ, zero, suc, ◌+◌, ◌<◌, ◌≤◌, inl, inr, List, [], ◌∷◌, ◌++◌, length, map, Bool, true, false, not, ◌&&◌, ◌||◌, cond, option_and_then, Option, Some, None, IfSome, Result, Ok, Err, refl, sym, ap, subst, ◌∙◌, arith, append_assoc, append-nil, length-append, nat_le, nat_lt, codes, slice_get}
+use Rattle.std.proofs.Common.{◌≡◌, ℕ, suc, ◌+◌, ◌<◌, ◌≤◌, inl, inr, List, [], ◌∷◌, ◌++◌, length, map, Bool, true, false, not, ◌&&◌, ◌||◌, cond, option_and_then, Option, Some, None, IfSome, Result, Ok, Err, refl, sym, ap, subst, ◌∙◌, arith, append_assoc, append-nil, length-append, nat_lt, codes, slice_get}
 use Rattle.std.specs.List.{AllByRecursion, IsDistinct, list_all, position, position_from}
 use Rattle.std.specs.Option.{ok_or}
 use Rattle.std.specs.Ordering.{nat_cmp}
@@ -8,9 +8,9 @@ use Rattle.std.specs.Str.{bytes_eq}
 use Rattle.std.proofs.lemmas.Bool.{leb-true}
 use Rattle.std.proofs.lemmas.List.Quantifiers.{position-Some}
 use Rattle.serde_json.specs.Data.{Data, null, boolean, number, string, array, object, Items, no_items, item, Members, no_members, member}
-use Rattle.serde_json.specs.Find.{get_member, as_number, as_u64}
+use Rattle.serde_json.specs.Find.{as_number, as_u64}
 use Rattle.avro_schema.specs.declared.error.SchemaError.{SchemaError}
-use Rattle.avro_schema.specs.declared.error.SchemaError.TheVariants.{BadName, BadSymbols, BadNumber, TooLarge}
+use Rattle.avro_schema.specs.declared.error.SchemaError.TheVariants.{BadSymbols, BadNumber}
 use Rattle.avro_schema.specs.declared.word.Form.{Form}
 use Rattle.avro_schema.specs.declared.word.Form.TheVariants as forms
 use Rattle.avro_schema.specs.declared.word.Word.{Word}
@@ -18,13 +18,13 @@ use Rattle.avro_schema.specs.declared.word.Word.TheVariants as words
 use Rattle.avro_schema.specs.Attributes.{are_new, symbols_of, texts_of, default_symbol, size_of}
 use Rattle.avro_schema.specs.Draft.{Draft, Whole, RecordDraft, DraftField}
 use Rattle.avro_schema.specs.Fault.{◌>>=◌, require}
-use Rattle.avro_schema.specs.Head.{Head, NullHead, BooleanHead, IntHead, LongHead, BytesHead, TextHead, ArrayHead, MapHead, UnionHead, Named, heads_of, defines, defined_at}
+use Rattle.avro_schema.specs.Head.{Head, NullHead, BooleanHead, IntHead, LongHead, BytesHead, TextHead, ArrayHead, MapHead, UnionHead, Named, defines, defined_at}
 use Rattle.avro_schema.specs.Names.{text_of, new_name, namespace_of, full_name, field_name, is_name, is_used}
 use Rattle.avro_schema.specs.Node.{Node, NullNode, BooleanNode, IntNode, LongNode, BytesNode, TextNode, FixedNode, EnumNode, ArrayNode, MapNode, most_symbols, most_fixed}
-use Rattle.avro_schema.specs.Walk.{Walk, found, leaf, one_node, leaf_or_reference, reference, named, or_unknown, around, record_of, enum_of, fixed_of, declared_by, walk, members, walk_member, walk_fields, fields, fields_after, field, field_of, draft_field, most_nodes}
+use Rattle.avro_schema.specs.Walk.{Walk, found, leaf, one_node, leaf_or_reference, reference, named, or_unknown, record_of, enum_of, fixed_of, declared_by, walk, members, walk_member, walk_fields, fields, fields_after, field, field_of, draft_field, most_nodes}
 use Rattle.avro_schema.specs.Word.{word_of, leaf_of, is_left_out}
-use Rattle.avro_schema.proofs.Fits.{Gives, ItemFits, DraftFits, AllFrom, is_named_there, holds_items, get-extended, distinct-more}
-use Rattle.avro_schema.proofs.Sound.{Fine, Sound, SoundIf, Whatever, fine-bind, fine-done, fine-one, fine-around, sound-room, sound-or, if_found}
+use Rattle.avro_schema.proofs.Fits.{Gives, ItemFits, DraftFits, is_named_there, holds_items, get-extended, distinct-more}
+use Rattle.avro_schema.proofs.Sound.{Fine, Sound, SoundIf, fine-bind, fine-done, fine-one, fine-around, sound-room, sound-or, if_found}
 use Rattle.avro_schema.proofs.UnionFits.{AllBelow, sound-union}
 
 -- ---- fields

@@ -1,5 +1,5 @@
 -- The law of declared nodes: they are well formed.
-use Rattle.std.proofs.Common.{◌≡◌, ℕ, zero, suc, ◌+◌, ◌<◌, ◌≤◌, inl, inr, List, [], ◌∷◌, ◌++◌, length, map, Bool, true, false, cond, Option, Some, None, Result, Ok, Err, refl, sym, ap, subst, ◌∙◌, arith, slice_get, append-nil, option_map, option_and_then}
+use Rattle.std.proofs.Common.{◌≡◌, ℕ, zero, suc, ◌+◌, ◌<◌, inl, inr, List, [], ◌∷◌, length, map, Bool, true, false, cond, Option, Some, None, Result, Ok, Err, refl, sym, ap, subst, ◌∙◌, arith, slice_get, append-nil, option_map}
 use Rattle.std.specs.List.{AllByRecursion, IsDistinct}
 use Rattle.std.specs.Option.{ok_or}
 use Rattle.std.specs.Str.{bytes_eq}
@@ -14,10 +14,10 @@ use Rattle.avro_schema.specs.Defaults.{all_defaults, field_defaults, fields_with
 use Rattle.avro_schema.specs.Draft.{Draft, Whole, RecordDraft, DraftField, HasFewSymbols, HaveFewSymbols}
 use Rattle.avro_schema.specs.Fault.{◌>>=◌}
 use Rattle.avro_schema.specs.Head.{Head, head_of, head_of_node, heads_of}
-use Rattle.avro_schema.specs.Node.{Node, NullNode, BooleanNode, IntNode, LongNode, BytesNode, TextNode, FixedNode, EnumNode, ArrayNode, MapNode, UnionNode, RecordNode, FieldNode, is_array_or_map, is_union, HoldsItem, IsMember, FieldsBelow, NodeIsWellFormed, IsWellFormed}
-use Rattle.avro_schema.specs.Schema.{Declares, declared, nodes_in_read}
-use Rattle.avro_schema.specs.Walk.{added, walk, null_namespace, most_nodes}
-use Rattle.avro_schema.proofs.FinishedNodes.{IsFinishedAt, IsInRow, in-row, node-finished, length-finished, head-finished}
+use Rattle.avro_schema.specs.Node.{Node, NullNode, BooleanNode, IntNode, LongNode, BytesNode, TextNode, FixedNode, EnumNode, ArrayNode, MapNode, UnionNode, RecordNode, is_array_or_map, is_union, HoldsItem, IsMember, FieldsBelow, NodeIsWellFormed, IsWellFormed}
+use Rattle.avro_schema.specs.Schema.{declared, nodes_in_read}
+use Rattle.avro_schema.specs.Walk.{added, walk, null_namespace}
+use Rattle.avro_schema.proofs.FinishedNodes.{in-row, node-finished, length-finished, head-finished}
 use Rattle.avro_schema.proofs.Fits.{Gives, DraftFits, ItemFits, MemberFits, AllFrom, holds_items, is_union_there}
 use Rattle.avro_schema.proofs.Runs.{length-heads_of}
 use Rattle.avro_schema.proofs.Sound.{Fine}
@@ -117,7 +117,7 @@ module _ (drafts : List Draft) (ns : List Node) (same : map head_of_node ns ≡ 
   node_well own (RecordDraft name fs) defaults e h =
       (below_with (length ns) fs defaults (subst (λ n. AllByRecursion (λ f. f.node < n) fs) (sym long) h.0), subst (IsDistinct bytes_eq) (sym (names_with drafts fs defaults e)) h.1)
 
-each_from : (P : ℕ → Draft → Type 0) (i : ℕ) (ds : List Draft) → AllFrom P i ds → (j : ℕ) (d : Draft) → slice_get ds j ≡ Some d → P (i + j) d
+pub each_from : (P : ℕ → Draft → Type 0) (i : ℕ) (ds : List Draft) → AllFrom P i ds → (j : ℕ) (d : Draft) → slice_get ds j ≡ Some d → P (i + j) d
 each_from P i [] h j d e = absurd (let wrong : ⊥ = cc in wrong)
 each_from P i (x ∷ ds) h zero d e = let is : x ≡ d = cc in subst (λ n. P n d) (let z : i ≡ i + 0 = omega arith in z) (subst (P i) is h.0)
 each_from P i (x ∷ ds) h (suc j) d e = subst (λ n. P n d) (let z : suc i + j ≡ i + suc j = omega arith in z) (each_from P (suc i) ds h.1 j d e)
@@ -181,7 +181,7 @@ few_from all i (d ∷ ds) h = (few d h.0, few_from all (suc i) ds h.1)
     few (Whole (RecordNode name fs)) h = tt
     few (RecordDraft name fs) h = tt
 
-from_nothing : {A : Type 0} (r : Result (A × List Draft) SchemaError) → added [] r ≡ r
+pub from_nothing : {A : Type 0} (r : Result (A × List Draft) SchemaError) → added [] r ≡ r
 from_nothing (Ok p) = refl
 from_nothing (Err e) = refl
 
@@ -213,9 +213,9 @@ read_at (Some d) ns e = (d, refl, numbers_at (has_float d) d ns e)
 pub declared_from : (text : List ℕ) (ns : List Node) → nodes_in_read (read text) ≡ Ok ns → (d : Data) × (read text ≡ Some d) × IsFinishedFrom d ns
 declared_from text ns e = read_at (read text) ns e
 
-pub declared-well_formed : (text : List ℕ) (ns : List Node) → Declares text ns → IsWellFormed ns
-declared-well_formed text ns h =
-    let f = declared_from text ns h.nodes_are in
+pub declared-well_formed : (text : List ℕ) (ns : List Node) → nodes_in_read (read text) ≡ Ok ns → IsWellFormed ns
+declared-well_formed text ns e =
+    let f = declared_from text ns e in
     let w = finished-with f.2.drafts ns f.2.finish in
     let fits = walk_fits f.0 f.2.root f.2.drafts f.2.walked in
     subst IsWellFormed w.2 (whole_nodes f.2.drafts w.0 w.1 (omega (arith, fits.0, length-heads_of f.2.drafts)) fits.1)

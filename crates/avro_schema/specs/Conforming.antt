@@ -1,5 +1,6 @@
 -- Which data are of a node's type (Avro 1.11, "Primitive Types" and "Complex Types").
-use Rattle.std.specs.Prelude.{◌≡◌, ◌<◌, ℕ, ◌^◌, List, [], ◌∷◌, length, Option, Some, slice_get, ℤ, pos, negsuc}
+use Rattle.std.specs.Prelude.{◌≡◌, ◌<◌, ℕ, ◌^◌, List, [], ◌∷◌, length, Option, Some, IfSome, slice_get, ℤ, pos, negsuc}
+use Rattle.std.specs.List.{AllByRecursion}
 use Rattle.std.specs.Str.{IsUtf8}
 use Rattle.avro_schema.specs.Node.{Node, FieldNode, NullNode, BooleanNode, IntNode, LongNode, BytesNode, TextNode, FixedNode, EnumNode, ArrayNode, MapNode, UnionNode, RecordNode}
 use Rattle.avro_schema.specs.Datum.{Datum, Data, Pairs, NullDatum, BooleanDatum, IntDatum, LongDatum, BytesDatum, TextDatum, FixedDatum, EnumDatum, ArrayDatum, MapDatum, UnionDatum, RecordDatum, no_more, more, no_pairs, pair}
@@ -40,3 +41,7 @@ abbrev mutual
   ConformsEach nodes (f ∷ fs) (more d ds) = Conforms nodes f.node d × ConformsEach nodes fs ds
   ConformsEach nodes [] (more d ds) = ⊥
   ConformsEach nodes (f ∷ fs) no_more = ⊥
+
+-- the default of each record's field is of the field's type
+abbrev pub DefaultsConform : List Node → Type 0
+DefaultsConform nodes = (node : ℕ) (name : List ℕ) (fields : List FieldNode) → slice_get nodes node ≡ Some (RecordNode name fields) → AllByRecursion (λ f. IfSome f.default (Conforms nodes f.node)) fields

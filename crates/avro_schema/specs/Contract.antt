@@ -1,5 +1,5 @@
 -- What a step of the walk says of the nodes that it leaves.
-use Rattle.std.specs.Prelude.{◌≡◌, ◌≢◌, ℕ, List, map, option_map, codes, Option, Result, Ok, Err, string_bytes}
+use Rattle.std.specs.Prelude.{◌≡◌, ◌≢◌, ℕ, List, map, option_map, codes, Result, Ok, Err, string_bytes}
 use Rattle.serde_json.specs.Data.{Data}
 use Rattle.serde_json.specs.Find.{get}
 use Rattle.avro_schema.specs.declared.draft.Draft as rust

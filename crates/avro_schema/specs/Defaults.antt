@@ -31,17 +31,22 @@ at_node drafts n reading = by_first drafts reading (slice_get drafts n)
 
 -- ---- values without parts
 
-abbrev pub has_32_bits : ℤ → Bool
-has_32_bits (pos n) = nat_lt n (2 ^ 31)
-has_32_bits (negsuc n) = nat_lt n (2 ^ 31)
+-- a signed number of so many bits, less one
+abbrev pub has_bits : ℕ → ℤ → Bool
+has_bits bits (pos n) = nat_lt n (2 ^ bits)
+has_bits bits (negsuc n) = nat_lt n (2 ^ bits)
 
 abbrev pub int_value : Option ℤ → Option Datum
 int_value None = None
-int_value (Some z) = if has_32_bits z then Some (IntDatum z) else None
+int_value (Some z) = if has_bits 31 z then Some (IntDatum z) else None
+
+abbrev pub long_value : Option ℤ → Option Datum
+long_value None = None
+long_value (Some z) = if has_bits 63 z then Some (LongDatum z) else None
 
 abbrev pub number_value : Num → Reading
 number_value n (Whole IntNode) = int_value (as_i64 n)
-number_value n (Whole LongNode) = option_map (λ z. LongDatum z) (as_i64 n)
+number_value n (Whole LongNode) = long_value (as_i64 n)
 number_value n _ = None
 
 -- code points 0 to 255 are the bytes

@@ -1,5 +1,5 @@
 -- What is seen of a node before its parts are known: enough for names, references, and members of one type.
-use Rattle.std.specs.Prelude.{ℕ, List, map, Bool, true, false, Option}
+use Rattle.std.specs.Prelude.{◌≡◌, ℕ, List, map, Bool, true, false, Option}
 use Rattle.std.specs.List.{position_from}
 use Rattle.std.specs.Str.{bytes_eq}
 use Rattle.avro_schema.specs.Draft.{Draft, Whole, RecordDraft}
@@ -47,6 +47,9 @@ is_union_head _ = false
 abbrev pub defines : List ℕ → Head → Bool
 defines full (Named name) = bytes_eq name full
 defines full _ = false
+
+abbrev pub IsUnnamed : Head → Type 0
+IsUnnamed head = (full : List ℕ) → defines full head ≡ false
 
 -- "Unions may not contain more than one schema with the same type, except for the named types record, fixed and enum."
 abbrev pub is_same_type : Head → Head → Bool

@@ -8,6 +8,7 @@ pub mod Defaults
 pub mod Draft
 pub mod Fault
 pub mod Head
+pub mod Index
 pub mod Names
 pub mod Node
 pub mod Schema

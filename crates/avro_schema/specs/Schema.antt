@@ -5,6 +5,7 @@ use Rattle.serde_json.specs.Read.{read}
 use Rattle.serde_json.specs.Written.{has_float, compact_text}
 use Rattle.avro_schema.specs.declared.error.SchemaError.{SchemaError}
 use Rattle.avro_schema.specs.declared.error.SchemaError.TheVariants.{TooLarge, NotJson, BadNumber, NoMemory}
+use Rattle.avro_schema.specs.Conforming.{DefaultsConform}
 use Rattle.avro_schema.specs.Defaults.{finished}
 use Rattle.avro_schema.specs.Fault.{◌>>=◌}
 use Rattle.avro_schema.specs.Node.{Node, Declaration}
@@ -28,9 +29,10 @@ most_text = 262144
 unfoldable pub schema_of : List ℕ → Result (List Node) SchemaError
 schema_of text = if nat_le (length text) most_text then nodes_in_read (read text) else Err TooLarge
 
--- the nodes are those of the value that the text reads as
+-- the nodes are those of the value that the text reads as, and each default is of its field's type
 pub record Declares (text : List ℕ) (nodes : List Node) : Type 0 where
   pub nodes_are : nodes_in_read (read text) ≡ Ok nodes
+  pub defaults_conform : DefaultsConform nodes
 
 -- The answer is what the text declares, unless memory ran out. Its own text is the compact one of the value that was read.
 abbrev pub Parses : Result Declaration SchemaError → List ℕ → Type 0

@@ -5,6 +5,7 @@ mod copying;
 mod datum;
 mod defaults;
 mod draft;
+mod drafts;
 mod error;
 mod finishing;
 mod kind;

@@ -1,6 +1,5 @@
-ghost use Rattle.std.specs.Prelude.{◌≡◌, IfOk, string_bytes, option_map, option_and_then};
-ghost use Rattle.std.specs.List.{list_all, list_any, slice_split};
-ghost use Rattle.std.specs.Str.{bytes_eq};
+ghost use Rattle.std.specs.Prelude.{◌≡◌, IfOk, None, string_bytes, option_map, option_and_then};
+ghost use Rattle.std.specs.List.{list_all, slice_split};
 ghost use Rattle.serde_json.specs.Find.{as_str};
 ghost use Rattle.avro_schema.specs.Contract.{names_of};
 ghost use Rattle.avro_schema.specs.Draft.{data_at, draft_of, drafts_of};
@@ -8,7 +7,8 @@ ghost use Rattle.avro_schema.specs.Fault.{Tells};
 ghost use Rattle.avro_schema.specs.Head.{defined_at, defines, head_of, heads_of};
 ghost use Rattle.avro_schema.specs.Names.{is_letter, is_letter_or_digit, is_name, is_dot, has_dot, is_full_name, namespace_of, unqualified, full_name, text_of, own_namespace, new_name, field_name};
 
-use crate::draft::{Draft, DraftField};
+use crate::draft::Draft;
+use crate::drafts::{Drafts, FieldList};
 use crate::error::SchemaError;
 use crate::kind::Kind;
 use crate::word::Word;
@@ -108,19 +108,6 @@ pub(crate) fn defines(draft: &Draft, full: &str) -> bool
     }
 }
 
-/// The node that defines a full name.
-
-pub(crate) fn defined_at(drafts: &[Draft], full: &str) -> Option<usize>
-    ensures { result ≡ defined_at full.now (heads_of (drafts_of drafts.now)) }
-{
-    for node in 0..drafts.len() {
-        if defines(&drafts[node], full) {
-            return Some(node);
-        }
-    }
-    None
-}
-
 /// The text at an attribute.
 pub(crate) fn text_at(value: Option<&Value>) -> Option<&str>
     ensures { option_map (λ s. s.now) result ≡ option_and_then as_str (data_at value.entry) }
@@ -159,9 +146,10 @@ pub(crate) fn new_name(
     name: Option<&Value>,
     namespace: Option<&Value>,
     space: &str,
-    drafts: &[Draft],
+    drafts: &Drafts,
 ) -> Result<String, SchemaError>
-    ensures { Tells string_bytes result (new_name (data_at name.entry) (data_at namespace.entry) space.now (heads_of (drafts_of drafts.now))) }
+    ensures name { Tells string_bytes result (new_name (data_at name.entry) (data_at namespace.entry) space.now (heads_of (drafts_of drafts.now.nodes.items))) }
+    ensures new { IfOk result (λ s. defined_at (string_bytes s) (heads_of (drafts_of drafts.now.nodes.items)) ≡ None) }
 {
     let name = text_of(name)?;
     let own = own_namespace(name, namespace, space)?;
@@ -169,30 +157,23 @@ pub(crate) fn new_name(
     if !is_full_name(&full) || Word::of_text(unqualified(&full)).is_primitive() {
         return Err(SchemaError::BadName);
     }
-    if defined_at(drafts, &full).is_some() {
+    if drafts.defined_at(&full).is_some() {
         return Err(SchemaError::Redefined);
     }
     Ok(full)
 }
 
-/// Whether one of the fields has a name.
-fn is_used(name: &str, fields: &[DraftField]) -> bool
-    ensures { result ≡ list_any (λ f. bytes_eq (string_bytes f.name) name.now) fields.now }
-{
-    fields.iter().any(|field| field.name.as_str() == name)
-}
-
 /// The name of a field behind others.
-#[tactic(auto, using(crate::proofs::NameRule::used_field), unfolding(crate::specs::Names::field_name))]
+#[tactic(auto, unfolding(crate::specs::Names::field_name))]
 pub(crate) fn field_name(
     alloc: Global,
     name: Option<&Value>,
-    before: &[DraftField],
+    before: &FieldList,
 ) -> Result<String, SchemaError>
-    ensures { Tells string_bytes result (field_name (data_at name.entry) (names_of before.now)) }
+    ensures { Tells string_bytes result (field_name (data_at name.entry) (names_of before.now.fields.items)) }
 {
     let name = text_of(name)?;
-    if !is_name(name.as_bytes()) || is_used(name, before) {
+    if !is_name(name.as_bytes()) || before.is_used(name) {
         return Err(SchemaError::BadName);
     }
     Ok(String::from_str(alloc, name)?)

@@ -3,12 +3,14 @@ ghost use Rattle.std.specs.Option.{ok_or};
 ghost use Rattle.serde_json.specs.Data.{Data, depth};
 ghost use Rattle.serde_json.specs.Read.{read, max_depth};
 ghost use Rattle.serde_json.specs.View.{view};
+ghost use Rattle.avro_schema.specs.Conforming.{DefaultsConform};
 ghost use Rattle.avro_schema.specs.Declaring.{DeclaresNode};
 ghost use Rattle.avro_schema.specs.Fault.{Tells};
 ghost use Rattle.avro_schema.specs.Node.{IsWellFormed, NodeIsWellFormed, node_of, nodes_of};
 ghost use Rattle.avro_schema.specs.Schema.{Parses, declared};
 ghost use Rattle.avro_schema.specs.Walk.{null_namespace};
 
+use crate::drafts::Drafts;
 use crate::error::SchemaError;
 use crate::finishing::{all_defaults, nodes_with};
 use crate::kind::Kind;
@@ -93,6 +95,13 @@ impl Schema {
         let _opened = &self.nodes;
     }
 
+    /// The law that each default of a field is of the field's type.
+    pub fn defaults_conform(&self)
+        ensures { DefaultsConform self.now.nodes }
+    {
+        let _opened = &self.nodes;
+    }
+
     /// The law that the root is what the JSON value of its text declares.
     pub fn is_declared(&self)
         ensures { (d : Data) × (read self.now.text ≡ Some d) × DeclaresNode d null_namespace self.now.nodes 0 }
@@ -103,12 +112,13 @@ impl Schema {
 
 /// The nodes that a JSON value declares.
 fn nodes_in(alloc: Global, value: &Value) -> Result<Vec<Kind>, SchemaError>
-    ensures { Tells (λ v. nodes_of v.items) result (declared (view value.now)) }
+    ensures declared { Tells (λ v. nodes_of v.items) result (declared (view value.now)) }
+    ensures defaults { IfOk result (λ v. DefaultsConform (nodes_of v.items)) }
 {
-    let mut drafts = Vec::new(alloc);
+    let mut drafts = Drafts::new(alloc);
     walk(alloc, value, "", &mut drafts)?;
-    let defaults = all_defaults(alloc, &drafts)?;
-    Ok(nodes_with(alloc, drafts, defaults)?)
+    let defaults = all_defaults(alloc, &drafts.nodes)?;
+    Ok(nodes_with(alloc, drafts.nodes, defaults)?)
 }
 
 /// The JSON value of a text.

@@ -3,13 +3,15 @@ ghost use Rattle.serde_json.specs.Find.{get};
 ghost use Rattle.serde_json.specs.View.{view, items_view};
 ghost use Rattle.avro_schema.specs.Contract.{Walks, names_of, object_as, object_walk};
 ghost use Rattle.avro_schema.specs.Draft.{Whole, data_at, draft_field_of};
+ghost use Rattle.avro_schema.specs.Head.{IsUnnamed, head_of_node};
 ghost use Rattle.avro_schema.specs.Node.{node_of};
 ghost use Rattle.avro_schema.specs.Walk.{leaf, reference, named, walk, members, if_room, union_of, or_unknown, fields, fields_after, field};
 
 use crate::draft::{Draft, DraftField};
+use crate::drafts::{Drafts, FieldList};
 use crate::error::SchemaError;
 use crate::kind::Kind;
-use crate::names::{defined_at, field_name, full_name, namespace_of, new_name};
+use crate::names::{field_name, full_name, namespace_of, new_name};
 use crate::symbols::{default_symbol, size_of, symbols_of};
 use crate::unions::are_apart;
 use crate::word::{Form, Word};
@@ -21,14 +23,15 @@ const MOST_NODES: usize = 1024;
 const MOST_FIELDS: usize = 1024;
 
 /// The new node of a kind that holds no others.
-fn walk_leaf(kind: Kind, space: &str, drafts: &mut Vec<Draft>) -> Result<usize, SchemaError>
-    ensures { Walks (λ n. n) result (leaf (node_of kind)) space.now drafts.old.items drafts.new.items }
+fn walk_leaf(kind: Kind, space: &str, drafts: &mut Drafts) -> Result<usize, SchemaError>
+    requires { IsUnnamed (head_of_node (node_of kind)) }
+    ensures { Walks (λ n. n) result (leaf (node_of kind)) space.now drafts.old.nodes.items drafts.new.nodes.items }
 {
-    let node = drafts.len();
+    let node = drafts.nodes.len();
     if node >= MOST_NODES {
         return Err(SchemaError::TooLarge);
     }
-    drafts.push(Draft::Whole(kind))?;
+    drafts.push(kind)?;
     Ok(node)
 }
 
@@ -37,12 +40,12 @@ fn walk_reference(
     alloc: Global,
     text: &str,
     space: &str,
-    drafts: &mut Vec<Draft>,
+    drafts: &mut Drafts,
 ) -> Result<usize, SchemaError>
-    ensures { Walks (λ n. n) result (reference text.now) space.now drafts.old.items drafts.new.items }
+    ensures { Walks (λ n. n) result (reference text.now) space.now drafts.old.nodes.items drafts.new.nodes.items }
 {
     let full = full_name(alloc, space, text)?;
-    match defined_at(drafts, &full) {
+    match drafts.defined_at(&full) {
         Some(node) => Ok(node),
         None => Err(SchemaError::Unknown),
     }
@@ -53,9 +56,9 @@ fn walk_text(
     alloc: Global,
     text: &str,
     space: &str,
-    drafts: &mut Vec<Draft>,
+    drafts: &mut Drafts,
 ) -> Result<usize, SchemaError>
-    ensures { Walks (λ n. n) result (named text.now) space.now drafts.old.items drafts.new.items }
+    ensures { Walks (λ n. n) result (named text.now) space.now drafts.old.nodes.items drafts.new.nodes.items }
 {
     let word = Word::of_text(text);
     if word.is_left_out() {
@@ -72,11 +75,11 @@ fn walk_enum(
     alloc: Global,
     value: &Value,
     space: &str,
-    drafts: &mut Vec<Draft>,
+    drafts: &mut Drafts,
 ) -> Result<usize, SchemaError>
-    ensures { Walks (λ n. n) result (object_as Form.Enum (view value.now)) space.now drafts.old.items drafts.new.items }
+    ensures { Walks (λ n. n) result (object_as Form.Enum (view value.now)) space.now drafts.old.nodes.items drafts.new.nodes.items }
 {
-    let node = drafts.len();
+    let node = drafts.nodes.len();
     if node >= MOST_NODES {
         return Err(SchemaError::TooLarge);
     }
@@ -89,11 +92,13 @@ fn walk_enum(
     )?;
     let symbols = symbols_of(alloc, value.get("symbols"))?;
     let default = default_symbol(&symbols, value.get("default"))?;
-    drafts.push(Draft::Whole(Kind::Enum {
+    let full = name.clone()?;
+    let kind = Kind::Enum {
         name,
         symbols,
         default,
-    }))?;
+    };
+    drafts.define(full, Draft::Whole(kind))?;
     Ok(node)
 }
 
@@ -102,11 +107,11 @@ fn walk_fixed(
     alloc: Global,
     value: &Value,
     space: &str,
-    drafts: &mut Vec<Draft>,
+    drafts: &mut Drafts,
 ) -> Result<usize, SchemaError>
-    ensures { Walks (λ n. n) result (object_as Form.Fixed (view value.now)) space.now drafts.old.items drafts.new.items }
+    ensures { Walks (λ n. n) result (object_as Form.Fixed (view value.now)) space.now drafts.old.nodes.items drafts.new.nodes.items }
 {
-    let node = drafts.len();
+    let node = drafts.nodes.len();
     if node >= MOST_NODES {
         return Err(SchemaError::TooLarge);
     }
@@ -118,7 +123,8 @@ fn walk_fixed(
         drafts,
     )?;
     let size = size_of(value.get("size"))?;
-    drafts.push(Draft::Whole(Kind::Fixed { name, size }))?;
+    let full = name.clone()?;
+    drafts.define(full, Draft::Whole(Kind::Fixed { name, size }))?;
     Ok(node)
 }
 
@@ -128,9 +134,9 @@ pub(crate) fn walk<'v>(
     alloc: Global,
     value: &'v Value,
     space: &str,
-    drafts: &mut Vec<Draft<'v>>,
+    drafts: &mut Drafts<'v>,
 ) -> Result<usize, SchemaError>
-    ensures { Walks (λ n. n) result (walk (view value.now)) space.now drafts.old.items drafts.new.items }
+    ensures { Walks (λ n. n) result (walk (view value.now)) space.now drafts.old.nodes.items drafts.new.nodes.items }
 {
     match value {
         Value::Null | Value::Bool(_) | Value::Number(_) => Err(SchemaError::Unknown),
@@ -146,9 +152,9 @@ fn walk_at<'v>(
     alloc: Global,
     value: Option<&'v Value>,
     space: &str,
-    drafts: &mut Vec<Draft<'v>>,
+    drafts: &mut Drafts<'v>,
 ) -> Result<usize, SchemaError>
-    ensures { Walks (λ n. n) result (or_unknown (option_map walk (data_at value.entry))) space.now drafts.old.items drafts.new.items }
+    ensures { Walks (λ n. n) result (or_unknown (option_map walk (data_at value.entry))) space.now drafts.old.nodes.items drafts.new.nodes.items }
 {
     match value {
         Some(value) => walk(alloc, value, space, drafts),
@@ -162,20 +168,20 @@ fn walk_union<'v>(
     alloc: Global,
     items: &'v [Value],
     space: &str,
-    drafts: &mut Vec<Draft<'v>>,
+    drafts: &mut Drafts<'v>,
 ) -> Result<usize, SchemaError>
-    ensures { Walks (λ n. n) result (if_room (union_of (members (items_view items.now)))) space.now drafts.old.items drafts.new.items }
+    ensures { Walks (λ n. n) result (if_room (union_of (members (items_view items.now)))) space.now drafts.old.nodes.items drafts.new.nodes.items }
 {
-    let node = drafts.len();
+    let node = drafts.nodes.len();
     if node >= MOST_NODES {
         return Err(SchemaError::TooLarge);
     }
-    drafts.push(Draft::Whole(Kind::Union(Vec::new(alloc))))?;
+    drafts.push(Kind::Union(Vec::new(alloc)))?;
     let members = walk_members(alloc, items, space, drafts)?;
-    if !are_apart(&members, drafts) {
+    if !are_apart(&members, &drafts.nodes) {
         return Err(SchemaError::BadUnion);
     }
-    drafts[node] = Draft::Whole(Kind::Union(members));
+    drafts.set(node, Draft::Whole(Kind::Union(members)));
     Ok(node)
 }
 
@@ -185,9 +191,9 @@ fn walk_members<'v>(
     alloc: Global,
     items: &'v [Value],
     space: &str,
-    drafts: &mut Vec<Draft<'v>>,
+    drafts: &mut Drafts<'v>,
 ) -> Result<Vec<usize>, SchemaError>
-    ensures { Walks (λ v. v.items) result (members (items_view items.now)) space.now drafts.old.items drafts.new.items }
+    ensures { Walks (λ v. v.items) result (members (items_view items.now)) space.now drafts.old.nodes.items drafts.new.nodes.items }
 {
     let mut members = Vec::new(alloc);
     for item in items {
@@ -203,9 +209,9 @@ fn walk_object<'v>(
     alloc: Global,
     value: &'v Value,
     space: &str,
-    drafts: &mut Vec<Draft<'v>>,
+    drafts: &mut Drafts<'v>,
 ) -> Result<usize, SchemaError>
-    ensures { Walks (λ n. n) result (object_walk (view value.now)) space.now drafts.old.items drafts.new.items }
+    ensures { Walks (λ n. n) result (object_walk (view value.now)) space.now drafts.old.nodes.items drafts.new.nodes.items }
 {
     match Form::of_type(value.get("type")) {
         Form::Record => walk_record(alloc, value, space, drafts),
@@ -224,17 +230,17 @@ fn walk_array<'v>(
     alloc: Global,
     value: &'v Value,
     space: &str,
-    drafts: &mut Vec<Draft<'v>>,
+    drafts: &mut Drafts<'v>,
 ) -> Result<usize, SchemaError>
-    ensures { Walks (λ n. n) result (object_as Form.Array (view value.now)) space.now drafts.old.items drafts.new.items }
+    ensures { Walks (λ n. n) result (object_as Form.Array (view value.now)) space.now drafts.old.nodes.items drafts.new.nodes.items }
 {
-    let node = drafts.len();
+    let node = drafts.nodes.len();
     if node >= MOST_NODES {
         return Err(SchemaError::TooLarge);
     }
-    drafts.push(Draft::Whole(Kind::Array(0)))?;
+    drafts.push(Kind::Array(0))?;
     let items = walk_at(alloc, value.get("items"), space, drafts)?;
-    drafts[node] = Draft::Whole(Kind::Array(items));
+    drafts.set(node, Draft::Whole(Kind::Array(items)));
     Ok(node)
 }
 
@@ -244,17 +250,17 @@ fn walk_map<'v>(
     alloc: Global,
     value: &'v Value,
     space: &str,
-    drafts: &mut Vec<Draft<'v>>,
+    drafts: &mut Drafts<'v>,
 ) -> Result<usize, SchemaError>
-    ensures { Walks (λ n. n) result (object_as Form.Map (view value.now)) space.now drafts.old.items drafts.new.items }
+    ensures { Walks (λ n. n) result (object_as Form.Map (view value.now)) space.now drafts.old.nodes.items drafts.new.nodes.items }
 {
-    let node = drafts.len();
+    let node = drafts.nodes.len();
     if node >= MOST_NODES {
         return Err(SchemaError::TooLarge);
     }
-    drafts.push(Draft::Whole(Kind::Map(0)))?;
+    drafts.push(Kind::Map(0))?;
     let values = walk_at(alloc, value.get("values"), space, drafts)?;
-    drafts[node] = Draft::Whole(Kind::Map(values));
+    drafts.set(node, Draft::Whole(Kind::Map(values)));
     Ok(node)
 }
 
@@ -264,11 +270,11 @@ fn walk_record<'v>(
     alloc: Global,
     value: &'v Value,
     space: &str,
-    drafts: &mut Vec<Draft<'v>>,
+    drafts: &mut Drafts<'v>,
 ) -> Result<usize, SchemaError>
-    ensures { Walks (λ n. n) result (object_as Form.Record (view value.now)) space.now drafts.old.items drafts.new.items }
+    ensures { Walks (λ n. n) result (object_as Form.Record (view value.now)) space.now drafts.old.nodes.items drafts.new.nodes.items }
 {
-    let node = drafts.len();
+    let node = drafts.nodes.len();
     if node >= MOST_NODES {
         return Err(SchemaError::TooLarge);
     }
@@ -279,13 +285,15 @@ fn walk_record<'v>(
         space,
         drafts,
     )?;
+    let full = name.clone()?;
     let copy = name.clone()?;
-    drafts.push(Draft::Record {
+    let open = Draft::Record {
         name: copy,
         fields: Vec::new(alloc),
-    })?;
+    };
+    drafts.define(full, open)?;
     let fields = walk_fields(alloc, value.get("fields"), namespace_of(&name), drafts)?;
-    drafts[node] = Draft::Record { name, fields };
+    drafts.set(node, Draft::Record { name, fields });
     Ok(node)
 }
 
@@ -295,9 +303,9 @@ fn walk_fields<'v>(
     alloc: Global,
     value: Option<&'v Value>,
     space: &str,
-    drafts: &mut Vec<Draft<'v>>,
+    drafts: &mut Drafts<'v>,
 ) -> Result<Vec<DraftField<'v>>, SchemaError>
-    ensures { Walks (λ v. map draft_field_of v.items) result (or_unknown (option_map fields (data_at value.entry))) space.now drafts.old.items drafts.new.items }
+    ensures { Walks (λ v. map draft_field_of v.items) result (or_unknown (option_map fields (data_at value.entry))) space.now drafts.old.nodes.items drafts.new.nodes.items }
 {
     match value {
         None => Err(SchemaError::Unknown),
@@ -314,16 +322,16 @@ fn walk_listed<'v>(
     alloc: Global,
     items: &'v [Value],
     space: &str,
-    drafts: &mut Vec<Draft<'v>>,
+    drafts: &mut Drafts<'v>,
 ) -> Result<Vec<DraftField<'v>>, SchemaError>
-    ensures { Walks (λ v. map draft_field_of v.items) result (fields_after (items_view items.now) []) space.now drafts.old.items drafts.new.items }
+    ensures { Walks (λ v. map draft_field_of v.items) result (fields_after (items_view items.now) []) space.now drafts.old.nodes.items drafts.new.nodes.items }
 {
-    let mut fields = Vec::new(alloc);
+    let mut list = FieldList::new(alloc);
     for item in items {
-        let field = walk_field(alloc, item, &fields, space, drafts)?;
-        fields.push(field)?;
+        let field = walk_field(alloc, item, &list, space, drafts)?;
+        list.push(field)?;
     }
-    Ok(fields)
+    Ok(list.fields)
 }
 
 /// A field, behind others.
@@ -331,16 +339,16 @@ fn walk_listed<'v>(
 fn walk_field<'v>(
     alloc: Global,
     value: &'v Value,
-    before: &[DraftField<'v>],
+    before: &FieldList<'v>,
     space: &str,
-    drafts: &mut Vec<Draft<'v>>,
+    drafts: &mut Drafts<'v>,
 ) -> Result<DraftField<'v>, SchemaError>
-    ensures { Walks draft_field_of result (field (view value.now) (names_of before.now)) space.now drafts.old.items drafts.new.items }
+    ensures { Walks draft_field_of result (field (view value.now) (names_of before.now.fields.items)) space.now drafts.old.nodes.items drafts.new.nodes.items }
 {
     if !value.is_object() {
         return Err(SchemaError::Unknown);
     }
-    if before.len() >= MOST_FIELDS {
+    if before.fields.len() >= MOST_FIELDS {
         return Err(SchemaError::TooLarge);
     }
     let name = field_name(alloc, value.get("name"), before)?;

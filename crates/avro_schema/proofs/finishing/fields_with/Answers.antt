@@ -1,5 +1,3 @@
-use Rattle.avro_schema.proofs.DefaultsConform.{default-conforms}
-use Rattle.avro_schema.proofs.FinishedNodes.{length-finished}
 use Rattle.std.proofs.Common.{◌∙◌}
 use Rattle.std.proofs.lemmas.Iterator.{YieldsList-from_zip}
 use Rattle.std.proofs.lemmas.Iterator.Adapters.{YieldsList-from_vec}

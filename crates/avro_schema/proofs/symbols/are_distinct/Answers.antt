@@ -1,8 +1,7 @@
-use Rattle.std.proofs.Common.{◌≡◌, ◌||◌, ℕ, List, sym, ap, ◌∙◌, rules, string_bytes, false, take, true, refl}
+use Rattle.std.proofs.Common.{◌≡◌, ◌||◌, sym, ap, ◌∙◌, string_bytes, false, take, true, refl}
 use Rattle.std.specs.BTreeSet.{contains_text}
 use Rattle.std.specs.Str.{bytes_eq}
 use Rattle.std.proofs.lemmas.Map.Text.{btree_set_updates_text}
-use Rattle.avro_schema.specs.Attributes.{are_new}
 use Rattle.avro_schema.specs.Names.{is_used}
 use Rattle.avro_schema.proofs.Texts.{names, names-take, new-step, used-push, cond_or, not_not}
 use Rattle.avro_schema.proofs.symbols.are_distinct.Goals as goal

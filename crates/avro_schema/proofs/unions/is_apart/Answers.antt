@@ -1,4 +1,4 @@
-use Rattle.std.proofs.Common.{◌≡◌, refl}
+use Rattle.std.proofs.Common.{refl}
 use Rattle.avro_schema.proofs.Heads.{head_here, any_mapped}
 use Rattle.avro_schema.proofs.unions.is_apart.Goals as goal
 

@@ -1,4 +1,3 @@
-use Rattle.std.proofs.Common.{◌≡◌}
 use Rattle.avro_schema.proofs.Heads.{head_here}
 use Rattle.avro_schema.proofs.unions.is_of_type.Goals as goal
 

@@ -44,10 +44,10 @@ decreases-walk_field l = 8 * depth (view l.value.now) + 7
 
 abbrev pub invariant-walk_members-loop-item : goal.invariant-walk_members-loop-item
 invariant-walk_members-loop-item l =
-    behind l.members.items (run (members (items_view (drop l.item-index l.items))) l.space (drafts_of l.drafts.items))
-    ≡ run (members (items_view l.items)) l.space (drafts_of l.initial.drafts.items)
+    behind l.members.items (run (members (items_view (drop l.item-index l.items))) l.space (drafts_of l.drafts.nodes.items))
+    ≡ run (members (items_view l.items)) l.space (drafts_of l.initial.drafts.nodes.items)
 
 abbrev pub invariant-walk_listed-loop-item : goal.invariant-walk_listed-loop-item
 invariant-walk_listed-loop-item l =
-    behind (map draft_field_of l.fields.items) (run (fields_after (items_view (drop l.item-index l.items)) (names_of l.fields.items)) l.space (drafts_of l.drafts.items))
-    ≡ run (fields_after (items_view l.items) []) l.space (drafts_of l.initial.drafts.items)
+    behind (map draft_field_of l.list.fields.items) (run (fields_after (items_view (drop l.item-index l.items)) (names_of l.list.fields.items)) l.space (drafts_of l.drafts.nodes.items))
+    ≡ run (fields_after (items_view l.items) []) l.space (drafts_of l.initial.drafts.nodes.items)

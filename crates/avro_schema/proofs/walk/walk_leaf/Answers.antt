@@ -1,12 +1,12 @@
-use Rattle.std.proofs.Common.{arith, rules, ◌∙◌, ◌≡◌, ap, sym, length, ◌<◌}
+use Rattle.std.proofs.Common.{arith, rules, ◌≡◌, length, ◌<◌}
 use Rattle.avro_schema.specs.Walk.{most_nodes}
 use Rattle.avro_schema.proofs.Runs.{run-no_room, run-leaf, pushed}
 use Rattle.avro_schema.proofs.walk.walk_leaf.Goals as goal
 
 pub returns-then-node-ge-MOST_NODES : goal.returns-then-node-ge-MOST_NODES
-returns-then-node-ge-MOST_NODES c = λ _. run-no_room _ c.args.space.now c.args.drafts.now.items (omega arith)
+returns-then-node-ge-MOST_NODES c = λ _. run-no_room _ c.args.space.now c.args.drafts.now.nodes.items (omega arith)
 
 pub returns : goal.returns
 returns c =
-    let n : c.len-node.result ≡ length c.args.drafts.now.items = search rules in
-    rw (n, pushed c.args.drafts.now.items _ _ c.in_ok-push.ensures.items) (run-leaf _ c.args.space.now c.args.drafts.now.items (let room : length c.args.drafts.now.items < most_nodes = omega arith in room))
+    let n : c.len-node.result ≡ length c.args.drafts.now.nodes.items = search rules in
+    rw (n, pushed c.args.drafts.now.nodes.items _ _ c.in_ok-push.ensures) (run-leaf _ c.args.space.now c.args.drafts.now.nodes.items (let room : length c.args.drafts.now.nodes.items < most_nodes = omega arith in room))

@@ -1,4 +1,4 @@
-use Rattle.std.proofs.Common.{◌≡◌, ◌∙◌, ap, sym, option_map, refl}
+use Rattle.std.proofs.Common.{◌∙◌, ap, sym, option_map, refl}
 use Rattle.avro_schema.specs.Contract.{run}
 use Rattle.avro_schema.specs.Node.{node_of}
 use Rattle.avro_schema.specs.Walk.{named}

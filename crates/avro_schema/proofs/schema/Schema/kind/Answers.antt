@@ -9,4 +9,4 @@ returns-clause-well_formed c =
     let kinds = c.self.inside.nodes.items in
     let same = ap (λ (s : Declaration). length s.nodes) c.self.view_is in
     let lt : c.args.node < length kinds = omega (arith, length-nodes_of kinds, same, c.requires) in
-    rw (← c.self.view_is) (one_is_well_formed kinds c.args.node c.index.result.now (declared-well_formed _ _ c.self.invariant) lt c.index.ensures)
+    rw (← c.self.view_is) (one_is_well_formed kinds c.args.node c.index.result.now (declared-well_formed _ _ c.self.invariant.nodes_are) lt c.index.ensures)

@@ -1,4 +1,4 @@
-use Rattle.std.proofs.Common.{◌≡◌, ◌∙◌, sym, refl, arith, Some, string_bytes}
+use Rattle.std.proofs.Common.{◌≡◌, ◌∙◌, sym, arith, Some, string_bytes}
 use Rattle.std.proofs.lemmas.Result.{err_from_is_err_and}
 use Rattle.serde_json.specs.Read.{read}
 use Rattle.serde_json.specs.View.{view}
@@ -22,17 +22,17 @@ pub returns-in_err-nodes : goal.returns-in_err-nodes
 returns-in_err-nodes c =
     let p = err_from_is_err_and c.from_residual-in_err-nodes.result c.from_residual-in_err-nodes.ensures.1 in
     let is = some-json (read c.args.text.now) (view c.in_ok-value.value) c.in_ok-value.ensures.value in
-    rw (p.1, p.2) (λ known. small c.args.text.now (omega arith) ∙ walked c.args.text.now (view c.in_ok-value.value) is c.if-has_float.ensures ∙ c.in_err-nodes.ensures known)
+    rw (p.1, p.2) (λ known. small c.args.text.now (omega arith) ∙ walked c.args.text.now (view c.in_ok-value.value) is c.if-has_float.ensures ∙ c.in_err-nodes.ensures.declared known)
 
 pub invariant_of-result : goal.invariant_of-result
 invariant_of-result c =
     let back : read (string_bytes c.in_ok-text.text) ≡ Some (view c.in_ok-value.value) = c.in_ok-text.ensures.reads_back c.in_ok-value.ensures.nests in
-    record { nodes_are = walked (string_bytes c.in_ok-text.text) (view c.in_ok-value.value) back c.if-has_float.ensures ∙ c.in_ok-nodes.ensures }
+    record { nodes_are = walked (string_bytes c.in_ok-text.text) (view c.in_ok-value.value) back c.if-has_float.ensures ∙ c.in_ok-nodes.ensures.declared; defaults_conform = c.in_ok-nodes.ensures.defaults }
 
 pub returns : goal.returns
 returns c =
     let is = some-json (read c.args.text.now) (view c.in_ok-value.value) c.in_ok-value.ensures.value in (
-      small c.args.text.now (omega arith) ∙ walked c.args.text.now (view c.in_ok-value.value) is c.if-has_float.ensures ∙ c.in_ok-nodes.ensures,
+      small c.args.text.now (omega arith) ∙ walked c.args.text.now (view c.in_ok-value.value) is c.if-has_float.ensures ∙ c.in_ok-nodes.ensures.declared,
       view c.in_ok-value.value,
       is,
       c.in_ok-text.ensures.text (sym c.if-has_float.ensures),
