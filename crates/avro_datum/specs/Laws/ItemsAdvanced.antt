@@ -1,5 +1,5 @@
 -- Where reading the items of an array or a map comes to one more, what was reached goes on with it.
-use Rattle.std.proofs.Common.{◌≡◌, ℕ, zero, suc, ◌+◌, List, [], ◌++◌, length, drop, Option, Some, None, refl, sym, ap, subst, ◌∙◌, append_assoc, arith, inl, inr}
+use Rattle.std.proofs.Common.{◌≡◌, ℕ, zero, suc, ◌+◌, List, [], ◌++◌, length, drop, Option, Some, None, sym, ap, subst, ◌∙◌, append_assoc, arith, inl, inr}
 use Rattle.std.proofs.lemmas.List.{append-nil, length-append}
 use Rattle.avro_bytes.specs.declared.blocks.BlockSize.{BlockSize}
 use Rattle.avro_bytes.specs.declared.blocks.BlockWalk.{BlockWalk}

@@ -1,6 +1,6 @@
 -- Where reading the items of an array or a map gives none, what it tells is their first fault.
 use Rattle.std.proofs.Common.{◌≡◌, ℕ, zero, suc, ◌+◌, ◌-◌, ◌<◌, List, [], ◌∷◌, ◌++◌, length, drop, Option, Some, None, ℤ, pos, refl, sym, ap, subst, ◌∙◌, append_assoc, arith, inl, inr}
-use Rattle.std.proofs.lemmas.List.{append-nil, length-append}
+use Rattle.std.proofs.lemmas.List.{length-append}
 use Rattle.avro_bytes.specs.declared.blocks.BlockSize.{BlockSize}
 use Rattle.avro_bytes.specs.declared.blocks.BlockWalk.{BlockWalk}
 use Rattle.avro_bytes.specs.declared.fault.MalformedKind.TheVariants.{BadBlock}
@@ -14,11 +14,10 @@ use Rattle.avro_bytes.specs.Meter.{RefusesItem}
 use Rattle.avro_bytes.specs.Laws.Binds.{behind, defect_behind, defect_map, defect_then}
 use Rattle.avro_bytes.specs.Laws.BlockDefects.{bad_block_told, behind_met, decide_met, head_defect, within_defect}
 use Rattle.avro_datum.specs.ItemDecoding.{Reader, items_at, items_from}
-use Rattle.avro_datum.specs.ItemFault.{IsBadBlock, IsRefusedItem, SaysCount, SpellEach}
-use Rattle.avro_datum.specs.Laws.ItemFaults.{AtFault, Advanced, InBlock, Reached, begins, closed, reached_more}
+use Rattle.avro_datum.specs.ItemFault.{IsBadBlock, IsRefusedItem, SaysCount}
+use Rattle.avro_datum.specs.Laws.ItemFaults.{AtFault, InBlock, Reached, begins, closed, reached_more}
 use Rattle.avro_datum.specs.Laws.Items.{ReadsSound}
 use Rattle.avro_datum.specs.Laws.ItemsAdvanced.{advance}
-use Rattle.avro_datum.specs.Laws.ItemsAgain.{sized_at}
 use Rattle.avro_datum.specs.Laws.Parts.{some_is}
 
 module _ {A : Type 0} (Spelled : A → List ℕ → Type 0) (deep units : A → ℕ) (Faulty : List ℕ → Meter → Defect → Type 0) where
