@@ -22,6 +22,6 @@ pub use fault::{Fault, MalformedKind};
 pub use form::{WireForm, read_and_skip};
 pub use laws::{shortest_spelling_is_shortest, walks_pass_the_items, walks_tell_the_first_fault};
 pub use meter::{MOST_DEPTH, MOST_UNITS, Meter};
-pub use number::{Int, Long};
+pub use number::{Int, Long, read_int};
 pub use put::{long_len, put_long};
 pub use text::{LONGEST, Text};

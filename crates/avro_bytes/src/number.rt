@@ -82,6 +82,19 @@ pub(crate) fn read_long(bytes: &[u8], at: usize, m: Meter) -> Result<(i64, usize
     Ok((signed(groups), to, m))
 }
 
+/// The number of 32 bits at a place. It takes no memory.
+#[tactic(auto, unfolding(crate::specs::NumberDecoding::number_at))]
+pub fn read_int(bytes: &[u8], at: usize, m: Meter) -> Result<(i32, usize, Meter), Fault>
+    requires { at ≤ length bytes.now }
+    ensures finds { Finds (λ n. n) result (number_at int_limit bytes.now at m) }
+    ensures within { IfOk result (λ r. r.1 ≤ length bytes.now) }
+    ensures depth { IfOk result (λ r. r.2.depth ≡ m.depth) }
+    ensures units { IfOk result (λ r. m.units ≤ r.2.units) }
+{
+    let (groups, to) = read_groups(bytes, at, 5, 15)?;
+    Ok((signed_32(groups), to, m))
+}
+
 impl WireForm for Long {
     type Value = i64;
 
@@ -147,10 +160,8 @@ impl WireForm for Int {
 
     ghost told = { λ _ before bytes m d f. number_told int_limit before bytes m d f };
 
-    #[tactic(auto, unfolding(crate::specs::NumberDecoding::number_at))]
     fn read(&self, bytes: &[u8], at: usize, m: Meter) -> Result<(i32, usize, Meter), Fault> {
-        let (groups, to) = read_groups(bytes, at, 5, 15)?;
-        Ok((signed_32(groups), to, m))
+        read_int(bytes, at, m)
     }
 
     #[tactic(auto, unfolding(crate::specs::NumberDecoding::number_at))]

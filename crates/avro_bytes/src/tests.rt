@@ -4,7 +4,7 @@ ghost use Rattle.std.specs.Prelude.{◌≡◌};
 
 use crate::{
     Blob, BlockWalk, Bool, Fault, FixedBytes, Int, LONGEST, Long, MOST_DEPTH, MOST_UNITS,
-    MalformedKind, Meter, Text, WireForm, long_len, put_long, read_and_skip,
+    MalformedKind, Meter, Text, WireForm, long_len, put_long, read_and_skip, read_int,
     shortest_spelling_is_shortest, walks_pass_the_items, walks_tell_the_first_fault,
 };
 use std::test::Fail;
@@ -56,6 +56,7 @@ fn longer_spellings_are_numbers_too(rt: HostRuntime) {
         Ok((i32::MIN, 5, START))
     );
     assert_eq!(rt; Int.skip(&[0x82, 0x80, 0x00], 0, START), Ok((3, START)));
+    assert_eq!(rt; read_int(&[0xff, 0x81, 0x00], 1, START), Ok((-1, 3, START)));
     assert_eq!(rt; Long.read(&[0xff, 0x36], 1, START), Ok((27, 2, START)));
 }
 

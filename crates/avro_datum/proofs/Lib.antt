@@ -6,7 +6,6 @@ pub mod LessValue
 pub mod OfType
 pub mod OnePayload
 pub mod Payloads
-pub mod Positions
 pub mod ShortestForm
 pub mod Skips
 pub mod Written

@@ -6,7 +6,7 @@ use Rattle.std.specs.Global.{Vec}
 use Rattle.avro_schema.specs.declared.datum.Datum as rust
 use Rattle.avro_schema.specs.Datum.{datum_of, data_of, pairs_of}
 use Rattle.avro_schema.proofs.DatumOf.{datum_of-Array, datum_of-Map, datum_of-Record}
-use Rattle.std.specs.Prelude.{OnErr, OnOk}
+use Rattle.std.specs.Prelude.{OnErr}
 use Rattle.avro_bytes.specs.Shortest.{Extends, shortest}
 use Rattle.avro_datum.proofs.Counts.{block_len}
 use Rattle.avro_datum.specs.Writing.{behind_length, block_count, how_many, how_many_pairs, in_block, written, written_data, written_pairs}
@@ -60,12 +60,6 @@ pairs_len_from ps i p lt e =
     ap length (pairs_from ps i p lt e) ∙ omega (arith, length-append (behind_length (string_bytes p.0)) (written (datum_of p.1) ++ written_pairs (pairs_of (drop (suc i) ps))), length-append (written (datum_of p.1)) (written_pairs (pairs_of (drop (suc i) ps))))
 
 -- ---- what is put behind what was put
-
-pub block_put : {E : Type 0} (r : Result (Unit {0}) E) (start counted put last bytes whole : List ℕ) (many len : ℕ) → many ≡ len → counted ≡ start ++ block_count many → put ≡ counted ++ bytes → whole ≡ in_block len bytes → OnOk r (last ≡ put ++ shortest (pos 0)) → OnOk r (last ≡ start ++ whole)
-block_put (Ok u) start counted put last bytes whole many len same c p w h =
-    h ∙ ap (λ (b : List ℕ). b ++ shortest (pos 0)) (p ∙ ap (λ (b : List ℕ). b ++ bytes) c) ∙ append_assoc (start ++ block_count many) bytes (shortest (pos 0)) ∙ append_assoc start (block_count many) (bytes ++ shortest (pos 0))
-    ∙ ap (λ (k : ℕ). start ++ in_block k bytes) same ∙ ap (λ (b : List ℕ). start ++ b) (sym w)
-block_put (Err e) start counted put last bytes whole many len same c p w h = tt
 
 pub extends_on : (a b c : List ℕ) → Extends a b → Extends b c → Extends a c
 extends_on a b c e f = (e.0 ++ f.0, f.1 ∙ ap (λ (x : List ℕ). x ++ f.0) e.1 ∙ append_assoc a e.0 f.0)

@@ -6,6 +6,7 @@ pub mod Defects
 pub mod ItemDefects
 pub mod ItemFaults
 pub mod Items
+pub mod ItemsAdvanced
 pub mod ItemsAgain
 pub mod ItemsFaulty
 pub mod ItemsPassed

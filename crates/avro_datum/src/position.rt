@@ -1,21 +1,8 @@
-ghost use Rattle.std.specs.Prelude.{◌≡◌, ◌≤◌, ◌<◌, ◌*◌, ◌^◌, length, IfOk};
+ghost use Rattle.std.specs.Prelude.{◌≡◌, ◌≤◌, ◌<◌, length, IfOk};
 ghost use Rattle.avro_bytes.specs.Contract.{Finds};
-ghost use Rattle.avro_bytes.specs.Number.{groups_sum};
 ghost use Rattle.avro_datum.specs.Position.{position_at};
 
-use avro_bytes::{Fault, Int, MalformedKind, Meter, WireForm};
-
-/// Groups of seven bits put together, the least first.
-fn put_together(groups: &[u8]) -> u64
-    requires { length groups.now ≤ 5 }
-    ensures sum { result ≡ groups_sum groups.now }
-    ensures below { result < 2 ^ (7 * length groups.now) }
-{
-    match groups {
-        [] => 0,
-        [first, rest @ ..] => u64::from(first % 128) + 128 * put_together(rest),
-    }
-}
+use avro_bytes::{Fault, MalformedKind, Meter, read_int};
 
 /// The position at a place, of so many symbols or members; any other number is bad. It takes no memory.
 #[tactic(auto, unfolding(crate::specs::Position::position_at))]
@@ -33,11 +20,9 @@ pub(crate) fn read_position(
     ensures depth { IfOk result (λ r. r.2.depth ≡ m.depth) }
     ensures units { IfOk result (λ r. m.units ≤ r.2.units) }
 {
-    let (to, after) = Int.skip(bytes, at, m)?;
-    let groups = put_together(&bytes[at..to]);
-    let n = groups / 2;
-    if groups % 2 != 0 || n >= many as u64 {
+    let (n, to, m) = read_int(bytes, at, m)?;
+    if n < 0 || n as usize >= many {
         return Err(Fault::Malformed { kind: bad, at });
     }
-    Ok((n as u32, to, after))
+    Ok((n as u32, to, m))
 }

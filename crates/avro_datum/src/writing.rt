@@ -137,22 +137,36 @@ fn put_datum(out: &mut Vec<u8>, datum: &Datum) -> Result<(), AllocError>
         Datum::Text(text) => put_bytes(out, text.as_bytes()),
         Datum::Fixed(value) => out.extend_from_slice(value.as_slice()),
         Datum::Enum(n) => put_long(out, i64::from(*n)),
-        Datum::Array(items) => {
-            put_count(out, items.len())?;
-            put_each(out, items)?;
-            put_long(out, 0)
-        }
-        Datum::Map(pairs) => {
-            put_count(out, pairs.len())?;
-            put_pairs(out, pairs)?;
-            put_long(out, 0)
-        }
+        Datum::Array(items) => put_items(out, items),
+        Datum::Map(pairs) => put_map(out, pairs),
         Datum::Union(n, datum) => {
             put_long(out, i64::from(*n))?;
             put_datum(out, datum)
         }
         Datum::Record(fields) => put_each(out, fields),
     }
+}
+
+/// Writes items at the end, in one block, and the count 0 behind it. An `Err` leaves a beginning of them.
+#[cycle(put)]
+fn put_items(out: &mut Vec<u8>, items: &[Datum]) -> Result<(), AllocError>
+    ensures ok { OnOk result (out.new.items ≡ out.old.items ++ in_block (length items.now) (written_data (data_of items.now))) }
+    ensures err { OnErr result (Extends out.old.items out.new.items) }
+{
+    put_count(out, items.len())?;
+    put_each(out, items)?;
+    put_long(out, 0)
+}
+
+/// Writes the pairs of a map at the end, in one block, and the count 0 behind it. An `Err` leaves a beginning of them.
+#[cycle(put)]
+fn put_map(out: &mut Vec<u8>, pairs: &[(String, Datum)]) -> Result<(), AllocError>
+    ensures ok { OnOk result (out.new.items ≡ out.old.items ++ in_block (length pairs.now) (written_pairs (pairs_of pairs.now))) }
+    ensures err { OnErr result (Extends out.old.items out.new.items) }
+{
+    put_count(out, pairs.len())?;
+    put_pairs(out, pairs)?;
+    put_long(out, 0)
 }
 
 /// Writes data at the end, one behind another. An `Err` leaves a beginning of them.

@@ -1,6 +1,6 @@
 -- Where reading the items of an array or a map gives none, what it tells is their first fault.
 use Rattle.std.proofs.Common.{◌≡◌, ℕ, zero, suc, ◌+◌, ◌-◌, ◌<◌, List, [], ◌∷◌, ◌++◌, length, drop, Option, Some, None, ℤ, pos, refl, sym, ap, subst, ◌∙◌, append_assoc, arith, inl, inr}
-use Rattle.std.proofs.lemmas.List.{append-nil, length-append}
+use Rattle.std.proofs.lemmas.List.{length-append}
 use Rattle.avro_bytes.specs.declared.blocks.BlockSize.{BlockSize}
 use Rattle.avro_bytes.specs.declared.blocks.BlockWalk.{BlockWalk}
 use Rattle.avro_bytes.specs.declared.fault.MalformedKind.TheVariants.{BadBlock}
@@ -13,13 +13,11 @@ use Rattle.avro_bytes.specs.Fault.{Defect, Broken, HasDefect, shifted}
 use Rattle.avro_bytes.specs.Meter.{RefusesItem}
 use Rattle.avro_bytes.specs.Laws.Binds.{behind, defect_behind, defect_map, defect_then}
 use Rattle.avro_bytes.specs.Laws.BlockDefects.{bad_block_told, behind_met, decide_met, head_defect, within_defect}
-use Rattle.avro_bytes.specs.Laws.Walks.{item_takes}
 use Rattle.avro_datum.specs.ItemDecoding.{Reader, items_at, items_from}
-use Rattle.avro_datum.specs.ItemFault.{IsBadBlock, IsRefusedItem, SaysCount, SpellEach}
-use Rattle.avro_datum.specs.Laws.ItemDefects.{block_heads}
-use Rattle.avro_datum.specs.Laws.ItemFaults.{AtFault, Advanced, InBlock, Reached, begins, closed, reached_more}
+use Rattle.avro_datum.specs.ItemFault.{IsBadBlock, IsRefusedItem, SaysCount}
+use Rattle.avro_datum.specs.Laws.ItemFaults.{AtFault, InBlock, Reached, begins, closed, reached_more}
 use Rattle.avro_datum.specs.Laws.Items.{ReadsSound}
-use Rattle.avro_datum.specs.Laws.ItemsAgain.{sized_at}
+use Rattle.avro_datum.specs.Laws.ItemsAdvanced.{advance}
 use Rattle.avro_datum.specs.Laws.Parts.{some_is}
 
 module _ {A : Type 0} (Spelled : A → List ℕ → Type 0) (deep units : A → ℕ) (Faulty : List ℕ → Meter → Defect → Type 0) where
@@ -90,69 +88,6 @@ module _ {A : Type 0} (Spelled : A → List ℕ → Type 0) (deep units : A → 
               (head_defect all at m)))
         ]
 
-    -- ---- an item is come to
-
-    advance_within : (left : ℕ) (sized : Option BlockSize) (at : ℕ) (m : Meter) (next : BlockWalk) (mid : ℕ) (opened : Meter) → Reached Spelled deep units all start m0 (record { left = suc left; sized = sized }) at m → next_item (record { left = suc left; sized = sized }) all at m ≡ Complete (Some next) mid opened → Advanced Spelled deep units all start m0 m next mid opened
-    unfolding next_item
-    advance_within left sized at m next mid opened r e = advancing r.state
-      where
-        advancing : InBlock Spelled deep units all start m0 (record { left = suc left; sized = sized }) r.now r.said r.head r.earlier → Advanced Spelled deep units all start m0 m next mid opened
-        advancing (inl f) = absurd (let none : suc left ≡ 0 = ap (λ (w : BlockWalk). w.left) f.2 in omega (arith, none))
-        advancing (inr w) =
-            let i = item_takes (record { left = left; sized = sized }) at m (Some next) mid opened e in
-            let same : record { left = left; sized = sized } ≡ next = some_is i.1 in
-            record {
-              blocks = r.blocks;
-              now = r.now;
-              said = r.said;
-              earlier = r.earlier;
-              head = r.head;
-              rest = r.rest;
-              vs = r.vs;
-              parts = r.parts;
-              place = sym i.2 ∙ r.place;
-              whole = r.whole;
-              each = r.each;
-              counts = r.counts;
-              says = subst (λ (x : BlockWalk). SaysCount (length r.now + suc x.left) r.said r.head) same w.1;
-              sized = subst (λ (x : BlockWalk). x.sized ≡ sized_at (start + length r.earlier) (length r.head) r.said) same w.2;
-              opens = i.0;
-            }
-
-    advance_block : (sized : Option BlockSize) (at : ℕ) (m : Meter) (next : BlockWalk) (mid : ℕ) (opened : Meter) → Reached Spelled deep units all start m0 (record { left = 0; sized = sized }) at m → IsMet sized at → next_item (record { left = 0; sized = sized }) all at m ≡ Complete (Some next) mid opened → Advanced Spelled deep units all start m0 m next mid opened
-    advance_block sized at m next mid opened r met e =
-        let b = closed Spelled deep units all start m0 sized at m r met in
-        let front = r.earlier ++ (r.head ++ joined r.now) in
-        let h = block_heads all at m next mid opened (sym (behind_met sized all at m met) ∙ e) in
-        let here : drop at all ≡ r.rest = behind (r.earlier ++ (r.head ++ joined r.now)) r.rest all start at r.parts r.place in
-        let none : (r.earlier ++ (r.head ++ joined r.now)) ++ (h.head ++ []) ≡ (r.earlier ++ (r.head ++ joined r.now)) ++ h.head = ap (λ (x : List ℕ). (r.earlier ++ (r.head ++ joined r.now)) ++ x) (append-nil h.head) in
-        record {
-          blocks = b.blocks;
-          now = [];
-          said = h.said;
-          earlier = r.earlier ++ (r.head ++ joined r.now);
-          head = h.head;
-          rest = h.rest;
-          vs = b.spelled.values;
-          parts = r.parts ∙ ap (λ (x : List ℕ). (r.earlier ++ (r.head ++ joined r.now)) ++ x) (sym here ∙ h.parts) ∙ sym (append_assoc (r.earlier ++ (r.head ++ joined r.now)) h.head h.rest) ∙ ap (λ (x : List ℕ). x ++ h.rest) (sym none);
-          place = omega (arith, h.end, r.place, ap length none, length-append (r.earlier ++ (r.head ++ joined r.now)) h.head);
-          whole = b.whole;
-          each = subst (SpellEach Spelled b.spelled.values) (sym (append-nil (joined b.blocks))) b.spelled.each;
-          counts = b.spelled.counts;
-          says = subst (λ (k : ℕ). SaysCount k h.said h.head) (let e : suc next.left ≡ length {A = List ℕ} [] + suc next.left = omega arith in e) h.says;
-          sized = h.sized ∙ ap (λ (k : ℕ). sized_at k (length h.head) h.said) r.place;
-          opens = h.opens;
-        }
-
-    advance : (left : ℕ) (sized : Option BlockSize) (at : ℕ) (m : Meter) (next : BlockWalk) (mid : ℕ) (opened : Meter) → Reached Spelled deep units all start m0 (record { left = left; sized = sized }) at m → next_item (record { left = left; sized = sized }) all at m ≡ Complete (Some next) mid opened → Advanced Spelled deep units all start m0 m next mid opened
-    advance (suc left) sized at m next mid opened r e = advance_within left sized at m next mid opened r e
-    advance zero None at m next mid opened r e = advance_block None at m next mid opened r tt e
-    advance zero (Some b) at m next mid opened r e =
-        elim (decide_met (Some b) at) [
-          | inl met ↦ advance_block (Some b) at m next mid opened r met e
-          | inr unmet ↦ absurd (let bad = sym (bad_block_told b all at m unmet) ∙ e in cc)
-        ]
-
     -- ---- one item after another
 
     module _ (left : ℕ) (reader : Reader A) (sound : ReadsSound Spelled deep units left all reader) (faulty : (at : ℕ) (m : Meter) → left ≡ 1000 - m.depth → HasDefect (reader at m) at (Faulty (drop at all) m)) where
@@ -162,7 +97,7 @@ module _ {A : Type 0} (Spelled : A → List ℕ → Type 0) (deep units : A → 
       from_defect : (fuel : ℕ) → DefectWithin fuel → (walk : BlockWalk) (at : ℕ) (m : Meter) (step : Option BlockWalk) (mid : ℕ) (opened : Meter) → Reached Spelled deep units all start m0 walk at m → 1048576 - m.units < suc fuel → left ≡ 1000 - m.depth → next_item walk all at m ≡ Complete step mid opened → HasDefect (items_from reader (items_at fuel reader all) step mid opened) start Fault
       from_defect fuel others walk at m None mid opened r enough l e = tt
       from_defect fuel others walk at m (Some next) mid opened r enough l e =
-          let a = advance walk.left walk.sized at m next mid opened r e in
+          let a = advance Spelled deep units all start m0 walk.left walk.sized at m next mid opened r e in
           let front = a.earlier ++ (a.head ++ joined a.now) in
           let here : drop mid all ≡ a.rest = behind (a.earlier ++ (a.head ++ joined a.now)) a.rest all start mid a.parts a.place in
           let still : left ≡ 1000 - opened.depth = l ∙ ap (λ (k : ℕ). 1000 - k) (sym a.opens.same_depth) in
