@@ -68,7 +68,7 @@ ask_again() {
   shift
   for test in "$@"; do
     for ((n = 1; ; n++)); do
-      refused $n "$tests" "tests::$test" || break
+      refused $n "$tests" "$test" || break
       runs=$((runs + 1))
       if [ $status = 0 ] || grep -qE 'error: .*(AllocError|AllocFailed|NoMemory)|left: Err\(Write\)' "$folder/out" "$folder/err"; then
         count ok
@@ -80,10 +80,11 @@ ask_again() {
   [ $runs -gt 0 ] || count bad "$tests: no allocation was refused"
   echo "$(basename "$tests"): $runs allocations refused in turn"
 }
-ask_again avro_bytes texts faults_of_texts
-ask_again avro_schema reads_primitives reads_a_record keeps_the_last_of_a_repeated_key tells_the_first_fault
-ask_again avro_datum payloads_are_read_and_written faults_of_payloads
-ask_again resolver fields_go_by_name mismatches outcomes
-ask_again avrogate answers_schemas answers_payloads answers_what_is_no_text
+ask_again avro_bytes tests::{texts,faults_of_texts,bytes_behind_their_length,so_many_bytes}
+ask_again avro_schema tests::{reads_primitives,reads_a_record,keeps_the_last_of_a_repeated_key,tells_the_first_fault}
+ask_again avro_schema tests::{numbers_nodes_in_order_of_appearance,names_stand_in_their_namespaces,reads_defaults_by_type,refuses_defaults_of_other_types}
+ask_again avro_datum tests::{payloads_are_read_and_written,faults_of_payloads} kinds_tests::{payloads_of_every_kind,faults_of_every_kind}
+ask_again resolver tests::{fields_go_by_name,mismatches,outcomes} kinds_tests::{written_by_the_reader,mismatched,malformed,readers_that_are_safe}
+ask_again avrogate tests::{answers_schemas,answers_payloads,answers_what_is_no_text,resolves_every_kind}
 echo "$passed passed, $failed failed"
 [ $failed = 0 ]
