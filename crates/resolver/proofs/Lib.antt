@@ -14,6 +14,8 @@ pub mod Partners
 pub mod Places
 pub mod Arriving
 pub mod Whole
+pub mod Short
+pub mod Answering
 pub mod Compatibility
 pub mod Closed
 pub mod Marks

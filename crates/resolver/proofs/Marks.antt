@@ -1,5 +1,5 @@
 -- A mark more for a pair more.
-use Rattle.std.proofs.Common.{◌≡◌, ℕ, zero, suc, ◌+◌, ◌*◌, ◌/◌, ◌%◌, ◌<◌, ◌≤◌, Bool, true, false, List, [], ◌∷◌, ◌++◌, length, get_or, refl, sym, ap, ◌∙◌, inl, inr, arith}
+use Rattle.std.proofs.Common.{◌≡◌, ℕ, zero, suc, ◌+◌, ◌*◌, ◌/◌, ◌%◌, ◌<◌, ◌≤◌, Bool, true, false, List, [], ◌∷◌, ◌++◌, length, get_or, replicate, refl, sym, ap, ◌∙◌, inl, inr, arith}
 use Rattle.std.proofs.Math.ListN.{set}
 use Rattle.std.proofs.lemmas.List.{get_or-set_other}
 use Rattle.std.proofs.lemmas.Bool.{cases_eq}
@@ -41,10 +41,9 @@ all_false (false ∷ bs) z zero e = absurd cc
 all_false (true ∷ bs) z (suc k) e = absurd (omega arith)
 all_false (false ∷ bs) z (suc k) e = all_false bs (omega arith) k e
 
-pub one_false : (bs : List Bool) → marks (bs ++ false ∷ []) ≡ marks bs
-one_false [] = refl
-one_false (true ∷ bs) = ap suc (one_false bs)
-one_false (false ∷ bs) = one_false bs
+pub none_marked : (n : ℕ) → marks (replicate n false) ≡ 0
+none_marked zero = refl
+none_marked (suc n) = none_marked n
 
 pub marks_le : (bs : List Bool) → marks bs ≤ length bs
 marks_le [] = omega arith

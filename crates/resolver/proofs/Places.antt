@@ -57,7 +57,7 @@ member_in P (x ∷ ms) zero m all at = let same : x ≡ m = cc in subst P same a
 member_in P (x ∷ ms) (suc i) m all at = member_in P ms i m all.1 at
 
 -- a value that was made, in the member that it was made for
-wrapped : (x : Resolved Datum) (position : ℕ) (e : Datum) → (x >>= λ d. Ok (UnionDatum position d)) ≡ Ok e → (d : Datum) × (x ≡ Ok d) × (UnionDatum position d ≡ e)
+pub wrapped : (x : Resolved Datum) (position : ℕ) (e : Datum) → (x >>= λ d. Ok (UnionDatum position d)) ≡ Ok e → (d : Datum) × (x ≡ Ok d) × (UnionDatum position d ≡ e)
 wrapped (Ok d) position e h = (d, refl, cc)
 wrapped (Err m) position e h = absurd cc
 

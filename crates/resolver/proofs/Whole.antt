@@ -5,11 +5,11 @@ use Rattle.std.proofs.lemmas.Str.{IsUtf8-from_is_utf8}
 use Rattle.std.proofs.lemmas.List.Quantifiers.{position-Some}
 use Rattle.avro_schema.specs.Node.{Node, FieldNode, NullNode, BooleanNode, IntNode, LongNode, BytesNode, TextNode, FixedNode, EnumNode, ArrayNode, MapNode, RecordNode, IsWellFormed, is_union}
 use Rattle.avro_schema.specs.Datum.{Datum, Data, Pairs, NullDatum, BooleanDatum, IntDatum, LongDatum, BytesDatum, TextDatum, FixedDatum, EnumDatum, ArrayDatum, MapDatum, UnionDatum, RecordDatum, no_more, more, no_pairs, pair}
-use Rattle.avro_schema.specs.Conforming.{Conforms, ConformAll, ConformPairs, ConformsEach, HasBits}
+use Rattle.avro_schema.specs.Conforming.{Conforms, ConformAll, ConformPairs, ConformsEach, DefaultsConform, HasBits}
 use Rattle.resolver.specs.declared.mismatch.MismatchKind.TheVariants.{NoMatch, NoSymbol, BytesNotText}
 use Rattle.resolver.specs.Matching.{given, both_items, both_values, matches}
 use Rattle.resolver.specs.Resolution.{Resolved, ◌>>=◌, Came, mismatch, int_for, text_for, bytes_for, or_else, symbol_at, symbol_for, symbol_in, member_at, field_lists, field_named, lacking, unless_lacking, gathered, resolved, resolved_items, resolved_values, resolved_fields}
-use Rattle.resolver.specs.Conforming.{DefaultsConform, ResolutionIsWhole}
+use Rattle.resolver.specs.Conforming.{ResolutionIsWhole}
 use Rattle.resolver.proofs.Arriving.{Arrive, all_arrived, each_found, field_arrives, nothing_else}
 use Rattle.resolver.proofs.Partners.{node_fits}
 use Rattle.resolver.proofs.Places.{placed_whole}
@@ -18,17 +18,17 @@ wider : (n : ℤ) → HasBits 31 n → HasBits 63 n
 wider (pos n) h = omega arith
 wider (negsuc n) h = omega arith
 
-made_of : {A : Type 0} → A → Resolved A
+unfoldable pub made_of : {A : Type 0} → A → Resolved A
 made_of a = Ok a
 
 -- ---- what was made, taken apart
 
-text_or_fault : (b : Bool) (w r : ℕ) (bytes : List ℕ) (d : Datum) → cond b (made_of (TextDatum bytes)) (mismatch BytesNotText w r) ≡ Ok d → (b ≡ true) × (TextDatum bytes ≡ d)
+pub text_or_fault : (b : Bool) (w r : ℕ) (bytes : List ℕ) (d : Datum) → cond b (made_of (TextDatum bytes)) (mismatch BytesNotText w r) ≡ Ok d → (b ≡ true) × (TextDatum bytes ≡ d)
 unfolding made_of
 text_or_fault true w r bytes d h = (refl, cc)
 text_or_fault false w r bytes d h = absurd cc
 
-enum_made : (s : Option (List ℕ)) (o : Option Node) (w r : ℕ) (d : Datum) → given s (mismatch NoMatch w r) (λ symbol. given (symbol_for o symbol) (mismatch NoSymbol w r) (λ m. made_of (EnumDatum m))) ≡ Ok d → (symbol : List ℕ) × (m : ℕ) × (symbol_for o symbol ≡ Some m) × (EnumDatum m ≡ d)
+pub enum_made : (s : Option (List ℕ)) (o : Option Node) (w r : ℕ) (d : Datum) → given s (mismatch NoMatch w r) (λ symbol. given (symbol_for o symbol) (mismatch NoSymbol w r) (λ m. made_of (EnumDatum m))) ≡ Ok d → (symbol : List ℕ) × (m : ℕ) × (symbol_for o symbol ≡ Some m) × (EnumDatum m ≡ d)
 unfolding made_of
 enum_made None o w r d h = absurd cc
 enum_made (Some symbol) o w r d h = one (symbol_for o symbol) refl h where
@@ -43,15 +43,22 @@ symbol_within symbols default symbol m within e = one (position (bytes_eq symbol
   one None is None within e = absurd cc
   one None is (Some n) within e = let same : n ≡ m = cc in subst (λ (x : ℕ). x < length symbols) same within
 
-bound : {A B : Type 0} (x : Resolved A) (f : A → B) (b : B) → (x >>= λ a. made_of (f a)) ≡ Ok b → (a : A) × (x ≡ Ok a) × (f a ≡ b)
+pub bound : {A B : Type 0} (x : Resolved A) (f : A → B) (b : B) → (x >>= λ a. made_of (f a)) ≡ Ok b → (a : A) × (x ≡ Ok a) × (f a ≡ b)
 unfolding made_of
 bound (Ok a) f b h = (a, refl, cc)
 bound (Err m) f b h = absurd cc
 
+-- one and another
+pub two : {A B C : Type 0} (x : Resolved A) (y : Resolved B) (f : A → B → C) (c : C) → (x >>= λ a. y >>= λ b. made_of (f a b)) ≡ Ok c → (a : A) × (b : B) × (x ≡ Ok a) × (y ≡ Ok b) × (f a b ≡ c)
+unfolding made_of
+two (Ok a) (Ok b) f c h = (a, b, refl, refl, cc)
+two (Ok a) (Err m) f c h = absurd cc
+two (Err m) y f c h = absurd cc
+
 member_made : (o : Option ℕ) (w r m : ℕ) (go : ℕ → Resolved Datum) (e : Datum) → o ≡ Some m → given o (mismatch NoMatch w r) go ≡ Ok e → go m ≡ Ok e
 member_made o w r m go e at h = sym (ap (λ (o : Option ℕ). given o (mismatch NoMatch w r) go) at) ∙ h
 
-none_lacks : (o : Option FieldNode) (w : ℕ) (came : Resolved Came) (gs : List FieldNode) (e : Datum) → unless_lacking o w (came >>= λ came. Ok (RecordDatum (gathered gs came))) ≡ Ok e → (o ≡ None) × ((c : Came) × (came ≡ Ok c) × (RecordDatum (gathered gs c) ≡ e))
+pub none_lacks : (o : Option FieldNode) (w : ℕ) (came : Resolved Came) (gs : List FieldNode) (e : Datum) → unless_lacking o w (came >>= λ came. Ok (RecordDatum (gathered gs came))) ≡ Ok e → (o ≡ None) × ((c : Came) × (came ≡ Ok c) × (RecordDatum (gathered gs c) ≡ e))
 none_lacks (Some g) w came gs e h = absurd cc
 none_lacks None w (Err m) gs e h = absurd cc
 none_lacks None w (Ok c) gs e h = (refl, (c, refl, cc))
@@ -125,13 +132,6 @@ module _ (W R : List Node) (formed : IsWellFormed R) (defaults : DefaultsConform
         let came = p.1.0 in
         subst (Conforms R node) p.1.2 (f.0, gs, f.2, all_arrived W R fs gs gs came p.0 (each_found gs distinct) (defaults node f.0 gs f.2) (fields gs came p.1.1) (nothing_else W R fs gs ds came p.1.1))
 
-  -- one and another
-  two : {A B C : Type 0} (x : Resolved A) (y : Resolved B) (f : A → B → C) (c : C) → (x >>= λ a. y >>= λ b. made_of (f a b)) ≡ Ok c → (a : A) × (b : B) × (x ≡ Ok a) × (y ≡ Ok b) × (f a b ≡ c)
-  unfolding made_of
-  two (Ok a) (Ok b) f c h = (a, b, refl, refl, cc)
-  two (Ok a) (Err m) f c h = absurd cc
-  two (Err m) y f c h = absurd cc
-
   mutual
     unfolding resolved resolved_items resolved_values resolved_fields made_of
 
@@ -170,5 +170,5 @@ module _ (W R : List Node) (formed : IsWellFormed R) (defaults : DefaultsConform
     fields_whole (more d ds) (f ∷ ws) rs came is h =
         field_arrives W R f ws rs d (resolved_fields W R ws rs ds) (λ g e k. datum_whole d f.node g.node e is.0 k) (λ c k. fields_whole ds ws rs c is.1 k) (field_named f.name rs) refl came h
 
-pub whole : ResolutionIsWhole
-whole W R w r d e _ formed defaults is h = datum_whole W R formed defaults d w r e is h
+pub whole : (W R : List Node) → IsWellFormed R → DefaultsConform R → ResolutionIsWhole W R
+whole W R formed defaults w r d e is h = datum_whole W R formed defaults d w r e is h

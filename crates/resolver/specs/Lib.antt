@@ -1,4 +1,3 @@
-pub mod Conforming
 pub mod Matching
 pub mod MismatchKind
 pub mod Resolution
@@ -6,3 +5,4 @@ pub mod Steps
 pub mod Safety
 pub mod Pairs
 pub mod Outcome
+pub mod Conforming

@@ -2,8 +2,10 @@ ghost use Rattle.std.specs.Prelude.{◌≡◌, ℕ, List};
 ghost use Rattle.avro_schema.specs.Node.{Node};
 ghost use Rattle.resolver.specs.Outcome as outcome;
 ghost use Rattle.resolver.specs.Safety.{SafeDataAreReadable};
-ghost use Rattle.resolver.specs.Conforming.{ResolutionIsWhole};
+ghost use Rattle.resolver.specs.Conforming.{AnswersAreSpelled, ResolutionIsWhole};
 ghost use Rattle.resolver.specs.Matching.{MatchesByRule};
+
+use avro_schema::Schema;
 
 /// The law that matching is the rule as the standard writes it, however deep arrays and maps nest.
 pub fn matches_by_rule()
@@ -11,9 +13,23 @@ pub fn matches_by_rule()
 {}
 
 /// The law that what comes of a writer's datum is a datum of the reader's node, whole and in range.
-pub fn resolution_is_whole()
-    ensures { ResolutionIsWhole }
-{}
+pub fn resolution_is_whole(w: &Schema, r: &Schema)
+    ensures { ResolutionIsWhole w.now.nodes r.now.nodes }
+{
+    r.is_well_formed();
+    r.defaults_conform();
+}
+
+/// The law that an answer spells, by the reader's schema, what comes of the payload's datum, where no text of the
+/// reader's defaults is too long to be written and a long can count the items.
+pub fn answer_is_spelled(w: &Schema, r: &Schema)
+    ensures { AnswersAreSpelled w.now.nodes r.now.nodes }
+{
+    r.is_well_formed();
+    resolution_is_whole(w, r);
+    avro_datum::spelled_datum_conforms();
+    avro_datum::written_form_is_the_shortest_spelling();
+}
 
 /// The law that each datum of a writer that a reader is safe with is read, but for bytes that are no UTF-8.
 pub fn what_is_safe_can_be_read()

@@ -21,7 +21,8 @@ mod transcoding;
 mod unions;
 
 pub use laws::{
-    matches_by_rule, payload_has_one_outcome, resolution_is_whole, what_is_safe_can_be_read,
+    answer_is_spelled, matches_by_rule, payload_has_one_outcome, resolution_is_whole,
+    what_is_safe_can_be_read,
 };
 pub use matching::matches;
 pub use memory::NoMemory;

@@ -26,17 +26,13 @@ impl Model for PairList {
 
 impl PairList {
     /// No pairs yet, of so many nodes.
-    #[tactic(auto, using(crate::proofs::Marks::one_false))]
     pub(crate) fn new(alloc: Global, writers: usize, readers: usize) -> Result<PairList, NoMemory>
         ensures { IfOk result (λ s. s ≡ record { pairs = []; writers = writers; readers = readers }) }
     {
         let Some(all) = writers.checked_mul(readers) else {
             return Err(NoMemory);
         };
-        let mut seen = Vec::new(alloc);
-        for _place in 0..all {
-            seen.push(false)?;
-        }
+        let seen = vec![in alloc; false; all]?;
         Ok(PairList {
             pairs: Vec::new(alloc),
             seen,

@@ -2,8 +2,8 @@
 
 use crate::{
     MOST_PAYLOAD, Mismatch, MismatchKind, NoMemory, Outcome, Place, ResolveError, TranscodeError,
-    can_read, matches, matches_by_rule, payload_has_one_outcome, place_of, resolution_is_whole,
-    resolve, transcode_tree, what_is_safe_can_be_read,
+    answer_is_spelled, can_read, matches, matches_by_rule, payload_has_one_outcome, place_of,
+    resolution_is_whole, resolve, transcode_tree, what_is_safe_can_be_read,
 };
 use avro_bytes::MalformedKind;
 use avro_schema::{Datum, Schema, SchemaError};
@@ -83,11 +83,11 @@ fn outcome(
 
 #[test]
 fn fields_go_by_name(rt: HostRuntime) -> Result<(), Fail> {
-    resolution_is_whole();
     let alloc = rt.alloc();
-    let writer = parsed(alloc, RECORD)?;
+    let (writer, reader) = (parsed(alloc, RECORD)?, parsed(alloc, REORDERED)?);
+    resolution_is_whole(&writer, &reader);
     let text = Datum::Text(String::from_str(alloc, "foo")?);
-    let reordered = resolved(alloc, &writer, &parsed(alloc, REORDERED)?)?;
+    let reordered = resolved(alloc, &writer, &reader)?;
     let Datum::Record(fields) = reordered else {
         assert!(rt; false, "a record");
         return Ok(());
@@ -171,6 +171,7 @@ fn outcomes(rt: HostRuntime) -> Result<(), Fail> {
     payload_has_one_outcome();
     let alloc = rt.alloc();
     let (record, retyped) = (parsed(alloc, RECORD)?, parsed(alloc, RETYPED)?);
+    answer_is_spelled(&record, &record);
     let payload = [0x36, 0x06, 0x66, 0x6f, 0x6f];
     let done = outcome(alloc, &record, &record, &payload)?;
     assert!(rt; done == Outcome::Done(payload.to_vec(alloc)?));

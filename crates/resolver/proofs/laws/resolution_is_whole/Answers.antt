@@ -3,4 +3,4 @@ use Rattle.resolver.proofs.Whole.{whole}
 use Rattle.resolver.proofs.laws.resolution_is_whole.Goals as goal
 
 pub returns : goal.returns
-returns c = whole
+returns c = whole _ _ c.is_well_formed.ensures c.defaults_conform.ensures

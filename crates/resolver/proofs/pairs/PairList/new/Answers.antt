@@ -1,12 +1,16 @@
 -- No mark is set.
 use Rattle.std.proofs.Common.{rules, ◌+◌, ◌*◌, sym, ap, ◌∙◌, length}
-use Rattle.resolver.proofs.Marks.{all_false}
+use Rattle.resolver.specs.Pairs.{marks}
+use Rattle.resolver.proofs.Marks.{all_false, none_marked}
 use Rattle.resolver.proofs.pairs.PairList.new.Goals as goal
 
 pub invariant_of-result : goal.invariant_of-result
-invariant_of-result c = record {
-  all = search rules;
-  counted = c.loop-place.invariant.none ∙ sym (ap length c.new.ensures.items);
-  within = rw c.new.ensures.items tt;
-  marked = λ p b e. absurd (all_false c.loop-place.seen.items c.loop-place.invariant.none (p.0 * c.args.readers + p.1) e);
-}
+invariant_of-result c =
+    let cleared = c.in_ok-seen.ensures.items_if_clones_equal (λ y h. h) in
+    let none = ap marks cleared ∙ none_marked c.in-Some.all in
+    record {
+      all = search rules;
+      counted = none ∙ sym (ap length c.new.ensures.items);
+      within = rw c.new.ensures.items tt;
+      marked = λ p b e. absurd (all_false c.in_ok-seen.seen.items none (p.0 * c.args.readers + p.1) e);
+    }
