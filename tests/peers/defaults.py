@@ -70,7 +70,7 @@ def java_datum(node, value, take, depth):
     if kind == "array":
         items = list(value.values()) if isinstance(value, dict) else value if isinstance(value, list) else []
         return [java_datum(node.items, item, take, depth + 1) for item in items]
-    if kind == "map" and not isinstance(value, list):
+    if kind == "map" and (value == [] or not isinstance(value, list)):
         pairs = value if isinstance(value, dict) else {}
         return Pairs([(key.encode(), java_datum(node.items, item, take, depth + 1)) for key, item in pairs.items()], len(pairs))
     if kind == "union" and node.members:

@@ -3,7 +3,7 @@ import json
 import random
 import sys
 from model import Model
-from payloads import broken, spelled, pairs, valid
+from payloads import broken, pairs, spelled, valid
 from random_schemas import Evolution, Maker, Text, text_of
 from rules import rules_of
 from spoil import Spoiler
@@ -29,13 +29,9 @@ def pair(rng):
     reader = spoiled(rng, other) if rng.random() < 0.04 else text_of(rng, other)
     if rng.random() < 0.002:
         reader = reader[:rng.randrange(len(reader))]
-    given = [valid(rng, holder["type"]) for _ in range(rng.choice((2, 3)))]
+    given = [valid(rng, holder["type"]) for _ in range(rng.choice((2, 3)))] + [broken(rng, holder["type"]) for _ in range(2)]
     models = [Model(writer, reader, rules) for rules in LIBRARIES + [()]]
-    for _ in range(2):
-        payload = broken(rng, holder["type"])
-        if ends(models, payload):
-            given.append(payload)
-    return writer, reader, given
+    return writer, reader, [payload for payload in given if ends(models, payload)]
 
 
 def chain(depth):

@@ -1,13 +1,14 @@
 """What the model answers to payloads of a pair of schemas, with the rules that are given on."""
 import sys
+import aliases
 from defaults import default_datum
-from reading import Endless, Malformed, Reader
+from reading import UNITS, Endless, Malformed, Reader
 from resolution import Planner
 from rules import Switches
 from schemas import BadSchema, Parser, Refused
 from writing import ValueWriter, Writer
 
-ENDLESS = 10 ** 9
+ENDLESS = 2 * UNITS
 sys.setrecursionlimit(1000000)
 
 
@@ -17,10 +18,12 @@ class Model:
         self.refusal = None
         line = 1
         try:
-            self.writer = Parser(self.switches).parse(writer)
+            written = Parser(self.switches)
+            root, self.written_nodes = written.parse(writer), written.nodes
             line, self.parser = 2, Parser(self.switches)
             self.reader = self.parser.parse(reader)
-            self.plan = Planner(self.switches, default_datum).plan(self.writer, self.reader)
+            aliases.apply(written.nodes, self.parser.nodes, self.switches.take)
+            self.plan = Planner(self.switches, default_datum).plan(root, self.reader)
         except BadSchema as fault:
             self.refusal = "bad schema %d %s" % (line, fault)
         except Refused as why:

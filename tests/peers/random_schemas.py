@@ -226,12 +226,17 @@ class Evolution:
         if record is None:
             return
         fields, names = record["fields"], [field["name"] for field in record["fields"]]
-        what = self.random.choice(("drop", "drop", "add", "add", "shuffle"))
+        what = self.random.choice(("drop", "drop", "add", "add", "shuffle", "rename"))
         if what == "drop" and fields:
             at = self.random.randrange(len(fields))
             del fields[at:at + self.random.choice((1, 1, 3))]
         elif what == "shuffle":
             self.random.shuffle(fields)
+        elif what == "rename" and fields:
+            field = self.random.choice(fields)
+            if self.random.random() < 0.4:
+                field["aliases"] = [field["name"]]
+            field["name"] = next(name for name in FIELDS + ["renamed", "named"] if name not in names)
         else:
             name = self.random.choice([name for name in FIELDS if name not in names] + ["extra%d" % len(names)])
             field = self.maker.field(name, 1)
@@ -247,6 +252,8 @@ class Evolution:
             return
         new = (space, node["name"]) if self.random.random() < 0.6 else (node["space"], name)
         if new not in taken:
+            if self.random.random() < 0.3:
+                node["aliases"] = [node["space"] + "." + node["name"] if node["space"] else node["name"]]
             node["space"], node["name"] = new
 
     def promote(self):
@@ -331,6 +338,8 @@ class Text:
             value["items" if kind == "array" else "values"] = self.of(node["items"], space)
         else:
             value.update({key: node[key] for key in ("symbols", "size", "default") if key in node})
+        if "aliases" in node:
+            value["aliases"] = node["aliases"]
         if self.chance(0.03):
             value["doc"] = "a note"
         return value
@@ -352,8 +361,7 @@ class Text:
 
     def field(self, field, space):
         value = {"name": field["name"], "type": self.of(field["type"], space)}
-        if "default" in field:
-            value["default"] = field["default"]
+        value.update({key: field[key] for key in ("default", "aliases") if key in field})
         if self.chance(0.03):
             value["order"] = "ignore"
         return value

@@ -26,6 +26,7 @@ RULES = [
     Rule("schema-limits", BOTH, "A schema may be larger than our limits."),
     # Resolution
     Rule("no-enum-default", BOTH, "A symbol that the reader lacks is refused, although the reader's enum has a default."),
+    Rule("aliases-applied", JAVA, "The reader's aliases rename the writer's types and fields."),
     Rule("full-names", BOTH, "Types match by their full names (in Java enums and fixed; records by no name)."),
     Rule("record-names-unchecked", JAVA, "Records match whatever their names."),
     Rule("no-string-bytes", PYTHON, "String and bytes are not promoted to each other."),
@@ -48,6 +49,7 @@ RULES = [
     Rule("dropped-length-negative", JAVA, "A negative length in what is dropped goes back."),
     Rule("key-once", BOTH, "Of a key that comes again the last value counts, in the first one's place."),
     Rule("map-in-hash-order", JAVA, "The pairs of a map are written in the order of a hash table."),
+    Rule("table-with-holes", JAVA, "Records that hold each other, one of them directly, may be resolved to a table with holes (see holes.py)."),
     Rule("data-limits", BOTH, "A datum may be deeper or have more units than our limits."),
 ]
 

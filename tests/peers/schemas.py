@@ -26,7 +26,7 @@ class Node:
     def __init__(self, kind, number):
         self.kind, self.number = kind, number
         self.full = self.short = None
-        self.fields, self.symbols, self.members = [], [], []
+        self.fields, self.symbols, self.members, self.aliases = [], [], [], []
         self.default = self.size = self.items = None
 
 
@@ -35,6 +35,7 @@ class Field:
         self.name = name
         self.has_default = "default" in value
         self.json = value.get("default")
+        self.aliases = value.get("aliases", [])
         self.node = self.default = None
 
 
@@ -191,6 +192,7 @@ class Parser:
         if node.full in self.names:
             raise BadSchema("Redefined")
         self.names[node.full] = node
+        node.aliases = [alias if "." in alias or not own else own + "." + alias for alias in value.get("aliases", [])]
         return space if inner == "" and space != "" and self.take("empty-namespace-keeps-outer") else inner
 
     def record(self, value, space):

@@ -1,5 +1,5 @@
 """Schemas that break a rule: the JSON of a schema with one thing changed."""
-ODD_DEFAULTS = [None, True, 7, 1 << 31, "x", "\u0100", "RED", [], {}, ["x"], {"id": 1}]
+ODD_DEFAULTS = [None, True, 7, 1 << 31, "x", "\u0100", "RED", [], {}, {"id": 1}]
 WORDS = ("record", "enum", "fixed")
 
 
@@ -19,7 +19,7 @@ def lists(value):
         if key in ("fields",):
             for field in part:
                 yield from lists(field.get("type"))
-        elif key not in ("symbols", "default"):
+        elif key not in ("symbols", "default", "aliases"):
             yield from lists(part)
 
 
@@ -119,10 +119,10 @@ class Spoiler:
         return field and node
 
     def fraction(self):
-        node = self.pick(self.objects)
+        node = self.pick(self.fields + self.named)
         if node is not None:
             node["weight"] = self.random.choice((0.5, 1e3, 1 << 64))
-        return True
+        return node
 
     def odd_enum_default(self):
         enum = self.pick([node for node in self.named if node["type"] == "enum"])
