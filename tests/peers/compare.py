@@ -16,6 +16,12 @@ def core(line):
     return line if line.startswith("done ") else "refused"
 
 
+def kind_of(line):
+    """What kind of answer a line is: `done`, or the name of what is wrong."""
+    words = line.split()
+    return "bad schema " + words[3] if words[:2] == ["bad", "schema"] else words[0] if words[0] == "done" else " ".join(words[:2])
+
+
 class Pair:
     """A pair of schemas, with the model by each set of rules that was asked for."""
 
@@ -54,10 +60,12 @@ class Comparison:
     def __init__(self):
         self.pairs = self.payloads = self.alike = self.ruled = self.several = self.left = 0
         self.seen = {peer: Counter() for peer in PEERS}
+        self.kinds = Counter()
 
     def compare(self, pair, payload, ours, theirs):
         """Compares one payload's answers."""
         self.payloads += 1
+        self.kinds[kind_of(ours)] += 1
         problems, differs = [], False
         expected = pair.answer(frozenset(), payload)[0]
         if expected != ours:
@@ -98,6 +106,7 @@ class Comparison:
         print("%-28s %8s %8s  %s" % ("rule", *PEERS, "what the library does"))
         for rule in RULES:
             print("%-28s %8s %8s  %s" % (rule.name, *(self.seen[peer][rule.name] if peer in rule.peers else "" for peer in PEERS), rule.sentence))
+        print("answers of the program: " + ", ".join("%d %s" % (count, kind) for kind, count in self.kinds.most_common()))
         print("%d differences needed more than one rule" % self.several)
         print("%d pairs, %d payloads: %d alike, %d by rules, %d left over" % (self.pairs, self.payloads, self.alike, self.ruled, self.left))
 

@@ -24,7 +24,7 @@ failed() { echo "$0: $1 failed" >&2; exit 2; }
 "$python" "$here/generate.py" pairs "$pairs" "$seed" || failed generate.py
 javac -cp "$classpath" -d . "$here/Peer.java" || failed javac
 "$python" "$here/run_program.py" "$program" pairs program.out || failed run_program.py
-java -Xmx2g -cp "$classpath:." Peer pairs java.out & java=$!
-"$python" "$here/python_peer.py" pairs python.out || failed python_peer.py
+timeout 3600 java -Xmx2g -cp "$classpath:." Peer pairs java.out & java=$!
+timeout 3600 "$python" "$here/python_peer.py" pairs python.out || failed python_peer.py
 wait $java || failed Peer
 "$python" "$here/compare.py" pairs program.out python.out java.out

@@ -2,10 +2,12 @@
 import json
 import random
 import sys
+from evolution import Evolution
 from model import Model
 from payloads import broken, pairs, spelled, valid
-from random_schemas import Evolution, Maker, Text, text_of
+from random_schemas import Maker
 from rules import rules_of
+from schema_text import Text, text_of
 from spoil import Spoiler
 
 LIBRARIES = [rules_of("python"), rules_of("java")]

@@ -8,8 +8,8 @@ PYTHON, JAVA, BOTH = ("python",), ("java",), ("python", "java")
 RULES = [
     # Schemas
     Rule("object-only-for-types", BOTH, "An object whose `type` is no type's word is refused."),
-    Rule("default-when-used", PYTHON, "A default is looked at when a datum needs it, and then bent to its type where that goes."),
-    Rule("default-when-resolved", JAVA, "A default is looked at when two schemas are resolved that need it, and then bent to its type where that goes."),
+    Rule("default-when-used", PYTHON, "A default, or that there is none, is looked at when a datum needs it; it is bent to its type where that goes."),
+    Rule("default-when-resolved", JAVA, "A default is looked at when schemas are resolved that need it; it is bent to its type where that goes."),
     Rule("default-in-utf8", PYTHON, "A default of bytes or of a fixed is the UTF-8 of its string."),
     Rule("default-fields-filled", BOTH, "A field that a record's default leaves out takes its own default."),
     Rule("default-pairs-in-order", BOTH, "The pairs of a map's default stand as in the schema's text."),

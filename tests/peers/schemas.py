@@ -57,6 +57,7 @@ def load(text):
         raise ValueError(word)
     try:
         value = json.loads(text, parse_int=whole, parse_float=Number, parse_constant=none)
+        json.dumps(value, ensure_ascii=False).encode()  # fails on half a surrogate pair
     except ValueError:
         raise BadSchema("NotJson") from None
     return value
