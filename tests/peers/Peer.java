@@ -13,7 +13,7 @@ import org.apache.avro.io.EncoderFactory;
 
 /** Answers pairs of schemas and payloads by Apache Avro for Java: for each payload a line, `done HEX` or `refused: WHY`. */
 public class Peer {
-    private static final long STACK = 1L << 29;
+    private static final long STACK = 1L << 26;
 
     public static void main(String[] words) throws Exception {
         Thread thread = new Thread(null, () -> answerAll(words[0], words[1]), "answers", STACK);

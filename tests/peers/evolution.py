@@ -20,7 +20,7 @@ class Evolution:
             self.maker.open = [node for node in self.maker.types if node["kind"] == "record"]
             self.random.choice(changes)()
             self.flatten()
-            if holds_itself(self.holder):
+            if holds_itself(self.holder) and self.random.random() < 0.9:
                 self.holder = before
         for node in nodes(self.holder):
             for field in node.get("fields", []):

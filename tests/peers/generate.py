@@ -41,6 +41,15 @@ def chain(depth):
     return b"\2" * (depth - 1) + b"\0"
 
 
+def rare():
+    """Pairs that show what is seldom drawn: records in themselves."""
+    endless = '{"type":"array","items":{"type":"record","name":"A","fields":[{"name":"a","type":"A"}]}}'
+    yield endless, endless, [b"\0", b"\2"]
+    kind = '{"type":"record","name":"Kind","fields":[{"name":"right","type":["null","Item"]}]}'
+    item = '{"type":"record","name":"Item","fields":[{"name":"note","type":{"type":"array","items":"Item"}},{"name":"tags","type":%s}]}' % kind
+    yield item, '{"type":"record","name":"Item","fields":[]}', [b"\0\0", b"\2\0\0\0\0"]
+
+
 def at_limits():
     """Pairs at our limits, and just beyond."""
     node = '{"type":"record","name":"Node","fields":[{"name":"next","type":["null","Node"]}]}'
@@ -63,7 +72,7 @@ def at_limits():
 
 
 def main(path, count, seed):
-    given = list(at_limits())
+    given = list(rare()) + list(at_limits())
     rng = random.Random(seed)
     with open(path, "w", encoding="utf-8", newline="\n") as out:
         for index in range(count):

@@ -3,7 +3,7 @@ import sys
 import aliases
 from defaults import default_datum
 from reading import UNITS, Endless, Malformed, Reader
-from resolution import Planner
+from resolution import Planner, is_endless
 from rules import Switches
 from schemas import BadSchema, Parser, Refused
 from writing import ValueWriter, Writer
@@ -24,6 +24,8 @@ class Model:
             self.reader = self.parser.parse(reader)
             aliases.apply(written.nodes, self.parser.nodes, self.switches.take)
             self.plan = Planner(self.switches, default_datum).plan(root, self.reader)
+            if "endless-record" in names and is_endless(self.plan) and self.switches.take("endless-record"):
+                raise Refused("a record in itself")
         except BadSchema as fault:
             self.refusal = "bad schema %d %s" % (line, fault)
         except Refused as why:

@@ -49,6 +49,7 @@ RULES = [
     Rule("dropped-length-negative", JAVA, "A negative length in what is dropped goes back."),
     Rule("key-once", BOTH, "Of a key that comes again the last value counts, in the first one's place."),
     Rule("map-in-hash-order", JAVA, "The pairs of a map are written in the order of a hash table."),
+    Rule("endless-record", JAVA, "A record that holds itself with nothing but records between is refused, even where no datum has one."),
     Rule("table-with-holes", JAVA, "Records that hold each other, one of them directly, may be resolved to a table with holes (see holes.py)."),
     Rule("data-limits", BOTH, "A datum may be deeper or have more units than our limits."),
 ]
