@@ -1,6 +1,6 @@
 #!/usr/bin/env bash
-# Whether time is linear: the program on payloads of nested arrays of records, and on schemas, each of one size and of twice that
-# size, in one run. Not part of the gate. Usage: bench/doubling.sh PROGRAM
+# Whether time is linear: the program on payloads of nested arrays of records, on schemas of many symbols, and on schemas of many
+# long names that differ at their ends, each of one size and of twice that size, in one run. Not part of the gate. Usage: bench/doubling.sh PROGRAM
 set -euo pipefail
 program=$(realpath "$1")
 exec python3 - "$program" <<'PYTHON'
@@ -29,12 +29,22 @@ def enum(i):
     symbols = ",".join('"S%05d"' % (i * 40 + j) for j in range(40))
     return '{"name":"f%d","type":{"type":"enum","name":"E%d","symbols":[%s]}}' % (i, i, symbols)
 
-def schema(size):
-    fields = []
-    while sum(map(len, fields)) + len(fields) < size:
-        fields.append(enum(len(fields)))
+def fixed(i):
+    return '{"name":"%s%d","type":{"type":"fixed","name":"%s%d","size":1}}' % ("f" * 80, i, "F" * 80, i)
+
+def record(field, size):
+    fields, length = [], 0
+    while length < size:
+        fields.append(field(len(fields)))
+        length += len(fields[-1]) + 1
     text = '{"type":"record","name":"R","fields":[%s]}' % ",".join(fields)
     return text + "\n" + text + "\n"
+
+def enums(size):
+    return record(enum, size)
+
+def names(size):
+    return record(fixed, size)
 
 def seconds(data, times):
     best = float("inf")
@@ -46,7 +56,7 @@ def seconds(data, times):
     return best
 
 start = seconds('"int"\n"int"\n', 20)
-for name, make, size, times in [("payload", points, 1 << 21, 5), ("schema", schema, 100_000, 20)]:
+for name, make, size, times in [("payload", points, 1 << 21, 5), ("schema of enums", enums, 100_000, 20), ("schema of names", names, 100_000, 20)]:
     once, twice = (seconds(make(size * k), times) - start for k in (1, 2))
     print("%s of %d and %d bytes: %.1f ms and %.1f ms, ratio %.2f" % (name, size, size * 2, once * 1000, twice * 1000, twice / once))
 PYTHON
