@@ -53,12 +53,11 @@ impl MalformedKind {
     }
 }
 
-/// Why bytes could not be read.
+/// Why bytes could not be read; of malformed ones the first fault, and its offset in the bytes.
 #[derive(Clone, Copy, Debug, PartialEq, Eq, Error)]
 pub enum Fault {
     #[error("the bytes end inside the spelling")]
     Need,
-    /// The first fault, and its offset in the bytes.
     #[error("malformed {} at {at}", .kind.name())]
     Malformed { kind: MalformedKind, at: usize },
     #[error("out of memory")]
