@@ -54,6 +54,7 @@ def at_limits():
     """Pairs at our limits, and just beyond."""
     node = '{"type":"record","name":"Node","fields":[{"name":"next","type":["null","Node"]}]}'
     yield node, node, [chain(1000), chain(1001)]
+    yield '{"type":"record","name":"R","fields":[{"name":"a","type":"bytes"}]}', '{"type":"record","name":"R","fields":[]}', [spelled(pairs(1 << 25))]
     nulls = '{"type":"array","items":"null"}'
     yield nulls, nulls, [spelled(pairs(1 << 20)) + b"\0", spelled(pairs((1 << 20) + 1)) + b"\0"]
     for count in (1023, 1024):

@@ -51,7 +51,7 @@ RULES = [
     Rule("map-in-hash-order", JAVA, "The pairs of a map are written in the order of a hash table."),
     Rule("endless-record", JAVA, "A record that holds itself with nothing but records between is refused, even where no datum has one."),
     Rule("table-with-holes", JAVA, "Records that hold each other, one of them directly, may be resolved to a table with holes (see holes.py)."),
-    Rule("data-limits", BOTH, "A datum may be deeper or have more units than our limits."),
+    Rule("data-limits", BOTH, "A datum may be deeper, or have more units or longer strings, than our limits."),
 ]
 
 
