@@ -24,7 +24,7 @@ const LIST: &str =
 
 #[test]
 fn payloads_of_every_kind(rt: HostRuntime) -> Result<(), Fail> {
-    let table: [(&str, &[u8], &[u8]); 14] = [
+    let table: [(&str, &[u8], &[u8]); 15] = [
         ("\"null\"", &[], &[9]),
         ("\"boolean\"", &[0x01], &[9, 0x01]),
         ("\"bytes\"", &[0x02, 0xff], &[9, 0x02, 0xff]),
@@ -40,6 +40,11 @@ fn payloads_of_every_kind(rt: HostRuntime) -> Result<(), Fail> {
             &[9, 0x04, 0x06, 0x36, 0x00],
         ),
         (NULLS, &[0x04, 0x00], &[9, 0x04, 0x00]),
+        (
+            NULLS,
+            &[0x80, 0x80, 0x80, 0x01, 0x00],
+            &[9, 0x80, 0x80, 0x80, 0x01, 0x00],
+        ),
         (INTS_BY_KEY, &[0x00], &[9, 0x00]),
         (
             INTS_BY_KEY,
