@@ -252,12 +252,12 @@ fn tells_the_first_fault(rt: HostRuntime) {
     }
 }
 
-/// A record whose one field has this type and default.
-fn with_default(alloc: Global, type_: &str, default: &str) -> Result<Schema, SchemaError> {
+/// The text of a record whose one field has this type and default.
+fn with_default(alloc: Global, type_: &str, default: &str) -> Result<String, SchemaError> {
     let text = format!(in alloc;
         "{{\"type\":\"record\",\"name\":\"T\",\"fields\":[{{\"name\":\"f\",\"type\":{type_},\"default\":{default}}}]}}"
     )?;
-    parsed(alloc, text.as_str())
+    Ok(text)
 }
 
 #[test]
@@ -283,9 +283,8 @@ fn refuses_defaults_of_other_types(rt: HostRuntime) {
         (r#"{"type":"array","items":"int"}"#, r#"{}"#),
     ];
     for (type_, default) in cases {
-        assert!(rt;
-            with_default(rt.alloc(), type_, default).err() == Some(SchemaError::BadDefault)
-        );
+        let text = with_default(rt.alloc(), type_, default).expect(&rt, "no memory");
+        assert!(rt; fault_of(rt.alloc(), text.as_str()) == Some(SchemaError::BadDefault));
     }
 }
 
@@ -352,7 +351,8 @@ fn reads_defaults_by_type(rt: HostRuntime) {
         ),
     ];
     for (type_, default, datum) in cases {
-        let schema = with_default(alloc, type_, default).expect(&rt, "a schema");
+        let text = with_default(alloc, type_, default).expect(&rt, "no memory");
+        let schema = parsed(alloc, text.as_str()).expect(&rt, "a schema");
         assert!(rt; first_default(&schema) == Some(&datum));
     }
 }
