@@ -1,6 +1,7 @@
 #!/usr/bin/env bash
 # Whether time is linear: the program on payloads of nested arrays of records, on schemas of many symbols, and on schemas of many
-# long names that differ at their ends, each of one size and of twice that size, in one run. Not part of the gate. Usage: bench/doubling.sh PROGRAM
+# long names that differ at their ends, each of one size and of twice that size, in one run. The last three schemas are known to grow faster
+# than n log n (docs/DECISIONS.md). Not part of the gate. Usage: bench/doubling.sh PROGRAM
 set -euo pipefail
 program=$(realpath "$1")
 exec python3 - "$program" <<'PYTHON'
@@ -46,6 +47,26 @@ def enums(size):
 def names(size):
     return record(fixed, size)
 
+def whole(fields, more=""):
+    text = '{"type":"record","name":"R"%s,"fields":[%s]}' % (more, ",".join(fields))
+    return text + "\n" + text + "\n"
+
+def small(i, pad=""):
+    return '{"name":"f%d","type":{"type":"fixed","name":"%s%d","size":1}}' % (i, pad, i)
+
+def defaults(size):
+    symbols = ['"S%08d"' % i for i in range(size // 25)]
+    enum = '{"name":"e","type":{"type":"enum","name":"E","symbols":[%s]}}' % ",".join(symbols)
+    return whole([enum] + ['{"name":"f%04d","type":"E","default":%s}' % (i, symbols[-1]) for i in range(size // 100)])
+
+def members(size):
+    types = size // 200
+    union = '{"name":"u","type":[%s]}' % ",".join('"%s%d"' % ("x" * 60, i) for i in range(types))
+    return whole([small(i, "x" * 60) for i in range(types)] + [union])
+
+def namespace(size):
+    return whole([small(i, "N") for i in range(size // 200)], ',"namespace":"%s"' % ("n" * (size * 2 // 3)))
+
 def seconds(data, times):
     best = float("inf")
     for _ in range(times):
@@ -56,7 +77,9 @@ def seconds(data, times):
     return best
 
 start = seconds('"int"\n"int"\n', 20)
-for name, make, size, times in [("payload", points, 1 << 21, 5), ("schema of enums", enums, 100_000, 20), ("schema of names", names, 100_000, 20)]:
+for name, make, size, times in [("payload", points, 1 << 21, 5), ("schema of enums", enums, 100_000, 20), ("schema of names", names, 100_000, 20),
+                                ("schema of defaults of one enum", defaults, 50_000, 10), ("schema of one union", members, 100_000, 10),
+                                ("schema of one long namespace", namespace, 100_000, 5)]:
     once, twice = (seconds(make(size * k), times) - start for k in (1, 2))
     print("%s of %d and %d bytes: %.1f ms and %.1f ms, ratio %.2f" % (name, size, size * 2, once * 1000, twice * 1000, twice / once))
 PYTHON
