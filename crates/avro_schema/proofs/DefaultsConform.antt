@@ -27,11 +27,11 @@ pub map-inv : {A B : Type 0} (f : A → B) (o : Option A) (b : B) → option_map
 map-inv f None b e = absurd (let no : ⊥ = cc in no)
 map-inv f (Some a) b e = (a, refl, let same : b ≡ f a = cc in same)
 
-then-inv : {A B : Type 0} (f : A → Option B) (o : Option A) (b : B) → option_and_then f o ≡ Some b → (a : A) × (o ≡ Some a) × (f a ≡ Some b)
+pub then-inv : {A B : Type 0} (f : A → Option B) (o : Option A) (b : B) → option_and_then f o ≡ Some b → (a : A) × (o ≡ Some a) × (f a ≡ Some b)
 then-inv f None b e = absurd (let no : ⊥ = cc in no)
 then-inv f (Some a) b e = (a, refl, e)
 
-cond-inv : {A : Type 0} (test : Bool) (a b : A) → cond test (Some a) None ≡ Some b → (test ≡ true) × (b ≡ a)
+pub cond-inv : {A : Type 0} (test : Bool) (a b : A) → cond test (Some a) None ≡ Some b → (test ≡ true) × (b ≡ a)
 cond-inv true a b e = (refl, let same : b ≡ a = cc in same)
 cond-inv false a b e = absurd (let no : ⊥ = cc in no)
 
@@ -41,15 +41,15 @@ bits-inv : (bits : ℕ) (z : ℤ) → has_bits bits z ≡ true → HasBits bits 
 bits-inv bits (pos n) e = ltb-true n (2 ^ bits) e
 bits-inv bits (negsuc n) e = ltb-true n (2 ^ bits) e
 
-int-inv : (o : Option ℤ) (t : Datum) → int_value o ≡ Some t → (z : ℤ) × (t ≡ IntDatum z) × HasBits 31 z
+pub int-inv : (o : Option ℤ) (t : Datum) → int_value o ≡ Some t → (z : ℤ) × (t ≡ IntDatum z) × HasBits 31 z
 int-inv None t e = absurd (let no : ⊥ = cc in no)
 int-inv (Some z) t e = let p = cond-inv (has_bits 31 z) (IntDatum z) t e in (z, p.1, bits-inv 31 z p.0)
 
-long-inv : (o : Option ℤ) (t : Datum) → long_value o ≡ Some t → (z : ℤ) × (t ≡ LongDatum z) × HasBits 63 z
+pub long-inv : (o : Option ℤ) (t : Datum) → long_value o ≡ Some t → (z : ℤ) × (t ≡ LongDatum z) × HasBits 63 z
 long-inv None t e = absurd (let no : ⊥ = cc in no)
 long-inv (Some z) t e = let p = cond-inv (has_bits 63 z) (LongDatum z) t e in (z, p.1, bits-inv 63 z p.0)
 
-fixed-inv : (size : ℕ) (o : Option (List ℕ)) (t : Datum) → fixed_value size o ≡ Some t → (bytes : List ℕ) × (t ≡ FixedDatum bytes) × (length bytes ≡ size)
+pub fixed-inv : (size : ℕ) (o : Option (List ℕ)) (t : Datum) → fixed_value size o ≡ Some t → (bytes : List ℕ) × (t ≡ FixedDatum bytes) × (length bytes ≡ size)
 fixed-inv size None t e = absurd (let no : ⊥ = cc in no)
 fixed-inv size (Some bytes) t e = let p = cond-inv (eqb (length bytes) size) (FixedDatum bytes) t e in (bytes, p.1, eqb-true (length bytes) size p.0)
 

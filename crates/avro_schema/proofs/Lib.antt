@@ -15,6 +15,7 @@ pub mod FinishedNodes
 pub mod Fits
 pub mod Heads
 pub mod Index
+pub mod JsonTexts
 pub mod LastDot
 pub mod MemberList
 pub mod Members
@@ -23,6 +24,7 @@ pub mod OneByOne
 pub mod OneNode
 pub mod Places
 pub mod Positions
+pub mod ReadTexts
 pub mod Records
 pub mod References
 pub mod RootNode

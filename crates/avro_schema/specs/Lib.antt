@@ -13,5 +13,6 @@ pub mod Names
 pub mod Node
 pub mod Schema
 pub mod SchemaError
+pub mod TextSizes
 pub mod Walk
 pub mod Word
