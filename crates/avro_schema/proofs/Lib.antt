@@ -4,6 +4,7 @@ pub mod DatumOf
 pub mod Declared
 pub mod DeclaredNodes
 pub mod DefaultParts
+pub mod DefaultTexts
 pub mod DefaultValues
 pub mod DefaultsConform
 pub mod DottedNames
