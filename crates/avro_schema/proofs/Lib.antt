@@ -3,6 +3,7 @@ pub mod Copies
 pub mod DatumOf
 pub mod Declared
 pub mod DeclaredNodes
+pub mod DeclaredTexts
 pub mod DefaultParts
 pub mod DefaultTexts
 pub mod DefaultValues
@@ -20,6 +21,7 @@ pub mod JsonTexts
 pub mod LastDot
 pub mod MemberList
 pub mod Members
+pub mod MoreTexts
 pub mod NameRule
 pub mod OneByOne
 pub mod OneNode
@@ -33,6 +35,7 @@ pub mod Runs
 pub mod Sound
 pub mod Texts
 pub mod UnionFits
+pub mod WalkTexts
 pub mod WellFormed
 pub mod WholeNodes
 pub mod ValueTexts

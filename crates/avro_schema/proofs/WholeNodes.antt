@@ -198,7 +198,7 @@ pub record IsFinishedFrom (d : Data) (ns : List Node) : Type 0 where
   pub walked : walk d null_namespace [] ≡ Ok (root, drafts)
   pub finish : finished drafts ≡ Ok ns
 
-declared_at : (d : Data) (ns : List Node) (r : Result (ℕ × List Draft) SchemaError) → walk d null_namespace [] ≡ r → (r >>= λ p. finished p.1) ≡ Ok ns → IsFinishedFrom d ns
+pub declared_at : (d : Data) (ns : List Node) (r : Result (ℕ × List Draft) SchemaError) → walk d null_namespace [] ≡ r → (r >>= λ p. finished p.1) ≡ Ok ns → IsFinishedFrom d ns
 declared_at d ns (Ok p) is e = record { root = p.0; drafts = p.1; walked = is; finish = e }
 declared_at d ns (Err x) is e = absurd (let wrong : ⊥ = cc in wrong)
 
