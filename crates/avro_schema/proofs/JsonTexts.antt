@@ -1,10 +1,10 @@
 -- No string that a JSON text spells is longer than the text: its tokens.
-use Rattle.std.proofs.Common.{◌≡◌, ℕ, suc, ◌+◌, ◌≤◌, List, [], ◌∷◌, length, Bool, true, false, cond, ◌&&◌, ◌==◌, nat_lt, Option, Some, None, option_and_then, refl, subst, sym, arith, length-append}
-use Rattle.std.specs.List.{AllByRecursion, starts_with}
+use Rattle.std.proofs.Common.{ℕ, ◌+◌, ◌≤◌, List, [], ◌∷◌, length, Bool, true, false, cond, ◌&&◌, ◌==◌, nat_lt, Option, Some, None, option_and_then, arith, length-append}
+use Rattle.std.specs.List.{AllByRecursion}
 use Rattle.std.specs.Char.{encode_utf8}
 use Rattle.json.specs.Token.{Token, begin_object, end_object, begin_array, end_array, key, string, number, boolean, null, bad}
 use Rattle.json.specs.Text.{code_unit, short_escape, is_high_surrogate, is_low_surrogate, surrogate_pair, Within, plain, after_backslash, after_u, after_high, prepend, content}
-use Rattle.json.specs.Word.{word, head, literal, number_before, after_number}
+use Rattle.json.specs.Word.{word, head, number_before, after_number}
 use Rattle.json.specs.Lex.{Lexeme, token, comma, colon, Class, quote, backslash, operator, space, other, class, operator_lexeme, string_token, Mode, between, in_word, in_string, in_escape, lex_byte, lex, Place, fresh, after_value, after_comma, after_key, begins_colon, may_begin, may_close, if_allowed, place_token, punctuate, tokens}
 
 -- ---- the content of a string is no longer than what spells it

@@ -1,7 +1,7 @@
 -- Texts that are within a bound are within each larger one.
-use Rattle.std.proofs.Common.{◌≡◌, ◌≤◌, ℕ, List, [], ◌∷◌, Option, Some, None, IfSome, arith}
+use Rattle.std.proofs.Common.{◌≤◌, ℕ, List, [], ◌∷◌, Option, Some, None, IfSome, arith}
 use Rattle.std.specs.List.{AllByRecursion}
-use Rattle.avro_schema.specs.Datum.{Datum, Data, Pairs, NullDatum, BooleanDatum, IntDatum, LongDatum, BytesDatum, TextDatum, FixedDatum, EnumDatum, ArrayDatum, MapDatum, UnionDatum, RecordDatum, no_more, more, no_pairs, pair}
+use Rattle.avro_schema.specs.Datum.{Datum, Data, Pairs, BytesDatum, TextDatum, ArrayDatum, MapDatum, UnionDatum, RecordDatum, no_more, more, no_pairs, pair}
 use Rattle.avro_schema.specs.Node.{Node, FieldNode}
 use Rattle.avro_schema.specs.TextSizes.{HasTextsWithin, HaveTextsWithin, HavePairsWithin, DefaultsHaveTextsWithin}
 

@@ -1,11 +1,11 @@
 -- The drafts of a walk hold no default with longer texts than the value has that is walked over.
-use Rattle.std.proofs.Common.{◌≡◌, ℕ, List, [], ◌∷◌, ◌++◌, length, map, Bool, true, false, cond, Option, Some, None, IfSome, Result, Ok, Err, codes, nat_lt}
+use Rattle.std.proofs.Common.{ℕ, List, [], ◌∷◌, ◌++◌, length, map, Bool, true, false, cond, Option, Some, None, IfSome, Result, Ok, Err, codes, nat_lt}
 use Rattle.std.specs.List.{AllByRecursion}
 use Rattle.std.specs.Ordering.{nat_cmp, match_ordering}
 use Rattle.std.specs.Cmp.Lexicographic.{slice_cmp}
 use Rattle.std.specs.declared.cmp.Ordering.{Ordering}
 use Rattle.std.specs.declared.cmp.Ordering.TheVariants.{Less, Equal, Greater}
-use Rattle.serde_json.specs.Data.{Data, null, boolean, number, string, array, object, Items, no_items, item, Members, no_members, member}
+use Rattle.serde_json.specs.Data.{Data, string, array, object, Items, no_items, item, Members, no_members, member}
 use Rattle.serde_json.specs.Find.{get_member}
 use Rattle.avro_schema.specs.declared.error.SchemaError.{SchemaError}
 use Rattle.avro_schema.specs.declared.word.Form.{Form}
@@ -15,8 +15,8 @@ use Rattle.avro_schema.specs.Draft.{Draft, Whole, RecordDraft, DraftField}
 use Rattle.avro_schema.specs.Fault.{◌>>=◌}
 use Rattle.avro_schema.specs.Head.{Head, ArrayHead, MapHead, UnionHead, Named, heads_of, defined_at}
 use Rattle.avro_schema.specs.Names.{full_name, namespace_of, new_name, field_name}
-use Rattle.avro_schema.specs.Node.{Node, EnumNode, FixedNode, ArrayNode, MapNode, UnionNode}
-use Rattle.avro_schema.specs.Walk.{Walk, added, apart_union, are_apart, around, declared_by, done, draft_field, enum_of, fault, field, field_of, fields, fields_after, fixed_of, followed_by, found, head_at, if_few, if_room, leaf, leaf_or_reference, members, named, one_node, or_unknown, record_of, reference, union_of, walk, walk_fields, walk_member}
+use Rattle.avro_schema.specs.Node.{Node, ArrayNode, MapNode}
+use Rattle.avro_schema.specs.Walk.{Walk, added, apart_union, are_apart, around, declared_by, draft_field, enum_of, fault, field, field_of, fields, fields_after, fixed_of, followed_by, found, head_at, if_room, leaf, leaf_or_reference, members, named, one_node, or_unknown, record_of, reference, union_of, walk, walk_fields, walk_member}
 use Rattle.avro_schema.specs.Word.{word_of, leaf_of, is_left_out, form_of}
 use Rattle.avro_schema.proofs.ReadTexts.{HasDataWithin, HaveItemsWithin, HaveMembersWithin}
 

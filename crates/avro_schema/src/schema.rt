@@ -7,7 +7,8 @@ ghost use Rattle.avro_schema.specs.Conforming.{DefaultsConform};
 ghost use Rattle.avro_schema.specs.Declaring.{DeclaresNode};
 ghost use Rattle.avro_schema.specs.Fault.{Tells};
 ghost use Rattle.avro_schema.specs.Node.{IsWellFormed, NodeIsWellFormed, node_of, nodes_of};
-ghost use Rattle.avro_schema.specs.Schema.{Parses, declared};
+ghost use Rattle.avro_schema.specs.Schema.{Parses, declared, most_text};
+ghost use Rattle.avro_schema.specs.TextSizes.{DefaultsHaveTextsWithin};
 ghost use Rattle.avro_schema.specs.Walk.{null_namespace};
 
 use crate::drafts::Drafts;
@@ -98,6 +99,13 @@ impl Schema {
     /// The law that each default of a field is of the field's type.
     pub fn defaults_conform(&self)
         ensures { DefaultsConform self.now.nodes }
+    {
+        let _opened = &self.nodes;
+    }
+
+    /// The law that no text, byte string or key in a default is longer than the text of a schema may be.
+    pub fn defaults_are_short(&self)
+        ensures { DefaultsHaveTextsWithin most_text self.now.nodes }
     {
         let _opened = &self.nodes;
     }

@@ -2,7 +2,10 @@ use Rattle.std.proofs.Common.{◌≡◌, ◌∙◌, sym, arith, Some, string_byt
 use Rattle.std.proofs.lemmas.Result.{err_from_is_err_and}
 use Rattle.serde_json.specs.Read.{read}
 use Rattle.serde_json.specs.View.{view}
+use Rattle.avro_schema.specs.Schema.{most_text}
 use Rattle.avro_schema.proofs.Declared.{too-large, small, no-json, some-json, a-float, walked}
+use Rattle.avro_schema.proofs.DeclaredTexts.{declared-within}
+use Rattle.avro_schema.proofs.ReadTexts.{read-within}
 use Rattle.avro_schema.proofs.schema.Schema.parse.Goals as goal
 
 pub returns-then-text-gt-MOST_TEXT : goal.returns-then-text-gt-MOST_TEXT
@@ -27,7 +30,13 @@ returns-in_err-nodes c =
 pub invariant_of-result : goal.invariant_of-result
 invariant_of-result c =
     let back : read (string_bytes c.in_ok-text.text) ≡ Some (view c.in_ok-value.value) = c.in_ok-text.ensures.reads_back c.in_ok-value.ensures.nests in
-    record { nodes_are = walked (string_bytes c.in_ok-text.text) (view c.in_ok-value.value) back c.if-has_float.ensures ∙ c.in_ok-nodes.ensures.declared; defaults_conform = c.in_ok-nodes.ensures.defaults }
+    let is = some-json (read c.args.text.now) (view c.in_ok-value.value) c.in_ok-value.ensures.value in
+    let short = read-within most_text c.args.text.now (view c.in_ok-value.value) is (omega arith) in
+    record {
+      nodes_are = walked (string_bytes c.in_ok-text.text) (view c.in_ok-value.value) back c.if-has_float.ensures ∙ c.in_ok-nodes.ensures.declared;
+      defaults_conform = c.in_ok-nodes.ensures.defaults;
+      defaults_are_short = declared-within most_text (view c.in_ok-value.value) _ c.in_ok-nodes.ensures.declared short;
+    }
 
 pub returns : goal.returns
 returns c =
