@@ -5,11 +5,11 @@ use Rattle.std.specs.Str.{bytes_eq, is_utf8}
 use Rattle.avro_bytes.specs.declared.text.TheConstants.{LONGEST}
 use Rattle.avro_schema.specs.Node.{Node, FieldNode, NullNode, BooleanNode, IntNode, LongNode, BytesNode, TextNode, FixedNode, EnumNode, ArrayNode, MapNode, UnionNode, RecordNode}
 use Rattle.avro_schema.specs.Datum.{Datum, Data, Pairs, NullDatum, BooleanDatum, IntDatum, LongDatum, BytesDatum, TextDatum, FixedDatum, EnumDatum, ArrayDatum, MapDatum, UnionDatum, RecordDatum, no_more, more, no_pairs, pair}
+use Rattle.avro_schema.specs.TextSizes.{DefaultsHaveTextsWithin}
 use Rattle.avro_datum.specs.Conforming.{HasShortTexts, HaveShortTexts, HaveShortPairs}
 use Rattle.resolver.specs.declared.mismatch.MismatchKind.{MismatchKind}
 use Rattle.resolver.specs.declared.place.Place.{Place}
 use Rattle.resolver.specs.declared.place.Place.TheVariants.{Straight, IntoMember, Nowhere, Unmatched}
-use Rattle.resolver.specs.Conforming.{DefaultsAreShort}
 use Rattle.resolver.specs.Matching.{given, both_items, both_values, place}
 use Rattle.resolver.specs.Resolution.{Resolved, ◌>>=◌, Came, mismatch, placed, int_for, text_for, bytes_for, or_else, symbol_at, came_as, member_at, field_lists, field_named, lacking, gathered, resolved, resolved_items, resolved_values, resolved_fields}
 use Rattle.resolver.proofs.Arriving.{both_ok}
@@ -130,7 +130,7 @@ gathered_short [] came defaults s = tt
 gathered_short (g ∷ gs) came defaults s =
     one_gathered (or_else (came_as g.name came) g.default) (gathered gs came) (either_short (came_as g.name came) g.default (short_as g.name came s) defaults.0) (gathered_short gs came defaults.1 s)
 
-module _ (W R : List Node) (defaults : DefaultsAreShort R) where
+module _ (W R : List Node) (defaults : DefaultsHaveTextsWithin LONGEST R) where
   record_short : (w r : ℕ) (p : List FieldNode × List FieldNode) (ds : Data) (e : Datum) → field_lists (slice_get W w) (slice_get R r) ≡ Some p → ((came : Came) → resolved_fields W R p.0 p.1 ds ≡ Ok came → CameShort came) → (c : Came) × (resolved_fields W R p.0 p.1 ds ≡ Ok c) × (RecordDatum (gathered p.1 c) ≡ e) → HasShortTexts e
   record_short w r p ds e lists fields made =
       let f = readers_fields (slice_get W w) (slice_get R r) p lists in

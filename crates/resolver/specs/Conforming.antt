@@ -1,10 +1,8 @@
 -- What resolution makes of data that are of a writer's node (Avro 1.11, "Schema Resolution"), and what is answered.
-use Rattle.std.specs.Prelude.{◌≡◌, ◌<◌, ◌^◌, ℕ, List, Ok, Some, IfSome, slice_get}
-use Rattle.std.specs.List.{AllByRecursion}
-use Rattle.avro_schema.specs.Node.{Node, FieldNode, RecordNode}
+use Rattle.std.specs.Prelude.{◌≡◌, ◌<◌, ◌^◌, ℕ, List, Ok}
+use Rattle.avro_schema.specs.Node.{Node}
 use Rattle.avro_schema.specs.Datum.{Datum}
 use Rattle.avro_schema.specs.Conforming.{Conforms}
-use Rattle.avro_datum.specs.Conforming.{HasShortTexts}
 use Rattle.avro_datum.specs.Payload.{IsPayload}
 use Rattle.avro_datum.specs.Spelling.{Spells, units_of}
 use Rattle.resolver.specs.Outcome.{Done, IsOutcome}
@@ -14,11 +12,7 @@ use Rattle.resolver.specs.Resolution.{resolved}
 abbrev pub ResolutionIsWhole : List Node → List Node → Type 0
 ResolutionIsWhole W R = (w r : ℕ) (d e : Datum) → Conforms W w d → resolved W R w r d ≡ Ok e → Conforms R r e
 
--- no text in a default is too long to be written
-abbrev pub DefaultsAreShort : List Node → Type 0
-DefaultsAreShort nodes = (node : ℕ) (name : List ℕ) (fields : List FieldNode) → slice_get nodes node ≡ Some (RecordNode name fields) → AllByRecursion (λ f. IfSome f.default HasShortTexts) fields
-
 -- An answer spells the datum of the reader's root that comes of the payload's, where a long can count its items.
 abbrev pub AnswersAreSpelled : List Node → List Node → Type 0
-AnswersAreSpelled W R = DefaultsAreShort R → (payload bytes : List ℕ) → IsOutcome W R payload (Done bytes) →
+AnswersAreSpelled W R = (payload bytes : List ℕ) → IsOutcome W R payload (Done bytes) →
     (d : Datum) × (e : Datum) × IsPayload W d payload × (resolved W R 0 0 d ≡ Ok e) × Conforms R 0 e × (units_of e < 2 ^ 63 → Spells R 0 e bytes)

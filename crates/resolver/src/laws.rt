@@ -20,12 +20,13 @@ pub fn resolution_is_whole(w: &Schema, r: &Schema)
     r.defaults_conform();
 }
 
-/// The law that an answer spells, by the reader's schema, what comes of the payload's datum, where no text of the
-/// reader's defaults is too long to be written and a long can count the items.
+/// The law that an answer spells, by the reader's schema, what comes of the payload's datum, where a long can count the
+/// items.
 pub fn answer_is_spelled(w: &Schema, r: &Schema)
     ensures { AnswersAreSpelled w.now.nodes r.now.nodes }
 {
     r.is_well_formed();
+    r.defaults_are_short();
     resolution_is_whole(w, r);
     avro_datum::spelled_datum_conforms();
     avro_datum::written_form_is_the_shortest_spelling();
