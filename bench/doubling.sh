@@ -1,7 +1,7 @@
 #!/usr/bin/env bash
-# Whether time is linear: the program on payloads of nested arrays of records, on schemas of many symbols, and on schemas of many
-# long names that differ at their ends, each of one size and of twice that size, in one run. The last three schemas are known to grow faster
-# than n log n (docs/DECISIONS.md). Not part of the gate. Usage: bench/doubling.sh PROGRAM
+# Whether time is linear: the program on payloads of nested arrays of records, and on schemas of many symbols, of many long names that
+# differ at their ends, of many defaults, members, and names in one long namespace, each of one size and of twice that size, in one
+# run. Not part of the gate. Usage: bench/doubling.sh PROGRAM
 set -euo pipefail
 program=$(realpath "$1")
 exec python3 - "$program" <<'PYTHON'
@@ -67,6 +67,12 @@ def members(size):
 def namespace(size):
     return whole([small(i, "N") for i in range(size // 200)], ',"namespace":"%s"' % ("n" * (size * 2 // 3)))
 
+def references(size):
+    def referring(i):
+        fields = ",".join('{"name":"f%d","type":"N0"}' % j for j in range(100))
+        return '{"name":"r%d","type":{"type":"record","name":"R%d","fields":[%s]}}' % (i, i, fields)
+    return whole([small(0, "N")] + [referring(i) for i in range(size // 5200)], ',"namespace":"%s"' % ("n" * (size // 2)))
+
 def seconds(data, times):
     best = float("inf")
     for _ in range(times):
@@ -79,7 +85,7 @@ def seconds(data, times):
 start = seconds('"int"\n"int"\n', 20)
 for name, make, size, times in [("payload", points, 1 << 21, 5), ("schema of enums", enums, 100_000, 20), ("schema of names", names, 100_000, 20),
                                 ("schema of defaults of one enum", defaults, 50_000, 10), ("schema of one union", members, 100_000, 10),
-                                ("schema of one long namespace", namespace, 100_000, 5)]:
+                                ("schema of one long namespace", namespace, 100_000, 10), ("schema of references in one long namespace", references, 100_000, 10)]:
     once, twice = (seconds(make(size * k), times) - start for k in (1, 2))
     print("%s of %d and %d bytes: %.1f ms and %.1f ms, ratio %.2f" % (name, size, size * 2, once * 1000, twice * 1000, twice / once))
 PYTHON

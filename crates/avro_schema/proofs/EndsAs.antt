@@ -8,6 +8,7 @@ use Rattle.avro_schema.specs.Defaults.{all_defaults, default_of, field_default, 
 use Rattle.avro_schema.specs.Draft.{Draft, DraftField}
 use Rattle.avro_schema.specs.Head.{Head, NullHead, BooleanHead, IntHead, LongHead, BytesHead, TextHead, ArrayHead, MapHead, UnionHead, Named, head_of, head_of_node, heads_of, defines, defined_at}
 use Rattle.avro_schema.specs.Node.{Node, FieldNode, IsWellFormed}
+use Rattle.avro_schema.proofs.Booleans.{some_inside}
 use Rattle.avro_schema.proofs.FinishedNodes.{finished-at, head-finished}
 
 -- the drafts became these nodes, which are well formed
@@ -52,9 +53,6 @@ defined_head full UnionHead e = absurd (let wrong : ⊥ = cc in wrong)
 -- the draft at a place, counted from another, defines the name
 abbrev DefinedFrom : List ℕ → ℕ → List Draft → ℕ → Type 0
 DefinedFrom full i ds n = (j : ℕ) × (n ≡ i + j) × (draft : Draft) × (slice_get ds j ≡ Some draft) × (head_of draft ≡ Named full)
-
-some_inside : (a b : ℕ) → Some a ≡ Some b → a ≡ b
-some_inside a b e = cc
 
 defined_draft : (full : List ℕ) (i : ℕ) (d : Draft) (ds : List Draft) (n : ℕ) (b : Bool) (rest : Option ℕ) → (rest ≡ Some n → DefinedFrom full (i + 1) ds n) → defines full (head_of d) ≡ b → cond b (Some i) rest ≡ Some n → DefinedFrom full i (d ∷ ds) n
 defined_draft full i d ds n true rest later t e = (0, sym (some_inside i n e) ∙ (let z : i ≡ i + 0 = omega arith in z), d, refl, defined_head full (head_of d) t)

@@ -61,3 +61,7 @@ any_other (m ∷ ns) (suc i) d e lt = any_other ns i d e (omega arith)
 pub apart-at : (heads : List Head) (ns : List ℕ) (i : ℕ) → i < length ns
     → apart_from heads ns i ≡ ((not (is_union_head (head_at heads (get_or ns i 0))) && not (list_any (is_same_type (head_at heads (get_or ns i 0))) (heads_at heads (take i ns)))) && apart_from heads ns (i + 1))
 apart-at heads ns i lt = apart-step heads ns i (get_or ns i 0) lt (any_other ns i 0 (get_or ns i 0) lt)
+
+-- one member more
+pub take-at : (ns : List ℕ) (i : ℕ) → i < length ns → take (i + 1) ns ≡ take i ns ++ get_or ns i 0 ∷ []
+take-at ns i lt = ap (λ n. take n ns) (add-one i) ∙ take-one ns i (get_or ns i 0) lt (any_other ns i 0 (get_or ns i 0) lt)

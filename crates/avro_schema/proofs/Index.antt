@@ -1,93 +1,69 @@
 -- Names in order beside nodes and fields, when one more comes.
-use Rattle.std.proofs.Common.{◌≡◌, ℕ, zero, suc, ◌+◌, List, [], ◌∷◌, ◌++◌, length, Bool, true, false, cond, ◌||◌, Option, Some, None, refl, sym, ap, subst, ◌∙◌, arith, String, string_bytes, set, slice_get}
-use Rattle.std.specs.BTreeMap.{BTreeMap, UpdatesBy}
+use Rattle.std.proofs.Common.{◌≡◌, ◌<◌, ℕ, ◌+◌, List, [], ◌∷◌, ◌++◌, length, true, false, ◌||◌, Some, None, sym, ap, ◌∙◌, arith, get_or, String, string_bytes, slice_get}
+use Rattle.std.specs.BTreeMap.{BTreeMap, get_by_text}
 use Rattle.std.specs.BTreeSet as sorted
 use Rattle.std.specs.BTreeSet.{BTreeSet, contains_text}
-use Rattle.std.specs.List.{position_from}
 use Rattle.std.specs.Ordering.{nat_cmp}
 use Rattle.std.specs.Cmp.Lexicographic.{slice_cmp}
 use Rattle.std.specs.Str.{bytes_eq}
 use Rattle.std.specs.String.{string_cmp}
-use Rattle.std.proofs.lemmas.Map.Text.{btree_map_updates_text, btree_set_updates_text}
+use Rattle.std.proofs.lemmas.Map.Text.{btree_set_updates_text}
+use Rattle.std.proofs.lemmas.Option.{slice_get_within, slice_get-get_or}
 use Rattle.std.proofs.lemmas.Slice.Eq.{bytes_eq-Decides}
 use Rattle.avro_schema.specs.declared.draft.Draft as rust
 use Rattle.avro_schema.specs.declared.draft.DraftField as rust_field
 use Rattle.avro_schema.specs.Contract.{names_of}
-use Rattle.avro_schema.specs.Draft.{Draft, draft_of, drafts_of}
-use Rattle.avro_schema.specs.Head.{Head, IsUnnamed, Named, defined_at, defines, head_of, heads_of}
-use Rattle.avro_schema.specs.Index.{AreNamesOf, IsIndexOf}
+use Rattle.avro_schema.specs.Draft.{draft_of, drafts_of}
+use Rattle.avro_schema.specs.FullNames.{has_dot, inside, namespace_of, unqualified}
+use Rattle.avro_schema.specs.Head.{Head, defined_at, defines, head_of, heads_of}
+use Rattle.avro_schema.specs.Index.{AreNamesOf, IsIndexOf, spaces_of}
+use Rattle.avro_schema.specs.SymbolIndex.{is_used}
+use Rattle.avro_schema.proofs.Booleans.{false_by, same_by}
+use Rattle.avro_schema.proofs.Dots.{namespace-inside, unqualified-inside}
 use Rattle.avro_schema.proofs.FieldList.{map-push}
-use Rattle.avro_schema.proofs.Runs.{drafts_of-append, drafts_of-set, heads_of-append, length-drafts_of, length-heads_of}
+use Rattle.avro_schema.proofs.Runs.{drafts_of-append, heads_of-append}
+use Rattle.avro_schema.proofs.Spaces.{none-used, number-some, or_last, position-behind, spaceless}
 use Rattle.avro_schema.proofs.Texts.{cond_or, used-push}
 
--- ---- the place of one more
+-- ---- full names, by namespace and last part
 
--- the first place, if there is one, and otherwise that of one more
-abbrev or_last : Bool → ℕ → Option ℕ → Option ℕ
-or_last here n None = cond here (Some n) None
-or_last here n (Some i) = Some i
-
-or_later : (b here : Bool) (i n : ℕ) (o : Option ℕ) → cond b (Some i) (or_last here n o) ≡ or_last here n (cond b (Some i) o)
-or_later true here i n o = refl
-or_later false here i n o = refl
-
-position-behind : {A : Type 0} (test : A → Bool) (i : ℕ) (xs : List A) (x : A) → position_from test i (xs ++ x ∷ []) ≡ or_last (test x) (i + length xs) (position_from test i xs)
-position-behind test i [] x = ap (λ n. cond (test x) (Some n) None) (let z : i ≡ i + 0 = omega arith in z)
-position-behind test i (y ∷ xs) x =
-    ap (cond (test y) (Some i)) (position-behind test (i + 1) xs x ∙ ap (λ n. or_last (test x) n (position_from test (i + 1) xs)) (let z : i + 1 + length xs ≡ i + suc (length xs) = omega arith in z))
-    ∙ or_later (test y) (test x) i (i + suc (length xs)) (position_from test (i + 1) xs)
-
-defined-behind : (full : List ℕ) (hs : List Head) (h : Head) → defined_at full (hs ++ h ∷ []) ≡ or_last (defines full h) (length hs) (defined_at full hs)
+pub defined-behind : (full : List ℕ) (hs : List Head) (h : Head) → defined_at full (hs ++ h ∷ []) ≡ or_last (defines full h) (length hs) (defined_at full hs)
 unfolding defined_at
 defined-behind full hs h = position-behind (defines full) 0 hs h ∙ ap (λ n. or_last (defines full h) n (defined_at full hs)) (let z : 0 + length hs ≡ length hs = omega arith in z)
 
-last_not : (n : ℕ) (o : Option ℕ) → or_last false n o ≡ o
-last_not n None = refl
-last_not n (Some i) = refl
-
-heads-behind : (ks : List rust.Draft) (k : rust.Draft) → heads_of (drafts_of (ks ++ k ∷ [])) ≡ heads_of (drafts_of ks) ++ head_of (draft_of k) ∷ []
+pub heads-behind : (ks : List rust.Draft) (k : rust.Draft) → heads_of (drafts_of (ks ++ k ∷ [])) ≡ heads_of (drafts_of ks) ++ head_of (draft_of k) ∷ []
 heads-behind ks k = ap heads_of (drafts_of-append ks (k ∷ [])) ∙ heads_of-append (drafts_of ks) (draft_of k ∷ [])
 
--- ---- nodes
+-- names in one namespace differ where their last parts do
+pub inside-same : (namespace last other : List ℕ) → has_dot last ≡ false → has_dot other ≡ false → bytes_eq (inside namespace last) (inside namespace other) ≡ bytes_eq last other
+inside-same namespace last other none also =
+    same_by (bytes_eq (inside namespace last) (inside namespace other)) (bytes_eq last other)
+    (λ t. (bytes_eq-Decides last other).1 (sym (unqualified-inside namespace last none) ∙ ap unqualified ((bytes_eq-Decides (inside namespace last) (inside namespace other)).0 t) ∙ unqualified-inside namespace other also))
+    (λ t. (bytes_eq-Decides (inside namespace last) (inside namespace other)).1 (ap (inside namespace) ((bytes_eq-Decides last other).0 t)))
 
--- one more node without a name
-index-unnamed : {A : Type 0} (names : BTreeMap (String A) ℕ) (ks ls : List rust.Draft) (k : rust.Draft) → IsIndexOf names ks → IsUnnamed (head_of (draft_of k)) → ls ≡ ks ++ k ∷ [] → IsIndexOf names ls
-index-unnamed names ks ls k known none e full =
-    let hs = heads_of (drafts_of ks) in
-    rw (e, heads-behind ks k) (known full ∙ sym (defined-behind full hs (head_of (draft_of k)) ∙ rw (none full) (last_not (length hs) (defined_at full hs))))
+-- and names in two namespaces always do
+pub inside-apart : (full namespace other : List ℕ) → has_dot other ≡ false → (namespace_of full ≡ namespace → ⊥) → bytes_eq full (inside namespace other) ≡ false
+inside-apart full namespace other none apart =
+    false_by (bytes_eq full (inside namespace other))
+    (λ t. apart (ap namespace_of ((bytes_eq-Decides full (inside namespace other)).0 t) ∙ namespace-inside namespace other none))
 
-pub index-pushed : {A : Type 0} (names : BTreeMap (String A) ℕ) (ks ls : List rust.Draft) (k : rust.Draft) (pushed : Bool) → IsIndexOf names ks → IsUnnamed (head_of (draft_of k)) → ls ≡ cond pushed (ks ++ k ∷ []) ks → IsIndexOf names ls
-index-pushed names ks ls k true known none e = index-unnamed names ks ls k known none e
-index-pushed names ks ls k false known none e = subst (IsIndexOf names) (sym e) known
+-- ---- looked up
 
--- one more name, where it is new
-named-last : (full other : List ℕ) (o : Option ℕ) (n : ℕ) → (bytes_eq full other ≡ true → o ≡ None) → cond (bytes_eq full other) (Some n) o ≡ or_last (bytes_eq full other) n o
-named-last full other o n new = at (bytes_eq full other) o new
-  where
-    at : (b : Bool) (o : Option ℕ) → (b ≡ true → o ≡ None) → cond b (Some n) o ≡ or_last b n o
-    at true o new = sym (ap (or_last true n) (new refl))
-    at false o new = sym (last_not n o)
+module _ {A : Type 0} (numbers : BTreeMap (String A) ℕ) (scopes : List (BTreeMap (String A) ℕ)) (ks : List rust.Draft) (known : IsIndexOf numbers scopes ks) where
+  pub number-below : (number : ℕ) (namespace : List ℕ) → slice_get (spaces_of (heads_of (drafts_of ks))) number ≡ Some namespace → number < length scopes
+  number-below number namespace at = omega (arith, slice_get_within (spaces_of (heads_of (drafts_of ks))) number namespace at, known.each_has_one)
 
-pub index-named : {A : Type 0} (full : List ℕ) (old new : BTreeMap (String A) ℕ) (ks ls : List rust.Draft) (k : rust.Draft) (node : ℕ)
-    → IsIndexOf old ks → head_of (draft_of k) ≡ Named full → defined_at full (heads_of (drafts_of ks)) ≡ None → ls ≡ ks ++ k ∷ [] → node ≡ length ks
-    → UpdatesBy string_cmp (λ k. slice_cmp nat_cmp full (string_bytes k)) old new (Some node) → IsIndexOf new ls
-index-named full old new ks ls k node known named fresh e is updates other =
-    let hs = heads_of (drafts_of ks) in
-    let n : length hs ≡ length ks = length-heads_of (drafts_of ks) ∙ length-drafts_of ks in
-    let absent : bytes_eq full other ≡ true → defined_at other hs ≡ None = λ same. ap (λ s. defined_at s hs) (sym ((bytes_eq-Decides full other).0 same)) ∙ fresh in
-    btree_map_updates_text full old new (Some node) updates other
-    ∙ ap (cond (bytes_eq full other) (Some node)) (known other)
-    ∙ named-last full other (defined_at other hs) node absent
-    ∙ sym (rw (e, heads-behind ks k, named) (defined-behind other hs (Named full) ∙ rw (n, ← is) refl))
+  pub found-under : (number : ℕ) (namespace last : List ℕ) (scope : BTreeMap (String A) ℕ) → slice_get (spaces_of (heads_of (drafts_of ks))) number ≡ Some namespace → scope ≡ get_or scopes number scope → has_dot last ≡ false
+      → get_by_text scope last ≡ defined_at (inside namespace last) (heads_of (drafts_of ks))
+  found-under number namespace last scope at is none = known.found number namespace last scope at (slice_get-get_or scopes number scope (number-below number namespace at) ∙ ap Some (sym is)) none
 
--- a node in the place of one with the same head
-heads-set : (ds : List Draft) (i : ℕ) (d : Draft) → slice_get (heads_of ds) i ≡ Some (head_of d) → heads_of (set ds i d) ≡ heads_of ds
-heads-set [] i d e = refl
-heads-set (x ∷ ds) zero d e = let same : head_of x ≡ head_of d = cc in ap (λ h. h ∷ heads_of ds) (sym same)
-heads-set (x ∷ ds) (suc i) d e = ap (λ hs. head_of x ∷ hs) (heads-set ds i d e)
+  pub number-found : (namespace : List ℕ) (number : ℕ) → get_by_text numbers namespace ≡ Some number → slice_get (spaces_of (heads_of (drafts_of ks))) number ≡ Some namespace
+  number-found namespace number e = number-some namespace (spaces_of (heads_of (drafts_of ks))) number (sym (known.numbered namespace) ∙ e)
 
-pub index-set : {A : Type 0} (names : BTreeMap (String A) ℕ) (ks : List rust.Draft) (i : ℕ) (k : rust.Draft) → IsIndexOf names ks → slice_get (heads_of (drafts_of ks)) i ≡ Some (head_of (draft_of k)) → IsIndexOf names (set ks i k)
-index-set names ks i k known same full = known full ∙ ap (defined_at full) (sym (ap heads_of (drafts_of-set ks i k) ∙ heads-set (drafts_of ks) i (draft_of k) same))
+  pub found-nowhere : (namespace last : List ℕ) → get_by_text numbers namespace ≡ None → has_dot last ≡ false → None ≡ defined_at (inside namespace last) (heads_of (drafts_of ks))
+  found-nowhere namespace last e none =
+      let unused = none-used namespace (spaces_of (heads_of (drafts_of ks))) (sym (known.numbered namespace) ∙ e) in
+      sym (spaceless (inside namespace last) (heads_of (drafts_of ks)) (ap (λ s. is_used s (spaces_of (heads_of (drafts_of ks)))) (namespace-inside namespace last none) ∙ unused))
 
 -- ---- fields
 

@@ -1,17 +1,19 @@
 -- The walk of a named type, step by step.
-use Rattle.std.proofs.Common.{◌≡◌, ℕ, ◌<◌, List, [], ◌∷◌, ◌++◌, length, Option, Result, Ok, Err, refl, ◌∙◌, set, String, Vec, Global, string_bytes}
+use Rattle.std.proofs.Common.{◌≡◌, ℕ, ◌<◌, List, [], ◌∷◌, ◌++◌, length, Option, Result, Ok, Err, refl, ◌∙◌, set, Vec, Global}
 use Rattle.serde_json.specs.Data.{Data}
 use Rattle.avro_schema.specs.declared.error.SchemaError.{SchemaError}
 use Rattle.avro_schema.specs.declared.draft.Draft as rust
 use Rattle.avro_schema.specs.declared.draft.Draft.TheVariants as drafts
 use Rattle.avro_schema.specs.declared.draft.DraftField as rust_field
+use Rattle.avro_schema.specs.declared.name.Name.{Name}
 use Rattle.avro_schema.specs.Attributes.{symbols_of, default_symbol, size_of}
 use Rattle.avro_schema.specs.Contract.{run}
 use Rattle.avro_schema.specs.Draft.{Draft, Whole, RecordDraft, DraftField, drafts_of}
 use Rattle.avro_schema.specs.Fault.{◌>>=◌}
 use Rattle.avro_schema.specs.Head.{Named, heads_of}
-use Rattle.avro_schema.specs.Names.{namespace_of, new_name}
-use Rattle.avro_schema.specs.Node.{EnumNode, FixedNode}
+use Rattle.avro_schema.specs.FullNames.{namespace_of}
+use Rattle.avro_schema.specs.Names.{new_name}
+use Rattle.avro_schema.specs.Node.{EnumNode, FixedNode, full_of}
 use Rattle.avro_schema.specs.Walk.{Walk, added, if_room, most_nodes, around, one_node, record_of, enum_of, fixed_of, or_unknown}
 use Rattle.avro_schema.proofs.Runs.{drafts_of-append, run-if_room, closed, unclosed}
 
@@ -45,8 +47,8 @@ module _ (name namespace : Option Data) (fields : Option (Walk (List DraftField)
     record-failed x e = run-record room ∙ rw is (unclosed (λ fs. RecordDraft s fs) (RecordDraft s []) (or_unknown fields) (namespace_of s) ks x e)
 
 -- the nodes, with a record that has no fields yet
-pub pushed-record : (ks ls : List rust.Draft) (name copy : String Global) (fields : Vec rust_field.DraftField Global) → ls ≡ ks ++ drafts.Record copy fields ∷ [] → string_bytes copy ≡ string_bytes name → fields.items ≡ []
-    → drafts_of ls ≡ drafts_of ks ++ RecordDraft (string_bytes name) [] ∷ []
+pub pushed-record : (ks ls : List rust.Draft) (name copy : Name) (fields : Vec rust_field.DraftField Global) → ls ≡ ks ++ drafts.Record copy fields ∷ [] → full_of copy ≡ full_of name → fields.items ≡ []
+    → drafts_of ls ≡ drafts_of ks ++ RecordDraft (full_of name) [] ∷ []
 pushed-record ks ls name copy fields e same none = rw (e, drafts_of-append ks (drafts.Record copy fields ∷ []), same, none) refl
 
 -- ---- types without parts

@@ -4,7 +4,7 @@ use Rattle.avro_schema.specs.declared.error.SchemaError.TheVariants.{Unknown}
 use Rattle.avro_schema.specs.Contract.{run}
 use Rattle.avro_schema.specs.Draft.{Draft}
 use Rattle.avro_schema.specs.Head.{defined_at, heads_of}
-use Rattle.avro_schema.specs.Names.{full_name}
+use Rattle.avro_schema.specs.FullNames.{full_name}
 use Rattle.avro_schema.specs.Walk.{added, found, reference}
 
 pub refers : (text space : List ℕ) (ns : List Draft) (n : ℕ) → defined_at (full_name space text) (heads_of ns) ≡ Some n → run (reference text) space ns ≡ Ok (n, ns)

@@ -7,9 +7,12 @@ use Rattle.std.proofs.Math.ListN.{drop_of_length-le}
 use Rattle.serde_json.specs.View.{view, items_view}
 use Rattle.serde_json.specs.declared.value.Value.{Value}
 use Rattle.avro_schema.specs.declared.error.SchemaError.{SchemaError}
-use Rattle.avro_schema.specs.Attributes.{are_new, texts_in}
+use Rattle.avro_schema.specs.Attributes.{texts_in}
+use Rattle.avro_schema.specs.SymbolIndex.{are_new}
 use Rattle.avro_schema.specs.Fault.{◌>>=◌}
-use Rattle.avro_schema.specs.Names.{is_name, is_used, text_of}
+use Rattle.avro_schema.specs.FullNames.{is_name}
+use Rattle.avro_schema.specs.Names.{text_of}
+use Rattle.avro_schema.specs.SymbolIndex.{is_used}
 use Rattle.avro_schema.proofs.Positions.{position-map}
 use Rattle.avro_schema.proofs.Heads.{map-one}
 

@@ -11,6 +11,7 @@ use Rattle.avro_schema.specs.Fault.{◌>>=◌}
 use Rattle.avro_schema.specs.Head.{Head, NullHead, BooleanHead, IntHead, LongHead, BytesHead, TextHead, ArrayHead, MapHead, UnionHead, Named, heads_of, is_same_type, is_union_head}
 use Rattle.avro_schema.specs.Node.{UnionNode}
 use Rattle.avro_schema.specs.Walk.{Walk, are_apart, apart_union, head_at, union_of, if_room, most_nodes}
+use Rattle.avro_schema.proofs.Booleans.{both, neither, not_true}
 use Rattle.avro_schema.proofs.Fits.{Gives, MemberFits, DraftFits, AllFrom, is_union_there, get-extended, distinct-more}
 use Rattle.avro_schema.proofs.Heads.{map-one}
 use Rattle.avro_schema.proofs.Runs.{length-heads_of}
@@ -33,18 +34,6 @@ same_head ArrayHead = refl
 same_head MapHead = refl
 same_head UnionHead = refl
 same_head (Named full) = (bytes_eq-Decides full full).1 refl
-
-both : (a b : Bool) → (a && b) ≡ true → (a ≡ true) × (b ≡ true)
-both true b e = (refl, e)
-both false b e = absurd (let wrong : ⊥ = cc in wrong)
-
-not_true : (b : Bool) → not b ≡ true → b ≡ false
-not_true true e = absurd (let wrong : ⊥ = cc in wrong)
-not_true false e = refl
-
-neither : (a b : Bool) → (a || b) ≡ false → (a ≡ false) × (b ≡ false)
-neither true b e = absurd (let wrong : ⊥ = cc in wrong)
-neither false b e = (refl, e)
 
 -- another head is another node's
 node_at_most : (heads : List Head) (m n : ℕ) (b : Bool) → eqb m n ≡ b → is_same_type (head_at heads n) (head_at heads m) ≡ false → b ≡ false

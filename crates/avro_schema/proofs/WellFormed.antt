@@ -1,5 +1,5 @@
 -- The law of the walk: whatever nodes it makes fit.
-use Rattle.std.proofs.Common.{◌≡◌, ℕ, suc, ◌+◌, ◌<◌, ◌≤◌, inl, inr, List, [], ◌∷◌, ◌++◌, length, map, Bool, true, false, not, ◌&&◌, ◌||◌, cond, option_and_then, Option, Some, None, IfSome, Result, Ok, Err, refl, sym, ap, subst, ◌∙◌, arith, append_assoc, append-nil, length-append, nat_lt, codes, slice_get}
+use Rattle.std.proofs.Common.{◌≡◌, ℕ, suc, ◌+◌, ◌<◌, ◌≤◌, inl, inr, List, [], ◌∷◌, ◌++◌, length, map, Bool, true, false, not, cond, option_and_then, Option, Some, None, IfSome, Result, Ok, Err, refl, sym, ap, subst, ◌∙◌, arith, append_assoc, append-nil, length-append, nat_lt, codes, slice_get}
 use Rattle.std.specs.List.{AllByRecursion, IsDistinct, list_all, position, position_from}
 use Rattle.std.specs.Option.{ok_or}
 use Rattle.std.specs.Ordering.{nat_cmp}
@@ -15,14 +15,18 @@ use Rattle.avro_schema.specs.declared.word.Form.{Form}
 use Rattle.avro_schema.specs.declared.word.Form.TheVariants as forms
 use Rattle.avro_schema.specs.declared.word.Word.{Word}
 use Rattle.avro_schema.specs.declared.word.Word.TheVariants as words
-use Rattle.avro_schema.specs.Attributes.{are_new, symbols_of, texts_of, default_symbol, size_of}
+use Rattle.avro_schema.specs.Attributes.{symbols_of, texts_of, default_symbol, size_of}
+use Rattle.avro_schema.specs.SymbolIndex.{are_new}
 use Rattle.avro_schema.specs.Draft.{Draft, Whole, RecordDraft, DraftField}
 use Rattle.avro_schema.specs.Fault.{◌>>=◌, require}
 use Rattle.avro_schema.specs.Head.{Head, NullHead, BooleanHead, IntHead, LongHead, BytesHead, TextHead, ArrayHead, MapHead, UnionHead, Named, defines, defined_at}
-use Rattle.avro_schema.specs.Names.{text_of, new_name, namespace_of, full_name, field_name, is_name, is_used}
+use Rattle.avro_schema.specs.FullNames.{namespace_of, full_name, is_name}
+use Rattle.avro_schema.specs.Names.{text_of, new_name, field_name}
+use Rattle.avro_schema.specs.SymbolIndex.{is_used}
 use Rattle.avro_schema.specs.Node.{Node, NullNode, BooleanNode, IntNode, LongNode, BytesNode, TextNode, FixedNode, EnumNode, ArrayNode, MapNode, most_symbols, most_fixed}
 use Rattle.avro_schema.specs.Walk.{Walk, found, leaf, one_node, leaf_or_reference, reference, named, or_unknown, record_of, enum_of, fixed_of, declared_by, walk, members, walk_member, walk_fields, fields, fields_after, field, field_of, draft_field, most_nodes}
 use Rattle.avro_schema.specs.Word.{word_of, leaf_of, is_left_out}
+use Rattle.avro_schema.proofs.Booleans.{both, neither, not_true, some_inside}
 use Rattle.avro_schema.proofs.Fits.{Gives, ItemFits, DraftFits, is_named_there, holds_items, get-extended, distinct-more}
 use Rattle.avro_schema.proofs.Sound.{Fine, Sound, SoundIf, fine-bind, fine-done, fine-one, fine-around, sound-room, sound-or, if_found}
 use Rattle.avro_schema.proofs.UnionFits.{AllBelow, sound-union}
@@ -55,18 +59,6 @@ told a = Ok a
 
 ok_inside : {A : Type 0} (a b : A) → told a ≡ told b → a ≡ b
 ok_inside a b e = cc
-
-both : (a b : Bool) → (a && b) ≡ true → (a ≡ true) × (b ≡ true)
-both true b e = (refl, e)
-both false b e = absurd (let wrong : ⊥ = cc in wrong)
-
-not_true : (b : Bool) → not b ≡ true → b ≡ false
-not_true true e = absurd (let wrong : ⊥ = cc in wrong)
-not_true false e = refl
-
-neither : (a b : Bool) → (a || b) ≡ false → (a ≡ false) × (b ≡ false)
-neither true b e = absurd (let wrong : ⊥ = cc in wrong)
-neither false b e = (refl, e)
 
 -- ---- names
 
@@ -108,9 +100,6 @@ named_head full UnionHead e = absurd (let wrong : ⊥ = cc in wrong)
 -- a place, counted from another
 abbrev NamedFrom : ℕ → List Head → ℕ → Type 0
 NamedFrom i heads n = (j : ℕ) × (n ≡ i + j) × (j < length heads) × (is_named_there (slice_get heads j) ≡ true)
-
-some_inside : (a b : ℕ) → Some a ≡ Some b → a ≡ b
-some_inside a b e = cc
 
 defined_at_head : (full : List ℕ) (i : ℕ) (h : Head) (heads : List Head) (n : ℕ) (b : Bool) (rest : Option ℕ) → (rest ≡ Some n → NamedFrom (i + 1) heads n) → defines full h ≡ b → cond b (Some i) rest ≡ Some n → NamedFrom i (h ∷ heads) n
 defined_at_head full i h heads n true rest later t e = (0, sym (some_inside i n e) ∙ (let z : i ≡ i + 0 = omega arith in z), omega arith, named_head full h t)

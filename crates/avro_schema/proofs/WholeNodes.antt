@@ -134,9 +134,6 @@ whole_nodes drafts all e some fits =
           (node_well drafts (nodes_with drafts all) (heads-finished drafts drafts all e) (long ∙ sym (length-heads_of drafts)) own f.draft f.defaults f.read (subst (λ n. DraftFits (heads_of drafts) n f.draft) (let z : 0 + own ≡ own = omega arith in z) (each_from (DraftFits (heads_of drafts)) 0 drafts fits own f.draft f.placed)));
     }
 
-some_inside : {A : Type 0} (a b : A) → Some a ≡ Some b → a ≡ b
-some_inside a b e = cc
-
 -- the data of all defaults, where the nodes are finished
 pub finished-with : (drafts : List Draft) (ns : List Node) → finished drafts ≡ Ok ns → (all : List (List (Option Datum))) × (all_defaults drafts drafts ≡ Some all) × (nodes_with drafts all ≡ ns)
 unfolding finished

@@ -1,5 +1,5 @@
 -- What the attributes of enums and fixed give (Avro 1.11, "Enums" and "Fixed").
-use Rattle.std.specs.Prelude.{ℕ, ◌&&◌, List, [], ◌∷◌, ◌++◌, length, Bool, true, not, nat_le, Option, Some, None, option_and_then, Result, Ok, Err}
+use Rattle.std.specs.Prelude.{ℕ, ◌&&◌, List, [], ◌∷◌, length, nat_le, Option, Some, None, option_and_then, Result, Ok, Err}
 use Rattle.std.specs.Option.{ok_or}
 use Rattle.std.specs.List.{list_all, position}
 use Rattle.std.specs.Str.{bytes_eq}
@@ -8,8 +8,10 @@ use Rattle.serde_json.specs.Find.{as_number, as_u64}
 use Rattle.avro_schema.specs.declared.error.SchemaError.{SchemaError}
 use Rattle.avro_schema.specs.declared.error.SchemaError.TheVariants.{Unknown, BadSymbols, BadNumber, TooLarge}
 use Rattle.avro_schema.specs.Fault.{◌>>=◌, require}
-use Rattle.avro_schema.specs.Names.{text_of, is_name, is_used}
+use Rattle.avro_schema.specs.FullNames.{is_name}
+use Rattle.avro_schema.specs.Names.{text_of}
 use Rattle.avro_schema.specs.Node.{most_symbols, most_fixed}
+use Rattle.avro_schema.specs.SymbolIndex.{are_distinct}
 
 -- the texts that a value lists
 abbrev pub texts_in : Items → Result (List (List ℕ)) SchemaError
@@ -20,16 +22,11 @@ abbrev pub texts_of : Option Data → Result (List (List ℕ)) SchemaError
 texts_of (Some (array ds)) = texts_in ds
 texts_of _ = Err Unknown
 
--- none of the names comes again, nor is one of those before
-abbrev pub are_new : List (List ℕ) → List (List ℕ) → Bool
-are_new before [] = true
-are_new before (s ∷ ss) = not (is_used s before) && are_new (before ++ s ∷ []) ss
-
 -- the symbols that `symbols` gives
 unfoldable pub symbols_of : Option Data → Result (List (List ℕ)) SchemaError
 symbols_of symbols = do
   ss ← texts_of symbols
-  _ ← require (list_all is_name ss && are_new [] ss) BadSymbols
+  _ ← require (list_all is_name ss && are_distinct ss) BadSymbols
   _ ← require (nat_le (length ss) most_symbols) TooLarge
   Ok ss
 

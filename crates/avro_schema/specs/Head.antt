@@ -43,6 +43,10 @@ abbrev pub is_union_head : Head → Bool
 is_union_head UnionHead = true
 is_union_head _ = false
 
+abbrev pub is_named_head : Head → Bool
+is_named_head (Named full) = true
+is_named_head _ = false
+
 -- whether it is the definition of a full name
 abbrev pub defines : List ℕ → Head → Bool
 defines full (Named name) = bytes_eq name full

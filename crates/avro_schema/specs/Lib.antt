@@ -7,12 +7,14 @@ pub mod Declaring
 pub mod Defaults
 pub mod Draft
 pub mod Fault
+pub mod FullNames
 pub mod Head
 pub mod Index
 pub mod Names
 pub mod Node
 pub mod Schema
 pub mod SchemaError
+pub mod SymbolIndex
 pub mod TextSizes
 pub mod Walk
 pub mod Word

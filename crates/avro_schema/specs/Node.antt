@@ -1,11 +1,15 @@
 -- What a schema declares (Avro 1.11, "Schema Declaration"): nodes that name each other by their numbers.
 use Rattle.std.specs.Prelude.{◌≡◌, ℕ, ◌<◌, ◌≤◌, ◌⊎◌, List, length, map, Bool, true, false, Option, Some, option_map, IfSome, string_bytes, slice_get}
+use Rattle.std.specs.Arc.{arc_str_bytes}
 use Rattle.std.specs.List.{AllByRecursion, IsDistinct}
 use Rattle.std.specs.Str.{bytes_eq}
 use Rattle.avro_schema.specs.Datum.{Datum, datum_of}
 use Rattle.avro_schema.specs.declared.kind.Kind.{Kind}
 use Rattle.avro_schema.specs.declared.kind.Kind.TheVariants as kinds
 use Rattle.avro_schema.specs.declared.kind.Field.{Field}
+use Rattle.avro_schema.specs.declared.name.Name.{Name}
+use Rattle.avro_schema.specs.declared.symbols.Symbols.{Symbols}
+use Rattle.avro_schema.specs.FullNames.{inside}
 
 -- a field of a record, the node that is its type, and what a reader takes where the writer has no such field
 pub record FieldNode : Type 0 where
@@ -39,6 +43,12 @@ pub record Declaration : Type 0 where
   pub text : List ℕ
   pub nodes : List Node
 
+abbrev pub full_of : Name → List ℕ
+full_of name = inside (arc_str_bytes name.namespace) (string_bytes name.last)
+
+abbrev pub symbols_in : Symbols → List (List ℕ)
+symbols_in symbols = map string_bytes symbols.texts.items
+
 abbrev pub field_of : Field → FieldNode
 field_of f = record { name = string_bytes f.name; node = f.node; default = option_map datum_of f.default }
 
@@ -52,12 +62,12 @@ node_of kinds.Int = IntNode
 node_of kinds.Long = LongNode
 node_of kinds.Bytes = BytesNode
 node_of kinds.Text = TextNode
-node_of (kinds.Fixed name size) = FixedNode (string_bytes name) size
-node_of (kinds.Enum name symbols default) = EnumNode (string_bytes name) (map string_bytes symbols.items) default
+node_of (kinds.Fixed name size) = FixedNode (full_of name) size
+node_of (kinds.Enum name symbols default) = EnumNode (full_of name) (symbols_in symbols) default
 node_of (kinds.Array item) = ArrayNode item
 node_of (kinds.Map value) = MapNode value
 node_of (kinds.Union members) = UnionNode members.items
-node_of (kinds.Record name fields) = RecordNode (string_bytes name) (fields_of fields.items)
+node_of (kinds.Record name fields) = RecordNode (full_of name) (fields_of fields.items)
 
 abbrev pub nodes_of : List Kind → List Node
 nodes_of ks = map node_of ks

@@ -13,7 +13,8 @@ use Rattle.avro_schema.specs.Attributes.{symbols_of, default_symbol, size_of}
 use Rattle.avro_schema.specs.Draft.{Draft, Whole, RecordDraft, DraftField}
 use Rattle.avro_schema.specs.Fault.{◌>>=◌}
 use Rattle.avro_schema.specs.Head.{Head, ArrayHead, MapHead, UnionHead, Named, heads_of, is_same_type, is_union_head, defined_at}
-use Rattle.avro_schema.specs.Names.{full_name, namespace_of, new_name, field_name}
+use Rattle.avro_schema.specs.FullNames.{full_name, namespace_of}
+use Rattle.avro_schema.specs.Names.{new_name, field_name}
 use Rattle.avro_schema.specs.Node.{Node, FixedNode, EnumNode, ArrayNode, MapNode, UnionNode}
 use Rattle.avro_schema.specs.Word.{word_of, leaf_of, is_left_out, form_of}
 

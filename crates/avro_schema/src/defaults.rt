@@ -58,12 +58,10 @@ fn text_default(alloc: Global, kind: &Kind, text: &str) -> Result<Datum, SchemaE
             }
             Ok(Datum::Fixed(bytes))
         }
-        Kind::Enum { symbols, .. } => {
-            match symbols.iter().position(|symbol| symbol.as_str() == text) {
-                Some(position) => Ok(Datum::Enum(position as u32)),
-                None => Err(SchemaError::BadDefault),
-            }
-        }
+        Kind::Enum { symbols, .. } => match symbols.position_of(text) {
+            Some(position) => Ok(Datum::Enum(position as u32)),
+            None => Err(SchemaError::BadDefault),
+        },
         _ => Err(SchemaError::BadDefault),
     }
 }

@@ -1,4 +1,5 @@
 use crate::kind::Kind;
+use crate::name::Name;
 use serde_json::Value;
 
 /// What a node is before the defaults of its fields have been read.
@@ -8,7 +9,7 @@ pub(crate) enum Draft<'v> {
     Whole(Kind),
     /// A record under its full name.
     Record {
-        name: String,
+        name: Name,
         fields: Vec<DraftField<'v>>,
     },
 }

@@ -1,14 +1,18 @@
-ghost use Rattle.std.specs.Prelude.{◌≡◌, [], ◌∷◌, ◌++◌, length, set, slice_get, Some, None, OnOk, string_bytes};
+ghost use Rattle.std.specs.Prelude.{◌≡◌, [], ◌∷◌, ◌++◌, length, set, slice_get, Some, None, false, IfOk, OnOk, string_bytes};
+ghost use Rattle.std.specs.Arc.{arc_str_bytes};
 ghost use Rattle.avro_schema.specs.Contract.{names_of};
 ghost use Rattle.avro_schema.specs.Draft.{draft_of, drafts_of};
 ghost use Rattle.avro_schema.specs.declared.draft.Draft.TheVariants as drafts;
+ghost use Rattle.avro_schema.specs.FullNames.{has_dot, inside, namespace_of};
 ghost use Rattle.avro_schema.specs.Head.{IsUnnamed, Named, defined_at, head_of, head_of_node, heads_of};
-ghost use Rattle.avro_schema.specs.Index.{AreNamesOf, IsIndexOf};
-ghost use Rattle.avro_schema.specs.Names.{is_used};
-ghost use Rattle.avro_schema.specs.Node.{node_of};
+ghost use Rattle.avro_schema.specs.Index.{AreNamesOf, IsIndexOf, IsNumbered, IsSpaceOf, number_of, spaces_of};
+ghost use Rattle.avro_schema.specs.SymbolIndex.{is_used};
+ghost use Rattle.avro_schema.specs.Node.{full_of, node_of};
 
 use crate::draft::{Draft, DraftField};
 use crate::kind::Kind;
+use crate::name::Name;
+use crate::space::Space;
 use std::alloc::{AllocError, Global};
 use std::collections::{BTreeMap, BTreeSet};
 
@@ -16,25 +20,53 @@ use std::collections::{BTreeMap, BTreeSet};
 #[derive(Drop)]
 pub(crate) struct Drafts<'v> {
     pub(crate) nodes: Vec<Draft<'v>>,
-    names: BTreeMap<String, usize>,
-    ghost known: { IsIndexOf names nodes.items },
+    /// The number of each namespace that has names; that of the null one is 0.
+    numbers: BTreeMap<String, usize>,
+    /// For each namespace, the nodes that the last parts of its names define.
+    scopes: Vec<BTreeMap<String, usize>>,
+    ghost known: { IsIndexOf numbers scopes.items nodes.items },
 }
 
 impl<'v> Drafts<'v> {
-    pub(crate) fn new(alloc: Global) -> Self
-        ensures { result.nodes.items ≡ [] }
+    pub(crate) fn new(alloc: Global) -> Result<Self, AllocError>
+        ensures { IfOk result (λ d. d.nodes.items ≡ []) }
     {
-        Drafts {
+        let mut numbers = BTreeMap::new(alloc);
+        numbers.insert(String::from_str(alloc, "")?, 0)?;
+        let mut scopes = Vec::new(alloc);
+        scopes.push(BTreeMap::new(alloc))?;
+        Ok(Drafts {
             nodes: Vec::new(alloc),
-            names: BTreeMap::new(alloc),
-        }
+            numbers,
+            scopes,
+        })
     }
 
-    /// The node that defines a full name.
-    pub(crate) fn defined_at(&self, full: &str) -> Option<usize>
-        ensures { result ≡ defined_at full.now (heads_of (drafts_of self.now.nodes.items)) }
+    /// The node of a name that stands in a namespace, given by its last part.
+    pub(crate) fn defined_in(&self, space: &Space, last: &str) -> Option<usize>
+        requires known { IsSpaceOf space.now self.now.nodes.items }
+        requires undotted { has_dot last.now ≡ false }
+        ensures { result ≡ defined_at (inside (arc_str_bytes space.now.text) last.now) (heads_of (drafts_of self.now.nodes.items)) }
     {
-        self.names.get(full).copied()
+        self.scopes[space.number].get(last).copied()
+    }
+
+    /// The number of a namespace that has names.
+    pub(crate) fn number_of(&self, namespace: &str) -> Option<usize>
+        ensures { result ≡ number_of namespace.now (spaces_of (heads_of (drafts_of self.now.nodes.items))) }
+    {
+        self.numbers.get(namespace).copied()
+    }
+
+    /// The node of a name, given by its namespace and its last part.
+    pub(crate) fn defined_by(&self, namespace: &str, last: &str) -> Option<usize>
+        requires undotted { has_dot last.now ≡ false }
+        ensures { result ≡ defined_at (inside namespace.now last.now) (heads_of (drafts_of self.now.nodes.items)) }
+    {
+        match self.number_of(namespace) {
+            Some(number) => self.scopes[number].get(last).copied(),
+            None => None,
+        }
     }
 
     /// Adds a node of a kind that has no name. An `Err` leaves the nodes as they were.
@@ -46,18 +78,85 @@ impl<'v> Drafts<'v> {
         Ok(())
     }
 
-    /// Adds the node that defines a full name, which is new. An `Err` leaves the nodes as they were.
-    pub(crate) fn define(&mut self, full: String, draft: Draft<'v>) -> Result<(), AllocError>
-        requires new { defined_at (string_bytes full) (heads_of (drafts_of self.old.nodes.items)) ≡ None }
-        requires named { head_of (draft_of draft) ≡ Named (string_bytes full) }
+    /// Adds the node that defines a full name, which is new, and answers the number of its namespace, where it is given
+    /// if there is one. An `Err` leaves the nodes as they were.
+    pub(crate) fn define(
+        &mut self,
+        alloc: Global,
+        name: &Name,
+        number: Option<usize>,
+        draft: Draft<'v>,
+    ) -> Result<usize, AllocError>
+        requires new { defined_at (full_of name.now) (heads_of (drafts_of self.old.nodes.items)) ≡ None }
+        requires named { head_of (draft_of draft) ≡ Named (full_of name.now) }
+        requires numbered { IsNumbered name.now number self.old.nodes.items }
+        ensures nodes { OnOk result (self.new.nodes.items ≡ self.old.nodes.items ++ draft.entry ∷ []) }
+        ensures number { IfOk result (λ n. slice_get (spaces_of (heads_of (drafts_of self.new.nodes.items))) n ≡ Some (namespace_of (full_of name.now))) }
+    {
+        match number {
+            Some(number) => {
+                self.define_in(alloc, number, name, draft)?;
+                Ok(number)
+            }
+            None => {
+                let number = self.scopes.len();
+                self.define_first(alloc, name, draft)?;
+                Ok(number)
+            }
+        }
+    }
+
+    /// Adds the node that defines a name in a namespace that has a number.
+    fn define_in(
+        &mut self,
+        alloc: Global,
+        number: usize,
+        name: &Name,
+        draft: Draft<'v>,
+    ) -> Result<(), AllocError>
+        requires new { defined_at (full_of name.now) (heads_of (drafts_of self.old.nodes.items)) ≡ None }
+        requires named { head_of (draft_of draft) ≡ Named (full_of name.now) }
+        requires numbered { slice_get (spaces_of (heads_of (drafts_of self.old.nodes.items))) number ≡ Some (namespace_of (full_of name.now)) }
         ensures { OnOk result (self.new.nodes.items ≡ self.old.nodes.items ++ draft.entry ∷ []) }
     {
         let node = self.nodes.len();
+        let last = String::from_str(alloc, name.last())?;
         self.nodes.push(draft)?;
-        match self.names.insert(full, node) {
+        match self.scopes[number].insert(last, node) {
+            Ok(_) => Ok(()),
+            Err(_) => {
+                self.nodes.truncate(node);
+                Err(AllocError)
+            }
+        }
+    }
+
+    /// Adds the node that defines the first name of a namespace.
+    fn define_first(
+        &mut self,
+        alloc: Global,
+        name: &Name,
+        draft: Draft<'v>,
+    ) -> Result<(), AllocError>
+        requires named { head_of (draft_of draft) ≡ Named (full_of name.now) }
+        requires first { number_of (namespace_of (full_of name.now)) (spaces_of (heads_of (drafts_of self.old.nodes.items))) ≡ None }
+        ensures { OnOk result (self.new.nodes.items ≡ self.old.nodes.items ++ draft.entry ∷ []) }
+    {
+        let node = self.nodes.len();
+        let number = self.scopes.len();
+        let mut scope = BTreeMap::new(alloc);
+        scope.insert(String::from_str(alloc, name.last())?, node)?;
+        let namespace = String::from_str(alloc, name.namespace())?;
+        self.scopes.push(scope)?;
+        if self.nodes.push(draft).is_err() {
+            self.scopes.pop();
+            return Err(AllocError);
+        }
+        match self.numbers.insert(namespace, number) {
             Ok(_) => Ok(()),
             Err(_) => {
                 self.nodes.pop();
+                self.scopes.pop();
                 Err(AllocError)
             }
         }

@@ -1,4 +1,6 @@
 use crate::datum::Datum;
+use crate::name::Name;
+use crate::symbols::Symbols;
 
 /// What a node of a schema is.
 #[derive(Debug, Drop)]
@@ -11,13 +13,13 @@ pub enum Kind {
     Text,
     /// A fixed under its full name, of so many bytes.
     Fixed {
-        name: String,
+        name: Name,
         size: usize,
     },
     /// An enum under its full name, with its symbols, and the position of the one that stands for unknown ones.
     Enum {
-        name: String,
-        symbols: Vec<String>,
+        name: Name,
+        symbols: Symbols,
         default: Option<u32>,
     },
     /// The number of the items' node.
@@ -28,7 +30,7 @@ pub enum Kind {
     Union(Vec<usize>),
     /// A record under its full name, with its fields in the order of their declaration.
     Record {
-        name: String,
+        name: Name,
         fields: Vec<Field>,
     },
 }

@@ -10,10 +10,13 @@ mod error;
 mod finishing;
 mod kind;
 mod laws;
+mod name;
 mod names;
 mod numbers;
 mod schema;
+mod space;
 mod symbols;
+mod type_attributes;
 mod unions;
 mod walk;
 mod word;
@@ -22,7 +25,9 @@ pub use datum::Datum;
 pub use error::SchemaError;
 pub use kind::{Field, Kind};
 pub use laws::parsed_schema_is_declared;
+pub use name::Name;
 pub use schema::Schema;
+pub use symbols::Symbols;
 
 #[cfg(test)]
 mod tests;

@@ -1,19 +1,25 @@
-ghost use Rattle.std.specs.Prelude.{◌≡◌, IfOk, None, string_bytes, option_map, option_and_then};
-ghost use Rattle.std.specs.List.{list_all, slice_split};
+ghost use Rattle.std.specs.Prelude.{◌≡◌, ◌&&◌, IfOk, None, false, not, option_map, option_and_then, string_bytes};
+ghost use Rattle.std.specs.Arc.{arc_str_bytes};
+ghost use Rattle.std.specs.List.{list_all};
 ghost use Rattle.serde_json.specs.Find.{as_str};
 ghost use Rattle.avro_schema.specs.Contract.{names_of};
-ghost use Rattle.avro_schema.specs.Draft.{data_at, draft_of, drafts_of};
+ghost use Rattle.avro_schema.specs.Draft.{data_at, drafts_of};
 ghost use Rattle.avro_schema.specs.Fault.{Tells};
-ghost use Rattle.avro_schema.specs.Head.{defined_at, defines, head_of, heads_of};
-ghost use Rattle.avro_schema.specs.Names.{is_letter, is_letter_or_digit, is_name, is_dot, has_dot, is_full_name, namespace_of, unqualified, full_name, text_of, own_namespace, new_name, field_name};
+ghost use Rattle.avro_schema.specs.FullNames.{full_name, has_dot, inside, is_full_name, is_letter, is_letter_or_digit, is_name, is_namespace};
+ghost use Rattle.avro_schema.specs.Head.{defined_at, heads_of};
+ghost use Rattle.avro_schema.specs.Index.{IsNumbered, IsSpaceOf};
+ghost use Rattle.avro_schema.specs.Names.{field_name, if_new, new_name, text_of};
+ghost use Rattle.avro_schema.specs.Node.{full_of};
+ghost use Rattle.avro_schema.specs.Word.{is_primitive, word_of};
 
-use crate::draft::Draft;
 use crate::drafts::{Drafts, FieldList};
 use crate::error::SchemaError;
-use crate::kind::Kind;
+use crate::name::Name;
+use crate::space::Space;
 use crate::word::Word;
 use serde_json::Value;
-use std::alloc::{AllocError, Global};
+use std::alloc::Global;
+use std::sync::ArcStr;
 
 fn is_letter(c: u8) -> bool
     ensures { result ≡ is_letter c }
@@ -57,55 +63,18 @@ fn is_full_name(text: &str) -> bool
     is_name(rest.as_bytes())
 }
 
-fn has_dot(text: &str) -> bool
-    ensures { result ≡ has_dot text.now }
+/// Whether a text is the null namespace, or names joined by dots.
+fn is_namespace(text: &str) -> bool
+    ensures { result ≡ is_namespace text.now }
 {
-    text.as_bytes().iter().any(|c| *c == b'.')
+    text.is_empty() || is_full_name(text)
 }
 
-/// The namespace of a full name.
-pub(crate) fn namespace_of(full: &str) -> &str
-    ensures { result.now ≡ namespace_of full.now }
+/// Whether a text may be the last part of a type's name.
+fn is_last_part(text: &str) -> bool
+    ensures { result ≡ (is_name text.now && not (is_primitive (word_of text.now))) }
 {
-    match full.rsplit_once('.') {
-        Some((namespace, _)) => namespace,
-        None => "",
-    }
-}
-
-/// The last part of a full name.
-fn unqualified(full: &str) -> &str
-    ensures { result.now ≡ unqualified full.now }
-{
-    match full.rsplit_once('.') {
-        Some((_, last)) => last,
-        None => full,
-    }
-}
-
-/// The full name that a name means in a namespace.
-pub(crate) fn full_name(alloc: Global, space: &str, name: &str) -> Result<String, AllocError>
-    ensures { IfOk result (λ s. string_bytes s ≡ full_name space.now name.now) }
-{
-    if has_dot(name) || space.is_empty() {
-        return String::from_str(alloc, name);
-    }
-    let mut full = String::from_str(alloc, space)?;
-    full.push_str(".")?;
-    full.push_str(name)?;
-    Ok(full)
-}
-
-/// Whether a node is the definition of a full name.
-pub(crate) fn defines(draft: &Draft, full: &str) -> bool
-    ensures { result ≡ defines full.now (head_of (draft_of draft.now)) }
-{
-    match draft {
-        Draft::Record { name, .. } => name.as_str() == full,
-        Draft::Whole(Kind::Fixed { name, .. } | Kind::Enum { name, .. }) => name.as_str() == full,
-        Draft::Whole(Kind::Record { name, .. }) => name.as_str() == full,
-        Draft::Whole(_) => false,
-    }
+    is_name(text.as_bytes()) && !Word::of_text(text).is_primitive()
 }
 
 /// The text at an attribute.
@@ -125,18 +94,64 @@ pub(crate) fn text_of(value: Option<&Value>) -> Result<&str, SchemaError>
     }
 }
 
-/// The namespace in which a name stands.
-fn own_namespace<'a>(
-    name: &str,
-    namespace: Option<&'a Value>,
-    space: &'a str,
-) -> Result<&'a str, SchemaError>
-    ensures { Tells (λ s. s.now) result (own_namespace name.now (data_at namespace.entry) space.now) }
+/// A new name, and the number of its namespace where that has names already.
+#[derive(Drop)]
+pub(crate) struct NewName {
+    pub(crate) name: Name,
+    pub(crate) number: Option<usize>,
+}
+
+/// The new name of a last part in the enclosing namespace.
+#[tactic(auto, unfolding(crate::specs::Names::if_new))]
+fn inherited_name(
+    alloc: Global,
+    last: &str,
+    space: &Space,
+    drafts: &Drafts,
+) -> Result<NewName, SchemaError>
+    requires known { IsSpaceOf space.now drafts.now.nodes.items }
+    requires undotted { has_dot last.now ≡ false }
+    ensures numbered { IfOk result (λ n. IsNumbered n.name n.number drafts.now.nodes.items) }
+    ensures name { Tells (λ n. full_of n.name) result (if_new (inside (arc_str_bytes space.now.text) last.now) (heads_of (drafts_of drafts.now.nodes.items))) }
+    ensures new { IfOk result (λ n. defined_at (full_of n.name) (heads_of (drafts_of drafts.now.nodes.items)) ≡ None) }
 {
-    if has_dot(name) || namespace.is_none() {
-        return Ok(space);
+    if !is_last_part(last) {
+        return Err(SchemaError::BadName);
     }
-    text_of(namespace)
+    if drafts.defined_in(space, last).is_some() {
+        return Err(SchemaError::Redefined);
+    }
+    let namespace = space.text.clone()?;
+    let name = Name::new(namespace, String::from_str(alloc, last)?);
+    Ok(NewName {
+        name,
+        number: Some(space.number),
+    })
+}
+
+/// The new name of a last part in a namespace of its own.
+#[tactic(auto, unfolding(crate::specs::Names::if_new))]
+fn own_name(
+    alloc: Global,
+    namespace: &str,
+    last: &str,
+    drafts: &Drafts,
+) -> Result<NewName, SchemaError>
+    requires undotted { has_dot last.now ≡ false }
+    ensures numbered { IfOk result (λ n. IsNumbered n.name n.number drafts.now.nodes.items) }
+    ensures name { Tells (λ n. full_of n.name) result (if_new (inside namespace.now last.now) (heads_of (drafts_of drafts.now.nodes.items))) }
+    ensures new { IfOk result (λ n. defined_at (full_of n.name) (heads_of (drafts_of drafts.now.nodes.items)) ≡ None) }
+{
+    if !is_namespace(namespace) || !is_last_part(last) {
+        return Err(SchemaError::BadName);
+    }
+    if drafts.defined_by(namespace, last).is_some() {
+        return Err(SchemaError::Redefined);
+    }
+    let number = drafts.number_of(namespace);
+    let namespace = ArcStr::from_str(alloc, namespace)?;
+    let name = Name::new(namespace, String::from_str(alloc, last)?);
+    Ok(NewName { name, number })
 }
 
 /// The full name that the attributes of a type define.
@@ -145,22 +160,43 @@ pub(crate) fn new_name(
     alloc: Global,
     name: Option<&Value>,
     namespace: Option<&Value>,
-    space: &str,
+    space: &Space,
     drafts: &Drafts,
-) -> Result<String, SchemaError>
-    ensures name { Tells string_bytes result (new_name (data_at name.entry) (data_at namespace.entry) space.now (heads_of (drafts_of drafts.now.nodes.items))) }
-    ensures new { IfOk result (λ s. defined_at (string_bytes s) (heads_of (drafts_of drafts.now.nodes.items)) ≡ None) }
+) -> Result<NewName, SchemaError>
+    requires { IsSpaceOf space.now drafts.now.nodes.items }
+    ensures numbered { IfOk result (λ n. IsNumbered n.name n.number drafts.now.nodes.items) }
+    ensures name { Tells (λ n. full_of n.name) result (new_name (data_at name.entry) (data_at namespace.entry) (arc_str_bytes space.now.text) (heads_of (drafts_of drafts.now.nodes.items))) }
+    ensures new { IfOk result (λ n. defined_at (full_of n.name) (heads_of (drafts_of drafts.now.nodes.items)) ≡ None) }
 {
     let name = text_of(name)?;
-    let own = own_namespace(name, namespace, space)?;
-    let full = full_name(alloc, own, name)?;
-    if !is_full_name(&full) || Word::of_text(unqualified(&full)).is_primitive() {
-        return Err(SchemaError::BadName);
+    match name.rsplit_once('.') {
+        Some((own, last)) => {
+            if own.is_empty() {
+                return Err(SchemaError::BadName);
+            }
+            own_name(alloc, own, last, drafts)
+        }
+        None => match namespace {
+            Some(_) => own_name(alloc, text_of(namespace)?, name, drafts),
+            None => inherited_name(alloc, name, space, drafts),
+        },
     }
-    if drafts.defined_at(&full).is_some() {
-        return Err(SchemaError::Redefined);
+}
+
+/// The node of the name that a text means in a namespace.
+pub(crate) fn defined_node(text: &str, space: &Space, drafts: &Drafts) -> Option<usize>
+    requires { IsSpaceOf space.now drafts.now.nodes.items }
+    ensures { result ≡ defined_at (full_name (arc_str_bytes space.now.text) text.now) (heads_of (drafts_of drafts.now.nodes.items)) }
+{
+    match text.rsplit_once('.') {
+        Some((namespace, last)) => {
+            if namespace.is_empty() {
+                return None;
+            }
+            drafts.defined_by(namespace, last)
+        }
+        None => drafts.defined_in(space, text),
     }
-    Ok(full)
 }
 
 /// The name of a field behind others.

@@ -16,6 +16,7 @@ use crate::error::SchemaError;
 use crate::finishing::{all_defaults, nodes_with};
 use crate::kind::Kind;
 use crate::numbers::has_float;
+use crate::space::Space;
 use crate::walk::walk;
 use serde_json::Value;
 use std::alloc::Global;
@@ -123,8 +124,9 @@ fn nodes_in(alloc: Global, value: &Value) -> Result<Vec<Kind>, SchemaError>
     ensures declared { Tells (λ v. nodes_of v.items) result (declared (view value.now)) }
     ensures defaults { IfOk result (λ v. DefaultsConform (nodes_of v.items)) }
 {
-    let mut drafts = Drafts::new(alloc);
-    walk(alloc, value, "", &mut drafts)?;
+    let mut drafts = Drafts::new(alloc)?;
+    let space = Space::null(alloc)?;
+    walk(alloc, value, &space, &mut drafts)?;
     let defaults = all_defaults(alloc, &drafts.nodes)?;
     Ok(nodes_with(alloc, drafts.nodes, defaults)?)
 }

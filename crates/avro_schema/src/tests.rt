@@ -3,11 +3,11 @@ use crate::error::SchemaError;
 use crate::kind::Kind;
 use crate::laws::parsed_schema_is_declared;
 use crate::schema::Schema;
-use std::alloc::Global;
+use std::alloc::{AllocError, Global};
 
 /// The word or the full name of a kind.
-fn kind_text(kind: &Kind) -> &str {
-    match kind {
+fn kind_text(alloc: Global, kind: &Kind) -> Result<String, AllocError> {
+    let word = match kind {
         Kind::Null => "null",
         Kind::Boolean => "boolean",
         Kind::Int => "int",
@@ -18,9 +18,23 @@ fn kind_text(kind: &Kind) -> &str {
         Kind::Map(_) => "map",
         Kind::Union(_) => "union",
         Kind::Record { name, .. } | Kind::Enum { name, .. } | Kind::Fixed { name, .. } => {
-            name.as_str()
+            return name.to_string(alloc);
+        }
+    };
+    String::from_str(alloc, word)
+}
+
+/// Whether the nodes of a schema are of the kinds that these words and full names tell.
+fn are_nodes(alloc: Global, schema: &Schema, kinds: &[&str]) -> Result<bool, AllocError> {
+    if schema.len() != kinds.len() {
+        return Ok(false);
+    }
+    for node in 0..kinds.len() {
+        if kind_text(alloc, schema.kind(node))?.as_str() != kinds[node] {
+            return Ok(false);
         }
     }
+    Ok(true)
 }
 
 /// What a text is parsed to, asked again where memory ran out the first time.
@@ -66,8 +80,7 @@ fn reads_primitives(rt: HostRuntime) {
     ];
     for (text, kind, compact) in cases {
         let schema = parsed(rt.alloc(), text).expect(&rt, "a schema");
-        assert!(rt; schema.len() == 1);
-        assert!(rt; kind_text(schema.kind(0)) == kind);
+        assert!(rt; are_nodes(rt.alloc(), &schema, &[kind]) == Ok(true));
         assert!(rt; schema.text() == compact);
     }
 }
@@ -79,10 +92,7 @@ fn reads_a_record(rt: HostRuntime) {
         "fields": [ {"name": "a", "type": "long", "order": "ignore"}, {"name": "int", "type": "string"} ] }"#;
     let schema = parsed(rt.alloc(), text).expect(&rt, "a schema");
     schema.is_declared();
-    assert!(rt; schema.len() == 3);
-    assert!(rt; kind_text(schema.kind(0)) == "T");
-    assert!(rt; kind_text(schema.kind(1)) == "long");
-    assert!(rt; kind_text(schema.kind(2)) == "string");
+    assert!(rt; are_nodes(rt.alloc(), &schema, &["T", "long", "string"]) == Ok(true));
     if let Kind::Record { fields, .. } = schema.kind(0) {
         assert!(rt; fields.len() == 2);
         assert!(rt; fields[0].name.as_str() == "a" && fields[0].node == 1);
@@ -381,10 +391,7 @@ fn names_stand_in_their_namespaces(rt: HostRuntime) {
         {"name":"i","type":"C"}]}}]}"#;
     let schema = parsed(rt.alloc(), nested).expect(&rt, "a schema");
     let names = ["a.B", "a.C", "D", "a.E", "map", "array", "b.c.F"];
-    assert!(rt; schema.len() == names.len());
-    for node in 0..schema.len() {
-        assert!(rt; kind_text(schema.kind(node)) == names[node]);
-    }
+    assert!(rt; are_nodes(rt.alloc(), &schema, &names) == Ok(true));
     if let Kind::Enum {
         symbols,
         default,
@@ -401,6 +408,89 @@ fn names_stand_in_their_namespaces(rt: HostRuntime) {
     }
     if let Kind::Record { fields, .. } = schema.kind(1) {
         assert!(rt; fields.last().is_some_and(|field| field.node == 1));
+    }
+}
+
+/// A record `a.R` that defines the fixed `a.F`, and has a field of a further type.
+fn record_with(alloc: Global, further: &str) -> Result<String, AllocError> {
+    format!(in alloc;
+        "{{\"type\":\"record\",\"name\":\"a.R\",\"fields\":[{{\"name\":\"x\",\"type\":{{\"type\":\"fixed\",\"name\":\"F\",\"size\":1}}}},{{\"name\":\"y\",\"type\":{further}}}]}}"
+    )
+}
+
+#[test]
+fn a_name_is_one_however_it_is_told(rt: HostRuntime) {
+    let faults = [
+        (
+            r#"{"type":"fixed","name":"F","size":2}"#,
+            SchemaError::Redefined,
+        ),
+        (
+            r#"{"type":"fixed","name":"a.F","size":2}"#,
+            SchemaError::Redefined,
+        ),
+        (
+            r#"{"type":"fixed","name":"F","namespace":"a","size":2}"#,
+            SchemaError::Redefined,
+        ),
+        (
+            r#"{"type":"record","name":"Q","namespace":"b","fields":[{"name":"f","type":{"type":"fixed","name":"F","namespace":"a","size":1}}]}"#,
+            SchemaError::Redefined,
+        ),
+        (r#"["F","a.F"]"#, SchemaError::BadUnion),
+        (r#"["a.F","null","F"]"#, SchemaError::BadUnion),
+        (r#"["R","F","a.R"]"#, SchemaError::BadUnion),
+        (r#"".F""#, SchemaError::Unknown),
+        (r#""b.F""#, SchemaError::Unknown),
+        (r#""a.b.F""#, SchemaError::Unknown),
+        (
+            r#"{"type":"fixed","name":".F","size":2}"#,
+            SchemaError::BadName,
+        ),
+        (
+            r#"{"type":"fixed","name":"F","namespace":"a.","size":2}"#,
+            SchemaError::BadName,
+        ),
+        (
+            r#"{"type":"fixed","name":"F","namespace":".a","size":2}"#,
+            SchemaError::BadName,
+        ),
+        (
+            r#"{"type":"record","name":"Q","namespace":"","fields":[{"name":"f","type":"F"}]}"#,
+            SchemaError::Unknown,
+        ),
+    ];
+    for (further, fault) in faults {
+        let text = record_with(rt.alloc(), further).expect(&rt, "memory");
+        assert!(rt; fault_of(rt.alloc(), text.as_str()) == Some(fault));
+    }
+}
+
+#[test]
+fn names_of_other_namespaces_are_others(rt: HostRuntime) {
+    let cases = [
+        (
+            r#"{"type":"fixed","name":"F","namespace":"","size":2}"#,
+            ["a.R", "a.F", "F"],
+        ),
+        (
+            r#"{"type":"fixed","name":"F","namespace":"a.b","size":2}"#,
+            ["a.R", "a.F", "a.b.F"],
+        ),
+        (
+            r#"{"type":"fixed","name":"b.F","size":2}"#,
+            ["a.R", "a.F", "b.F"],
+        ),
+        (
+            r#"{"type":"record","name":"Q","namespace":"b","fields":[{"name":"f","type":"a.F"},{"name":"q","type":"Q"}]}"#,
+            ["a.R", "a.F", "b.Q"],
+        ),
+        (r#"["F","R"]"#, ["a.R", "a.F", "union"]),
+    ];
+    for (further, names) in cases {
+        let text = record_with(rt.alloc(), further).expect(&rt, "memory");
+        let schema = parsed(rt.alloc(), text.as_str()).expect(&rt, "a schema");
+        assert!(rt; are_nodes(rt.alloc(), &schema, &names) == Ok(true));
     }
 }
 

@@ -1,9 +1,11 @@
 ghost use Rattle.std.specs.Prelude.{option_map, map, []};
+ghost use Rattle.std.specs.Arc.{arc_str_bytes};
 ghost use Rattle.serde_json.specs.Find.{get};
 ghost use Rattle.serde_json.specs.View.{view, items_view};
 ghost use Rattle.avro_schema.specs.Contract.{Walks, names_of, object_as, object_walk};
 ghost use Rattle.avro_schema.specs.Draft.{Whole, data_at, draft_field_of};
 ghost use Rattle.avro_schema.specs.Head.{IsUnnamed, head_of_node};
+ghost use Rattle.avro_schema.specs.Index.{IsSpaceOf};
 ghost use Rattle.avro_schema.specs.Node.{node_of};
 ghost use Rattle.avro_schema.specs.Walk.{leaf, reference, named, walk, members, if_room, union_of, or_unknown, fields, fields_after, field};
 
@@ -11,8 +13,9 @@ use crate::draft::{Draft, DraftField};
 use crate::drafts::{Drafts, FieldList};
 use crate::error::SchemaError;
 use crate::kind::Kind;
-use crate::names::{field_name, full_name, namespace_of, new_name};
-use crate::symbols::{default_symbol, size_of, symbols_of};
+use crate::names::{defined_node, field_name, new_name};
+use crate::space::Space;
+use crate::type_attributes::{default_symbol, size_of, symbols_of};
 use crate::unions::are_apart;
 use crate::word::{Form, Word};
 use serde_json::Value;
@@ -23,9 +26,9 @@ const MOST_NODES: usize = 1024;
 const MOST_FIELDS: usize = 1024;
 
 /// The new node of a kind that holds no others.
-fn walk_leaf(kind: Kind, space: &str, drafts: &mut Drafts) -> Result<usize, SchemaError>
+fn walk_leaf(kind: Kind, space: &Space, drafts: &mut Drafts) -> Result<usize, SchemaError>
     requires { IsUnnamed (head_of_node (node_of kind)) }
-    ensures { Walks (λ n. n) result (leaf (node_of kind)) space.now drafts.old.nodes.items drafts.new.nodes.items }
+    ensures { Walks (λ n. n) result (leaf (node_of kind)) (arc_str_bytes space.now.text) drafts.old.nodes.items drafts.new.nodes.items }
 {
     let node = drafts.nodes.len();
     if node >= MOST_NODES {
@@ -36,29 +39,20 @@ fn walk_leaf(kind: Kind, space: &str, drafts: &mut Drafts) -> Result<usize, Sche
 }
 
 /// The node of the type that a text refers to.
-fn walk_reference(
-    alloc: Global,
-    text: &str,
-    space: &str,
-    drafts: &mut Drafts,
-) -> Result<usize, SchemaError>
-    ensures { Walks (λ n. n) result (reference text.now) space.now drafts.old.nodes.items drafts.new.nodes.items }
+fn walk_reference(text: &str, space: &Space, drafts: &mut Drafts) -> Result<usize, SchemaError>
+    requires known { IsSpaceOf space.now drafts.old.nodes.items }
+    ensures { Walks (λ n. n) result (reference text.now) (arc_str_bytes space.now.text) drafts.old.nodes.items drafts.new.nodes.items }
 {
-    let full = full_name(alloc, space, text)?;
-    match drafts.defined_at(&full) {
+    match defined_node(text, space, drafts) {
         Some(node) => Ok(node),
         None => Err(SchemaError::Unknown),
     }
 }
 
 /// The node that a text names.
-fn walk_text(
-    alloc: Global,
-    text: &str,
-    space: &str,
-    drafts: &mut Drafts,
-) -> Result<usize, SchemaError>
-    ensures { Walks (λ n. n) result (named text.now) space.now drafts.old.nodes.items drafts.new.nodes.items }
+fn walk_text(text: &str, space: &Space, drafts: &mut Drafts) -> Result<usize, SchemaError>
+    requires known { IsSpaceOf space.now drafts.old.nodes.items }
+    ensures { Walks (λ n. n) result (named text.now) (arc_str_bytes space.now.text) drafts.old.nodes.items drafts.new.nodes.items }
 {
     let word = Word::of_text(text);
     if word.is_left_out() {
@@ -66,7 +60,7 @@ fn walk_text(
     }
     match word.leaf() {
         Some(kind) => walk_leaf(kind, space, drafts),
-        None => walk_reference(alloc, text, space, drafts),
+        None => walk_reference(text, space, drafts),
     }
 }
 
@@ -74,16 +68,17 @@ fn walk_text(
 fn walk_enum(
     alloc: Global,
     value: &Value,
-    space: &str,
+    space: &Space,
     drafts: &mut Drafts,
 ) -> Result<usize, SchemaError>
-    ensures { Walks (λ n. n) result (object_as Form.Enum (view value.now)) space.now drafts.old.nodes.items drafts.new.nodes.items }
+    requires known { IsSpaceOf space.now drafts.old.nodes.items }
+    ensures { Walks (λ n. n) result (object_as Form.Enum (view value.now)) (arc_str_bytes space.now.text) drafts.old.nodes.items drafts.new.nodes.items }
 {
     let node = drafts.nodes.len();
     if node >= MOST_NODES {
         return Err(SchemaError::TooLarge);
     }
-    let name = new_name(
+    let new = new_name(
         alloc,
         value.get("name"),
         value.get("namespace"),
@@ -92,13 +87,12 @@ fn walk_enum(
     )?;
     let symbols = symbols_of(alloc, value.get("symbols"))?;
     let default = default_symbol(&symbols, value.get("default"))?;
-    let full = name.clone()?;
     let kind = Kind::Enum {
-        name,
+        name: new.name.copy()?,
         symbols,
         default,
     };
-    drafts.define(full, Draft::Whole(kind))?;
+    drafts.define(alloc, &new.name, new.number, Draft::Whole(kind))?;
     Ok(node)
 }
 
@@ -106,16 +100,17 @@ fn walk_enum(
 fn walk_fixed(
     alloc: Global,
     value: &Value,
-    space: &str,
+    space: &Space,
     drafts: &mut Drafts,
 ) -> Result<usize, SchemaError>
-    ensures { Walks (λ n. n) result (object_as Form.Fixed (view value.now)) space.now drafts.old.nodes.items drafts.new.nodes.items }
+    requires known { IsSpaceOf space.now drafts.old.nodes.items }
+    ensures { Walks (λ n. n) result (object_as Form.Fixed (view value.now)) (arc_str_bytes space.now.text) drafts.old.nodes.items drafts.new.nodes.items }
 {
     let node = drafts.nodes.len();
     if node >= MOST_NODES {
         return Err(SchemaError::TooLarge);
     }
-    let name = new_name(
+    let new = new_name(
         alloc,
         value.get("name"),
         value.get("namespace"),
@@ -123,8 +118,9 @@ fn walk_fixed(
         drafts,
     )?;
     let size = size_of(value.get("size"))?;
-    let full = name.clone()?;
-    drafts.define(full, Draft::Whole(Kind::Fixed { name, size }))?;
+    let name = new.name.copy()?;
+    let kind = Kind::Fixed { name, size };
+    drafts.define(alloc, &new.name, new.number, Draft::Whole(kind))?;
     Ok(node)
 }
 
@@ -133,14 +129,15 @@ fn walk_fixed(
 pub(crate) fn walk<'v>(
     alloc: Global,
     value: &'v Value,
-    space: &str,
+    space: &Space,
     drafts: &mut Drafts<'v>,
 ) -> Result<usize, SchemaError>
-    ensures { Walks (λ n. n) result (walk (view value.now)) space.now drafts.old.nodes.items drafts.new.nodes.items }
+    requires known { IsSpaceOf space.now drafts.old.nodes.items }
+    ensures { Walks (λ n. n) result (walk (view value.now)) (arc_str_bytes space.now.text) drafts.old.nodes.items drafts.new.nodes.items }
 {
     match value {
         Value::Null | Value::Bool(_) | Value::Number(_) => Err(SchemaError::Unknown),
-        Value::String(text) => walk_text(alloc, text.as_str(), space, drafts),
+        Value::String(text) => walk_text(text.as_str(), space, drafts),
         Value::Array(items) => walk_union(alloc, items, space, drafts),
         Value::Object(_) => walk_object(alloc, value, space, drafts),
     }
@@ -151,10 +148,11 @@ pub(crate) fn walk<'v>(
 fn walk_at<'v>(
     alloc: Global,
     value: Option<&'v Value>,
-    space: &str,
+    space: &Space,
     drafts: &mut Drafts<'v>,
 ) -> Result<usize, SchemaError>
-    ensures { Walks (λ n. n) result (or_unknown (option_map walk (data_at value.entry))) space.now drafts.old.nodes.items drafts.new.nodes.items }
+    requires known { IsSpaceOf space.now drafts.old.nodes.items }
+    ensures { Walks (λ n. n) result (or_unknown (option_map walk (data_at value.entry))) (arc_str_bytes space.now.text) drafts.old.nodes.items drafts.new.nodes.items }
 {
     match value {
         Some(value) => walk(alloc, value, space, drafts),
@@ -167,10 +165,11 @@ fn walk_at<'v>(
 fn walk_union<'v>(
     alloc: Global,
     items: &'v [Value],
-    space: &str,
+    space: &Space,
     drafts: &mut Drafts<'v>,
 ) -> Result<usize, SchemaError>
-    ensures { Walks (λ n. n) result (if_room (union_of (members (items_view items.now)))) space.now drafts.old.nodes.items drafts.new.nodes.items }
+    requires known { IsSpaceOf space.now drafts.old.nodes.items }
+    ensures { Walks (λ n. n) result (if_room (union_of (members (items_view items.now)))) (arc_str_bytes space.now.text) drafts.old.nodes.items drafts.new.nodes.items }
 {
     let node = drafts.nodes.len();
     if node >= MOST_NODES {
@@ -178,7 +177,7 @@ fn walk_union<'v>(
     }
     drafts.push(Kind::Union(Vec::new(alloc)))?;
     let members = walk_members(alloc, items, space, drafts)?;
-    if !are_apart(&members, &drafts.nodes) {
+    if !are_apart(alloc, &members, drafts)? {
         return Err(SchemaError::BadUnion);
     }
     drafts.set(node, Draft::Whole(Kind::Union(members)));
@@ -190,10 +189,11 @@ fn walk_union<'v>(
 fn walk_members<'v>(
     alloc: Global,
     items: &'v [Value],
-    space: &str,
+    space: &Space,
     drafts: &mut Drafts<'v>,
 ) -> Result<Vec<usize>, SchemaError>
-    ensures { Walks (λ v. v.items) result (members (items_view items.now)) space.now drafts.old.nodes.items drafts.new.nodes.items }
+    requires known { IsSpaceOf space.now drafts.old.nodes.items }
+    ensures { Walks (λ v. v.items) result (members (items_view items.now)) (arc_str_bytes space.now.text) drafts.old.nodes.items drafts.new.nodes.items }
 {
     let mut members = Vec::new(alloc);
     for item in items {
@@ -208,10 +208,11 @@ fn walk_members<'v>(
 fn walk_object<'v>(
     alloc: Global,
     value: &'v Value,
-    space: &str,
+    space: &Space,
     drafts: &mut Drafts<'v>,
 ) -> Result<usize, SchemaError>
-    ensures { Walks (λ n. n) result (object_walk (view value.now)) space.now drafts.old.nodes.items drafts.new.nodes.items }
+    requires known { IsSpaceOf space.now drafts.old.nodes.items }
+    ensures { Walks (λ n. n) result (object_walk (view value.now)) (arc_str_bytes space.now.text) drafts.old.nodes.items drafts.new.nodes.items }
 {
     match Form::of_type(value.get("type")) {
         Form::Record => walk_record(alloc, value, space, drafts),
@@ -229,10 +230,11 @@ fn walk_object<'v>(
 fn walk_array<'v>(
     alloc: Global,
     value: &'v Value,
-    space: &str,
+    space: &Space,
     drafts: &mut Drafts<'v>,
 ) -> Result<usize, SchemaError>
-    ensures { Walks (λ n. n) result (object_as Form.Array (view value.now)) space.now drafts.old.nodes.items drafts.new.nodes.items }
+    requires known { IsSpaceOf space.now drafts.old.nodes.items }
+    ensures { Walks (λ n. n) result (object_as Form.Array (view value.now)) (arc_str_bytes space.now.text) drafts.old.nodes.items drafts.new.nodes.items }
 {
     let node = drafts.nodes.len();
     if node >= MOST_NODES {
@@ -249,10 +251,11 @@ fn walk_array<'v>(
 fn walk_map<'v>(
     alloc: Global,
     value: &'v Value,
-    space: &str,
+    space: &Space,
     drafts: &mut Drafts<'v>,
 ) -> Result<usize, SchemaError>
-    ensures { Walks (λ n. n) result (object_as Form.Map (view value.now)) space.now drafts.old.nodes.items drafts.new.nodes.items }
+    requires known { IsSpaceOf space.now drafts.old.nodes.items }
+    ensures { Walks (λ n. n) result (object_as Form.Map (view value.now)) (arc_str_bytes space.now.text) drafts.old.nodes.items drafts.new.nodes.items }
 {
     let node = drafts.nodes.len();
     if node >= MOST_NODES {
@@ -269,30 +272,31 @@ fn walk_map<'v>(
 fn walk_record<'v>(
     alloc: Global,
     value: &'v Value,
-    space: &str,
+    space: &Space,
     drafts: &mut Drafts<'v>,
 ) -> Result<usize, SchemaError>
-    ensures { Walks (λ n. n) result (object_as Form.Record (view value.now)) space.now drafts.old.nodes.items drafts.new.nodes.items }
+    requires known { IsSpaceOf space.now drafts.old.nodes.items }
+    ensures { Walks (λ n. n) result (object_as Form.Record (view value.now)) (arc_str_bytes space.now.text) drafts.old.nodes.items drafts.new.nodes.items }
 {
     let node = drafts.nodes.len();
     if node >= MOST_NODES {
         return Err(SchemaError::TooLarge);
     }
-    let name = new_name(
+    let new = new_name(
         alloc,
         value.get("name"),
         value.get("namespace"),
         space,
         drafts,
     )?;
-    let full = name.clone()?;
-    let copy = name.clone()?;
     let open = Draft::Record {
-        name: copy,
+        name: new.name.copy()?,
         fields: Vec::new(alloc),
     };
-    drafts.define(full, open)?;
-    let fields = walk_fields(alloc, value.get("fields"), namespace_of(&name), drafts)?;
+    let number = drafts.define(alloc, &new.name, new.number, open)?;
+    let own = Space::of_name(&new.name, number)?;
+    let fields = walk_fields(alloc, value.get("fields"), &own, drafts)?;
+    let name = new.name;
     drafts.set(node, Draft::Record { name, fields });
     Ok(node)
 }
@@ -302,10 +306,11 @@ fn walk_record<'v>(
 fn walk_fields<'v>(
     alloc: Global,
     value: Option<&'v Value>,
-    space: &str,
+    space: &Space,
     drafts: &mut Drafts<'v>,
 ) -> Result<Vec<DraftField<'v>>, SchemaError>
-    ensures { Walks (λ v. map draft_field_of v.items) result (or_unknown (option_map fields (data_at value.entry))) space.now drafts.old.nodes.items drafts.new.nodes.items }
+    requires known { IsSpaceOf space.now drafts.old.nodes.items }
+    ensures { Walks (λ v. map draft_field_of v.items) result (or_unknown (option_map fields (data_at value.entry))) (arc_str_bytes space.now.text) drafts.old.nodes.items drafts.new.nodes.items }
 {
     match value {
         None => Err(SchemaError::Unknown),
@@ -321,10 +326,11 @@ fn walk_fields<'v>(
 fn walk_listed<'v>(
     alloc: Global,
     items: &'v [Value],
-    space: &str,
+    space: &Space,
     drafts: &mut Drafts<'v>,
 ) -> Result<Vec<DraftField<'v>>, SchemaError>
-    ensures { Walks (λ v. map draft_field_of v.items) result (fields_after (items_view items.now) []) space.now drafts.old.nodes.items drafts.new.nodes.items }
+    requires known { IsSpaceOf space.now drafts.old.nodes.items }
+    ensures { Walks (λ v. map draft_field_of v.items) result (fields_after (items_view items.now) []) (arc_str_bytes space.now.text) drafts.old.nodes.items drafts.new.nodes.items }
 {
     let mut list = FieldList::new(alloc);
     for item in items {
@@ -340,10 +346,11 @@ fn walk_field<'v>(
     alloc: Global,
     value: &'v Value,
     before: &FieldList<'v>,
-    space: &str,
+    space: &Space,
     drafts: &mut Drafts<'v>,
 ) -> Result<DraftField<'v>, SchemaError>
-    ensures { Walks draft_field_of result (field (view value.now) (names_of before.now.fields.items)) space.now drafts.old.nodes.items drafts.new.nodes.items }
+    requires known { IsSpaceOf space.now drafts.old.nodes.items }
+    ensures { Walks draft_field_of result (field (view value.now) (names_of before.now.fields.items)) (arc_str_bytes space.now.text) drafts.old.nodes.items drafts.new.nodes.items }
 {
     if !value.is_object() {
         return Err(SchemaError::Unknown);

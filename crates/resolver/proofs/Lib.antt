@@ -1,4 +1,3 @@
-pub mod LastPart
 pub mod Named
 pub mod Texts
 pub mod Deeper

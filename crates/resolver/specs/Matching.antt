@@ -1,7 +1,7 @@
 -- Which nodes match (Avro 1.11, "Schema Resolution": "To match, one of the following must hold").
 use Rattle.std.specs.Prelude.{◌≡◌, ℕ, zero, suc, ◌<◌, ◌==◌, Bool, true, false, ◌&&◌, ◌||◌, List, [], ◌∷◌, length, Option, Some, None, if◌then◌else◌, slice_get}
-use Rattle.std.specs.List.{after_last}
 use Rattle.std.specs.Str.{bytes_eq}
+use Rattle.avro_schema.specs.FullNames.{unqualified}
 use Rattle.avro_schema.specs.Node.{Node, NullNode, BooleanNode, IntNode, LongNode, BytesNode, TextNode, FixedNode, EnumNode, ArrayNode, MapNode, UnionNode, RecordNode, IsWellFormed, is_union}
 use Rattle.resolver.specs.declared.place.Place.{Place}
 use Rattle.resolver.specs.declared.place.Place.TheVariants.{Straight, IntoMember, Nowhere, Unmatched}
@@ -10,10 +10,6 @@ use Rattle.resolver.specs.declared.place.Place.TheVariants.{Straight, IntoMember
 abbrev pub given : {X A : Type 0} → Option X → A → (X → A) → A
 given None none some = none
 given (Some x) none some = some x
-
--- the last part of a full name
-abbrev pub unqualified : List ℕ → List ℕ
-unqualified name = after_last (λ c. c == 46) name
 
 abbrev pub have_same_name : List ℕ → List ℕ → Bool
 have_same_name name other = bytes_eq (unqualified name) (unqualified other)

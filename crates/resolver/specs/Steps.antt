@@ -1,8 +1,7 @@
 -- What the steps of resolution answer.
-use Rattle.std.specs.Prelude.{ℕ, Bool, String, List, [], ◌∷◌, map, Option, Some, None, Ok, option_map, string_bytes, slice_get, slice_set}
+use Rattle.std.specs.Prelude.{ℕ, Bool, List, [], ◌∷◌, map, Option, Some, None, Ok, option_map, string_bytes, slice_get, slice_set}
 use Rattle.std.specs.Str.{bytes_eq}
 use Rattle.std.specs.Borrow.{Bor}
-use Rattle.std.specs.Global.{Global}
 use Rattle.avro_schema.specs.declared.kind.Field.{Field}
 use Rattle.avro_schema.specs.declared.datum.Datum as rust
 use Rattle.avro_schema.specs.Node.{Node, FieldNode, FieldsBelow, HaveDistinctNames, fields_of}
@@ -18,9 +17,6 @@ pub record AreFields (len : ℕ) (fs : List FieldNode) : Type 0 where
 
 abbrev pub is_named : List ℕ → Field → Bool
 is_named name f = bytes_eq name (string_bytes f.name)
-
-abbrev pub is_symbol : List ℕ → String Global → Bool
-is_symbol symbol other = bytes_eq symbol (string_bytes other)
 
 abbrev pub both_lists : Bor (List Field) × Bor (List Field) → List FieldNode × List FieldNode
 both_lists p = (fields_of p.0.now, fields_of p.1.now)

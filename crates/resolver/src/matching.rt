@@ -1,25 +1,14 @@
 ghost use Rattle.std.specs.Prelude.{◌≡◌, ◌<◌, Some, false, length, slice_get, suc, IfSome};
-ghost use Rattle.std.specs.List.{after_last};
-ghost use Rattle.avro_schema.specs.Node.{is_union, node_of};
-ghost use Rattle.resolver.specs.Matching.{ArePair, both_items, both_values, given, have_same_name, kinds_match, matches, matches_within, names_match, primitives_match, unqualified};
+ghost use Rattle.avro_schema.specs.Node.{full_of, is_union, node_of};
+ghost use Rattle.resolver.specs.Matching.{ArePair, both_items, both_values, given, have_same_name, kinds_match, matches, matches_within, names_match, primitives_match};
 
-use avro_schema::{Kind, Schema};
-
-/// The last part of a full name.
-fn unqualified(name: &str) -> &str
-    ensures { result.now ≡ unqualified name.now }
-{
-    match name.rsplit_once('.') {
-        Some((_, last)) => last,
-        None => name,
-    }
-}
+use avro_schema::{Kind, Name, Schema};
 
 /// Whether the last parts of two full names are the same.
-fn have_same_name(name: &str, other: &str) -> bool
-    ensures { result ≡ have_same_name name.now other.now }
+fn have_same_name(name: &Name, other: &Name) -> bool
+    ensures { result ≡ have_same_name (full_of name.now) (full_of other.now) }
 {
-    unqualified(name) == unqualified(other)
+    name.last() == other.last()
 }
 
 /// Whether a node is a union.

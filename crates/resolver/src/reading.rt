@@ -38,7 +38,7 @@ fn lacks_symbol(w: &Schema, wn: usize, r: &Schema, rn: usize) -> bool
                 default,
                 ..
             },
-        ) => some_missing(theirs, *default, symbols),
+        ) => some_missing(theirs, *default, symbols.as_slice()),
         _ => false,
     }
 }

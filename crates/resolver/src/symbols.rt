@@ -1,10 +1,9 @@
 ghost use Rattle.std.specs.Prelude.{◌≡◌, ◌<◌, ◌≤◌, length, map, option_map, position, slice_get, string_bytes, IfSome};
-ghost use Rattle.avro_schema.specs.Node.{most_symbols};
+ghost use Rattle.avro_schema.specs.Node.{most_symbols, symbols_in};
 ghost use Rattle.resolver.specs.Resolution.{symbol_at, symbol_for, symbol_in};
 ghost use Rattle.resolver.specs.Safety.{some_missing};
-ghost use Rattle.resolver.specs.Steps.{is_symbol};
 
-use avro_schema::{Kind, Schema};
+use avro_schema::{Kind, Schema, Symbols};
 
 /// The symbol of a position in an enum.
 pub(crate) fn symbol_at(schema: &Schema, node: usize, position: u32) -> Option<&str>
@@ -12,30 +11,19 @@ pub(crate) fn symbol_at(schema: &Schema, node: usize, position: u32) -> Option<&
     ensures { option_map (λ s. s.now) result ≡ symbol_at (slice_get schema.now.nodes node) position }
 {
     match schema.kind(node) {
-        Kind::Enum { symbols, .. } => match symbols.get(position as usize) {
-            Some(symbol) => Some(symbol.as_str()),
-            None => None,
-        },
+        Kind::Enum { symbols, .. } => symbols.get(position as usize),
         _ => None,
     }
 }
 
-/// The place of a symbol.
-fn place_of_symbol(symbol: &str, symbols: &[String]) -> Option<usize>
-    ensures place { result ≡ position (is_symbol symbol.now) symbols.now }
-    ensures within { IfSome result (λ i. i < length symbols.now) }
-{
-    symbols.iter().position(|other| symbol == other.as_str())
-}
-
 /// The position of a symbol among others, and else the default.
 #[tactic(auto, using(crate::proofs::SymbolPlace::found_symbol))]
-fn symbol_in(symbols: &[String], default: Option<u32>, symbol: &str) -> Option<u32>
-    requires { length symbols.now ≤ most_symbols }
-    ensures { result ≡ symbol_in (map string_bytes symbols.now) default symbol.now }
+fn symbol_in(symbols: &Symbols, default: Option<u32>, symbol: &str) -> Option<u32>
+    requires { length (symbols_in symbols.now) ≤ most_symbols }
+    ensures { result ≡ symbol_in (symbols_in symbols.now) default symbol.now }
 {
-    match place_of_symbol(symbol, symbols) {
-        Some(place) => Some(place as u32),
+    match symbols.position_of(symbol) {
+        Some(position) => Some(position as u32),
         None => default,
     }
 }
@@ -57,9 +45,9 @@ pub(crate) fn symbol_for(schema: &Schema, node: usize, symbol: &str) -> Option<u
 
 /// Whether some of a writer's symbols is not among a reader's, which has no default.
 #[tactic(auto, using(crate::proofs::SymbolPlace::missing_here))]
-pub(crate) fn some_missing(theirs: &[String], default: Option<u32>, symbols: &[String]) -> bool
-    requires { length theirs.now ≤ most_symbols }
-    ensures { result ≡ some_missing (map string_bytes theirs.now) default (map string_bytes symbols.now) }
+pub(crate) fn some_missing(theirs: &Symbols, default: Option<u32>, symbols: &[String]) -> bool
+    requires { length (symbols_in theirs.now) ≤ most_symbols }
+    ensures { result ≡ some_missing (symbols_in theirs.now) default (map string_bytes symbols.now) }
 {
     for symbol in symbols {
         if symbol_in(theirs, default, symbol).is_none() {

@@ -1,8 +1,11 @@
-use Rattle.std.proofs.Common.{◌≡◌}
+use Rattle.std.proofs.Common.{◌≡◌, take}
 use Rattle.avro_schema.specs.Draft.{drafts_of}
 use Rattle.avro_schema.specs.Head.{heads_of}
+use Rattle.avro_schema.specs.Index.{AreNamedMembers}
 use Rattle.avro_schema.proofs.Heads.{apart_from}
 use Rattle.avro_schema.proofs.unions.are_apart.Given as goal
 
 abbrev pub invariant-loop-position : goal.invariant-loop-position
-invariant-loop-position l = apart_from (heads_of (drafts_of l.drafts)) l.members l.position ≡ apart_from (heads_of (drafts_of l.drafts)) l.members 0
+invariant-loop-position l =
+    AreNamedMembers l.named (take l.position l.members) (heads_of (drafts_of l.drafts.nodes.items))
+    × (apart_from (heads_of (drafts_of l.drafts.nodes.items)) l.members l.position ≡ apart_from (heads_of (drafts_of l.drafts.nodes.items)) l.members 0)

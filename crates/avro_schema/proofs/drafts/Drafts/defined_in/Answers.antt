@@ -1,0 +1,10 @@
+use Rattle.std.proofs.Common.{◌∙◌}
+use Rattle.std.specs.Arc.{arc_str_bytes}
+use Rattle.avro_schema.proofs.Index.{found-under}
+use Rattle.avro_schema.proofs.drafts.Drafts.defined_in.Goals as goal
+
+pub returns : goal.returns
+returns c =
+    let d = c.args.self.now in
+    c.copied.ensures ∙ c.get.ensures.value
+    ∙ found-under d.numbers d.scopes.items d.nodes.items d.known c.args.space.now.number (arc_str_bytes c.args.space.now.text) c.args.last.now c.index.result.now c.requires.known c.index.ensures c.requires.undotted

@@ -1,0 +1,40 @@
+ghost use Rattle.std.specs.Prelude.{◌≡◌, [], IfOk, true};
+ghost use Rattle.std.specs.Arc.{arc_str_bytes};
+ghost use Rattle.avro_schema.specs.FullNames.{is_namespace, namespace_of};
+ghost use Rattle.avro_schema.specs.Node.{full_of};
+
+use crate::name::Name;
+use std::alloc::{AllocError, Global};
+use std::sync::ArcStr;
+
+/// A namespace, under the number that its names are kept by.
+#[derive(Drop)]
+pub(crate) struct Space {
+    pub(crate) text: ArcStr,
+    pub(crate) number: usize,
+    ghost valid: { is_namespace (arc_str_bytes text) ≡ true },
+}
+
+impl Space {
+    /// The null namespace, whose number is 0.
+    pub(crate) fn null(alloc: Global) -> Result<Space, AllocError>
+        ensures text { IfOk result (λ s. arc_str_bytes s.text ≡ []) }
+        ensures number { IfOk result (λ s. s.number ≡ 0) }
+    {
+        Ok(Space {
+            text: ArcStr::from_str(alloc, "")?,
+            number: 0,
+        })
+    }
+
+    /// The namespace of a name, under its number.
+    pub(crate) fn of_name(name: &Name, number: usize) -> Result<Space, AllocError>
+        ensures text { IfOk result (λ s. arc_str_bytes s.text ≡ namespace_of (full_of name.now)) }
+        ensures number { IfOk result (λ s. s.number ≡ number) }
+    {
+        Ok(Space {
+            text: name.shared_namespace()?,
+            number,
+        })
+    }
+}
