@@ -92,6 +92,7 @@ fn reads_a_record(rt: HostRuntime) {
         "fields": [ {"name": "a", "type": "long", "order": "ignore"}, {"name": "int", "type": "string"} ] }"#;
     let schema = parsed(rt.alloc(), text).expect(&rt, "a schema");
     schema.is_declared();
+    assert!(rt; schema.len() == 3);
     assert!(rt; are_nodes(rt.alloc(), &schema, &["T", "long", "string"]) == Ok(true));
     if let Kind::Record { fields, .. } = schema.kind(0) {
         assert!(rt; fields.len() == 2);
@@ -391,6 +392,7 @@ fn names_stand_in_their_namespaces(rt: HostRuntime) {
         {"name":"i","type":"C"}]}}]}"#;
     let schema = parsed(rt.alloc(), nested).expect(&rt, "a schema");
     let names = ["a.B", "a.C", "D", "a.E", "map", "array", "b.c.F"];
+    assert!(rt; schema.len() == names.len());
     assert!(rt; are_nodes(rt.alloc(), &schema, &names) == Ok(true));
     if let Kind::Enum {
         symbols,
