@@ -83,6 +83,7 @@ ask_again() {
 ask_again avro_bytes tests::{texts,faults_of_texts,bytes_behind_their_length,so_many_bytes}
 ask_again avro_schema tests::{reads_primitives,reads_a_record,keeps_the_last_of_a_repeated_key,tells_the_first_fault}
 ask_again avro_schema tests::{numbers_nodes_in_order_of_appearance,names_stand_in_their_namespaces,reads_defaults_by_type,refuses_defaults_of_other_types}
+ask_again avro_schema tests::{a_name_is_one_however_it_is_told,names_of_other_namespaces_are_others}
 ask_again avro_datum tests::{payloads_are_read_and_written,faults_of_payloads} kinds_tests::{payloads_of_every_kind,faults_of_every_kind}
 ask_again resolver tests::{fields_go_by_name,mismatches,outcomes} kinds_tests::{written_by_the_reader,mismatched,malformed,readers_that_are_safe}
 ask_again avrogate tests::{answers_schemas,answers_payloads,answers_what_is_no_text,resolves_every_kind}

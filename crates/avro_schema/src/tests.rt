@@ -80,7 +80,7 @@ fn reads_primitives(rt: HostRuntime) {
     ];
     for (text, kind, compact) in cases {
         let schema = parsed(rt.alloc(), text).expect(&rt, "a schema");
-        assert!(rt; are_nodes(rt.alloc(), &schema, &[kind]) == Ok(true));
+        assert!(rt; are_nodes(rt.alloc(), &schema, &[kind]).expect(&rt, "no memory"));
         assert!(rt; schema.text() == compact);
     }
 }
@@ -93,7 +93,7 @@ fn reads_a_record(rt: HostRuntime) {
     let schema = parsed(rt.alloc(), text).expect(&rt, "a schema");
     schema.is_declared();
     assert!(rt; schema.len() == 3);
-    assert!(rt; are_nodes(rt.alloc(), &schema, &["T", "long", "string"]) == Ok(true));
+    assert!(rt; are_nodes(rt.alloc(), &schema, &["T", "long", "string"]).expect(&rt, "no memory"));
     if let Kind::Record { fields, .. } = schema.kind(0) {
         assert!(rt; fields.len() == 2);
         assert!(rt; fields[0].name.as_str() == "a" && fields[0].node == 1);
@@ -393,7 +393,7 @@ fn names_stand_in_their_namespaces(rt: HostRuntime) {
     let schema = parsed(rt.alloc(), nested).expect(&rt, "a schema");
     let names = ["a.B", "a.C", "D", "a.E", "map", "array", "b.c.F"];
     assert!(rt; schema.len() == names.len());
-    assert!(rt; are_nodes(rt.alloc(), &schema, &names) == Ok(true));
+    assert!(rt; are_nodes(rt.alloc(), &schema, &names).expect(&rt, "no memory"));
     if let Kind::Enum {
         symbols,
         default,
@@ -463,7 +463,7 @@ fn a_name_is_one_however_it_is_told(rt: HostRuntime) {
         ),
     ];
     for (further, fault) in faults {
-        let text = record_with(rt.alloc(), further).expect(&rt, "memory");
+        let text = record_with(rt.alloc(), further).expect(&rt, "no memory");
         assert!(rt; fault_of(rt.alloc(), text.as_str()) == Some(fault));
     }
 }
@@ -490,9 +490,9 @@ fn names_of_other_namespaces_are_others(rt: HostRuntime) {
         (r#"["F","R"]"#, ["a.R", "a.F", "union"]),
     ];
     for (further, names) in cases {
-        let text = record_with(rt.alloc(), further).expect(&rt, "memory");
+        let text = record_with(rt.alloc(), further).expect(&rt, "no memory");
         let schema = parsed(rt.alloc(), text.as_str()).expect(&rt, "a schema");
-        assert!(rt; are_nodes(rt.alloc(), &schema, &names) == Ok(true));
+        assert!(rt; are_nodes(rt.alloc(), &schema, &names).expect(&rt, "no memory"));
     }
 }
 
