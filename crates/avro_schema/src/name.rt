@@ -3,7 +3,6 @@ ghost use Rattle.std.specs.Arc.{arc_str_bytes};
 ghost use Rattle.avro_schema.specs.FullNames.{AreParts, inside, namespace_of, unqualified};
 
 use std::alloc::AllocError;
-use std::fmt;
 use std::sync::ArcStr;
 
 /// The full name of a record, an enum or a fixed (Avro 1.11, "Names").
@@ -54,15 +53,5 @@ impl Name {
         ensures { result.now ≡ unqualified (inside (arc_str_bytes self.now.namespace) (string_bytes self.now.last)) }
     {
         self.last.as_str()
-    }
-}
-
-impl fmt::Display for Name {
-    fn fmt<W: fmt::Write>(&self, f: &mut fmt::Formatter<W>) -> fmt::Result {
-        if self.namespace.as_str().is_empty() {
-            f.write_str(self.last.as_str())
-        } else {
-            write!(f, "{}.{}", self.namespace.as_str(), self.last.as_str())
-        }
     }
 }

@@ -18,7 +18,12 @@ fn kind_text(alloc: Global, kind: &Kind) -> Result<String, AllocError> {
         Kind::Map(_) => "map",
         Kind::Union(_) => "union",
         Kind::Record { name, .. } | Kind::Enum { name, .. } | Kind::Fixed { name, .. } => {
-            return name.to_string(alloc);
+            let mut full = String::from_str(alloc, name.namespace())?;
+            if !name.namespace().is_empty() {
+                full.push_str(".")?;
+            }
+            full.push_str(name.last())?;
+            return Ok(full);
         }
     };
     String::from_str(alloc, word)
