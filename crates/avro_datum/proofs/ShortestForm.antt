@@ -11,10 +11,10 @@ use Rattle.avro_bytes.specs.Text.{IsText}
 use Rattle.avro_bytes.specs.Laws.Shortests.{shortest_is_number, shortest_is_shortest}
 use Rattle.avro_schema.specs.Conforming.{Conforms, ConformAll, ConformPairs, ConformsEach, HasBits}
 use Rattle.avro_schema.specs.Node.{IsWellFormed, Node, FieldNode, EnumNode, UnionNode}
-use Rattle.avro_schema.specs.Datum.{Datum, Data, Pairs, NullDatum, BooleanDatum, IntDatum, LongDatum, BytesDatum, TextDatum, FixedDatum, EnumDatum, ArrayDatum, MapDatum, UnionDatum, RecordDatum, no_more, more, no_pairs, pair}
-use Rattle.avro_datum.specs.Conforming.{HasShortTexts, HaveShortPairs, HaveShortTexts}
-use Rattle.avro_datum.specs.Spelling.{Spells, SpellsFields, SpellsItems, SpellsPairs, units_of, units_of_data, units_of_items, units_of_pairs}
-use Rattle.avro_datum.specs.Writing.{behind_length, how_many, how_many_pairs, in_block, written, written_data, written_pairs}
+use Rattle.avro_schema.specs.Datum.{Datum, Data, Pairs, NullDatum, BooleanDatum, IntDatum, LongDatum, BytesDatum, TextDatum, FixedDatum, EnumDatum, ArrayDatum, MapDatum, UnionDatum, RecordDatum, no_more, more, no_pairs, pair, how_many, how_many_pairs}
+use Rattle.avro_datum.specs.Conforming.{IsWritable, AreWritable, AreWritablePairs, most_items}
+use Rattle.avro_datum.specs.Spelling.{Spells, SpellsFields, SpellsItems, SpellsPairs}
+use Rattle.avro_datum.specs.Writing.{behind_length, in_block, written, written_data, written_pairs}
 use Rattle.avro_datum.proofs.ByKind.{member_of}
 use Rattle.avro_datum.proofs.Counts.{block_len, items_longer}
 
@@ -34,28 +34,20 @@ position_bits n many lt le = omega arith
 length_number : (n : ℕ) → n ≤ 16777216 → IsNumber64 (pos n) (shortest (pos n))
 length_number n h = shortest_is_number 9 1 (pos n) (lit< tt) (lit≤ tt) (long_bits (pos n) (omega arith))
 
-count_number : (n : ℕ) → n < 2 ^ 63 → IsNumber64 (pos n) (shortest (pos n))
-count_number n h = shortest_is_number 9 1 (pos n) (lit< tt) (lit≤ tt) (long_bits (pos n) h)
+count_number : (n : ℕ) → n ≤ most_items → IsNumber64 (pos n) (shortest (pos n))
+count_number n h = shortest_is_number 9 1 (pos n) (lit< tt) (lit≤ tt) (long_bits (pos n) (omega arith))
 
 -- ---- the written form is a spelling
 
-one_block : (many : ℕ) (items : List (List ℕ)) (bytes : List ℕ) → many ≡ length items → joined items ≡ bytes → many < 2 ^ 63 → IsItems items (in_block many bytes)
-one_block zero [] bytes m j lt = record { blocks = []; all = refl; spelled = subst (λ (b : List ℕ). IsNumber64 (pos 0) (b ++ shortest (pos 0))) j (count_number 0 (lit< tt)) }
-one_block zero (i ∷ items) bytes m j lt = absurd (omega (arith, m))
-one_block (suc n) items bytes m j lt = record {
+one_block : (many : ℕ) (items : List (List ℕ)) (bytes : List ℕ) → many ≡ length items → joined items ≡ bytes → many ≤ most_items → IsItems items (in_block many bytes)
+one_block zero [] bytes m j few = record { blocks = []; all = refl; spelled = subst (λ (b : List ℕ). IsNumber64 (pos 0) (b ++ shortest (pos 0))) j (count_number 0 (lit≤ tt)) }
+one_block zero (i ∷ items) bytes m j few = absurd (omega (arith, m))
+one_block (suc n) items bytes m j few = record {
   blocks = items ∷ [];
   all = append-nil items;
   spelled =
-      (shortest (pos (suc n)), shortest (pos 0), ap (λ (b : List ℕ). shortest (pos (suc n)) ++ (b ++ shortest (pos 0))) (sym j), omega (arith, m), inl (subst (λ (k : ℕ). IsNumber64 (pos k) (shortest (pos (suc n)))) m (count_number (suc n) lt)), count_number 0 (lit< tt));
+      (shortest (pos (suc n)), shortest (pos 0), ap (λ (b : List ℕ). shortest (pos (suc n)) ++ (b ++ shortest (pos 0))) (sym j), omega (arith, m), inl (subst (λ (k : ℕ). IsNumber64 (pos k) (shortest (pos (suc n)))) m (count_number (suc n) few)), count_number 0 (lit≤ tt));
 }
-
-few_items : (ds : Data) → how_many ds ≤ units_of_items ds
-few_items no_more = omega arith
-few_items (more d ds) = let others = few_items ds in omega (arith, others)
-
-few_pairs : (ps : Pairs) → how_many_pairs ps ≤ units_of_pairs ps
-few_pairs no_pairs = omega arith
-few_pairs (pair key d ps) = let others = few_pairs ps in omega (arith, others)
 
 -- the written items, one by one
 record Items (P : List (List ℕ) → Type 0) (many : ℕ) (bytes : List ℕ) : Type 0 where
@@ -71,54 +63,54 @@ module _ (nodes : List Node) (wf : IsWellFormed nodes) where
   mutual
     unfolding written written_data written_pairs
 
-    written_spelled_at : (node : ℕ) (d : Datum) → Conforms nodes node d → HasShortTexts d → units_of d < 2 ^ 63 → Spells nodes node d (written d)
-    written_spelled_at node NullDatum c s u = (c, refl)
-    written_spelled_at node (BooleanDatum b) c s u = (c, refl)
-    written_spelled_at node (IntDatum n) c s u = (c.0, shortest_is_number 4 15 n (lit< tt) (lit≤ tt) (int_bits n c.1))
-    written_spelled_at node (LongDatum n) c s u = (c.0, shortest_is_number 9 1 n (lit< tt) (lit≤ tt) (long_bits n c.1))
-    written_spelled_at node (BytesDatum value) c s u = (c, record { len = shortest (pos (length value)); parts = refl; number = length_number (length value) s; short = s })
-    written_spelled_at node (TextDatum text) c s u = (c.0, text_written text s c.1)
-    written_spelled_at node (FixedDatum value) c s u = (c.0, length value, c.1, record { same = refl; whole = refl })
-    written_spelled_at node (EnumDatum n) c s u =
+    written_spelled_at : (node : ℕ) (d : Datum) → Conforms nodes node d → IsWritable d → Spells nodes node d (written d)
+    written_spelled_at node NullDatum c s = (c, refl)
+    written_spelled_at node (BooleanDatum b) c s = (c, refl)
+    written_spelled_at node (IntDatum n) c s = (c.0, shortest_is_number 4 15 n (lit< tt) (lit≤ tt) (int_bits n c.1))
+    written_spelled_at node (LongDatum n) c s = (c.0, shortest_is_number 9 1 n (lit< tt) (lit≤ tt) (long_bits n c.1))
+    written_spelled_at node (BytesDatum value) c s = (c, record { len = shortest (pos (length value)); parts = refl; number = length_number (length value) s; short = s })
+    written_spelled_at node (TextDatum text) c s = (c.0, text_written text s c.1)
+    written_spelled_at node (FixedDatum value) c s = (c.0, length value, c.1, record { same = refl; whole = refl })
+    written_spelled_at node (EnumDatum n) c s =
         let few = wf.each node (EnumNode c.0 c.1 c.2) c.3 in
         (c.0, c.1, c.2, c.3, (c.4, shortest_is_number 4 15 (pos n) (lit< tt) (lit≤ tt) (position_bits n (length c.1) c.4 few.1)))
-    written_spelled_at node (ArrayDatum ds) c s u =
-        let i = written_items c.0 ds c.2 s u in
-        (c.0, c.1, i.items, one_block (how_many ds) i.items (written_data ds) i.count i.flat (omega (arith, few_items ds, u)), i.spelled)
-    written_spelled_at node (MapDatum ps) c s u =
-        let i = written_pair_items c.0 ps c.2 s u in
-        (c.0, c.1, i.items, one_block (how_many_pairs ps) i.items (written_pairs ps) i.count i.flat (omega (arith, few_pairs ps, u)), i.spelled)
-    written_spelled_at node (UnionDatum n d) c s u =
+    written_spelled_at node (ArrayDatum ds) c s =
+        let i = written_items c.0 ds c.2 s.1 in
+        (c.0, c.1, i.items, one_block (how_many ds) i.items (written_data ds) i.count i.flat s.0, i.spelled)
+    written_spelled_at node (MapDatum ps) c s =
+        let i = written_pair_items c.0 ps c.2 s.1 in
+        (c.0, c.1, i.items, one_block (how_many_pairs ps) i.items (written_pairs ps) i.count i.flat s.0, i.spelled)
+    written_spelled_at node (UnionDatum n d) c s =
         let w = wf.each node (UnionNode c.0) c.1 in
         let below = slice_get_within c.0 n c.2 c.3 in
-        (c.0, c.1, c.2, c.3, (member_of nodes c.0 n c.2 w.0 c.3).no_union, shortest (pos n), written d, refl, (below, shortest_is_number 4 15 (pos n) (lit< tt) (lit≤ tt) (position_bits n (length c.0) below (omega (arith, w.1)))), written_spelled_at c.2 d c.4 s u)
-    written_spelled_at node (RecordDatum ds) c s u = (c.0, c.1, c.2, written_spelled_each c.1 ds c.3 s (omega (arith, u)))
+        (c.0, c.1, c.2, c.3, (member_of nodes c.0 n c.2 w.0 c.3).no_union, shortest (pos n), written d, refl, (below, shortest_is_number 4 15 (pos n) (lit< tt) (lit≤ tt) (position_bits n (length c.0) below (omega (arith, w.1)))), written_spelled_at c.2 d c.4 s)
+    written_spelled_at node (RecordDatum ds) c s = (c.0, c.1, c.2, written_spelled_each c.1 ds c.3 s)
 
-    written_items : (inner : ℕ) (ds : Data) → ConformAll nodes inner ds → HaveShortTexts ds → units_of_items ds < 2 ^ 63 → Items (SpellsItems nodes inner ds) (how_many ds) (written_data ds)
-    written_items inner no_more c s u = record { items = []; count = refl; flat = refl; spelled = tt }
-    written_items inner (more d ds) c s u =
-        let others = written_items inner ds c.1 s.1 (omega (arith, u)) in
-        record { items = written d ∷ others.items; count = ap suc others.count; flat = ap (λ (b : List ℕ). written d ++ b) others.flat; spelled = (written_spelled_at inner d c.0 s.0 (omega (arith, u)), others.spelled) }
+    written_items : (inner : ℕ) (ds : Data) → ConformAll nodes inner ds → AreWritable ds → Items (SpellsItems nodes inner ds) (how_many ds) (written_data ds)
+    written_items inner no_more c s = record { items = []; count = refl; flat = refl; spelled = tt }
+    written_items inner (more d ds) c s =
+        let others = written_items inner ds c.1 s.1 in
+        record { items = written d ∷ others.items; count = ap suc others.count; flat = ap (λ (b : List ℕ). written d ++ b) others.flat; spelled = (written_spelled_at inner d c.0 s.0, others.spelled) }
 
-    written_pair_items : (inner : ℕ) (ps : Pairs) → ConformPairs nodes inner ps → HaveShortPairs ps → units_of_pairs ps < 2 ^ 63 → Items (SpellsPairs nodes inner ps) (how_many_pairs ps) (written_pairs ps)
-    written_pair_items inner no_pairs c s u = record { items = []; count = refl; flat = refl; spelled = tt }
-    written_pair_items inner (pair key d ps) c s u =
-        let others = written_pair_items inner ps c.2 s.2 (omega (arith, u)) in
+    written_pair_items : (inner : ℕ) (ps : Pairs) → ConformPairs nodes inner ps → AreWritablePairs ps → Items (SpellsPairs nodes inner ps) (how_many_pairs ps) (written_pairs ps)
+    written_pair_items inner no_pairs c s = record { items = []; count = refl; flat = refl; spelled = tt }
+    written_pair_items inner (pair key d ps) c s =
+        let others = written_pair_items inner ps c.2 s.2 in
         record {
           items = (behind_length key ++ written d) ∷ others.items;
           count = ap suc others.count;
           flat = append_assoc (behind_length key) (written d) (joined others.items) ∙ ap (λ (b : List ℕ). behind_length key ++ (written d ++ b)) others.flat;
-          spelled = ((behind_length key, written d, refl, text_written key s.0 c.0, written_spelled_at inner d c.1 s.1 (omega (arith, u))), others.spelled);
+          spelled = ((behind_length key, written d, refl, text_written key s.0 c.0, written_spelled_at inner d c.1 s.1), others.spelled);
         }
 
-    written_spelled_each : (fields : List FieldNode) (ds : Data) → ConformsEach nodes fields ds → HaveShortTexts ds → units_of_data ds < 2 ^ 63 → SpellsFields nodes fields ds (written_data ds)
-    written_spelled_each [] no_more c s u = refl
-    written_spelled_each (f ∷ fs) (more d ds) c s u = (written d, written_data ds, refl, written_spelled_at f.node d c.0 s.0 (omega (arith, u)), written_spelled_each fs ds c.1 s.1 (omega (arith, u)))
-    written_spelled_each [] (more d ds) c s u = absurd c
-    written_spelled_each (f ∷ fs) no_more c s u = absurd c
+    written_spelled_each : (fields : List FieldNode) (ds : Data) → ConformsEach nodes fields ds → AreWritable ds → SpellsFields nodes fields ds (written_data ds)
+    written_spelled_each [] no_more c s = refl
+    written_spelled_each (f ∷ fs) (more d ds) c s = (written d, written_data ds, refl, written_spelled_at f.node d c.0 s.0, written_spelled_each fs ds c.1 s.1)
+    written_spelled_each [] (more d ds) c s = absurd c
+    written_spelled_each (f ∷ fs) no_more c s = absurd c
 
-pub written_spelled : (nodes : List Node) (node : ℕ) (d : Datum) → IsWellFormed nodes → Conforms nodes node d → HasShortTexts d → units_of d < 2 ^ 63 → Spells nodes node d (written d)
-written_spelled nodes node d wf c s u = written_spelled_at nodes wf node d c s u
+pub written_spelled : (nodes : List Node) (node : ℕ) (d : Datum) → IsWellFormed nodes → Conforms nodes node d → IsWritable d → Spells nodes node d (written d)
+written_spelled nodes node d wf c s = written_spelled_at nodes wf node d c s
 
 -- ---- none is shorter
 

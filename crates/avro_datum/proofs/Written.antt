@@ -4,12 +4,12 @@ use Rattle.std.proofs.Math.Seq.{drop-cons}
 use Rattle.std.proofs.lemmas.List.{length-append}
 use Rattle.std.specs.Global.{Vec}
 use Rattle.avro_schema.specs.declared.datum.Datum as rust
-use Rattle.avro_schema.specs.Datum.{datum_of, data_of, pairs_of}
+use Rattle.avro_schema.specs.Datum.{datum_of, data_of, pairs_of, how_many, how_many_pairs}
 use Rattle.avro_schema.proofs.DatumOf.{datum_of-Array, datum_of-Map, datum_of-Record}
 use Rattle.std.specs.Prelude.{OnErr}
 use Rattle.avro_bytes.specs.Shortest.{Extends, shortest}
 use Rattle.avro_datum.proofs.Counts.{block_len}
-use Rattle.avro_datum.specs.Writing.{behind_length, block_count, how_many, how_many_pairs, in_block, written, written_data, written_pairs}
+use Rattle.avro_datum.specs.Writing.{behind_length, block_count, in_block, written, written_data, written_pairs}
 
 pub record_written : (v : Vec rust.Datum) → written (datum_of (rust.Record v)) ≡ written_data (data_of v.items)
 unfolding written

@@ -1,14 +1,19 @@
--- Which data have no text that is too long to be written (Avro 1.11, "Binary Encoding", bytes and string).
+-- Which data can be written (Avro 1.11, "Binary Encoding": bytes and string; arrays and maps).
+use Rattle.std.specs.Prelude.{ℕ}
 use Rattle.avro_bytes.specs.declared.text.TheConstants.{LONGEST}
 use Rattle.avro_schema.specs.Datum.{Datum, Data, Pairs}
-use Rattle.avro_schema.specs.TextSizes.{HasTextsWithin, HaveTextsWithin, HavePairsWithin}
+use Rattle.avro_schema.specs.Sizes.{HasSizesWithin, HaveSizesWithin, HavePairsWithin}
 
--- no text, byte string or key is longer than a length may be; a fixed has no length
-abbrev pub HasShortTexts : Datum → Type 0
-HasShortTexts d = HasTextsWithin LONGEST d
+-- as many items as a long can count: 2^63 - 1
+abbrev pub most_items : ℕ
+most_items = 9223372036854775807
 
-abbrev pub HaveShortTexts : Data → Type 0
-HaveShortTexts ds = HaveTextsWithin LONGEST ds
+-- no text, byte string or key is longer than a length may be, and a long can count the items of each array and map
+abbrev pub IsWritable : Datum → Type 0
+IsWritable d = HasSizesWithin LONGEST most_items d
 
-abbrev pub HaveShortPairs : Pairs → Type 0
-HaveShortPairs ps = HavePairsWithin LONGEST ps
+abbrev pub AreWritable : Data → Type 0
+AreWritable ds = HaveSizesWithin LONGEST most_items ds
+
+abbrev pub AreWritablePairs : Pairs → Type 0
+AreWritablePairs ps = HavePairsWithin LONGEST most_items ps

@@ -2,7 +2,7 @@
 use Rattle.std.specs.Prelude.{◌≡◌, ◌≤◌, ◌<◌, ℕ, zero, suc, List, [], ◌∷◌, ◌++◌, length, pos, Result, Ok, Err}
 use Rattle.avro_bytes.specs.Boolean.{boolean_byte}
 use Rattle.avro_bytes.specs.Shortest.{shortest}
-use Rattle.avro_schema.specs.Datum.{Datum, Data, Pairs, NullDatum, BooleanDatum, IntDatum, LongDatum, BytesDatum, TextDatum, FixedDatum, EnumDatum, ArrayDatum, MapDatum, UnionDatum, RecordDatum, no_more, more, no_pairs, pair}
+use Rattle.avro_schema.specs.Datum.{Datum, Data, Pairs, NullDatum, BooleanDatum, IntDatum, LongDatum, BytesDatum, TextDatum, FixedDatum, EnumDatum, ArrayDatum, MapDatum, UnionDatum, RecordDatum, no_more, more, no_pairs, pair, how_many, how_many_pairs}
 use Rattle.avro_datum.specs.declared.writing.TheConstants.{MOST_OUTPUT}
 use Rattle.avro_datum.specs.declared.writing.WriteError.{WriteError}
 use Rattle.avro_datum.specs.declared.writing.WriteError.TheVariants.{TooLarge, NoMemory}
@@ -19,14 +19,6 @@ block_count (suc n) = shortest (pos (suc n))
 -- items in one block, and the count 0 behind it
 abbrev pub in_block : ℕ → List ℕ → List ℕ
 in_block many bytes = block_count many ++ (bytes ++ shortest (pos 0))
-
-abbrev pub how_many : Data → ℕ
-how_many no_more = 0
-how_many (more d ds) = suc (how_many ds)
-
-abbrev pub how_many_pairs : Pairs → ℕ
-how_many_pairs no_pairs = 0
-how_many_pairs (pair key d ps) = suc (how_many_pairs ps)
 
 unfoldable mutual
   pub written : Datum → List ℕ

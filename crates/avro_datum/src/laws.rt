@@ -1,9 +1,9 @@
-ghost use Rattle.std.specs.Prelude.{◌≡◌, ◌≤◌, ◌<◌, ◌^◌, ◌⊎◌, ℕ, List, length};
+ghost use Rattle.std.specs.Prelude.{◌≡◌, ◌≤◌, ◌⊎◌, ℕ, List, length};
 ghost use Rattle.avro_bytes.specs.declared.fault.MalformedKind.{MalformedKind};
 ghost use Rattle.avro_schema.specs.Conforming.{Conforms};
 ghost use Rattle.avro_schema.specs.Node.{IsWellFormed, Node};
 ghost use Rattle.avro_schema.specs.Datum as datum;
-ghost use Rattle.avro_datum.specs.Conforming.{HasShortTexts};
+ghost use Rattle.avro_datum.specs.Conforming.{IsWritable, most_items};
 ghost use Rattle.avro_datum.specs.Fault.{FirstFault};
 ghost use Rattle.avro_datum.specs.Payload.{IsPayload};
 ghost use Rattle.avro_datum.specs.Spelling.{Spells, units_of};
@@ -21,17 +21,19 @@ pub fn payload_is_spelled_or_faulty()
         IsPayload nodes d payload → ¬ (FirstFault nodes payload kind at) }
 {}
 
-/// The law that the written form of a node's datum is a spelling of it, where a long can count its items, and that no
-/// spelling is shorter.
+/// The law that the written form of a node's datum is a spelling of it, where its texts are short enough and a long can
+/// count its items, and that no spelling is shorter.
 pub fn written_form_is_the_shortest_spelling()
     ensures spelled { (nodes : List Node) (node : ℕ) (d : datum.Datum) →
-        IsWellFormed nodes → Conforms nodes node d → HasShortTexts d → units_of d < 2 ^ 63 → Spells nodes node d (written d) }
+        IsWellFormed nodes → Conforms nodes node d → IsWritable d → Spells nodes node d (written d) }
     ensures none_shorter { (nodes : List Node) (node : ℕ) (d : datum.Datum) (bytes : List ℕ) →
         Spells nodes node d bytes → length (written d) ≤ length bytes }
 {}
 
-/// The law that a datum that is spelled is of its node's type, so that it can be written again.
+/// The law that a datum that is spelled is of its node's type, and can be written again, where a long can count its units.
 pub fn spelled_datum_conforms()
-    ensures { (nodes : List Node) (node : ℕ) (d : datum.Datum) (bytes : List ℕ) →
-        Spells nodes node d bytes → Conforms nodes node d × HasShortTexts d }
+    ensures conforms { (nodes : List Node) (node : ℕ) (d : datum.Datum) (bytes : List ℕ) →
+        Spells nodes node d bytes → Conforms nodes node d }
+    ensures writable { (nodes : List Node) (node : ℕ) (d : datum.Datum) (bytes : List ℕ) →
+        Spells nodes node d bytes → units_of d ≤ most_items → IsWritable d }
 {}

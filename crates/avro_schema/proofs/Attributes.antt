@@ -45,11 +45,11 @@ text_is (Some (string t)) s e = let same : t ≡ s = ok_inside t s e in ap (λ x
 text_is (Some (array ds)) s e = absurd (let wrong : ⊥ = cc in wrong)
 text_is (Some (object ms)) s e = absurd (let wrong : ⊥ = cc in wrong)
 
-pub new_named : (ms : Members) (space : List ℕ) (heads : List Head) (full : List ℕ) → new_name (get_member (codes "name") ms) (get_member (codes "namespace") ms) space heads ≡ Ok full → IsFullName ms space full
+pub new_named : (ms : Members) (enclosing : List ℕ) (heads : List Head) (full : List ℕ) → new_name (get_member (codes "name") ms) (get_member (codes "namespace") ms) enclosing heads ≡ Ok full → IsFullName ms enclosing full
 unfolding new_name
-new_named ms space heads full e =
+new_named ms enclosing heads full e =
     let p = bound (text_of (get_member (codes "name") ms)) _ full e in
-    let o = bound (own_namespace p.0 (get_member (codes "namespace") ms) space) _ full p.2 in
+    let o = bound (own_namespace p.0 (get_member (codes "namespace") ms) enclosing) _ full p.2 in
     let q = required _ _ _ full o.2 in
     let r = required _ _ _ full q.1 in
     let same : full_name o.0 p.0 ≡ full = ok_inside (full_name o.0 p.0) full r.1 in

@@ -31,31 +31,31 @@ behind-one front a (Err e) = refl
 abbrev first_field : DraftField → Result (List DraftField × List Draft) SchemaError → Result (List DraftField × List Draft) SchemaError
 first_field f r = r >>= λ q. Ok (f ∷ q.0, q.1)
 
-item_at : (ds : Items) (before : List (List ℕ)) (space : List ℕ) (r : Result (DraftField × List Draft) SchemaError)
-    → (r >>= λ p. run (followed_by (fields_after ds (before ++ p.0.name ∷ [])) (λ fs. done (p.0 ∷ fs))) space p.1) ≡ (r >>= λ p. first_field p.0 (run (fields_after ds (before ++ p.0.name ∷ [])) space p.1))
-item_at ds before space (Ok p) = run-mapped (fields_after ds (before ++ p.0.name ∷ [])) (λ fs. p.0 ∷ fs) space p.1
-item_at ds before space (Err e) = refl
+item_at : (ds : Items) (before : List (List ℕ)) (enclosing : List ℕ) (r : Result (DraftField × List Draft) SchemaError)
+    → (r >>= λ p. run (followed_by (fields_after ds (before ++ p.0.name ∷ [])) (λ fs. done (p.0 ∷ fs))) enclosing p.1) ≡ (r >>= λ p. first_field p.0 (run (fields_after ds (before ++ p.0.name ∷ [])) enclosing p.1))
+item_at ds before enclosing (Ok p) = run-mapped (fields_after ds (before ++ p.0.name ∷ [])) (λ fs. p.0 ∷ fs) enclosing p.1
+item_at ds before enclosing (Err e) = refl
 
-run-item : (d : Data) (ds : Items) (before : List (List ℕ)) (space : List ℕ) (ns : List Draft)
-    → run (fields_after (item d ds) before) space ns ≡ (run (field d before) space ns >>= λ p. first_field p.0 (run (fields_after ds (before ++ p.0.name ∷ [])) space p.1))
+run-item : (d : Data) (ds : Items) (before : List (List ℕ)) (enclosing : List ℕ) (ns : List Draft)
+    → run (fields_after (item d ds) before) enclosing ns ≡ (run (field d before) enclosing ns >>= λ p. first_field p.0 (run (fields_after ds (before ++ p.0.name ∷ [])) enclosing p.1))
 unfolding walk
-run-item d ds before space ns = run-followed_by (field d before) _ space ns ∙ item_at ds before space (run (field d before) space ns)
+run-item d ds before enclosing ns = run-followed_by (field d before) _ enclosing ns ∙ item_at ds before enclosing (run (field d before) enclosing ns)
 
-module _ (space : List ℕ) (vs : List Value) (i : ℕ) (v : Value) (lt : i < length vs) (is : v ≡ get_or vs i v) (front : List DraftField) (before : List (List ℕ)) (ns : List Draft) where
+module _ (enclosing : List ℕ) (vs : List Value) (i : ℕ) (v : Value) (lt : i < length vs) (is : v ≡ get_or vs i v) (front : List DraftField) (before : List (List ℕ)) (ns : List Draft) where
   here : drop i vs ≡ v ∷ drop (i + 1) vs
   here = drop-cons vs i v lt ∙ rw (← is, add-one i)
 
-  pub fields-on : (f : DraftField) (ms : List Draft) → run (field (view v) before) space ns ≡ Ok (f, ms)
-      → behind front (run (fields_after (items_view (drop i vs)) before) space ns) ≡ behind (front ++ f ∷ []) (run (fields_after (items_view (drop (i + 1) vs)) (before ++ f.name ∷ [])) space ms)
-  fields-on f ms e = rw (here, run-item (view v) (items_view (drop (i + 1) vs)) before space ns, e) (behind-one front f (run (fields_after (items_view (drop (i + 1) vs)) (before ++ f.name ∷ [])) space ms))
+  pub fields-on : (f : DraftField) (ms : List Draft) → run (field (view v) before) enclosing ns ≡ Ok (f, ms)
+      → behind front (run (fields_after (items_view (drop i vs)) before) enclosing ns) ≡ behind (front ++ f ∷ []) (run (fields_after (items_view (drop (i + 1) vs)) (before ++ f.name ∷ [])) enclosing ms)
+  fields-on f ms e = rw (here, run-item (view v) (items_view (drop (i + 1) vs)) before enclosing ns, e) (behind-one front f (run (fields_after (items_view (drop (i + 1) vs)) (before ++ f.name ∷ [])) enclosing ms))
 
-  pub fields-fail : (e : SchemaError) → run (field (view v) before) space ns ≡ Err e → behind front (run (fields_after (items_view (drop i vs)) before) space ns) ≡ Err e
-  fields-fail e is_err = rw (here, run-item (view v) (items_view (drop (i + 1) vs)) before space ns, is_err)
+  pub fields-fail : (e : SchemaError) → run (field (view v) before) enclosing ns ≡ Err e → behind front (run (fields_after (items_view (drop i vs)) before) enclosing ns) ≡ Err e
+  fields-fail e is_err = rw (here, run-item (view v) (items_view (drop (i + 1) vs)) before enclosing ns, is_err)
 
-pub fields-end : (space : List ℕ) (vs : List Value) (i : ℕ) → length vs ≤ i → (front : List DraftField) (before : List (List ℕ)) (ns : List Draft)
-    → behind front (run (fields_after (items_view (drop i vs)) before) space ns) ≡ Ok (front, ns)
+pub fields-end : (enclosing : List ℕ) (vs : List Value) (i : ℕ) → length vs ≤ i → (front : List DraftField) (before : List (List ℕ)) (ns : List Draft)
+    → behind front (run (fields_after (items_view (drop i vs)) before) enclosing ns) ≡ Ok (front, ns)
 unfolding walk
-fields-end space vs i le front before ns = rw (drop_of_length-le vs le, run-done {A = List DraftField} [] space ns) (ap (λ xs. Ok (xs, ns)) (append-nil front))
+fields-end enclosing vs i le front before ns = rw (drop_of_length-le vs le, run-done {A = List DraftField} [] enclosing ns) (ap (λ xs. Ok (xs, ns)) (append-nil front))
 
 -- ---- a field
 
@@ -67,23 +67,23 @@ type_at : (default : Option Data) (s : List ℕ) (ns : List Draft) (r : Result (
 type_at default s ns (Ok p) = refl
 type_at default s ns (Err e) = refl
 
-name_at : (default : Option Data) (w : Walk ℕ) (space : List ℕ) (ns : List Draft) (r : Result (List ℕ) SchemaError)
-    → added ns (r >>= λ s. typed default s (w space (heads_of ns))) ≡ (r >>= λ s. typed default s (run w space ns))
+name_at : (default : Option Data) (w : Walk ℕ) (enclosing : List ℕ) (ns : List Draft) (r : Result (List ℕ) SchemaError)
+    → added ns (r >>= λ s. typed default s (w enclosing (heads_of ns))) ≡ (r >>= λ s. typed default s (run w enclosing ns))
 unfolding run
-name_at default w space ns (Ok s) = type_at default s ns (w space (heads_of ns))
-name_at default w space ns (Err e) = refl
+name_at default w enclosing ns (Ok s) = type_at default s ns (w enclosing (heads_of ns))
+name_at default w enclosing ns (Err e) = refl
 
 length-names : (fs : List rust.DraftField) → length (names_of fs) ≡ length fs
 length-names [] = refl
 length-names (f ∷ fs) = ap suc (length-names fs)
 
-module _ (d : Data) (fs : List rust.DraftField) (space : List ℕ) (ns : List Draft) (is : true ≡ is_some (as_object d)) where
+module _ (d : Data) (fs : List rust.DraftField) (enclosing : List ℕ) (ns : List Draft) (is : true ≡ is_some (as_object d)) where
   pub run-field : length fs < most_fields
-      → run (field d (names_of fs)) space ns ≡ (field_name (get (codes "name") d) (names_of fs) >>= λ s. typed (get (codes "default") d) s (run (or_unknown (option_map walk (get (codes "type") d))) space ns))
+      → run (field d (names_of fs)) enclosing ns ≡ (field_name (get (codes "name") d) (names_of fs) >>= λ s. typed (get (codes "default") d) s (run (or_unknown (option_map walk (get (codes "type") d))) enclosing ns))
   unfolding run field_walk field_of
-  run-field few = rw (field-object d (names_of fs) is, length-names fs, lt-ltb (length fs) 1024 few) (name_at (get (codes "default") d) (or_unknown (option_map walk (get (codes "type") d))) space ns (field_name (get (codes "name") d) (names_of fs)))
+  run-field few = rw (field-object d (names_of fs) is, length-names fs, lt-ltb (length fs) 1024 few) (name_at (get (codes "default") d) (or_unknown (option_map walk (get (codes "type") d))) enclosing ns (field_name (get (codes "name") d) (names_of fs)))
 
-  pub run-many : most_fields ≤ length fs → run (field d (names_of fs)) space ns ≡ Err TooLarge
+  pub run-many : most_fields ≤ length fs → run (field d (names_of fs)) enclosing ns ≡ Err TooLarge
   unfolding run field_walk
   run-many many = rw (field-object d (names_of fs) is, length-names fs, le-ltb (length fs) 1024 many) refl
 

@@ -16,13 +16,13 @@ use Rattle.avro_schema.specs.Contract.{names_of}
 use Rattle.avro_schema.specs.Draft.{draft_of, drafts_of}
 use Rattle.avro_schema.specs.FullNames.{has_dot, inside, namespace_of, unqualified}
 use Rattle.avro_schema.specs.Head.{Head, defined_at, defines, head_of, heads_of}
-use Rattle.avro_schema.specs.Index.{AreNamesOf, IsIndexOf, spaces_of}
+use Rattle.avro_schema.specs.Index.{AreNamesOf, IsIndexOf, namespaces_of}
 use Rattle.avro_schema.specs.SymbolIndex.{is_used}
 use Rattle.avro_schema.proofs.Booleans.{false_by, same_by}
 use Rattle.avro_schema.proofs.Dots.{namespace-inside, unqualified-inside}
 use Rattle.avro_schema.proofs.FieldList.{map-push}
 use Rattle.avro_schema.proofs.Runs.{drafts_of-append, heads_of-append}
-use Rattle.avro_schema.proofs.Spaces.{none-used, number-some, or_last, position-behind, spaceless}
+use Rattle.avro_schema.proofs.Namespaces.{none-used, number-some, or_last, position-behind, spaceless}
 use Rattle.avro_schema.proofs.Texts.{cond_or, used-push}
 
 -- ---- full names, by namespace and last part
@@ -50,20 +50,20 @@ inside-apart full namespace other none apart =
 -- ---- looked up
 
 module _ {A : Type 0} (numbers : BTreeMap (String A) ℕ) (scopes : List (BTreeMap (String A) ℕ)) (ks : List rust.Draft) (known : IsIndexOf numbers scopes ks) where
-  pub number-below : (number : ℕ) (namespace : List ℕ) → slice_get (spaces_of (heads_of (drafts_of ks))) number ≡ Some namespace → number < length scopes
-  number-below number namespace at = omega (arith, slice_get_within (spaces_of (heads_of (drafts_of ks))) number namespace at, known.each_has_one)
+  pub number-below : (number : ℕ) (namespace : List ℕ) → slice_get (namespaces_of (heads_of (drafts_of ks))) number ≡ Some namespace → number < length scopes
+  number-below number namespace at = omega (arith, slice_get_within (namespaces_of (heads_of (drafts_of ks))) number namespace at, known.each_has_one)
 
-  pub found-under : (number : ℕ) (namespace last : List ℕ) (scope : BTreeMap (String A) ℕ) → slice_get (spaces_of (heads_of (drafts_of ks))) number ≡ Some namespace → scope ≡ get_or scopes number scope → has_dot last ≡ false
+  pub found-under : (number : ℕ) (namespace last : List ℕ) (scope : BTreeMap (String A) ℕ) → slice_get (namespaces_of (heads_of (drafts_of ks))) number ≡ Some namespace → scope ≡ get_or scopes number scope → has_dot last ≡ false
       → get_by_text scope last ≡ defined_at (inside namespace last) (heads_of (drafts_of ks))
   found-under number namespace last scope at is none = known.found number namespace last scope at (slice_get-get_or scopes number scope (number-below number namespace at) ∙ ap Some (sym is)) none
 
-  pub number-found : (namespace : List ℕ) (number : ℕ) → get_by_text numbers namespace ≡ Some number → slice_get (spaces_of (heads_of (drafts_of ks))) number ≡ Some namespace
-  number-found namespace number e = number-some namespace (spaces_of (heads_of (drafts_of ks))) number (sym (known.numbered namespace) ∙ e)
+  pub number-found : (namespace : List ℕ) (number : ℕ) → get_by_text numbers namespace ≡ Some number → slice_get (namespaces_of (heads_of (drafts_of ks))) number ≡ Some namespace
+  number-found namespace number e = number-some namespace (namespaces_of (heads_of (drafts_of ks))) number (sym (known.numbered namespace) ∙ e)
 
   pub found-nowhere : (namespace last : List ℕ) → get_by_text numbers namespace ≡ None → has_dot last ≡ false → None ≡ defined_at (inside namespace last) (heads_of (drafts_of ks))
   found-nowhere namespace last e none =
-      let unused = none-used namespace (spaces_of (heads_of (drafts_of ks))) (sym (known.numbered namespace) ∙ e) in
-      sym (spaceless (inside namespace last) (heads_of (drafts_of ks)) (ap (λ s. is_used s (spaces_of (heads_of (drafts_of ks)))) (namespace-inside namespace last none) ∙ unused))
+      let unused = none-used namespace (namespaces_of (heads_of (drafts_of ks))) (sym (known.numbered namespace) ∙ e) in
+      sym (spaceless (inside namespace last) (heads_of (drafts_of ks)) (ap (λ s. is_used s (namespaces_of (heads_of (drafts_of ks)))) (namespace-inside namespace last none) ∙ unused))
 
 -- ---- fields
 

@@ -12,12 +12,12 @@ use Rattle.avro_schema.specs.declared.draft.Draft as rust
 use Rattle.avro_schema.specs.Draft.{Draft, draft_of, drafts_of}
 use Rattle.avro_schema.specs.FullNames.{inside}
 use Rattle.avro_schema.specs.Head.{Head, IsUnnamed, NullHead, BooleanHead, IntHead, LongHead, BytesHead, TextHead, ArrayHead, MapHead, UnionHead, Named, defined_at, defines, head_of, heads_of}
-use Rattle.avro_schema.specs.Index.{IsIndexOf, number_of, spaces_of, with_space}
+use Rattle.avro_schema.specs.Index.{IsIndexOf, number_of, namespaces_of, with_namespace}
 use Rattle.avro_schema.proofs.Booleans.{no_true}
 use Rattle.avro_schema.proofs.Fits.{get-front}
 use Rattle.avro_schema.proofs.Index.{defined-behind, heads-behind}
 use Rattle.avro_schema.proofs.Runs.{drafts_of-set}
-use Rattle.avro_schema.proofs.Spaces.{at-last, last_not, or_last, spaces-one}
+use Rattle.avro_schema.proofs.Namespaces.{at-last, last_not, or_last, namespaces-one}
 
 -- ---- a name is defined once
 
@@ -36,39 +36,39 @@ once-behind hs h once new n full e = defined-behind full hs h ∙ at (ltb n (len
 named-not : (full : List ℕ) → IsUnnamed (Named full) → ⊥
 named-not full none = no_true (bytes_eq full full) ((bytes_eq-Decides full full).1 refl) (none full)
 
-with-unnamed : (spaces : List (List ℕ)) (h : Head) → IsUnnamed h → with_space spaces h ≡ spaces
-with-unnamed spaces (Named full) none = absurd (named-not full none)
-with-unnamed spaces NullHead none = refl
-with-unnamed spaces BooleanHead none = refl
-with-unnamed spaces IntHead none = refl
-with-unnamed spaces LongHead none = refl
-with-unnamed spaces BytesHead none = refl
-with-unnamed spaces TextHead none = refl
-with-unnamed spaces ArrayHead none = refl
-with-unnamed spaces MapHead none = refl
-with-unnamed spaces UnionHead none = refl
+with-unnamed : (namespaces : List (List ℕ)) (h : Head) → IsUnnamed h → with_namespace namespaces h ≡ namespaces
+with-unnamed namespaces (Named full) none = absurd (named-not full none)
+with-unnamed namespaces NullHead none = refl
+with-unnamed namespaces BooleanHead none = refl
+with-unnamed namespaces IntHead none = refl
+with-unnamed namespaces LongHead none = refl
+with-unnamed namespaces BytesHead none = refl
+with-unnamed namespaces TextHead none = refl
+with-unnamed namespaces ArrayHead none = refl
+with-unnamed namespaces MapHead none = refl
+with-unnamed namespaces UnionHead none = refl
 
 -- the same namespaces, and the same node for each name
 module _ {A : Type 0} (numbers : BTreeMap (String A) ℕ) (scopes : List (BTreeMap (String A) ℕ)) (ks ls : List rust.Draft) where
-  same-index : IsIndexOf numbers scopes ks → spaces_of (heads_of (drafts_of ls)) ≡ spaces_of (heads_of (drafts_of ks)) → ((full : List ℕ) → defined_at full (heads_of (drafts_of ls)) ≡ defined_at full (heads_of (drafts_of ks)))
+  same-index : IsIndexOf numbers scopes ks → namespaces_of (heads_of (drafts_of ls)) ≡ namespaces_of (heads_of (drafts_of ks)) → ((full : List ℕ) → defined_at full (heads_of (drafts_of ls)) ≡ defined_at full (heads_of (drafts_of ks)))
       → ((n : ℕ) (full : List ℕ) → slice_get (heads_of (drafts_of ls)) n ≡ Some (Named full) → defined_at full (heads_of (drafts_of ls)) ≡ Some n) → IsIndexOf numbers scopes ls
-  same-index known spaces same once = record {
-    numbered = λ namespace. known.numbered namespace ∙ ap (number_of namespace) (sym spaces);
-    each_has_one = known.each_has_one ∙ ap length (sym spaces);
-    found = λ number namespace last scope at is none. known.found number namespace last scope (ap (λ s. slice_get s number) (sym spaces) ∙ at) is none ∙ sym (same (inside namespace last));
+  same-index known namespaces same once = record {
+    numbered = λ namespace. known.numbered namespace ∙ ap (number_of namespace) (sym namespaces);
+    each_has_one = known.each_has_one ∙ ap length (sym namespaces);
+    found = λ number namespace last scope at is none. known.found number namespace last scope (ap (λ s. slice_get s number) (sym namespaces) ∙ at) is none ∙ sym (same (inside namespace last));
     once = once;
     begins_none = λ last. same (46 ∷ last) ∙ known.begins_none last;
   }
 
   index-heads : IsIndexOf numbers scopes ks → heads_of (drafts_of ls) ≡ heads_of (drafts_of ks) → IsIndexOf numbers scopes ls
-  index-heads known e = same-index known (ap spaces_of e) (λ full. ap (defined_at full) e) (λ n full at. ap (defined_at full) e ∙ known.once n full (ap (λ hs. slice_get hs n) (sym e) ∙ at))
+  index-heads known e = same-index known (ap namespaces_of e) (λ full. ap (defined_at full) e) (λ n full at. ap (defined_at full) e ∙ known.once n full (ap (λ hs. slice_get hs n) (sym e) ∙ at))
 
   index-unnamed : (k : rust.Draft) → IsIndexOf numbers scopes ks → IsUnnamed (head_of (draft_of k)) → ls ≡ ks ++ k ∷ [] → IsIndexOf numbers scopes ls
   index-unnamed k known none e =
       let hs = heads_of (drafts_of ks) in
       let h = head_of (draft_of k) in
       let all : heads_of (drafts_of ls) ≡ hs ++ h ∷ [] = ap (λ xs. heads_of (drafts_of xs)) e ∙ heads-behind ks k in
-      same-index known (ap spaces_of all ∙ spaces-one hs h ∙ with-unnamed (spaces_of hs) h none)
+      same-index known (ap namespaces_of all ∙ namespaces-one hs h ∙ with-unnamed (namespaces_of hs) h none)
       (λ full. ap (defined_at full) all ∙ defined-behind full hs h ∙ rw (none full) (last_not (length hs) (defined_at full hs)))
       (λ n full at. ap (defined_at full) all ∙ once-behind hs h known.once (λ own is. absurd (named-not own (subst IsUnnamed is none))) n full (ap (λ xs. slice_get xs n) (sym all) ∙ at))
 
@@ -95,7 +95,7 @@ null-found scope void (suc n) namespace last found has = absurd (let no : ⊥ = 
 
 pub index-empty : {A : Type 0} (empty numbers scope : BTreeMap (String A) ℕ) → ((s : List ℕ) → get_by_text empty s ≡ None) → ((s : List ℕ) → get_by_text scope s ≡ None)
     → UpdatesBy string_cmp (λ k. slice_cmp nat_cmp [] (string_bytes k)) empty numbers (Some 0) → IsIndexOf numbers (scope ∷ []) []
-unfolding defined_at spaces_of
+unfolding defined_at namespaces_of
 index-empty empty numbers scope void nothing numbered = record {
   numbered = λ s. btree_map_updates_text [] empty numbers (Some 0) numbered s ∙ ap (cond (bytes_eq [] s) (Some 0)) (void s);
   each_has_one = refl;

@@ -19,30 +19,30 @@ use Rattle.avro_schema.specs.Walk.{Walk, added, done, followed_by, if_room, most
 use Rattle.avro_schema.proofs.FieldList.{behind, behind-one}
 use Rattle.avro_schema.proofs.Runs.{length-heads_of, length-drafts_of, heads_of-append, run-if_room, run-followed_by, run-done, run-mapped, pushed}
 
-item_at : (ds : Items) (space : List ℕ) (r : Result (ℕ × List Draft) SchemaError)
-    → (r >>= λ p. run (followed_by (members ds) (λ ns. done (p.0 ∷ ns))) space p.1) ≡ (r >>= λ p. run (members ds) space p.1 >>= λ q. Ok (p.0 ∷ q.0, q.1))
-item_at ds space (Ok p) = run-mapped (members ds) (λ ns. p.0 ∷ ns) space p.1
-item_at ds space (Err e) = refl
+item_at : (ds : Items) (enclosing : List ℕ) (r : Result (ℕ × List Draft) SchemaError)
+    → (r >>= λ p. run (followed_by (members ds) (λ ns. done (p.0 ∷ ns))) enclosing p.1) ≡ (r >>= λ p. run (members ds) enclosing p.1 >>= λ q. Ok (p.0 ∷ q.0, q.1))
+item_at ds enclosing (Ok p) = run-mapped (members ds) (λ ns. p.0 ∷ ns) enclosing p.1
+item_at ds enclosing (Err e) = refl
 
-run-item : (d : Data) (ds : Items) (space : List ℕ) (ns : List Draft)
-    → run (members (item d ds)) space ns ≡ (run (walk d) space ns >>= λ p. run (members ds) space p.1 >>= λ q. Ok (p.0 ∷ q.0, q.1))
+run-item : (d : Data) (ds : Items) (enclosing : List ℕ) (ns : List Draft)
+    → run (members (item d ds)) enclosing ns ≡ (run (walk d) enclosing ns >>= λ p. run (members ds) enclosing p.1 >>= λ q. Ok (p.0 ∷ q.0, q.1))
 unfolding walk
-run-item d ds space ns = run-followed_by (walk d) _ space ns ∙ item_at ds space (run (walk d) space ns)
+run-item d ds enclosing ns = run-followed_by (walk d) _ enclosing ns ∙ item_at ds enclosing (run (walk d) enclosing ns)
 
-module _ (space : List ℕ) (vs : List Value) (i : ℕ) (v : Value) (lt : i < length vs) (is : v ≡ get_or vs i v) (front : List ℕ) (ns : List Draft) where
+module _ (enclosing : List ℕ) (vs : List Value) (i : ℕ) (v : Value) (lt : i < length vs) (is : v ≡ get_or vs i v) (front : List ℕ) (ns : List Draft) where
   here : drop i vs ≡ v ∷ drop (i + 1) vs
   here = drop-cons vs i v lt ∙ rw (← is, add-one i)
 
-  pub members-on : (n : ℕ) (ms : List Draft) → run (walk (view v)) space ns ≡ Ok (n, ms)
-      → behind front (run (members (items_view (drop i vs))) space ns) ≡ behind (front ++ n ∷ []) (run (members (items_view (drop (i + 1) vs))) space ms)
-  members-on n ms e = rw (here, run-item (view v) (items_view (drop (i + 1) vs)) space ns, e) (behind-one front n (run (members (items_view (drop (i + 1) vs))) space ms))
+  pub members-on : (n : ℕ) (ms : List Draft) → run (walk (view v)) enclosing ns ≡ Ok (n, ms)
+      → behind front (run (members (items_view (drop i vs))) enclosing ns) ≡ behind (front ++ n ∷ []) (run (members (items_view (drop (i + 1) vs))) enclosing ms)
+  members-on n ms e = rw (here, run-item (view v) (items_view (drop (i + 1) vs)) enclosing ns, e) (behind-one front n (run (members (items_view (drop (i + 1) vs))) enclosing ms))
 
-  pub members-fail : (e : SchemaError) → run (walk (view v)) space ns ≡ Err e → behind front (run (members (items_view (drop i vs))) space ns) ≡ Err e
-  members-fail e is_err = rw (here, run-item (view v) (items_view (drop (i + 1) vs)) space ns, is_err) refl
+  pub members-fail : (e : SchemaError) → run (walk (view v)) enclosing ns ≡ Err e → behind front (run (members (items_view (drop i vs))) enclosing ns) ≡ Err e
+  members-fail e is_err = rw (here, run-item (view v) (items_view (drop (i + 1) vs)) enclosing ns, is_err) refl
 
-pub members-end : (space : List ℕ) (vs : List Value) (i : ℕ) → length vs ≤ i → (front : List ℕ) (ns : List Draft) → behind front (run (members (items_view (drop i vs))) space ns) ≡ Ok (front, ns)
+pub members-end : (enclosing : List ℕ) (vs : List Value) (i : ℕ) → length vs ≤ i → (front : List ℕ) (ns : List Draft) → behind front (run (members (items_view (drop i vs))) enclosing ns) ≡ Ok (front, ns)
 unfolding walk
-members-end space vs i le front ns = rw (drop_of_length-le vs le, run-done {A = List ℕ} [] space ns) (ap (λ xs. Ok (xs, ns)) (append-nil front))
+members-end enclosing vs i le front ns = rw (drop_of_length-le vs le, run-done {A = List ℕ} [] enclosing ns) (ap (λ xs. Ok (xs, ns)) (append-nil front))
 
 -- ---- a union
 
@@ -63,22 +63,22 @@ union_closes ns (Ok p) =
     (if_apart _ ns (length ns) p.0 p.1 ((ns ++ held ∷ []) ++ p.1) (sym (rw (append_assoc ns (held ∷ []) p.1) (set-append_seam ns held p.1 (Whole (UnionNode p.0))))))
 union_closes ns (Err e) = refl
 
-run-union : (w : Walk (List ℕ)) (space : List ℕ) (ns : List Draft) → run (union_of w) space ns ≡ (run w space (ns ++ Whole (UnionNode []) ∷ []) >>= closed_union (length ns))
+run-union : (w : Walk (List ℕ)) (enclosing : List ℕ) (ns : List Draft) → run (union_of w) enclosing ns ≡ (run w enclosing (ns ++ Whole (UnionNode []) ∷ []) >>= closed_union (length ns))
 unfolding run union_of
-run-union w space ns = rw (heads_of-append ns (Whole (UnionNode []) ∷ [])) (union_closes ns (w space (heads_of ns ++ UnionHead ∷ [])))
+run-union w enclosing ns = rw (heads_of-append ns (Whole (UnionNode []) ∷ [])) (union_closes ns (w enclosing (heads_of ns ++ UnionHead ∷ [])))
 
-module _ (w : Walk (List ℕ)) (space : List ℕ) (ks : List rust.Draft) (room : length ks < most_nodes) where
-  whole_union : run (if_room (union_of w)) space (drafts_of ks) ≡ (run w space (drafts_of ks ++ Whole (UnionNode []) ∷ []) >>= closed_union (length ks))
-  whole_union = run-if_room (union_of w) space ks room ∙ run-union w space (drafts_of ks) ∙ rw (length-drafts_of ks) refl
+module _ (w : Walk (List ℕ)) (enclosing : List ℕ) (ks : List rust.Draft) (room : length ks < most_nodes) where
+  whole_union : run (if_room (union_of w)) enclosing (drafts_of ks) ≡ (run w enclosing (drafts_of ks ++ Whole (UnionNode []) ∷ []) >>= closed_union (length ks))
+  whole_union = run-if_room (union_of w) enclosing ks room ∙ run-union w enclosing (drafts_of ks) ∙ rw (length-drafts_of ks) refl
 
-  pub union-failed : (x : SchemaError) → run w space (drafts_of ks ++ Whole (UnionNode []) ∷ []) ≡ Err x → run (if_room (union_of w)) space (drafts_of ks) ≡ Err x
+  pub union-failed : (x : SchemaError) → run w enclosing (drafts_of ks ++ Whole (UnionNode []) ∷ []) ≡ Err x → run (if_room (union_of w)) enclosing (drafts_of ks) ≡ Err x
   union-failed x e = whole_union ∙ rw e refl
 
-  pub union-bad : (ms : List ℕ) (ls : List Draft) → run w space (drafts_of ks ++ Whole (UnionNode []) ∷ []) ≡ Ok (ms, ls) → false ≡ are_apart [] (map (head_at (heads_of ls)) ms) → run (if_room (union_of w)) space (drafts_of ks) ≡ Err BadUnion
+  pub union-bad : (ms : List ℕ) (ls : List Draft) → run w enclosing (drafts_of ks ++ Whole (UnionNode []) ∷ []) ≡ Ok (ms, ls) → false ≡ are_apart [] (map (head_at (heads_of ls)) ms) → run (if_room (union_of w)) enclosing (drafts_of ks) ≡ Err BadUnion
   union-bad ms ls e bad = whole_union ∙ rw (e, ← bad) refl
 
-  pub union-done : (ms : List ℕ) (ls : List Draft) → run w space (drafts_of ks ++ Whole (UnionNode []) ∷ []) ≡ Ok (ms, ls) → true ≡ are_apart [] (map (head_at (heads_of ls)) ms)
-      → run (if_room (union_of w)) space (drafts_of ks) ≡ Ok (length ks, set ls (length ks) (Whole (UnionNode ms)))
+  pub union-done : (ms : List ℕ) (ls : List Draft) → run w enclosing (drafts_of ks ++ Whole (UnionNode []) ∷ []) ≡ Ok (ms, ls) → true ≡ are_apart [] (map (head_at (heads_of ls)) ms)
+      → run (if_room (union_of w)) enclosing (drafts_of ks) ≡ Ok (length ks, set ls (length ks) (Whole (UnionNode ms)))
   union-done ms ls e good = whole_union ∙ rw (e, ← good) refl
 
 -- the nodes, with a union that has no members yet

@@ -13,7 +13,7 @@ use Rattle.avro_schema.specs.declared.draft.Draft as rust
 use Rattle.avro_schema.specs.Draft.{draft_of, drafts_of}
 use Rattle.avro_schema.specs.FullNames.{has_dot, inside, is_full_name, namespace_of}
 use Rattle.avro_schema.specs.Head.{Head, Named, defined_at, head_of, heads_of}
-use Rattle.avro_schema.specs.Index.{IsIndexOf, number_of, spaces_of, with_space}
+use Rattle.avro_schema.specs.Index.{IsIndexOf, number_of, namespaces_of, with_namespace}
 use Rattle.avro_schema.specs.SymbolIndex.{is_used}
 use Rattle.avro_schema.proofs.Booleans.{false_by, no_true, none_some, same_number, some_inside}
 use Rattle.avro_schema.proofs.Dots.{namespace-inside}
@@ -22,7 +22,7 @@ use Rattle.avro_schema.proofs.Index.{defined-behind, heads-behind, inside-apart,
 use Rattle.avro_schema.proofs.IndexSteps.{once-behind}
 use Rattle.avro_schema.proofs.NewNames.{begins-unruled}
 use Rattle.avro_schema.proofs.Runs.{length-drafts_of, length-heads_of}
-use Rattle.avro_schema.proofs.Spaces.{at-last, last_not, none-used, number-behind, number-none, or_last, spaceless, spaces-numbered, spaces-one}
+use Rattle.avro_schema.proofs.Namespaces.{at-last, last_not, none-used, number-behind, number-none, or_last, spaceless, namespaces-numbered, namespaces-one}
 
 -- ---- lists, with one element set
 
@@ -44,18 +44,18 @@ at-end (y ∷ xs) x = at-end xs x
 
 -- ---- the namespace of one more name
 
-pub used-at : (s : List ℕ) (spaces : List (List ℕ)) (n : ℕ) → number_of s spaces ≡ Some n → is_used s spaces ≡ true
-used-at s spaces n e = at (is_used s spaces) refl
+pub used-at : (s : List ℕ) (namespaces : List (List ℕ)) (n : ℕ) → number_of s namespaces ≡ Some n → is_used s namespaces ≡ true
+used-at s namespaces n e = at (is_used s namespaces) refl
   where
-    at : (b : Bool) → is_used s spaces ≡ b → b ≡ true
+    at : (b : Bool) → is_used s namespaces ≡ b → b ≡ true
     at true t = refl
-    at false t = absurd (none_some n (sym (number-none s spaces t) ∙ e))
+    at false t = absurd (none_some n (sym (number-none s namespaces t) ∙ e))
 
-with-same : (spaces : List (List ℕ)) (full : List ℕ) → is_used (namespace_of full) spaces ≡ true → with_space spaces (Named full) ≡ spaces
-with-same spaces full e = rw e refl
+with-same : (namespaces : List (List ℕ)) (full : List ℕ) → is_used (namespace_of full) namespaces ≡ true → with_namespace namespaces (Named full) ≡ namespaces
+with-same namespaces full e = rw e refl
 
-with-new : (spaces : List (List ℕ)) (full : List ℕ) → is_used (namespace_of full) spaces ≡ false → with_space spaces (Named full) ≡ spaces ++ namespace_of full ∷ []
-with-new spaces full e = rw e refl
+with-new : (namespaces : List (List ℕ)) (full : List ℕ) → is_used (namespace_of full) namespaces ≡ false → with_namespace namespaces (Named full) ≡ namespaces ++ namespace_of full ∷ []
+with-new namespaces full e = rw e refl
 
 -- ---- one more name
 
@@ -101,86 +101,86 @@ module _ (namespace last : List ℕ) (none : has_dot last ≡ false) (ruled : is
       ∙ sym (defined-now (inside namespace other) ∙ rw (same, n, ← is) refl)
 
   -- what a scope of another namespace finds
-  found-other : (space other : List ℕ) → has_dot other ≡ false → (namespace ≡ space → ⊥) → defined_at (inside space other) (heads_of (drafts_of ks)) ≡ defined_at (inside space other) (heads_of (drafts_of ls))
-  found-other space other also apart = sym (defined-apart (inside space other) (inside-apart full space other also (λ e. apart (sym (namespace-inside namespace last none) ∙ e))))
+  found-other : (enclosing other : List ℕ) → has_dot other ≡ false → (namespace ≡ enclosing → ⊥) → defined_at (inside enclosing other) (heads_of (drafts_of ks)) ≡ defined_at (inside enclosing other) (heads_of (drafts_of ls))
+  found-other enclosing other also apart = sym (defined-apart (inside enclosing other) (inside-apart full enclosing other also (λ e. apart (sym (namespace-inside namespace last none) ∙ e))))
 
   -- ---- in a namespace that has a number
 
   module _ {A : Type 0} (numbers : BTreeMap (String A) ℕ) (scopes : List (BTreeMap (String A) ℕ)) (known : IsIndexOf numbers scopes ks) where
-    found-named : (number node : ℕ) (old new : BTreeMap (String A) ℕ) → slice_get (spaces_of (heads_of (drafts_of ks))) number ≡ Some namespace → slice_get scopes number ≡ Some old → node ≡ length ks
+    found-named : (number node : ℕ) (old new : BTreeMap (String A) ℕ) → slice_get (namespaces_of (heads_of (drafts_of ks))) number ≡ Some namespace → slice_get scopes number ≡ Some old → node ≡ length ks
         → UpdatesBy string_cmp (λ k. slice_cmp nat_cmp last (string_bytes k)) old new (Some node)
-        → (n : ℕ) (s other : List ℕ) (scope : BTreeMap (String A) ℕ) → slice_get (spaces_of (heads_of (drafts_of ks))) n ≡ Some s → slice_get (set scopes number new) n ≡ Some scope → has_dot other ≡ false
+        → (n : ℕ) (s other : List ℕ) (scope : BTreeMap (String A) ℕ) → slice_get (namespaces_of (heads_of (drafts_of ks))) n ≡ Some s → slice_get (set scopes number new) n ≡ Some scope → has_dot other ≡ false
         → (b : Bool) → eqb n number ≡ b → get_by_text scope other ≡ defined_at (inside s other) (heads_of (drafts_of ls))
     found-named number node old new there was is updates n s other scope here has also true t =
         let one : n ≡ number = eqb-true n number t in
-        let space : namespace ≡ s = some_inside namespace s (sym there ∙ ap (slice_get (spaces_of (heads_of (drafts_of ks)))) (sym one) ∙ here) in
+        let enclosing : namespace ≡ s = some_inside namespace s (sym there ∙ ap (slice_get (namespaces_of (heads_of (drafts_of ks)))) (sym one) ∙ here) in
         let it : new ≡ scope = set-same scopes number new scope (ap (slice_get (set scopes number new)) (sym one) ∙ has) in
-        rw (← it, ← space) (found-own old new node other also is (known.found number namespace other old there was also) updates)
+        rw (← it, ← enclosing) (found-own old new node other also is (known.found number namespace other old there was also) updates)
     found-named number node old new there was is updates n s other scope here has also false t =
         let apart : n ≡ number → ⊥ = λ e. no_true (eqb n number) (same_number n number e) t in
         known.found n s other scope here (sym (set-other scopes number n new apart) ∙ has) also
-        ∙ found-other s other also (λ e. apart (some_inside n number (sym (spaces-numbered (heads_of (drafts_of ks)) n s here) ∙ ap (λ x. number_of x (spaces_of (heads_of (drafts_of ks)))) (sym e) ∙ spaces-numbered (heads_of (drafts_of ks)) number namespace there)))
+        ∙ found-other s other also (λ e. apart (some_inside n number (sym (namespaces-numbered (heads_of (drafts_of ks)) n s here) ∙ ap (λ x. number_of x (namespaces_of (heads_of (drafts_of ks)))) (sym e) ∙ namespaces-numbered (heads_of (drafts_of ks)) number namespace there)))
 
-    pub index-named : (number node : ℕ) (old new : BTreeMap (String A) ℕ) → slice_get (spaces_of (heads_of (drafts_of ks))) number ≡ Some namespace → slice_get scopes number ≡ Some old → node ≡ length ks
+    pub index-named : (number node : ℕ) (old new : BTreeMap (String A) ℕ) → slice_get (namespaces_of (heads_of (drafts_of ks))) number ≡ Some namespace → slice_get scopes number ≡ Some old → node ≡ length ks
         → UpdatesBy string_cmp (λ k. slice_cmp nat_cmp last (string_bytes k)) old new (Some node) → IsIndexOf numbers (set scopes number new) ls
     index-named number node old new there was is updates =
         let hs = heads_of (drafts_of ks) in
         let own : namespace_of full ≡ namespace = namespace-inside namespace last none in
-        let used : is_used (namespace_of full) (spaces_of hs) ≡ true = ap (λ s. is_used s (spaces_of hs)) own ∙ used-at namespace (spaces_of hs) number (spaces-numbered hs number namespace there) in
-        let spaces : spaces_of (heads_of (drafts_of ls)) ≡ spaces_of hs = ap spaces_of all ∙ spaces-one hs (Named full) ∙ with-same (spaces_of hs) full used in
+        let used : is_used (namespace_of full) (namespaces_of hs) ≡ true = ap (λ s. is_used s (namespaces_of hs)) own ∙ used-at namespace (namespaces_of hs) number (namespaces-numbered hs number namespace there) in
+        let namespaces : namespaces_of (heads_of (drafts_of ls)) ≡ namespaces_of hs = ap namespaces_of all ∙ namespaces-one hs (Named full) ∙ with-same (namespaces_of hs) full used in
         record {
-          numbered = λ s. known.numbered s ∙ ap (number_of s) (sym spaces);
-          each_has_one = length-set scopes number new ∙ known.each_has_one ∙ ap length (sym spaces);
-          found = λ n s other scope here has also. found-named number node old new there was is updates n s other scope (ap (λ xs. slice_get xs n) (sym spaces) ∙ here) has also (eqb n number) refl;
+          numbered = λ s. known.numbered s ∙ ap (number_of s) (sym namespaces);
+          each_has_one = length-set scopes number new ∙ known.each_has_one ∙ ap length (sym namespaces);
+          found = λ n s other scope here has also. found-named number node old new there was is updates n s other scope (ap (λ xs. slice_get xs n) (sym namespaces) ∙ here) has also (eqb n number) refl;
           once = once-now known.once;
           begins_none = begins-now known.begins_none;
         }
 
     -- ---- in a namespace that is new
 
-    module _ (new : number_of namespace (spaces_of (heads_of (drafts_of ks))) ≡ None) where
-      unused : is_used namespace (spaces_of (heads_of (drafts_of ks))) ≡ false
-      unused = none-used namespace (spaces_of (heads_of (drafts_of ks))) new
+    module _ (new : number_of namespace (namespaces_of (heads_of (drafts_of ks))) ≡ None) where
+      unused : is_used namespace (namespaces_of (heads_of (drafts_of ks))) ≡ false
+      unused = none-used namespace (namespaces_of (heads_of (drafts_of ks))) new
 
-      spaces-now : spaces_of (heads_of (drafts_of ls)) ≡ spaces_of (heads_of (drafts_of ks)) ++ namespace ∷ []
-      spaces-now =
+      namespaces-now : namespaces_of (heads_of (drafts_of ls)) ≡ namespaces_of (heads_of (drafts_of ks)) ++ namespace ∷ []
+      namespaces-now =
           let hs = heads_of (drafts_of ks) in
           let own : namespace_of full ≡ namespace = namespace-inside namespace last none in
-          ap spaces_of all ∙ spaces-one hs (Named full) ∙ with-new (spaces_of hs) full (ap (λ s. is_used s (spaces_of hs)) own ∙ unused) ∙ ap (λ s. spaces_of hs ++ s ∷ []) own
+          ap namespaces_of all ∙ namespaces-one hs (Named full) ∙ with-new (namespaces_of hs) full (ap (λ s. is_used s (namespaces_of hs)) own ∙ unused) ∙ ap (λ s. namespaces_of hs ++ s ∷ []) own
 
       numbered-first : (next : BTreeMap (String A) ℕ) (number : ℕ) → number ≡ length scopes → UpdatesBy string_cmp (λ k. slice_cmp nat_cmp namespace (string_bytes k)) numbers next (Some number)
-          → (s : List ℕ) → get_by_text next s ≡ number_of s (spaces_of (heads_of (drafts_of ls)))
+          → (s : List ℕ) → get_by_text next s ≡ number_of s (namespaces_of (heads_of (drafts_of ls)))
       numbered-first next number count numbered s =
-          let spaces = spaces_of (heads_of (drafts_of ks)) in
-          let absent : bytes_eq namespace s ≡ true → number_of s spaces ≡ None = λ t. ap (λ x. number_of x spaces) (sym ((bytes_eq-Decides namespace s).0 t)) ∙ new in
+          let namespaces = namespaces_of (heads_of (drafts_of ks)) in
+          let absent : bytes_eq namespace s ≡ true → number_of s namespaces ≡ None = λ t. ap (λ x. number_of x namespaces) (sym ((bytes_eq-Decides namespace s).0 t)) ∙ new in
           btree_map_updates_text namespace numbers next (Some number) numbered s
           ∙ ap (cond (bytes_eq namespace s) (Some number)) (known.numbered s)
-          ∙ named-last (bytes_eq namespace s) (number_of s spaces) number absent
-          ∙ sym (ap (number_of s) spaces-now ∙ number-behind s spaces namespace ∙ ap (λ n. or_last (bytes_eq namespace s) n (number_of s spaces)) (sym known.each_has_one ∙ sym count))
+          ∙ named-last (bytes_eq namespace s) (number_of s namespaces) number absent
+          ∙ sym (ap (number_of s) namespaces-now ∙ number-behind s namespaces namespace ∙ ap (λ n. or_last (bytes_eq namespace s) n (number_of s namespaces)) (sym known.each_has_one ∙ sym count))
 
       found-first : (empty scope : BTreeMap (String A) ℕ) (node : ℕ) → ((s : List ℕ) → get_by_text empty s ≡ None) → node ≡ length ks → UpdatesBy string_cmp (λ k. slice_cmp nat_cmp last (string_bytes k)) empty scope (Some node)
-          → (n : ℕ) (s other : List ℕ) (found : BTreeMap (String A) ℕ) → slice_get (spaces_of (heads_of (drafts_of ks)) ++ namespace ∷ []) n ≡ Some s → slice_get (scopes ++ scope ∷ []) n ≡ Some found → has_dot other ≡ false
+          → (n : ℕ) (s other : List ℕ) (found : BTreeMap (String A) ℕ) → slice_get (namespaces_of (heads_of (drafts_of ks)) ++ namespace ∷ []) n ≡ Some s → slice_get (scopes ++ scope ∷ []) n ≡ Some found → has_dot other ≡ false
           → (b : Bool) → ltb n (length scopes) ≡ b → get_by_text found other ≡ defined_at (inside s other) (heads_of (drafts_of ls))
       found-first empty scope node void is updates n s other found here has also true lt =
           let hs = heads_of (drafts_of ks) in
           let below : n < length scopes = ltb-true n (length scopes) lt in
-          let at = sym (get-front (spaces_of hs) (namespace ∷ []) n (omega (arith, below, known.each_has_one))) ∙ here in
-          let apart : namespace ≡ s → ⊥ = λ e. none_some n (sym new ∙ ap (λ x. number_of x (spaces_of hs)) e ∙ spaces-numbered hs n s at) in
+          let at = sym (get-front (namespaces_of hs) (namespace ∷ []) n (omega (arith, below, known.each_has_one))) ∙ here in
+          let apart : namespace ≡ s → ⊥ = λ e. none_some n (sym new ∙ ap (λ x. number_of x (namespaces_of hs)) e ∙ namespaces-numbered hs n s at) in
           known.found n s other found at (sym (get-front scopes (scope ∷ []) n below) ∙ has) also ∙ found-other s other also apart
       found-first empty scope node void is updates n s other found here has also false ge =
           let hs = heads_of (drafts_of ks) in
           let past : length scopes ≤ n = ltb-false n (length scopes) ge in
-          let space = at-last (spaces_of hs) namespace n s (omega (arith, past, known.each_has_one)) here in
+          let enclosing = at-last (namespaces_of hs) namespace n s (omega (arith, past, known.each_has_one)) here in
           let it = at-last scopes scope n found past has in
-          let nowhere : defined_at (inside namespace other) hs ≡ None = spaceless (inside namespace other) hs (ap (λ x. is_used x (spaces_of hs)) (namespace-inside namespace other also) ∙ unused) in
-          rw (← it.1, ← space.1) (found-own empty scope node other also is (void other ∙ sym nowhere) updates)
+          let nowhere : defined_at (inside namespace other) hs ≡ None = spaceless (inside namespace other) hs (ap (λ x. is_used x (namespaces_of hs)) (namespace-inside namespace other also) ∙ unused) in
+          rw (← it.1, ← enclosing.1) (found-own empty scope node other also is (void other ∙ sym nowhere) updates)
 
       pub index-first : (next empty scope : BTreeMap (String A) ℕ) (number node : ℕ) → ((s : List ℕ) → get_by_text empty s ≡ None) → node ≡ length ks → number ≡ length scopes
           → UpdatesBy string_cmp (λ k. slice_cmp nat_cmp last (string_bytes k)) empty scope (Some node) → UpdatesBy string_cmp (λ k. slice_cmp nat_cmp namespace (string_bytes k)) numbers next (Some number) → IsIndexOf next (scopes ++ scope ∷ []) ls
       index-first next empty scope number node void is count updates numbered = record {
         numbered = numbered-first next number count numbered;
-        each_has_one = length-append scopes (scope ∷ []) ∙ (let z : length scopes + 1 ≡ length (spaces_of (heads_of (drafts_of ls))) = omega (arith, known.each_has_one, ap length spaces-now, length-append (spaces_of (heads_of (drafts_of ks))) (namespace ∷ [])) in z);
-        found = λ n s other found here has also. found-first empty scope node void is updates n s other found (ap (λ xs. slice_get xs n) (sym spaces-now) ∙ here) has also (ltb n (length scopes)) refl;
+        each_has_one = length-append scopes (scope ∷ []) ∙ (let z : length scopes + 1 ≡ length (namespaces_of (heads_of (drafts_of ls))) = omega (arith, known.each_has_one, ap length namespaces-now, length-append (namespaces_of (heads_of (drafts_of ks))) (namespace ∷ [])) in z);
+        found = λ n s other found here has also. found-first empty scope node void is updates n s other found (ap (λ xs. slice_get xs n) (sym namespaces-now) ∙ here) has also (ltb n (length scopes)) refl;
         once = once-now known.once;
         begins_none = begins-now known.begins_none;
       }
@@ -189,7 +189,7 @@ module _ (namespace last : List ℕ) (none : has_dot last ≡ false) (ruled : is
 
 module _ {A : Type 0} (numbers : BTreeMap (String A) ℕ) (scopes : List (BTreeMap (String A) ℕ)) (ks : List rust.Draft) (known : IsIndexOf numbers scopes ks) (number : ℕ) (old new : BTreeMap (String A) ℕ)
     (was : slice_get scopes number ≡ Some old) (same : (s : List ℕ) → get_by_text new s ≡ get_by_text old s) where
-  found-put : (n : ℕ) (s other : List ℕ) (scope : BTreeMap (String A) ℕ) → slice_get (spaces_of (heads_of (drafts_of ks))) n ≡ Some s → slice_get (set scopes number new) n ≡ Some scope → has_dot other ≡ false
+  found-put : (n : ℕ) (s other : List ℕ) (scope : BTreeMap (String A) ℕ) → slice_get (namespaces_of (heads_of (drafts_of ks))) n ≡ Some s → slice_get (set scopes number new) n ≡ Some scope → has_dot other ≡ false
       → (b : Bool) → eqb n number ≡ b → get_by_text scope other ≡ defined_at (inside s other) (heads_of (drafts_of ks))
   found-put n s other scope here has also true t =
       let one : n ≡ number = eqb-true n number t in
@@ -208,8 +208,8 @@ module _ {A : Type 0} (numbers : BTreeMap (String A) ℕ) (scopes : List (BTreeM
   }
 
 -- a name in a namespace that is not there is not there
-pub fresh-first : (namespace last : List ℕ) → has_dot last ≡ false → (hs : List Head) → number_of namespace (spaces_of hs) ≡ None → defined_at (inside namespace last) hs ≡ None
-fresh-first namespace last none hs new = spaceless (inside namespace last) hs (ap (λ s. is_used s (spaces_of hs)) (namespace-inside namespace last none) ∙ none-used namespace (spaces_of hs) new)
+pub fresh-first : (namespace last : List ℕ) → has_dot last ≡ false → (hs : List Head) → number_of namespace (namespaces_of hs) ≡ None → defined_at (inside namespace last) hs ≡ None
+fresh-first namespace last none hs new = spaceless (inside namespace last) hs (ap (λ s. is_used s (namespaces_of hs)) (namespace-inside namespace last none) ∙ none-used namespace (namespaces_of hs) new)
 
 -- ---- what a push that did not fail leaves
 
@@ -218,6 +218,6 @@ pushed-all true failed xs ys zs e n f = e
 pushed-all false failed xs ys zs e n f = absurd (let no : ⊥ = let t = n ∙ ap not f in cc in no)
 
 -- the number of the next namespace
-pub first-number : (hs : List Head) (full : List ℕ) → number_of (namespace_of full) (spaces_of hs) ≡ None → slice_get (spaces_of (hs ++ Named full ∷ [])) (length (spaces_of hs)) ≡ Some (namespace_of full)
+pub first-number : (hs : List Head) (full : List ℕ) → number_of (namespace_of full) (namespaces_of hs) ≡ None → slice_get (namespaces_of (hs ++ Named full ∷ [])) (length (namespaces_of hs)) ≡ Some (namespace_of full)
 first-number hs full new =
-    ap (λ s. slice_get s (length (spaces_of hs))) (spaces-one hs (Named full) ∙ with-new (spaces_of hs) full (none-used (namespace_of full) (spaces_of hs) new)) ∙ at-end (spaces_of hs) (namespace_of full)
+    ap (λ s. slice_get s (length (namespaces_of hs))) (namespaces-one hs (Named full) ∙ with-new (namespaces_of hs) full (none-used (namespace_of full) (namespaces_of hs) new)) ∙ at-end (namespaces_of hs) (namespace_of full)

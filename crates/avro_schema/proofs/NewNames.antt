@@ -35,9 +35,9 @@ module _ (namespace last : List ℕ) (none : has_dot last ≡ false) where
   pub new-bad_last : (heads : List Head) → (is_name last && not (is_primitive (word_of last))) ≡ false → if_new (inside namespace last) heads ≡ Err BadName
   new-bad_last heads e = rw (by-parts, either_false (is_namespace namespace) (is_name last) (not (is_primitive (word_of last))) e) refl
 
-  module _ (heads : List Head) (space : is_namespace namespace ≡ true) (own : (is_name last && not (is_primitive (word_of last))) ≡ true) where
+  module _ (heads : List Head) (enclosing : is_namespace namespace ≡ true) (own : (is_name last && not (is_primitive (word_of last))) ≡ true) where
     by-rule : (is_full_name (inside namespace last) && not (is_primitive (word_of (unqualified (inside namespace last))))) ≡ true
-    by-rule = by-parts ∙ rw space own
+    by-rule = by-parts ∙ rw enclosing own
 
     pub new-used : is_some (defined_at (inside namespace last) heads) ≡ true → if_new (inside namespace last) heads ≡ Err Redefined
     new-used d = rw (by-rule, is_there (defined_at (inside namespace last) heads) d) refl
@@ -66,11 +66,11 @@ has-dot (c ∷ cs) back = or_true (is_dot c) (has_dot (cs ++ 46 ∷ back)) (has-
 pub dotted : (s front back : List ℕ) → s ≡ front ++ 46 ∷ back → has_dot s ≡ true
 dotted s front back e = ap has_dot e ∙ has-dot front back
 
-pub dotted-full : (space s front back : List ℕ) → s ≡ front ++ 46 ∷ back → full_name space s ≡ s
-dotted-full space s front back e = rw (dotted s front back e) refl
+pub dotted-full : (enclosing s front back : List ℕ) → s ≡ front ++ 46 ∷ back → full_name enclosing s ≡ s
+dotted-full enclosing s front back e = rw (dotted s front back e) refl
 
-pub undotted-full : (space s : List ℕ) → has_dot s ≡ false → full_name space s ≡ inside space s
-undotted-full space s e = rw e refl
+pub undotted-full : (enclosing s : List ℕ) → has_dot s ≡ false → full_name enclosing s ≡ inside enclosing s
+undotted-full enclosing s e = rw e refl
 
 pub dotted-empty : (s front back : List ℕ) → s ≡ front ++ 46 ∷ back → eqb (length front) 0 ≡ true → s ≡ 46 ∷ back
 dotted-empty s [] back e z = e
@@ -82,19 +82,19 @@ dotted-some s (c ∷ cs) back e z = e
 
 -- ---- by the attributes
 
-module _ (name namespace : Option Data) (space : List ℕ) (heads : List Head) (s : List ℕ) (is : text_of name ≡ Ok s) where
-  pub name-dotted : (front back : List ℕ) → s ≡ front ++ 46 ∷ back → new_name name namespace space heads ≡ if_new s heads
+module _ (name namespace : Option Data) (enclosing : List ℕ) (heads : List Head) (s : List ℕ) (is : text_of name ≡ Ok s) where
+  pub name-dotted : (front back : List ℕ) → s ≡ front ++ 46 ∷ back → new_name name namespace enclosing heads ≡ if_new s heads
   unfolding new_name
   name-dotted front back e = rw (is, dotted s front back e) refl
 
-  pub name-inherited : has_dot s ≡ false → namespace ≡ None → new_name name namespace space heads ≡ if_new (inside space s) heads
+  pub name-inherited : has_dot s ≡ false → namespace ≡ None → new_name name namespace enclosing heads ≡ if_new (inside enclosing s) heads
   unfolding new_name
   name-inherited none e = rw (is, none, e) refl
 
-  pub name-own : (own : List ℕ) → has_dot s ≡ false → (d : Data) → namespace ≡ Some d → text_of namespace ≡ Ok own → new_name name namespace space heads ≡ if_new (inside own s) heads
+  pub name-own : (own : List ℕ) → has_dot s ≡ false → (d : Data) → namespace ≡ Some d → text_of namespace ≡ Ok own → new_name name namespace enclosing heads ≡ if_new (inside own s) heads
   unfolding new_name
   name-own own none d e t = rw (is, none, e) (rw (rw e at t) refl)
 
-  pub name-no_space : (x : SchemaError) → has_dot s ≡ false → (d : Data) → namespace ≡ Some d → text_of namespace ≡ Err x → new_name name namespace space heads ≡ Err x
+  pub name-no_space : (x : SchemaError) → has_dot s ≡ false → (d : Data) → namespace ≡ Some d → text_of namespace ≡ Err x → new_name name namespace enclosing heads ≡ Err x
   unfolding new_name
   name-no_space x none d e t = rw (is, none, e) (rw (rw e at t) refl)

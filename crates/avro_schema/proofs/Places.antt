@@ -20,11 +20,11 @@ Placed P heads (Err e) = Unit {0}
 
 -- so in a namespace, from any heads on
 abbrev pub Places : {A : Type 0} → (List Draft → A → Type 0) → List ℕ → Walk A → Type 0
-Places P space w = (heads : List Head) → Placed P heads (w space heads)
+Places P enclosing w = (heads : List Head) → Placed P heads (w enclosing heads)
 
 abbrev pub PlacesIf : {A : Type 0} → (List Draft → A → Type 0) → List ℕ → Option (Walk A) → Type 0
-PlacesIf P space None = Unit {0}
-PlacesIf P space (Some w) = Places P space w
+PlacesIf P enclosing None = Unit {0}
+PlacesIf P enclosing (Some w) = Places P enclosing w
 
 -- ---- one after another
 
@@ -37,18 +37,18 @@ front_at P Q heads p (Ok q) f g = λ before after same.
     subst (λ ds. Q ds q.0) (sym all) (on (f before (q.1 ++ after) same))
 front_at P Q heads p (Err e) f g = tt
 
-bind_at : {A B : Type 0} (P : List Draft → A → Type 0) (Q : List Draft → B → Type 0) (rest : A → Walk B) (space : List ℕ) (heads : List Head) (r : Result (A × List Draft) SchemaError)
-    → Placed P heads r → ((a : A) → Places (λ ds b. P ds a → Q ds b) space (rest a)) → Placed Q heads (r >>= λ p. added p.1 (rest p.0 space (heads ++ heads_of p.1)))
-bind_at P Q rest space heads (Ok p) f g = front_at P Q heads p (rest p.0 space (heads ++ heads_of p.1)) f (g p.0 (heads ++ heads_of p.1))
-bind_at P Q rest space heads (Err e) f g = tt
+bind_at : {A B : Type 0} (P : List Draft → A → Type 0) (Q : List Draft → B → Type 0) (rest : A → Walk B) (enclosing : List ℕ) (heads : List Head) (r : Result (A × List Draft) SchemaError)
+    → Placed P heads r → ((a : A) → Places (λ ds b. P ds a → Q ds b) enclosing (rest a)) → Placed Q heads (r >>= λ p. added p.1 (rest p.0 enclosing (heads ++ heads_of p.1)))
+bind_at P Q rest enclosing heads (Ok p) f g = front_at P Q heads p (rest p.0 enclosing (heads ++ heads_of p.1)) f (g p.0 (heads ++ heads_of p.1))
+bind_at P Q rest enclosing heads (Err e) f g = tt
 
-pub places-bind : {A B : Type 0} (P : List Draft → A → Type 0) (Q : List Draft → B → Type 0) (space : List ℕ) (w : Walk A) (rest : A → Walk B)
-    → Places P space w → ((a : A) → Places (λ ds b. P ds a → Q ds b) space (rest a)) → Places Q space (followed_by w rest)
+pub places-bind : {A B : Type 0} (P : List Draft → A → Type 0) (Q : List Draft → B → Type 0) (enclosing : List ℕ) (w : Walk A) (rest : A → Walk B)
+    → Places P enclosing w → ((a : A) → Places (λ ds b. P ds a → Q ds b) enclosing (rest a)) → Places Q enclosing (followed_by w rest)
 unfolding followed_by
-places-bind P Q space w rest f g heads = bind_at P Q rest space heads (w space heads) (f heads) g
+places-bind P Q enclosing w rest f g heads = bind_at P Q rest enclosing heads (w enclosing heads) (f heads) g
 
-pub places-done : {A : Type 0} (P : List Draft → A → Type 0) (space : List ℕ) (a : A) → ((ds : List Draft) → P ds a) → Places P space (done a)
-places-done P space a h heads = λ before after same. h _
+pub places-done : {A : Type 0} (P : List Draft → A → Type 0) (enclosing : List ℕ) (a : A) → ((ds : List Draft) → P ds a) → Places P enclosing (done a)
+places-done P enclosing a h heads = λ before after same. h _
 
 -- a step that adds no node, and what comes of it
 pub placed-given : {A B : Type 0} (P : List Draft → B → Type 0) (heads : List Head) (r : Result A SchemaError) (f : A → Result (B × List Draft) SchemaError) → ((a : A) → r ≡ Ok a → Placed P heads (f a)) → Placed P heads (r >>= f)
@@ -61,13 +61,13 @@ placed-map : {A : Type 0} (P Q : List Draft → A → Type 0) → ((ds : List Dr
 placed-map P Q f heads (Ok p) h = λ before after same. f _ p.0 (h before after same)
 placed-map P Q f heads (Err e) h = tt
 
-places_if-map : {A : Type 0} (P Q : List Draft → A → Type 0) → ((ds : List Draft) (a : A) → P ds a → Q ds a) → (space : List ℕ) (o : Option (Walk A)) → PlacesIf P space o → PlacesIf Q space o
-places_if-map P Q f space None h = tt
-places_if-map P Q f space (Some w) h = λ heads. placed-map P Q f heads (w space heads) (h heads)
+places_if-map : {A : Type 0} (P Q : List Draft → A → Type 0) → ((ds : List Draft) (a : A) → P ds a → Q ds a) → (enclosing : List ℕ) (o : Option (Walk A)) → PlacesIf P enclosing o → PlacesIf Q enclosing o
+places_if-map P Q f enclosing None h = tt
+places_if-map P Q f enclosing (Some w) h = λ heads. placed-map P Q f heads (w enclosing heads) (h heads)
 
-pub places-or : {A : Type 0} (P : List Draft → A → Type 0) (space : List ℕ) (o : Option (Walk A)) → PlacesIf P space o → Places P space (or_unknown o)
-places-or P space None h heads = tt
-places-or P space (Some w) h heads = h heads
+pub places-or : {A : Type 0} (P : List Draft → A → Type 0) (enclosing : List ℕ) (o : Option (Walk A)) → PlacesIf P enclosing o → Places P enclosing (or_unknown o)
+places-or P enclosing None h heads = tt
+places-or P enclosing (Some w) h heads = h heads
 
 pub placed-if : {A : Type 0} (P : List Draft → A → Type 0) (heads : List Head) (b : Bool) (r : Result (A × List Draft) SchemaError) (e : SchemaError) → Placed P heads r → Placed P heads (cond b r (Err e))
 placed-if P heads true r e f = f
@@ -108,8 +108,8 @@ other_key : (k l : List ℕ) (o : Ordering) → slice_cmp nat_cmp k l ≡ o → 
 other_key k l o e apart same = true≢false (sym ((bytes_eq-Decides k l).1 same) ∙ sym (is_eq-slice_cmp k l) ∙ ap is_eq e ∙ apart)
 
 -- Q of a key's own value, P of the others'
-module _ {A : Type 0} (P Q R : List Draft → A → Type 0) (k l : List ℕ) (other : k ≢ l → (ds : List Draft) (a : A) → P ds a → R ds a) (own : k ≡ l → (ds : List Draft) (a : A) → Q ds a → R ds a) (space : List ℕ) where
-  pub if_found : (o : Ordering) → slice_cmp nat_cmp k l ≡ o → (rest : Option (Walk A)) (w : Walk A) → PlacesIf P space rest → Places Q space w → PlacesIf R space (match_ordering o rest (Some w) rest)
-  if_found Less e rest w f g = places_if-map P R (other (other_key k l Less e refl)) space rest f
-  if_found Equal e rest w f g = λ heads. placed-map Q R (own (same_key k l e)) heads (w space heads) (g heads)
-  if_found Greater e rest w f g = places_if-map P R (other (other_key k l Greater e refl)) space rest f
+module _ {A : Type 0} (P Q R : List Draft → A → Type 0) (k l : List ℕ) (other : k ≢ l → (ds : List Draft) (a : A) → P ds a → R ds a) (own : k ≡ l → (ds : List Draft) (a : A) → Q ds a → R ds a) (enclosing : List ℕ) where
+  pub if_found : (o : Ordering) → slice_cmp nat_cmp k l ≡ o → (rest : Option (Walk A)) (w : Walk A) → PlacesIf P enclosing rest → Places Q enclosing w → PlacesIf R enclosing (match_ordering o rest (Some w) rest)
+  if_found Less e rest w f g = places_if-map P R (other (other_key k l Less e refl)) enclosing rest f
+  if_found Equal e rest w f g = λ heads. placed-map Q R (own (same_key k l e)) heads (w enclosing heads) (g heads)
+  if_found Greater e rest w f g = places_if-map P R (other (other_key k l Greater e refl)) enclosing rest f

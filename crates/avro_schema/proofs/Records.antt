@@ -18,32 +18,32 @@ use Rattle.avro_schema.specs.Walk.{Walk, added, if_room, most_nodes, around, one
 use Rattle.avro_schema.proofs.Runs.{drafts_of-append, run-if_room, closed, unclosed}
 
 -- where a name is given, what is made of it
-named_at : {A : Type 0} (make : List ℕ → Walk A) (space : List ℕ) (ns : List Draft) (r : Result (List ℕ) SchemaError) → added ns (r >>= λ s. make s space (heads_of ns)) ≡ (r >>= λ s. run (make s) space ns)
+named_at : {A : Type 0} (make : List ℕ → Walk A) (enclosing : List ℕ) (ns : List Draft) (r : Result (List ℕ) SchemaError) → added ns (r >>= λ s. make s enclosing (heads_of ns)) ≡ (r >>= λ s. run (make s) enclosing ns)
 unfolding run
-named_at make space ns (Ok s) = refl
-named_at make space ns (Err e) = refl
+named_at make enclosing ns (Ok s) = refl
+named_at make enclosing ns (Err e) = refl
 
 -- ---- records
 
-module _ (name namespace : Option Data) (fields : Option (Walk (List DraftField))) (space : List ℕ) (ks : List rust.Draft) where
+module _ (name namespace : Option Data) (fields : Option (Walk (List DraftField))) (enclosing : List ℕ) (ks : List rust.Draft) where
   record_at : (r : Result (List ℕ) SchemaError) → added (drafts_of ks) (r >>= λ s. around (RecordDraft s) (Named s) (or_unknown fields) (namespace_of s) (heads_of (drafts_of ks)))
       ≡ (r >>= λ s. run (around (RecordDraft s) (Named s) (or_unknown fields)) (namespace_of s) (drafts_of ks))
   unfolding run
   record_at (Ok s) = refl
   record_at (Err e) = refl
 
-  pub run-record : length ks < most_nodes → run (if_room (record_of name namespace fields)) space (drafts_of ks)
-      ≡ (new_name name namespace space (heads_of (drafts_of ks)) >>= λ s. run (around (RecordDraft s) (Named s) (or_unknown fields)) (namespace_of s) (drafts_of ks))
+  pub run-record : length ks < most_nodes → run (if_room (record_of name namespace fields)) enclosing (drafts_of ks)
+      ≡ (new_name name namespace enclosing (heads_of (drafts_of ks)) >>= λ s. run (around (RecordDraft s) (Named s) (or_unknown fields)) (namespace_of s) (drafts_of ks))
   unfolding record_of run
-  run-record room = run-if_room (record_of name namespace fields) space ks room ∙ record_at (new_name name namespace space (heads_of (drafts_of ks)))
+  run-record room = run-if_room (record_of name namespace fields) enclosing ks room ∙ record_at (new_name name namespace enclosing (heads_of (drafts_of ks)))
 
-  module _ (room : length ks < most_nodes) (s : List ℕ) (is : new_name name namespace space (heads_of (drafts_of ks)) ≡ Ok s) where
+  module _ (room : length ks < most_nodes) (s : List ℕ) (is : new_name name namespace enclosing (heads_of (drafts_of ks)) ≡ Ok s) where
     pub record-done : (fs : List DraftField) (ms : List Draft) → run (or_unknown fields) (namespace_of s) (drafts_of ks ++ RecordDraft s [] ∷ []) ≡ Ok (fs, ms)
-        → run (if_room (record_of name namespace fields)) space (drafts_of ks) ≡ Ok (length ks, set ms (length ks) (RecordDraft s fs))
+        → run (if_room (record_of name namespace fields)) enclosing (drafts_of ks) ≡ Ok (length ks, set ms (length ks) (RecordDraft s fs))
     record-done fs ms e = run-record room ∙ rw is (closed (λ fs. RecordDraft s fs) (RecordDraft s []) (or_unknown fields) (namespace_of s) ks fs ms e)
 
     pub record-failed : (x : SchemaError) → run (or_unknown fields) (namespace_of s) (drafts_of ks ++ RecordDraft s [] ∷ []) ≡ Err x
-        → run (if_room (record_of name namespace fields)) space (drafts_of ks) ≡ Err x
+        → run (if_room (record_of name namespace fields)) enclosing (drafts_of ks) ≡ Err x
     record-failed x e = run-record room ∙ rw is (unclosed (λ fs. RecordDraft s fs) (RecordDraft s []) (or_unknown fields) (namespace_of s) ks x e)
 
 -- the nodes, with a record that has no fields yet
@@ -62,22 +62,22 @@ bind-same : {A B : Type 0} (r : Result A SchemaError) (f g : A → Result B Sche
 bind-same (Ok a) f g h = h a
 bind-same (Err e) f g h = refl
 
-module _ (name namespace : Option Data) (space : List ℕ) (ks : List rust.Draft) (room : length ks < most_nodes) where
-  pub run-enum : (symbols default : Option Data) → run (if_room (enum_of name namespace symbols default)) space (drafts_of ks)
-      ≡ (new_name name namespace space (heads_of (drafts_of ks)) >>= λ s. symbols_of symbols >>= λ ss. default_symbol ss default >>= λ n. run (one_node (Whole (EnumNode s ss n))) space (drafts_of ks))
+module _ (name namespace : Option Data) (enclosing : List ℕ) (ks : List rust.Draft) (room : length ks < most_nodes) where
+  pub run-enum : (symbols default : Option Data) → run (if_room (enum_of name namespace symbols default)) enclosing (drafts_of ks)
+      ≡ (new_name name namespace enclosing (heads_of (drafts_of ks)) >>= λ s. symbols_of symbols >>= λ ss. default_symbol ss default >>= λ n. run (one_node (Whole (EnumNode s ss n))) enclosing (drafts_of ks))
   unfolding enum_of run
   run-enum symbols default =
-      run-if_room (enum_of name namespace symbols default) space ks room
-      ∙ added-bind (drafts_of ks) (new_name name namespace space (heads_of (drafts_of ks))) _
-      ∙ bind-same (new_name name namespace space (heads_of (drafts_of ks))) _ _ (λ s.
+      run-if_room (enum_of name namespace symbols default) enclosing ks room
+      ∙ added-bind (drafts_of ks) (new_name name namespace enclosing (heads_of (drafts_of ks))) _
+      ∙ bind-same (new_name name namespace enclosing (heads_of (drafts_of ks))) _ _ (λ s.
       added-bind (drafts_of ks) (symbols_of symbols) _
       ∙ bind-same (symbols_of symbols) _ _ (λ ss.
       added-bind (drafts_of ks) (default_symbol ss default) _))
 
-  pub run-fixed : (size : Option Data) → run (if_room (fixed_of name namespace size)) space (drafts_of ks)
-      ≡ (new_name name namespace space (heads_of (drafts_of ks)) >>= λ s. size_of size >>= λ n. run (one_node (Whole (FixedNode s n))) space (drafts_of ks))
+  pub run-fixed : (size : Option Data) → run (if_room (fixed_of name namespace size)) enclosing (drafts_of ks)
+      ≡ (new_name name namespace enclosing (heads_of (drafts_of ks)) >>= λ s. size_of size >>= λ n. run (one_node (Whole (FixedNode s n))) enclosing (drafts_of ks))
   unfolding fixed_of run
   run-fixed size =
-      run-if_room (fixed_of name namespace size) space ks room
-      ∙ added-bind (drafts_of ks) (new_name name namespace space (heads_of (drafts_of ks))) _
-      ∙ bind-same (new_name name namespace space (heads_of (drafts_of ks))) _ _ (λ s. added-bind (drafts_of ks) (size_of size) _)
+      run-if_room (fixed_of name namespace size) enclosing ks room
+      ∙ added-bind (drafts_of ks) (new_name name namespace enclosing (heads_of (drafts_of ks))) _
+      ∙ bind-same (new_name name namespace enclosing (heads_of (drafts_of ks))) _ _ (λ s. added-bind (drafts_of ks) (size_of size) _)

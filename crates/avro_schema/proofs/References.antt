@@ -7,10 +7,10 @@ use Rattle.avro_schema.specs.Head.{defined_at, heads_of}
 use Rattle.avro_schema.specs.FullNames.{full_name}
 use Rattle.avro_schema.specs.Walk.{added, found, reference}
 
-pub refers : (text space : List ℕ) (ns : List Draft) (n : ℕ) → defined_at (full_name space text) (heads_of ns) ≡ Some n → run (reference text) space ns ≡ Ok (n, ns)
+pub refers : (text enclosing : List ℕ) (ns : List Draft) (n : ℕ) → defined_at (full_name enclosing text) (heads_of ns) ≡ Some n → run (reference text) enclosing ns ≡ Ok (n, ns)
 unfolding reference run
-refers text space ns n e = ap (λ o. added ns (found o)) e ∙ ap (λ ms. Ok (n, ms)) (append-nil ns)
+refers text enclosing ns n e = ap (λ o. added ns (found o)) e ∙ ap (λ ms. Ok (n, ms)) (append-nil ns)
 
-pub refers_not : (text space : List ℕ) (ns : List Draft) → defined_at (full_name space text) (heads_of ns) ≡ None → run (reference text) space ns ≡ Err Unknown
+pub refers_not : (text enclosing : List ℕ) (ns : List Draft) → defined_at (full_name enclosing text) (heads_of ns) ≡ None → run (reference text) enclosing ns ≡ Err Unknown
 unfolding reference run
-refers_not text space ns e = ap (λ o. added ns (found o)) e
+refers_not text enclosing ns e = ap (λ o. added ns (found o)) e

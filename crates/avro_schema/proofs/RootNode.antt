@@ -33,30 +33,30 @@ IsFirst (Err e) = Unit {0}
 
 abbrev IsFirstIf : Option (Walk ℕ) → Type 0
 IsFirstIf None = Unit {0}
-IsFirstIf (Some w) = (space : List ℕ) → IsFirst (w space [])
+IsFirstIf (Some w) = (enclosing : List ℕ) → IsFirst (w enclosing [])
 
 first-given : {A : Type 0} (r : Result A SchemaError) (f : A → Result (ℕ × List Draft) SchemaError) → ((a : A) → IsFirst (f a)) → IsFirst (r >>= f)
 first-given (Ok a) f h = h a
 first-given (Err e) f h = tt
 
-first-or : (o : Option (Walk ℕ)) → IsFirstIf o → (space : List ℕ) → IsFirst (or_unknown o space [])
-first-or None f space = tt
-first-or (Some w) f space = f space
+first-or : (o : Option (Walk ℕ)) → IsFirstIf o → (enclosing : List ℕ) → IsFirst (or_unknown o enclosing [])
+first-or None f enclosing = tt
+first-or (Some w) f enclosing = f enclosing
 
 -- ---- what a text names
 
-first-leaf : (o : Option Node) (s space : List ℕ) → IsFirst (leaf_or_reference o s space [])
+first-leaf : (o : Option Node) (s enclosing : List ℕ) → IsFirst (leaf_or_reference o s enclosing [])
 unfolding reference defined_at
-first-leaf None s space = tt
-first-leaf (Some k) s space = refl
+first-leaf None s enclosing = tt
+first-leaf (Some k) s enclosing = refl
 
-kept_at : (b : Bool) (e : SchemaError) (s space : List ℕ) → IsFirst (cond b (fault e) (leaf_or_reference (leaf_of (word_of s)) s) space [])
-kept_at true e s space = tt
-kept_at false e s space = first-leaf (leaf_of (word_of s)) s space
+kept_at : (b : Bool) (e : SchemaError) (s enclosing : List ℕ) → IsFirst (cond b (fault e) (leaf_or_reference (leaf_of (word_of s)) s) enclosing [])
+kept_at true e s enclosing = tt
+kept_at false e s enclosing = first-leaf (leaf_of (word_of s)) s enclosing
 
-first-named : (s space : List ℕ) → IsFirst (named s space [])
+first-named : (s enclosing : List ℕ) → IsFirst (named s enclosing [])
 unfolding named
-first-named s space = kept_at (is_left_out (word_of s)) _ s space
+first-named s enclosing = kept_at (is_left_out (word_of s)) _ s enclosing
 
 -- ---- unions and objects
 
@@ -64,36 +64,36 @@ first-apart : (b : Bool) (ds : List Draft) → IsFirst (cond b (Ok (0, ds)) (Err
 first-apart true ds = refl
 first-apart false ds = tt
 
-first-union : (w : Walk (List ℕ)) (space : List ℕ) → IsFirst (union_of w space [])
+first-union : (w : Walk (List ℕ)) (enclosing : List ℕ) → IsFirst (union_of w enclosing [])
 unfolding union_of
-first-union w space = first-given (w space (UnionHead ∷ [])) _ (λ p. first-apart (are_apart [] (map (head_at ((UnionHead ∷ []) ++ heads_of p.1)) p.0)) _)
+first-union w enclosing = first-given (w enclosing (UnionHead ∷ [])) _ (λ p. first-apart (are_apart [] (map (head_at ((UnionHead ∷ []) ++ heads_of p.1)) p.0)) _)
 
-first-around : {A : Type 0} (make : A → Draft) (head : Head) (w : Walk A) (space : List ℕ) → IsFirst (around make head w space [])
+first-around : {A : Type 0} (make : A → Draft) (head : Head) (w : Walk A) (enclosing : List ℕ) → IsFirst (around make head w enclosing [])
 unfolding around
-first-around make head w space = first-given (w space (head ∷ [])) _ (λ p. refl)
+first-around make head w enclosing = first-given (w enclosing (head ∷ [])) _ (λ p. refl)
 
-first-record : (name namespace : Option Data) (o : Option (Walk (List DraftField))) (space : List ℕ) → IsFirst (record_of name namespace o space [])
+first-record : (name namespace : Option Data) (o : Option (Walk (List DraftField))) (enclosing : List ℕ) → IsFirst (record_of name namespace o enclosing [])
 unfolding record_of
-first-record name namespace o space = first-given (new_name name namespace space []) _ (λ full. first-around (RecordDraft full) (Named full) (or_unknown o) (namespace_of full))
+first-record name namespace o enclosing = first-given (new_name name namespace enclosing []) _ (λ full. first-around (RecordDraft full) (Named full) (or_unknown o) (namespace_of full))
 
-first-enum : (name namespace symbols default : Option Data) (space : List ℕ) → IsFirst (enum_of name namespace symbols default space [])
+first-enum : (name namespace symbols default : Option Data) (enclosing : List ℕ) → IsFirst (enum_of name namespace symbols default enclosing [])
 unfolding enum_of
-first-enum name namespace symbols default space = first-given (new_name name namespace space []) _ (λ full. first-given (symbols_of symbols) _ (λ ss. first-given (default_symbol ss default) _ (λ n. refl)))
+first-enum name namespace symbols default enclosing = first-given (new_name name namespace enclosing []) _ (λ full. first-given (symbols_of symbols) _ (λ ss. first-given (default_symbol ss default) _ (λ n. refl)))
 
-first-fixed : (name namespace size : Option Data) (space : List ℕ) → IsFirst (fixed_of name namespace size space [])
+first-fixed : (name namespace size : Option Data) (enclosing : List ℕ) → IsFirst (fixed_of name namespace size enclosing [])
 unfolding fixed_of
-first-fixed name namespace size space = first-given (new_name name namespace space []) _ (λ full. first-given (size_of size) _ (λ n. refl))
+first-fixed name namespace size enclosing = first-given (new_name name namespace enclosing []) _ (λ full. first-given (size_of size) _ (λ n. refl))
 
-first-declared : (form : Form) (value : List ℕ → Option Data) (schema : List ℕ → Option (Walk ℕ)) (fs : List ℕ → Option (Walk (List DraftField))) → ((k : List ℕ) → IsFirstIf (schema k)) → (space : List ℕ) → IsFirst (declared_by form value schema fs space [])
-first-declared forms.Record value schema fs f space = first-record _ _ _ space
-first-declared forms.Enum value schema fs f space = first-enum _ _ _ _ space
-first-declared forms.Fixed value schema fs f space = first-fixed _ _ _ space
-first-declared forms.Array value schema fs f space = first-around _ ArrayHead _ space
-first-declared forms.Map value schema fs f space = first-around _ MapHead _ space
-first-declared forms.Error value schema fs f space = tt
-first-declared forms.Other value schema fs f space = first-or (schema (codes "type")) (f (codes "type")) space
+first-declared : (form : Form) (value : List ℕ → Option Data) (schema : List ℕ → Option (Walk ℕ)) (fs : List ℕ → Option (Walk (List DraftField))) → ((k : List ℕ) → IsFirstIf (schema k)) → (enclosing : List ℕ) → IsFirst (declared_by form value schema fs enclosing [])
+first-declared forms.Record value schema fs f enclosing = first-record _ _ _ enclosing
+first-declared forms.Enum value schema fs f enclosing = first-enum _ _ _ _ enclosing
+first-declared forms.Fixed value schema fs f enclosing = first-fixed _ _ _ enclosing
+first-declared forms.Array value schema fs f enclosing = first-around _ ArrayHead _ enclosing
+first-declared forms.Map value schema fs f enclosing = first-around _ MapHead _ enclosing
+first-declared forms.Error value schema fs f enclosing = tt
+first-declared forms.Other value schema fs f enclosing = first-or (schema (codes "type")) (f (codes "type")) enclosing
 
-first_found : (o : Ordering) (r : Option (Walk ℕ)) (w : Walk ℕ) → IsFirstIf r → ((space : List ℕ) → IsFirst (w space [])) → IsFirstIf (match_ordering o r (Some w) r)
+first_found : (o : Ordering) (r : Option (Walk ℕ)) (w : Walk ℕ) → IsFirstIf r → ((enclosing : List ℕ) → IsFirst (w enclosing [])) → IsFirstIf (match_ordering o r (Some w) r)
 first_found Less r w f g = f
 first_found Equal r w f g = g
 first_found Greater r w f g = f
@@ -101,13 +101,13 @@ first_found Greater r w f g = f
 mutual
   unfolding walk
 
-  first-walk : (d : Data) (space : List ℕ) → IsFirst (walk d space [])
-  first-walk null space = tt
-  first-walk (boolean b) space = tt
-  first-walk (number n) space = tt
-  first-walk (string s) space = first-named s space
-  first-walk (array ds) space = first-union (members ds) space
-  first-walk (object ms) space = first-declared _ _ (walk_member ms) (walk_fields ms) (first-member ms) space
+  first-walk : (d : Data) (enclosing : List ℕ) → IsFirst (walk d enclosing [])
+  first-walk null enclosing = tt
+  first-walk (boolean b) enclosing = tt
+  first-walk (number n) enclosing = tt
+  first-walk (string s) enclosing = first-named s enclosing
+  first-walk (array ds) enclosing = first-union (members ds) enclosing
+  first-walk (object ms) enclosing = first-declared _ _ (walk_member ms) (walk_fields ms) (first-member ms) enclosing
 
   first-member : (ms : Members) (k : List ℕ) → IsFirstIf (walk_member ms k)
   first-member no_members k = tt

@@ -33,19 +33,19 @@ drafts_of-set [] i k = refl
 drafts_of-set (l ∷ ks) zero k = refl
 drafts_of-set (l ∷ ks) (suc i) k = ap (λ ns. draft_of l ∷ ns) (drafts_of-set ks i k)
 
-pub run-fault : {A : Type 0} (e : SchemaError) (space : List ℕ) (ns : List Draft) → run (fault {A = A} e) space ns ≡ Err e
+pub run-fault : {A : Type 0} (e : SchemaError) (enclosing : List ℕ) (ns : List Draft) → run (fault {A = A} e) enclosing ns ≡ Err e
 unfolding run
-run-fault e space ns = refl
+run-fault e enclosing ns = refl
 
 -- ---- room
 
-pub run-if_room : {A : Type 0} (w : Walk A) (space : List ℕ) (ks : List rust.Draft) → length ks < most_nodes → run (if_room w) space (drafts_of ks) ≡ run w space (drafts_of ks)
+pub run-if_room : {A : Type 0} (w : Walk A) (enclosing : List ℕ) (ks : List rust.Draft) → length ks < most_nodes → run (if_room w) enclosing (drafts_of ks) ≡ run w enclosing (drafts_of ks)
 unfolding run
-run-if_room w space ks lt = rw (length-heads_of (drafts_of ks), length-drafts_of ks, lt-ltb (length ks) 1024 lt)
+run-if_room w enclosing ks lt = rw (length-heads_of (drafts_of ks), length-drafts_of ks, lt-ltb (length ks) 1024 lt)
 
-pub run-no_room : {A : Type 0} (w : Walk A) (space : List ℕ) (ks : List rust.Draft) → most_nodes ≤ length ks → run (if_room w) space (drafts_of ks) ≡ Err TooLarge
+pub run-no_room : {A : Type 0} (w : Walk A) (enclosing : List ℕ) (ks : List rust.Draft) → most_nodes ≤ length ks → run (if_room w) enclosing (drafts_of ks) ≡ Err TooLarge
 unfolding run
-run-no_room w space ks le = rw (length-heads_of (drafts_of ks), length-drafts_of ks, le-ltb (length ks) 1024 le)
+run-no_room w enclosing ks le = rw (length-heads_of (drafts_of ks), length-drafts_of ks, le-ltb (length ks) 1024 le)
 
 -- ---- one after another
 
@@ -53,25 +53,25 @@ added-added : {A : Type 0} (front more : List Draft) (r : Result (A × List Draf
 added-added front more (Ok p) = ap (λ ns. Ok (p.0, ns)) (sym (append_assoc front more p.1))
 added-added front more (Err e) = refl
 
-follows : {A B : Type 0} (rest : A → Walk B) (space : List ℕ) (ns : List Draft) (r : Result (A × List Draft) SchemaError)
-    → added ns (r >>= λ p. added p.1 (rest p.0 space (heads_of ns ++ heads_of p.1))) ≡ (added ns r >>= λ p. added p.1 (rest p.0 space (heads_of p.1)))
-follows rest space ns (Ok p) = added-added ns p.1 _ ∙ ap (λ hs. added (ns ++ p.1) (rest p.0 space hs)) (sym (heads_of-append ns p.1))
-follows rest space ns (Err e) = refl
+follows : {A B : Type 0} (rest : A → Walk B) (enclosing : List ℕ) (ns : List Draft) (r : Result (A × List Draft) SchemaError)
+    → added ns (r >>= λ p. added p.1 (rest p.0 enclosing (heads_of ns ++ heads_of p.1))) ≡ (added ns r >>= λ p. added p.1 (rest p.0 enclosing (heads_of p.1)))
+follows rest enclosing ns (Ok p) = added-added ns p.1 _ ∙ ap (λ hs. added (ns ++ p.1) (rest p.0 enclosing hs)) (sym (heads_of-append ns p.1))
+follows rest enclosing ns (Err e) = refl
 
-pub run-followed_by : {A B : Type 0} (w : Walk A) (rest : A → Walk B) (space : List ℕ) (ns : List Draft) → run (followed_by w rest) space ns ≡ (run w space ns >>= λ p. run (rest p.0) space p.1)
+pub run-followed_by : {A B : Type 0} (w : Walk A) (rest : A → Walk B) (enclosing : List ℕ) (ns : List Draft) → run (followed_by w rest) enclosing ns ≡ (run w enclosing ns >>= λ p. run (rest p.0) enclosing p.1)
 unfolding run followed_by
-run-followed_by w rest space ns = follows rest space ns (w space (heads_of ns))
+run-followed_by w rest enclosing ns = follows rest enclosing ns (w enclosing (heads_of ns))
 
-pub run-done : {A : Type 0} (a : A) (space : List ℕ) (ns : List Draft) → run (done a) space ns ≡ Ok (a, ns)
+pub run-done : {A : Type 0} (a : A) (enclosing : List ℕ) (ns : List Draft) → run (done a) enclosing ns ≡ Ok (a, ns)
 unfolding run
-run-done a space ns = ap (λ ms. Ok (a, ms)) (append-nil ns)
+run-done a enclosing ns = ap (λ ms. Ok (a, ms)) (append-nil ns)
 
-mapped_at : {A B : Type 0} (f : A → B) (space : List ℕ) (r : Result (A × List Draft) SchemaError) → (r >>= λ p. run (done (f p.0)) space p.1) ≡ (r >>= λ p. Ok (f p.0, p.1))
-mapped_at f space (Ok p) = run-done (f p.0) space p.1
-mapped_at f space (Err e) = refl
+mapped_at : {A B : Type 0} (f : A → B) (enclosing : List ℕ) (r : Result (A × List Draft) SchemaError) → (r >>= λ p. run (done (f p.0)) enclosing p.1) ≡ (r >>= λ p. Ok (f p.0, p.1))
+mapped_at f enclosing (Ok p) = run-done (f p.0) enclosing p.1
+mapped_at f enclosing (Err e) = refl
 
-pub run-mapped : {A B : Type 0} (w : Walk A) (f : A → B) (space : List ℕ) (ns : List Draft) → run (followed_by w (λ a. done (f a))) space ns ≡ (run w space ns >>= λ p. Ok (f p.0, p.1))
-run-mapped w f space ns = run-followed_by w _ space ns ∙ mapped_at f space (run w space ns)
+pub run-mapped : {A B : Type 0} (w : Walk A) (f : A → B) (enclosing : List ℕ) (ns : List Draft) → run (followed_by w (λ a. done (f a))) enclosing ns ≡ (run w enclosing ns >>= λ p. Ok (f p.0, p.1))
+run-mapped w f enclosing ns = run-followed_by w _ enclosing ns ∙ mapped_at f enclosing (run w enclosing ns)
 
 -- ---- nodes only grow
 
@@ -86,9 +86,9 @@ grows_at : {A : Type 0} (ns : List Draft) (r : Result (A × List Draft) SchemaEr
 grows_at ns (Ok p) a ms e = omega (arith, ap length (ap all_of e), length-append ns p.1)
 grows_at ns (Err x) a ms e = absurd (ok_err x (a, ms) e)
 
-pub run-grows : {A : Type 0} (w : Walk A) (space : List ℕ) (ns : List Draft) (a : A) (ms : List Draft) → run w space ns ≡ Ok (a, ms) → length ns ≤ length ms
+pub run-grows : {A : Type 0} (w : Walk A) (enclosing : List ℕ) (ns : List Draft) (a : A) (ms : List Draft) → run w enclosing ns ≡ Ok (a, ms) → length ns ≤ length ms
 unfolding run
-run-grows w space ns a ms e = grows_at ns (w space (heads_of ns)) a ms e
+run-grows w enclosing ns a ms e = grows_at ns (w enclosing (heads_of ns)) a ms e
 
 -- a node that was put there before is there after
 head-kept : (ns : List Draft) (held : Draft) (more : List Draft) → slice_get (heads_of ((ns ++ held ∷ []) ++ more)) (length ns) ≡ Some (head_of held)
@@ -99,18 +99,18 @@ kept_at : {A : Type 0} (ns : List Draft) (held : Draft) (r : Result (A × List D
 kept_at ns held (Ok p) a ms e = let same : (ns ++ held ∷ []) ++ p.1 ≡ ms = ap all_of e in subst (λ (xs : List Draft). slice_get (heads_of xs) (length ns) ≡ Some (head_of held)) same (head-kept ns held p.1)
 kept_at ns held (Err x) a ms e = absurd (ok_err x (a, ms) e)
 
-pub run-keeps : {A : Type 0} (w : Walk A) (space : List ℕ) (ks : List rust.Draft) (held : Draft) (a : A) (ms : List Draft) → run w space (drafts_of ks ++ held ∷ []) ≡ Ok (a, ms) → slice_get (heads_of ms) (length ks) ≡ Some (head_of held)
+pub run-keeps : {A : Type 0} (w : Walk A) (enclosing : List ℕ) (ks : List rust.Draft) (held : Draft) (a : A) (ms : List Draft) → run w enclosing (drafts_of ks ++ held ∷ []) ≡ Ok (a, ms) → slice_get (heads_of ms) (length ks) ≡ Some (head_of held)
 unfolding run
-run-keeps w space ks held a ms e = subst (λ n. slice_get (heads_of ms) n ≡ Some (head_of held)) (length-drafts_of ks) (kept_at (drafts_of ks) held (w space (heads_of (drafts_of ks ++ held ∷ []))) a ms e)
+run-keeps w enclosing ks held a ms e = subst (λ n. slice_get (heads_of ms) n ≡ Some (head_of held)) (length-drafts_of ks) (kept_at (drafts_of ks) held (w enclosing (heads_of (drafts_of ks ++ held ∷ []))) a ms e)
 
 -- ---- a node without parts
 
-pub run-one : (d : Draft) (space : List ℕ) (ks : List rust.Draft) → run (one_node d) space (drafts_of ks) ≡ Ok (length ks, drafts_of ks ++ d ∷ [])
+pub run-one : (d : Draft) (enclosing : List ℕ) (ks : List rust.Draft) → run (one_node d) enclosing (drafts_of ks) ≡ Ok (length ks, drafts_of ks ++ d ∷ [])
 unfolding run
-run-one d space ks = rw (length-heads_of (drafts_of ks), length-drafts_of ks) refl
+run-one d enclosing ks = rw (length-heads_of (drafts_of ks), length-drafts_of ks) refl
 
-pub run-leaf : (n : Node) (space : List ℕ) (ks : List rust.Draft) → length ks < most_nodes → run (leaf n) space (drafts_of ks) ≡ Ok (length ks, drafts_of ks ++ Whole n ∷ [])
-run-leaf n space ks lt = run-if_room _ space ks lt ∙ run-one (Whole n) space ks
+pub run-leaf : (n : Node) (enclosing : List ℕ) (ks : List rust.Draft) → length ks < most_nodes → run (leaf n) enclosing (drafts_of ks) ≡ Ok (length ks, drafts_of ks ++ Whole n ∷ [])
+run-leaf n enclosing ks lt = run-if_room _ enclosing ks lt ∙ run-one (Whole n) enclosing ks
 
 -- the nodes, and one more
 pub pushed : (ks ls : List rust.Draft) (k : rust.Draft) → ls ≡ ks ++ k ∷ [] → drafts_of ls ≡ drafts_of ks ++ draft_of k ∷ []
@@ -124,14 +124,14 @@ closes make held ns (Ok p) = ap (λ ms. Ok (length ns, ms)) (sym (rw (append_ass
 closes make held ns (Err e) = refl
 
 -- the node is put there with no parts, and then written again
-pub run-around : {A : Type 0} (make : A → Draft) (held : Draft) (w : Walk A) (space : List ℕ) (ns : List Draft)
-    → run (around make (head_of held) w) space ns ≡ (run w space (ns ++ held ∷ []) >>= λ p. Ok (length ns, set p.1 (length ns) (make p.0)))
+pub run-around : {A : Type 0} (make : A → Draft) (held : Draft) (w : Walk A) (enclosing : List ℕ) (ns : List Draft)
+    → run (around make (head_of held) w) enclosing ns ≡ (run w enclosing (ns ++ held ∷ []) >>= λ p. Ok (length ns, set p.1 (length ns) (make p.0)))
 unfolding run around
-run-around make held w space ns = rw (length-heads_of ns, heads_of-append ns (held ∷ [])) (closes make held ns (w space (heads_of ns ++ head_of held ∷ [])))
+run-around make held w enclosing ns = rw (length-heads_of ns, heads_of-append ns (held ∷ [])) (closes make held ns (w enclosing (heads_of ns ++ head_of held ∷ [])))
 
-module _ {A : Type 0} (make : A → Draft) (held : Draft) (w : Walk A) (space : List ℕ) (ks : List rust.Draft) where
-  pub closed : (a : A) (ms : List Draft) → run w space (drafts_of ks ++ held ∷ []) ≡ Ok (a, ms) → run (around make (head_of held) w) space (drafts_of ks) ≡ Ok (length ks, set ms (length ks) (make a))
-  closed a ms e = run-around make held w space (drafts_of ks) ∙ rw (e, length-drafts_of ks) refl
+module _ {A : Type 0} (make : A → Draft) (held : Draft) (w : Walk A) (enclosing : List ℕ) (ks : List rust.Draft) where
+  pub closed : (a : A) (ms : List Draft) → run w enclosing (drafts_of ks ++ held ∷ []) ≡ Ok (a, ms) → run (around make (head_of held) w) enclosing (drafts_of ks) ≡ Ok (length ks, set ms (length ks) (make a))
+  closed a ms e = run-around make held w enclosing (drafts_of ks) ∙ rw (e, length-drafts_of ks) refl
 
-  pub unclosed : (x : SchemaError) → run w space (drafts_of ks ++ held ∷ []) ≡ Err x → run (around make (head_of held) w) space (drafts_of ks) ≡ Err x
-  unclosed x e = run-around make held w space (drafts_of ks) ∙ rw e refl
+  pub unclosed : (x : SchemaError) → run w enclosing (drafts_of ks ++ held ∷ []) ≡ Err x → run (around make (head_of held) w) enclosing (drafts_of ks) ≡ Err x
+  unclosed x e = run-around make held w enclosing (drafts_of ks) ∙ rw e refl

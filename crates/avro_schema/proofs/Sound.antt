@@ -23,7 +23,7 @@ Fine In heads (Ok p) = length heads ≤ most_nodes → (length heads + length p.
 Fine In heads (Err e) = Unit {0}
 
 abbrev pub Sound : {A : Type 0} → (List Head → List Head → A → Type 0) → Walk A → Type 0
-Sound In w = (space : List ℕ) (heads : List Head) → Fine In heads (w space heads)
+Sound In w = (enclosing : List ℕ) (heads : List Head) → Fine In heads (w enclosing heads)
 
 abbrev pub SoundIf : {A : Type 0} → (List Head → List Head → A → Type 0) → Option (Walk A) → Type 0
 SoundIf In None = Unit {0}
@@ -54,20 +54,20 @@ module _ {A B : Type 0} (In : List Head → List Head → A → Type 0) (Next : 
       )
   join_at a front (Err e) f g = tt
 
-  bind_at : (rest : A → Walk B) (space : List ℕ) (r : Result (A × List Draft) SchemaError) → Fine In heads r
-      → ((a : A) (hs : List Head) → Fine (λ start. Next a) hs (rest a space hs))
-      → Fine (λ start. Out) heads (r >>= λ p. added p.1 (rest p.0 space (heads ++ heads_of p.1)))
-  bind_at rest space (Ok p) f go = join_at p.0 p.1 (rest p.0 space (heads ++ heads_of p.1)) f (go p.0 (heads ++ heads_of p.1))
-  bind_at rest space (Err e) f go = tt
+  bind_at : (rest : A → Walk B) (enclosing : List ℕ) (r : Result (A × List Draft) SchemaError) → Fine In heads r
+      → ((a : A) (hs : List Head) → Fine (λ start. Next a) hs (rest a enclosing hs))
+      → Fine (λ start. Out) heads (r >>= λ p. added p.1 (rest p.0 enclosing (heads ++ heads_of p.1)))
+  bind_at rest enclosing (Ok p) f go = join_at p.0 p.1 (rest p.0 enclosing (heads ++ heads_of p.1)) f (go p.0 (heads ++ heads_of p.1))
+  bind_at rest enclosing (Err e) f go = tt
 
-  pub fine-bind : (w : Walk A) (rest : A → Walk B) (space : List ℕ) → Fine In heads (w space heads)
-      → ((a : A) (hs : List Head) → Fine (λ start. Next a) hs (rest a space hs))
-      → Fine (λ start. Out) heads (followed_by w rest space heads)
+  pub fine-bind : (w : Walk A) (rest : A → Walk B) (enclosing : List ℕ) → Fine In heads (w enclosing heads)
+      → ((a : A) (hs : List Head) → Fine (λ start. Next a) hs (rest a enclosing hs))
+      → Fine (λ start. Out) heads (followed_by w rest enclosing heads)
   unfolding followed_by
-  fine-bind w rest space f go = bind_at rest space (w space heads) f go
+  fine-bind w rest enclosing f go = bind_at rest enclosing (w enclosing heads) f go
 
-pub fine-done : {A : Type 0} (In : List Head → A → Type 0) (a : A) (space : List ℕ) (heads : List Head) → ((all : List Head) → In all a) → Fine (λ start. In) heads (done a space heads)
-fine-done In a space heads h = λ few. (omega (arith, few), λ all more e. (h all, tt))
+pub fine-done : {A : Type 0} (In : List Head → A → Type 0) (a : A) (enclosing : List ℕ) (heads : List Head) → ((all : List Head) → In all a) → Fine (λ start. In) heads (done a enclosing heads)
+fine-done In a enclosing heads h = λ few. (omega (arith, few), λ all more e. (h all, tt))
 
 -- ---- nodes
 
@@ -75,8 +75,8 @@ room_at : {A : Type 0} (In : List Head → List Head → A → Type 0) (heads : 
 room_at In heads true r e f = f (ltb-true (length heads) 1024 e)
 room_at In heads false r e f = tt
 
-pub sound-room : {A : Type 0} (In : List Head → List Head → A → Type 0) (w : Walk A) → ((space : List ℕ) (heads : List Head) → length heads < most_nodes → Fine In heads (w space heads)) → Sound In (if_room w)
-sound-room In w f space heads = room_at In heads (nat_lt (length heads) 1024) (w space heads) refl (f space heads)
+pub sound-room : {A : Type 0} (In : List Head → List Head → A → Type 0) (w : Walk A) → ((enclosing : List ℕ) (heads : List Head) → length heads < most_nodes → Fine In heads (w enclosing heads)) → Sound In (if_room w)
+sound-room In w f enclosing heads = room_at In heads (nat_lt (length heads) 1024) (w enclosing heads) refl (f enclosing heads)
 
 -- the new node is there
 is_new : (heads : List Head) (h : Head) (rest all more : List Head) → all ≡ (heads ++ h ∷ rest) ++ more → Gives heads all (length heads)
@@ -85,8 +85,8 @@ is_new heads h rest all more e = record {
   new = inl (omega arith);
 }
 
-pub fine-one : (d : Draft) (space : List ℕ) (heads : List Head) → length heads < most_nodes → ((all : List Head) → DraftFits all (length heads) d) → Fine Gives heads (one_node d space heads)
-fine-one d space heads room fits = λ few. (omega arith, λ all more e. (is_new heads (head_of d) [] all more e, (fits all, tt)))
+pub fine-one : (d : Draft) (enclosing : List ℕ) (heads : List Head) → length heads < most_nodes → ((all : List Head) → DraftFits all (length heads) d) → Fine Gives heads (one_node d enclosing heads)
+fine-one d enclosing heads room fits = λ few. (omega arith, λ all more e. (is_new heads (head_of d) [] all more e, (fits all, tt)))
 
 module _ {A : Type 0} (In : List Head → List Head → A → Type 0) (make : A → Draft) (head : Head) (same : (a : A) → head_of (make a) ≡ head)
     (fits : (own : List Head) (all : List Head) (a : A) → In (own ++ head ∷ []) all a → DraftFits all (length own) (make a)) where
@@ -102,13 +102,13 @@ module _ {A : Type 0} (In : List Head → List Head → A → Type 0) (make : A 
       )
   around_at heads room (Err e) f = tt
 
-  pub fine-around : (w : Walk A) (inner space : List ℕ) (heads : List Head) → length heads < most_nodes → Sound In w → Fine Gives heads (around make head w inner heads)
+  pub fine-around : (w : Walk A) (inner enclosing : List ℕ) (heads : List Head) → length heads < most_nodes → Sound In w → Fine Gives heads (around make head w inner heads)
   unfolding around
-  fine-around w inner space heads room f = around_at heads room (w inner (heads ++ head ∷ [])) (f inner (heads ++ head ∷ []))
+  fine-around w inner enclosing heads room f = around_at heads room (w inner (heads ++ head ∷ [])) (f inner (heads ++ head ∷ []))
 
 pub sound-or : {A : Type 0} (In : List Head → List Head → A → Type 0) (o : Option (Walk A)) → SoundIf In o → Sound In (or_unknown o)
-sound-or In None f space heads = tt
-sound-or In (Some w) f space heads = f space heads
+sound-or In None f enclosing heads = tt
+sound-or In (Some w) f enclosing heads = f enclosing heads
 
 pub if_found : {A : Type 0} (In : List Head → List Head → A → Type 0) (o : Ordering) (r : Option (Walk A)) (w : Walk A) → SoundIf In r → Sound In w → SoundIf In (match_ordering o r (Some w) r)
 if_found In Less r w f g = f

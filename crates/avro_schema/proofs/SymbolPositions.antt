@@ -14,7 +14,7 @@ use Rattle.avro_schema.specs.Index.{number_of}
 use Rattle.avro_schema.specs.SymbolIndex.{are_new}
 use Rattle.avro_schema.proofs.Booleans.{is_nowhere}
 use Rattle.avro_schema.proofs.NewIndex.{named-last, used-at}
-use Rattle.avro_schema.proofs.Spaces.{none-used, number-behind, number-some}
+use Rattle.avro_schema.proofs.Namespaces.{none-used, number-behind, number-some}
 use Rattle.avro_schema.proofs.Texts.{names, names-take, new-step}
 
 pub position-number : (s : List ℕ) (xs : List (List ℕ)) → position (λ other. bytes_eq other s) xs ≡ number_of s xs

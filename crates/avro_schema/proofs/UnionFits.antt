@@ -133,4 +133,4 @@ bound_at heads room (Err e) f = tt
 
 pub sound-union : (w : Walk (List ℕ)) → Sound AllBelow w → Sound Gives (if_room (union_of w))
 unfolding union_of
-sound-union w f = sound-room Gives (union_of w) (λ space heads room. bound_at heads room (w space (heads ++ UnionHead ∷ [])) (f space (heads ++ UnionHead ∷ [])))
+sound-union w f = sound-room Gives (union_of w) (λ enclosing heads room. bound_at heads room (w enclosing (heads ++ UnionHead ∷ [])) (f enclosing (heads ++ UnionHead ∷ [])))

@@ -82,7 +82,7 @@ none_distinct = tt
 -- ---- what a text names
 
 fine-leaf : (n : Node) → ((all : List Head) (own : ℕ) → DraftFits all own (Whole n)) → Sound Gives (leaf n)
-fine-leaf n fits = sound-room Gives (one_node (Whole n)) (λ space heads room. fine-one (Whole n) space heads room (λ all. fits all (length heads)))
+fine-leaf n fits = sound-room Gives (one_node (Whole n)) (λ enclosing heads room. fine-one (Whole n) enclosing heads room (λ all. fits all (length heads)))
 
 -- where a name is defined, its head is
 named_head : (full : List ℕ) (h : Head) → defines full h ≡ true → is_named_there (Some h) ≡ true
@@ -129,7 +129,7 @@ found_fine full heads (Some n) e = λ few.
 
 sound-reference : (s : List ℕ) → Sound Gives (reference s)
 unfolding reference
-sound-reference s space heads = found_fine (full_name space s) heads (defined_at (full_name space s) heads) refl
+sound-reference s enclosing heads = found_fine (full_name enclosing s) heads (defined_at (full_name enclosing s) heads) refl
 
 sound-word : (w : Word) (s : List ℕ) → Sound Gives (leaf_or_reference (leaf_of w) s)
 sound-word words.Null s = fine-leaf NullNode (λ all own. tt)
@@ -148,9 +148,9 @@ sound-word words.Map s = sound-reference s
 sound-word words.Error s = sound-reference s
 sound-word words.Other s = sound-reference s
 
-left_out : (b : Bool) (e : SchemaError) (w : Walk ℕ) → Sound Gives w → Sound Gives (cond b (λ space heads. Err e) w)
-left_out true e w f space heads = tt
-left_out false e w f space heads = f space heads
+left_out : (b : Bool) (e : SchemaError) (w : Walk ℕ) → Sound Gives w → Sound Gives (cond b (λ enclosing heads. Err e) w)
+left_out true e w f enclosing heads = tt
+left_out false e w f enclosing heads = f enclosing heads
 
 sound-named : (s : List ℕ) → Sound Gives (named s)
 unfolding named
@@ -166,10 +166,10 @@ given_fine In heads (Err e) f h = tt
 record_fits : (own all : List Head) (full : List ℕ) (fs : List DraftField) → FieldsFit [] (own ++ Named full ∷ []) all fs → DraftFits all (length own) (RecordDraft full fs)
 record_fits own all full fs h = (h.0, h.1 none_distinct)
 
-sound-record : (name namespace : Option Data) (o : Option (Walk (List DraftField))) → SoundIf (FieldsFit []) o → (space : List ℕ) (heads : List Head) → length heads < most_nodes → Fine Gives heads (record_of name namespace o space heads)
+sound-record : (name namespace : Option Data) (o : Option (Walk (List DraftField))) → SoundIf (FieldsFit []) o → (enclosing : List ℕ) (heads : List Head) → length heads < most_nodes → Fine Gives heads (record_of name namespace o enclosing heads)
 unfolding record_of
-sound-record name namespace o f space heads room = given_fine Gives heads (new_name name namespace space heads) _ (λ full is.
-    fine-around (FieldsFit []) (λ fs. RecordDraft full fs) (Named full) (λ fs. refl) (λ own all fs h. record_fits own all full fs h) (or_unknown o) (namespace_of full) space heads room (sound-or (FieldsFit []) o f))
+sound-record name namespace o f enclosing heads room = given_fine Gives heads (new_name name namespace enclosing heads) _ (λ full is.
+    fine-around (FieldsFit []) (λ fs. RecordDraft full fs) (Named full) (λ fs. refl) (λ own all fs h. record_fits own all full fs h) (or_unknown o) (namespace_of full) enclosing heads room (sound-or (FieldsFit []) o f))
 
 symbols_fit : (symbols : Option Data) (ss : List (List ℕ)) → symbols_of symbols ≡ Ok ss → IsDistinct bytes_eq ss × (length ss ≤ most_symbols)
 unfolding symbols_of
@@ -191,14 +191,14 @@ default_fits ss (Some d) n e =
     let p = bound (text_of (Some d)) _ n e in
     position_below ss (position (λ other. bytes_eq other p.0) ss) (λ other. bytes_eq other p.0) n refl p.2
 
-sound-enum : (name namespace symbols default : Option Data) (space : List ℕ) (heads : List Head) → length heads < most_nodes → Fine Gives heads (enum_of name namespace symbols default space heads)
+sound-enum : (name namespace symbols default : Option Data) (enclosing : List ℕ) (heads : List Head) → length heads < most_nodes → Fine Gives heads (enum_of name namespace symbols default enclosing heads)
 unfolding enum_of
-sound-enum name namespace symbols default space heads room =
-    given_fine Gives heads (new_name name namespace space heads) _ (λ full is.
+sound-enum name namespace symbols default enclosing heads room =
+    given_fine Gives heads (new_name name namespace enclosing heads) _ (λ full is.
     given_fine Gives heads (symbols_of symbols) _ (λ ss are.
     given_fine Gives heads (default_symbol ss default) _ (λ n at.
     let h = symbols_fit symbols ss are in
-    fine-one (Whole (EnumNode full ss n)) space heads room (λ all. (h.0, h.1, default_fits ss default n at)))))
+    fine-one (Whole (EnumNode full ss n)) enclosing heads room (λ all. (h.0, h.1, default_fits ss default n at)))))
 
 size_fits : (size : Option Data) (n : ℕ) → size_of size ≡ Ok n → n ≤ most_fixed
 size_fits None n e = absurd (let wrong : ⊥ = cc in wrong)
@@ -207,12 +207,12 @@ size_fits (Some d) n e =
     let q = required _ _ _ n p.2 in
     subst (λ k. k ≤ most_fixed) (ok_inside p.0 n q.1) (leb-true p.0 1048576 q.0)
 
-sound-fixed : (name namespace size : Option Data) (space : List ℕ) (heads : List Head) → length heads < most_nodes → Fine Gives heads (fixed_of name namespace size space heads)
+sound-fixed : (name namespace size : Option Data) (enclosing : List ℕ) (heads : List Head) → length heads < most_nodes → Fine Gives heads (fixed_of name namespace size enclosing heads)
 unfolding fixed_of
-sound-fixed name namespace size space heads room =
-    given_fine Gives heads (new_name name namespace space heads) _ (λ full is.
+sound-fixed name namespace size enclosing heads room =
+    given_fine Gives heads (new_name name namespace enclosing heads) _ (λ full is.
     given_fine Gives heads (size_of size) _ (λ n at.
-    fine-one (Whole (FixedNode full n)) space heads room (λ all. size_fits size n at)))
+    fine-one (Whole (FixedNode full n)) enclosing heads room (λ all. size_fits size n at)))
 
 -- ---- arrays and maps
 
@@ -242,9 +242,9 @@ sound-declared : (form : Form) (value : List ℕ → Option Data) (schema : List
 sound-declared forms.Record value schema fs f g = sound-room Gives _ (sound-record _ _ (fs (codes "fields")) (g (codes "fields")))
 sound-declared forms.Enum value schema fs f g = sound-room Gives _ (sound-enum _ _ _ _)
 sound-declared forms.Fixed value schema fs f g = sound-room Gives _ (sound-fixed _ _ _)
-sound-declared forms.Array value schema fs f g = sound-room Gives _ (λ space heads room. fine-around Gives (λ n. Whole (ArrayNode n)) ArrayHead (λ n. refl) (item_fits ArrayHead) (or_unknown (schema (codes "items"))) space space heads room (sound-or Gives (schema (codes "items")) (f (codes "items"))))
-sound-declared forms.Map value schema fs f g = sound-room Gives _ (λ space heads room. fine-around Gives (λ n. Whole (MapNode n)) MapHead (λ n. refl) (item_fits MapHead) (or_unknown (schema (codes "values"))) space space heads room (sound-or Gives (schema (codes "values")) (f (codes "values"))))
-sound-declared forms.Error value schema fs f g = λ space heads. tt
+sound-declared forms.Array value schema fs f g = sound-room Gives _ (λ enclosing heads room. fine-around Gives (λ n. Whole (ArrayNode n)) ArrayHead (λ n. refl) (item_fits ArrayHead) (or_unknown (schema (codes "items"))) enclosing enclosing heads room (sound-or Gives (schema (codes "items")) (f (codes "items"))))
+sound-declared forms.Map value schema fs f g = sound-room Gives _ (λ enclosing heads room. fine-around Gives (λ n. Whole (MapNode n)) MapHead (λ n. refl) (item_fits MapHead) (or_unknown (schema (codes "values"))) enclosing enclosing heads room (sound-or Gives (schema (codes "values")) (f (codes "values"))))
+sound-declared forms.Error value schema fs f g = λ enclosing heads. tt
 sound-declared forms.Other value schema fs f g = sound-or Gives (schema (codes "type")) (f (codes "type"))
 
 -- ---- fields
@@ -264,8 +264,8 @@ type_fine before heads s default new (Err e) f = tt
 
 sound-field_of : (name : Option Data) (type : Option (Walk ℕ)) (default : Option Data) (before : List (List ℕ)) → SoundIf Gives type → Sound (FieldFits before) (field_of name type default before)
 unfolding field_of
-sound-field_of name type default before f space heads = given_fine (FieldFits before) heads (field_name name before) _ (λ s is.
-    type_fine before heads s default (unused name before s is) (or_unknown type space heads) (sound-or Gives type f space heads))
+sound-field_of name type default before f enclosing heads = given_fine (FieldFits before) heads (field_name name before) _ (λ s is.
+    type_fine before heads s default (unused name before s is) (or_unknown type enclosing heads) (sound-or Gives type f enclosing heads))
 
 few_fine : {A : Type 0} (In : List Head → List Head → A → Type 0) (heads : List Head) (b : Bool) (r : Result (A × List Draft) SchemaError) (e : SchemaError) → Fine In heads r → Fine In heads (cond b r (Err e))
 few_fine In heads true r e f = f
@@ -282,19 +282,19 @@ mutual
   unfolding walk
 
   pub sound-walk : (d : Data) → Sound Gives (walk d)
-  sound-walk null = λ space heads. tt
-  sound-walk (boolean b) = λ space heads. tt
-  sound-walk (number n) = λ space heads. tt
+  sound-walk null = λ enclosing heads. tt
+  sound-walk (boolean b) = λ enclosing heads. tt
+  sound-walk (number n) = λ enclosing heads. tt
   sound-walk (string s) = sound-named s
   sound-walk (array ds) = sound-union (members ds) (sound-members ds)
   sound-walk (object ms) = sound-declared _ _ (walk_member ms) (walk_fields ms) (sound-member ms) (sound-fields_in ms)
 
   sound-members : (ds : Items) → Sound AllBelow (members ds)
-  sound-members no_items = λ space heads. fine-done (AllBelow []) [] space heads (λ all. tt)
-  sound-members (item d ds) = λ space heads.
-      fine-bind Gives (λ n all xs. n < length all → AllBelow [] all xs) (AllBelow []) heads (λ n xs all g next. next g.below) (walk d) _ space (sound-walk d space heads) (λ n hs.
-      fine-bind AllBelow (λ ns all xs. AllBelow [] all ns → n < length all → AllBelow [] all xs) (λ all xs. n < length all → AllBelow [] all xs) hs (λ ns xs all below next. next below) (members ds) _ space (sound-members ds space hs) (λ ns ks.
-      fine-done (λ all xs. AllBelow [] all ns → n < length all → AllBelow [] all xs) (n ∷ ns) space ks (λ all below lt. (lt, below))))
+  sound-members no_items = λ enclosing heads. fine-done (AllBelow []) [] enclosing heads (λ all. tt)
+  sound-members (item d ds) = λ enclosing heads.
+      fine-bind Gives (λ n all xs. n < length all → AllBelow [] all xs) (AllBelow []) heads (λ n xs all g next. next g.below) (walk d) _ enclosing (sound-walk d enclosing heads) (λ n hs.
+      fine-bind AllBelow (λ ns all xs. AllBelow [] all ns → n < length all → AllBelow [] all xs) (λ all xs. n < length all → AllBelow [] all xs) hs (λ ns xs all below next. next below) (members ds) _ enclosing (sound-members ds enclosing hs) (λ ns ks.
+      fine-done (λ all xs. AllBelow [] all ns → n < length all → AllBelow [] all xs) (n ∷ ns) enclosing ks (λ all below lt. (lt, below))))
 
   sound-member : (ms : Members) (k : List ℕ) → SoundIf Gives (walk_member ms k)
   sound-member no_members k = tt
@@ -306,15 +306,15 @@ mutual
 
   sound-fields : (d : Data) → Sound (FieldsFit []) (fields d)
   sound-fields (array ds) = sound-after ds []
-  sound-fields _ = λ space heads. tt
+  sound-fields _ = λ enclosing heads. tt
 
   sound-after : (ds : Items) (before : List (List ℕ)) → Sound (FieldsFit before) (fields_after ds before)
-  sound-after no_items before = λ space heads. fine-done (FieldsFit before []) [] space heads (λ all. (tt, λ distinct. subst (IsDistinct bytes_eq) (sym (append-nil before)) distinct))
-  sound-after (item d ds) before = λ space heads.
-      fine-bind (FieldFits before) (λ f all xs. FieldFits before [] all f → FieldsFit before [] all xs) (FieldsFit before []) heads (λ f xs all h next. next h) (field d before) _ space (sound-field d before space heads) (λ f hs.
-      fine-bind (FieldsFit (before ++ f.name ∷ [])) (λ fs all xs. FieldsFit (before ++ f.name ∷ []) [] all fs → FieldFits before [] all f → FieldsFit before [] all xs) (λ all xs. FieldFits before [] all f → FieldsFit before [] all xs) hs (λ fs xs all h next. next h) (fields_after ds (before ++ f.name ∷ [])) _ space (sound-after ds (before ++ f.name ∷ []) space hs) (λ fs ks.
-      fine-done (λ all xs. FieldsFit (before ++ f.name ∷ []) [] all fs → FieldFits before [] all f → FieldsFit before [] all xs) (f ∷ fs) space ks (λ all k h. fields-cons before [] all f fs h k)))
+  sound-after no_items before = λ enclosing heads. fine-done (FieldsFit before []) [] enclosing heads (λ all. (tt, λ distinct. subst (IsDistinct bytes_eq) (sym (append-nil before)) distinct))
+  sound-after (item d ds) before = λ enclosing heads.
+      fine-bind (FieldFits before) (λ f all xs. FieldFits before [] all f → FieldsFit before [] all xs) (FieldsFit before []) heads (λ f xs all h next. next h) (field d before) _ enclosing (sound-field d before enclosing heads) (λ f hs.
+      fine-bind (FieldsFit (before ++ f.name ∷ [])) (λ fs all xs. FieldsFit (before ++ f.name ∷ []) [] all fs → FieldFits before [] all f → FieldsFit before [] all xs) (λ all xs. FieldFits before [] all f → FieldsFit before [] all xs) hs (λ fs xs all h next. next h) (fields_after ds (before ++ f.name ∷ [])) _ enclosing (sound-after ds (before ++ f.name ∷ []) enclosing hs) (λ fs ks.
+      fine-done (λ all xs. FieldsFit (before ++ f.name ∷ []) [] all fs → FieldFits before [] all f → FieldsFit before [] all xs) (f ∷ fs) enclosing ks (λ all k h. fields-cons before [] all f fs h k)))
 
   sound-field : (d : Data) (before : List (List ℕ)) → Sound (FieldFits before) (field d before)
-  sound-field (object ms) before = λ space heads. few_fine (FieldFits before) heads (nat_lt (length before) 1024) _ _ (sound-field_of _ (walk_member ms (codes "type")) _ before (sound-member ms (codes "type")) space heads)
-  sound-field _ before = λ space heads. tt
+  sound-field (object ms) before = λ enclosing heads. few_fine (FieldFits before) heads (nat_lt (length before) 1024) _ _ (sound-field_of _ (walk_member ms (codes "type")) _ before (sound-member ms (codes "type")) enclosing heads)
+  sound-field _ before = λ enclosing heads. tt

@@ -14,12 +14,12 @@ use Rattle.avro_schema.specs.Word.{form_of}
 
 -- a walk behind nodes that are already there: the value, and all nodes
 unfoldable pub run : {A : Type 0} → Walk A → List ℕ → List Draft → Result (A × List Draft) SchemaError
-run w space drafts = added drafts (w space (heads_of drafts))
+run w enclosing drafts = added drafts (w enclosing (heads_of drafts))
 
 -- the walk leaves these nodes of those before it, and gives the answer, unless memory ran out
 abbrev pub Walks : {R A : Type 0} → (R → A) → Result R SchemaError → Walk A → List ℕ → List rust.Draft → List rust.Draft → Type 0
-Walks f (Ok r) w space before after = run w space (drafts_of before) ≡ Ok (f r, drafts_of after)
-Walks f (Err e) w space before after = e ≢ NoMemory → run w space (drafts_of before) ≡ Err e
+Walks f (Ok r) w enclosing before after = run w enclosing (drafts_of before) ≡ Ok (f r, drafts_of after)
+Walks f (Err e) w enclosing before after = e ≢ NoMemory → run w enclosing (drafts_of before) ≡ Err e
 
 abbrev pub names_of : List rust_field.DraftField → List (List ℕ)
 names_of fs = map (λ f. string_bytes f.name) fs

@@ -1,5 +1,5 @@
 -- A datum as a tree, wherever it lies in memory (Avro 1.11, "Schema Declaration": the kinds of types).
-use Rattle.std.specs.Prelude.{ℕ, List, [], ◌∷◌, ℤ, Bool, String, string_bytes}
+use Rattle.std.specs.Prelude.{ℕ, suc, List, [], ◌∷◌, ℤ, Bool, String, string_bytes}
 use Rattle.std.specs.Global.{Global}
 use Rattle.avro_schema.specs.declared.datum.Datum as rust
 
@@ -29,6 +29,14 @@ mutual
   pub data Pairs : Type 0 where
     no_pairs : Pairs
     pair : List ℕ → Datum → Pairs → Pairs
+
+abbrev pub how_many : Data → ℕ
+how_many no_more = 0
+how_many (more d ds) = suc (how_many ds)
+
+abbrev pub how_many_pairs : Pairs → ℕ
+how_many_pairs no_pairs = 0
+how_many_pairs (pair key d ps) = suc (how_many_pairs ps)
 
 -- the tree that a value of the program stands for
 abbrev mutual

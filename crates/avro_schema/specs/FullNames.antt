@@ -41,7 +41,7 @@ inside (c ∷ cs) s = (c ∷ cs) ++ dot ∷ s
 
 -- the full name that a name means in a namespace
 abbrev pub full_name : List ℕ → List ℕ → List ℕ
-full_name space s = if has_dot s then s else inside space s
+full_name enclosing s = if has_dot s then s else inside enclosing s
 
 -- ---- a full name in its two parts
 

@@ -9,7 +9,7 @@ use Rattle.std.specs.Str.{bytes_eq}
 use Rattle.avro_schema.specs.declared.draft.Draft as rust
 use Rattle.avro_schema.specs.declared.draft.DraftField as rust_field
 use Rattle.avro_schema.specs.declared.name.Name.{Name}
-use Rattle.avro_schema.specs.declared.space.Space.{Space}
+use Rattle.avro_schema.specs.declared.namespace.Namespace.{Namespace}
 use Rattle.avro_schema.specs.Contract.{names_of}
 use Rattle.avro_schema.specs.Draft.{drafts_of}
 use Rattle.avro_schema.specs.FullNames.{dot, has_dot, inside, namespace_of}
@@ -21,37 +21,37 @@ use Rattle.avro_schema.specs.Walk.{head_at}
 -- ---- namespaces
 
 -- the namespaces so far, and that of one more name
-abbrev pub with_space : List (List ℕ) → Head → List (List ℕ)
-with_space before (Named full) = if is_used (namespace_of full) before then before else before ++ namespace_of full ∷ []
-with_space before _ = before
+abbrev pub with_namespace : List (List ℕ) → Head → List (List ℕ)
+with_namespace before (Named full) = if is_used (namespace_of full) before then before else before ++ namespace_of full ∷ []
+with_namespace before _ = before
 
-abbrev pub spaces_behind : List (List ℕ) → List Head → List (List ℕ)
-spaces_behind before [] = before
-spaces_behind before (h ∷ hs) = spaces_behind (with_space before h) hs
+abbrev pub namespaces_behind : List (List ℕ) → List Head → List (List ℕ)
+namespaces_behind before [] = before
+namespaces_behind before (h ∷ hs) = namespaces_behind (with_namespace before h) hs
 
 -- the null namespace, and those of the names, each where it first comes
-unfoldable pub spaces_of : List Head → List (List ℕ)
-spaces_of hs = spaces_behind ([] ∷ []) hs
+unfoldable pub namespaces_of : List Head → List (List ℕ)
+namespaces_of hs = namespaces_behind ([] ∷ []) hs
 
 -- the number of a namespace
 abbrev pub number_of : List ℕ → List (List ℕ) → Option ℕ
-number_of namespace spaces = position_from (λ other. bytes_eq other namespace) 0 spaces
+number_of namespace namespaces = position_from (λ other. bytes_eq other namespace) 0 namespaces
 
 -- the namespace is one of theirs, under its number
-abbrev pub IsSpaceOf : Space → List rust.Draft → Type 0
-IsSpaceOf space ds = slice_get (spaces_of (heads_of (drafts_of ds))) space.number ≡ Some (arc_str_bytes space.text)
+abbrev pub IsNamespaceOf : Namespace → List rust.Draft → Type 0
+IsNamespaceOf enclosing ds = slice_get (namespaces_of (heads_of (drafts_of ds))) enclosing.number ≡ Some (arc_str_bytes enclosing.text)
 
 -- the number is that of the name's namespace, where it has one
 abbrev pub IsNumbered : Name → Option ℕ → List rust.Draft → Type 0
-IsNumbered name number ds = number ≡ number_of (namespace_of (full_of name)) (spaces_of (heads_of (drafts_of ds)))
+IsNumbered name number ds = number ≡ number_of (namespace_of (full_of name)) (namespaces_of (heads_of (drafts_of ds)))
 
 -- ---- names
 
 -- Under each namespace stands its number, and under that, by the last part of a full name, the node that defines it.
 pub record IsIndexOf {A : Type 0} (numbers : BTreeMap (String A) ℕ) (scopes : List (BTreeMap (String A) ℕ)) (ds : List rust.Draft) : Type 0 where
-  pub numbered : (namespace : List ℕ) → get_by_text numbers namespace ≡ number_of namespace (spaces_of (heads_of (drafts_of ds)))
-  pub each_has_one : length scopes ≡ length (spaces_of (heads_of (drafts_of ds)))
-  pub found : (number : ℕ) (namespace last : List ℕ) (scope : BTreeMap (String A) ℕ) → slice_get (spaces_of (heads_of (drafts_of ds))) number ≡ Some namespace → slice_get scopes number ≡ Some scope
+  pub numbered : (namespace : List ℕ) → get_by_text numbers namespace ≡ number_of namespace (namespaces_of (heads_of (drafts_of ds)))
+  pub each_has_one : length scopes ≡ length (namespaces_of (heads_of (drafts_of ds)))
+  pub found : (number : ℕ) (namespace last : List ℕ) (scope : BTreeMap (String A) ℕ) → slice_get (namespaces_of (heads_of (drafts_of ds))) number ≡ Some namespace → slice_get scopes number ≡ Some scope
       → has_dot last ≡ false → get_by_text scope last ≡ defined_at (inside namespace last) (heads_of (drafts_of ds))
   -- a name is defined once
   pub once : (n : ℕ) (full : List ℕ) → slice_get (heads_of (drafts_of ds)) n ≡ Some (Named full) → defined_at full (heads_of (drafts_of ds)) ≡ Some n

@@ -14,7 +14,7 @@ pub mod Names
 pub mod Node
 pub mod Schema
 pub mod SchemaError
+pub mod Sizes
 pub mod SymbolIndex
-pub mod TextSizes
 pub mod Walk
 pub mod Word

@@ -16,12 +16,12 @@ text_of value = ok_or (option_and_then as_str value) Unknown
 
 -- the namespace that the attribute gives, or else the enclosing one
 abbrev pub given_namespace : Option Data → List ℕ → Result (List ℕ) SchemaError
-given_namespace None space = Ok space
-given_namespace (Some d) space = text_of (Some d)
+given_namespace None enclosing = Ok enclosing
+given_namespace (Some d) enclosing = text_of (Some d)
 
 -- the namespace in which a name stands; with a dot it is a full name, and none counts
 abbrev pub own_namespace : List ℕ → Option Data → List ℕ → Result (List ℕ) SchemaError
-own_namespace s namespace space = if has_dot s then Ok space else given_namespace namespace space
+own_namespace s namespace enclosing = if has_dot s then Ok enclosing else given_namespace namespace enclosing
 
 -- a full name by the rule, no primitive type's, and not defined before
 abbrev pub if_new : List ℕ → List Head → Result (List ℕ) SchemaError
@@ -32,9 +32,9 @@ if_new full heads = do
 
 -- the full name that `name` and `namespace` define
 unfoldable pub new_name : Option Data → Option Data → List ℕ → List Head → Result (List ℕ) SchemaError
-new_name name namespace space heads = do
+new_name name namespace enclosing heads = do
   s ← text_of name
-  own ← own_namespace s namespace space
+  own ← own_namespace s namespace enclosing
   if_new (full_name own s) heads
 
 -- the name that a field's `name` gives, which is none of those before it

@@ -9,7 +9,7 @@ use Rattle.avro_schema.specs.Conforming.{DefaultsConform}
 use Rattle.avro_schema.specs.Defaults.{finished}
 use Rattle.avro_schema.specs.Fault.{◌>>=◌}
 use Rattle.avro_schema.specs.Node.{Node, Declaration}
-use Rattle.avro_schema.specs.TextSizes.{DefaultsHaveTextsWithin}
+use Rattle.avro_schema.specs.Sizes.{DefaultsHaveSizesWithin}
 use Rattle.avro_schema.specs.Walk.{walk, null_namespace}
 
 -- the nodes that a JSON value declares, or the first fault: the walk's, and then that of a default
@@ -30,11 +30,12 @@ most_text = 262144
 unfoldable pub schema_of : List ℕ → Result (List Node) SchemaError
 schema_of text = if nat_le (length text) most_text then nodes_in_read (read text) else Err TooLarge
 
--- The nodes are those of the value that the text reads as. Each default is of its field's type, and no text in it is longer than a schema's may be.
+-- The nodes are those of the value that the text reads as. Each default is of its field's type, and no text in it is longer, no array or map in it of more items,
+-- than a schema's text may have bytes.
 pub record Declares (text : List ℕ) (nodes : List Node) : Type 0 where
   pub nodes_are : nodes_in_read (read text) ≡ Ok nodes
   pub defaults_conform : DefaultsConform nodes
-  pub defaults_are_short : DefaultsHaveTextsWithin most_text nodes
+  pub defaults_are_short : DefaultsHaveSizesWithin most_text most_text nodes
 
 -- The answer is what the text declares, unless memory ran out. Its own text is the compact one of the value that was read.
 abbrev pub Parses : Result Declaration SchemaError → List ℕ → Type 0

@@ -28,7 +28,7 @@ null_namespace = []
 -- ---- walks, one after another
 
 abbrev pub fault : {A : Type 0} → SchemaError → Walk A
-fault e space heads = Err e
+fault e enclosing heads = Err e
 
 abbrev pub or_unknown : {A : Type 0} → Option (Walk A) → Walk A
 or_unknown None = fault Unknown
@@ -36,7 +36,7 @@ or_unknown (Some w) = w
 
 -- a value that adds no node
 abbrev pub done : {A : Type 0} → A → Walk A
-done a space heads = Ok (a, [])
+done a enclosing heads = Ok (a, [])
 
 abbrev pub added : {A : Type 0} → List Draft → Result (A × List Draft) SchemaError → Result (A × List Draft) SchemaError
 added front (Ok p) = Ok (p.0, front ++ p.1)
@@ -44,7 +44,7 @@ added front (Err e) = Err e
 
 -- one walk, then another, which knows what the first gave
 unfoldable pub followed_by : {A B : Type 0} → Walk A → (A → Walk B) → Walk B
-followed_by first rest space heads = first space heads >>= λ p. added p.1 (rest p.0 space (heads ++ heads_of p.1))
+followed_by first rest enclosing heads = first enclosing heads >>= λ p. added p.1 (rest p.0 enclosing (heads ++ heads_of p.1))
 
 -- ---- nodes
 
@@ -53,18 +53,18 @@ most_nodes = 1024
 
 -- there is room for one more node
 abbrev pub if_room : {A : Type 0} → Walk A → Walk A
-if_room w space heads = if nat_lt (length heads) most_nodes then w space heads else Err TooLarge
+if_room w enclosing heads = if nat_lt (length heads) most_nodes then w enclosing heads else Err TooLarge
 
 -- a node that has no parts
 abbrev pub one_node : Draft → Walk ℕ
-one_node d space heads = Ok (length heads, d ∷ [])
+one_node d enclosing heads = Ok (length heads, d ∷ [])
 
 abbrev pub leaf : Node → Walk ℕ
 leaf n = if_room (one_node (Whole n))
 
 -- a node before its parts
 unfoldable pub around : {A : Type 0} → (A → Draft) → Head → Walk A → Walk ℕ
-around make head parts space heads = parts space (heads ++ head ∷ []) >>= λ p. Ok (length heads, make p.0 ∷ p.1)
+around make head parts enclosing heads = parts enclosing (heads ++ head ∷ []) >>= λ p. Ok (length heads, make p.0 ∷ p.1)
 
 -- ---- what a text names
 
@@ -73,7 +73,7 @@ found None = Err Unknown
 found (Some n) = Ok (n, [])
 
 unfoldable pub reference : List ℕ → Walk ℕ
-reference s space heads = found (defined_at (full_name space s) heads)
+reference s enclosing heads = found (defined_at (full_name enclosing s) heads)
 
 abbrev pub leaf_or_reference : Option Node → List ℕ → Walk ℕ
 leaf_or_reference (Some n) s = leaf n
@@ -86,22 +86,22 @@ named s = if is_left_out (word_of s) then fault OutOfProfile else leaf_or_refere
 
 -- a record's name is defined before its fields, which stand in its namespace
 unfoldable pub record_of : Option Data → Option Data → Option (Walk (List DraftField)) → Walk ℕ
-record_of name namespace fields space heads = do
-  full ← new_name name namespace space heads
+record_of name namespace fields enclosing heads = do
+  full ← new_name name namespace enclosing heads
   around (RecordDraft full) (Named full) (or_unknown fields) (namespace_of full) heads
 
 unfoldable pub enum_of : Option Data → Option Data → Option Data → Option Data → Walk ℕ
-enum_of name namespace symbols default space heads = do
-  full ← new_name name namespace space heads
+enum_of name namespace symbols default enclosing heads = do
+  full ← new_name name namespace enclosing heads
   ss ← symbols_of symbols
   n ← default_symbol ss default
-  one_node (Whole (EnumNode full ss n)) space heads
+  one_node (Whole (EnumNode full ss n)) enclosing heads
 
 unfoldable pub fixed_of : Option Data → Option Data → Option Data → Walk ℕ
-fixed_of name namespace size space heads = do
-  full ← new_name name namespace space heads
+fixed_of name namespace size enclosing heads = do
+  full ← new_name name namespace enclosing heads
   n ← size_of size
-  one_node (Whole (FixedNode full n)) space heads
+  one_node (Whole (FixedNode full n)) enclosing heads
 
 -- ---- unions
 
@@ -120,8 +120,8 @@ apart_union heads all members added =
     if are_apart [] (map (head_at all) members) then Ok (length heads, Whole (UnionNode members) ∷ added) else Err BadUnion
 
 unfoldable pub union_of : Walk (List ℕ) → Walk ℕ
-union_of parts space heads = do
-  p ← parts space (heads ++ UnionHead ∷ [])
+union_of parts enclosing heads = do
+  p ← parts enclosing (heads ++ UnionHead ∷ [])
   apart_union heads ((heads ++ UnionHead ∷ []) ++ heads_of p.1) p.0 p.1
 
 -- ---- objects
@@ -143,16 +143,16 @@ most_fields = 1024
 
 -- there is room for one more field
 abbrev pub if_few : {A : Type 0} → List (List ℕ) → Walk A → Walk A
-if_few before w space heads = if nat_lt (length before) most_fields then w space heads else Err TooLarge
+if_few before w enclosing heads = if nat_lt (length before) most_fields then w enclosing heads else Err TooLarge
 
 abbrev pub draft_field : List ℕ → ℕ → Option Data → DraftField
 draft_field s n default = record { name = s; node = n; default = default }
 
 -- a field, by its `name`, the walk of its `type`, its `default` and the names before it
 unfoldable pub field_of : Option Data → Option (Walk ℕ) → Option Data → List (List ℕ) → Walk DraftField
-field_of name type default before space heads = do
+field_of name type default before enclosing heads = do
   s ← field_name name before
-  p ← or_unknown type space heads
+  p ← or_unknown type enclosing heads
   Ok (draft_field s p.0 default, p.1)
 
 -- ---- the walk

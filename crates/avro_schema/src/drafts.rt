@@ -5,14 +5,14 @@ ghost use Rattle.avro_schema.specs.Draft.{draft_of, drafts_of};
 ghost use Rattle.avro_schema.specs.declared.draft.Draft.TheVariants as drafts;
 ghost use Rattle.avro_schema.specs.FullNames.{has_dot, inside, namespace_of};
 ghost use Rattle.avro_schema.specs.Head.{IsUnnamed, Named, defined_at, head_of, head_of_node, heads_of};
-ghost use Rattle.avro_schema.specs.Index.{AreNamesOf, IsIndexOf, IsNumbered, IsSpaceOf, number_of, spaces_of};
+ghost use Rattle.avro_schema.specs.Index.{AreNamesOf, IsIndexOf, IsNumbered, IsNamespaceOf, number_of, namespaces_of};
 ghost use Rattle.avro_schema.specs.SymbolIndex.{is_used};
 ghost use Rattle.avro_schema.specs.Node.{full_of, node_of};
 
 use crate::draft::{Draft, DraftField};
 use crate::kind::Kind;
 use crate::name::Name;
-use crate::space::Space;
+use crate::namespace::Namespace;
 use std::alloc::{AllocError, Global};
 use std::collections::{BTreeMap, BTreeSet};
 
@@ -43,17 +43,17 @@ impl<'v> Drafts<'v> {
     }
 
     /// The node of a name that stands in a namespace, given by its last part.
-    pub(crate) fn defined_in(&self, space: &Space, last: &str) -> Option<usize>
-        requires known { IsSpaceOf space.now self.now.nodes.items }
+    pub(crate) fn defined_in(&self, enclosing: &Namespace, last: &str) -> Option<usize>
+        requires known { IsNamespaceOf enclosing.now self.now.nodes.items }
         requires undotted { has_dot last.now ≡ false }
-        ensures { result ≡ defined_at (inside (arc_str_bytes space.now.text) last.now) (heads_of (drafts_of self.now.nodes.items)) }
+        ensures { result ≡ defined_at (inside (arc_str_bytes enclosing.now.text) last.now) (heads_of (drafts_of self.now.nodes.items)) }
     {
-        self.scopes[space.number].get(last).copied()
+        self.scopes[enclosing.number].get(last).copied()
     }
 
     /// The number of a namespace that has names.
     pub(crate) fn number_of(&self, namespace: &str) -> Option<usize>
-        ensures { result ≡ number_of namespace.now (spaces_of (heads_of (drafts_of self.now.nodes.items))) }
+        ensures { result ≡ number_of namespace.now (namespaces_of (heads_of (drafts_of self.now.nodes.items))) }
     {
         self.numbers.get(namespace).copied()
     }
@@ -91,7 +91,7 @@ impl<'v> Drafts<'v> {
         requires named { head_of (draft_of draft) ≡ Named (full_of name.now) }
         requires numbered { IsNumbered name.now number self.old.nodes.items }
         ensures nodes { OnOk result (self.new.nodes.items ≡ self.old.nodes.items ++ draft.entry ∷ []) }
-        ensures number { IfOk result (λ n. slice_get (spaces_of (heads_of (drafts_of self.new.nodes.items))) n ≡ Some (namespace_of (full_of name.now))) }
+        ensures number { IfOk result (λ n. slice_get (namespaces_of (heads_of (drafts_of self.new.nodes.items))) n ≡ Some (namespace_of (full_of name.now))) }
     {
         match number {
             Some(number) => {
@@ -116,7 +116,7 @@ impl<'v> Drafts<'v> {
     ) -> Result<(), AllocError>
         requires new { defined_at (full_of name.now) (heads_of (drafts_of self.old.nodes.items)) ≡ None }
         requires named { head_of (draft_of draft) ≡ Named (full_of name.now) }
-        requires numbered { slice_get (spaces_of (heads_of (drafts_of self.old.nodes.items))) number ≡ Some (namespace_of (full_of name.now)) }
+        requires numbered { slice_get (namespaces_of (heads_of (drafts_of self.old.nodes.items))) number ≡ Some (namespace_of (full_of name.now)) }
         ensures { OnOk result (self.new.nodes.items ≡ self.old.nodes.items ++ draft.entry ∷ []) }
     {
         let node = self.nodes.len();
@@ -139,7 +139,7 @@ impl<'v> Drafts<'v> {
         draft: Draft<'v>,
     ) -> Result<(), AllocError>
         requires named { head_of (draft_of draft) ≡ Named (full_of name.now) }
-        requires first { number_of (namespace_of (full_of name.now)) (spaces_of (heads_of (drafts_of self.old.nodes.items))) ≡ None }
+        requires first { number_of (namespace_of (full_of name.now)) (namespaces_of (heads_of (drafts_of self.old.nodes.items))) ≡ None }
         ensures { OnOk result (self.new.nodes.items ≡ self.old.nodes.items ++ draft.entry ∷ []) }
     {
         let node = self.nodes.len();

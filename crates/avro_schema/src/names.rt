@@ -7,7 +7,7 @@ ghost use Rattle.avro_schema.specs.Draft.{data_at, drafts_of};
 ghost use Rattle.avro_schema.specs.Fault.{Tells};
 ghost use Rattle.avro_schema.specs.FullNames.{full_name, has_dot, inside, is_full_name, is_letter, is_letter_or_digit, is_name, is_namespace};
 ghost use Rattle.avro_schema.specs.Head.{defined_at, heads_of};
-ghost use Rattle.avro_schema.specs.Index.{IsNumbered, IsSpaceOf};
+ghost use Rattle.avro_schema.specs.Index.{IsNumbered, IsNamespaceOf};
 ghost use Rattle.avro_schema.specs.Names.{field_name, if_new, new_name, text_of};
 ghost use Rattle.avro_schema.specs.Node.{full_of};
 ghost use Rattle.avro_schema.specs.Word.{is_primitive, word_of};
@@ -15,7 +15,7 @@ ghost use Rattle.avro_schema.specs.Word.{is_primitive, word_of};
 use crate::drafts::{Drafts, FieldList};
 use crate::error::SchemaError;
 use crate::name::Name;
-use crate::space::Space;
+use crate::namespace::Namespace;
 use crate::word::Word;
 use serde_json::Value;
 use std::alloc::Global;
@@ -106,26 +106,26 @@ pub(crate) struct NewName {
 fn inherited_name(
     alloc: Global,
     last: &str,
-    space: &Space,
+    enclosing: &Namespace,
     drafts: &Drafts,
 ) -> Result<NewName, SchemaError>
-    requires known { IsSpaceOf space.now drafts.now.nodes.items }
+    requires known { IsNamespaceOf enclosing.now drafts.now.nodes.items }
     requires undotted { has_dot last.now ≡ false }
     ensures numbered { IfOk result (λ n. IsNumbered n.name n.number drafts.now.nodes.items) }
-    ensures name { Tells (λ n. full_of n.name) result (if_new (inside (arc_str_bytes space.now.text) last.now) (heads_of (drafts_of drafts.now.nodes.items))) }
+    ensures name { Tells (λ n. full_of n.name) result (if_new (inside (arc_str_bytes enclosing.now.text) last.now) (heads_of (drafts_of drafts.now.nodes.items))) }
     ensures new { IfOk result (λ n. defined_at (full_of n.name) (heads_of (drafts_of drafts.now.nodes.items)) ≡ None) }
 {
     if !is_last_part(last) {
         return Err(SchemaError::BadName);
     }
-    if drafts.defined_in(space, last).is_some() {
+    if drafts.defined_in(enclosing, last).is_some() {
         return Err(SchemaError::Redefined);
     }
-    let namespace = space.text.clone()?;
+    let namespace = enclosing.text.clone()?;
     let name = Name::new(namespace, String::from_str(alloc, last)?);
     Ok(NewName {
         name,
-        number: Some(space.number),
+        number: Some(enclosing.number),
     })
 }
 
@@ -160,12 +160,12 @@ pub(crate) fn new_name(
     alloc: Global,
     name: Option<&Value>,
     namespace: Option<&Value>,
-    space: &Space,
+    enclosing: &Namespace,
     drafts: &Drafts,
 ) -> Result<NewName, SchemaError>
-    requires { IsSpaceOf space.now drafts.now.nodes.items }
+    requires { IsNamespaceOf enclosing.now drafts.now.nodes.items }
     ensures numbered { IfOk result (λ n. IsNumbered n.name n.number drafts.now.nodes.items) }
-    ensures name { Tells (λ n. full_of n.name) result (new_name (data_at name.entry) (data_at namespace.entry) (arc_str_bytes space.now.text) (heads_of (drafts_of drafts.now.nodes.items))) }
+    ensures name { Tells (λ n. full_of n.name) result (new_name (data_at name.entry) (data_at namespace.entry) (arc_str_bytes enclosing.now.text) (heads_of (drafts_of drafts.now.nodes.items))) }
     ensures new { IfOk result (λ n. defined_at (full_of n.name) (heads_of (drafts_of drafts.now.nodes.items)) ≡ None) }
 {
     let name = text_of(name)?;
@@ -178,15 +178,15 @@ pub(crate) fn new_name(
         }
         None => match namespace {
             Some(_) => own_name(alloc, text_of(namespace)?, name, drafts),
-            None => inherited_name(alloc, name, space, drafts),
+            None => inherited_name(alloc, name, enclosing, drafts),
         },
     }
 }
 
 /// The node of the name that a text means in a namespace.
-pub(crate) fn defined_node(text: &str, space: &Space, drafts: &Drafts) -> Option<usize>
-    requires { IsSpaceOf space.now drafts.now.nodes.items }
-    ensures { result ≡ defined_at (full_name (arc_str_bytes space.now.text) text.now) (heads_of (drafts_of drafts.now.nodes.items)) }
+pub(crate) fn defined_node(text: &str, enclosing: &Namespace, drafts: &Drafts) -> Option<usize>
+    requires { IsNamespaceOf enclosing.now drafts.now.nodes.items }
+    ensures { result ≡ defined_at (full_name (arc_str_bytes enclosing.now.text) text.now) (heads_of (drafts_of drafts.now.nodes.items)) }
 {
     match text.rsplit_once('.') {
         Some((namespace, last)) => {
@@ -195,7 +195,7 @@ pub(crate) fn defined_node(text: &str, space: &Space, drafts: &Drafts) -> Option
             }
             drafts.defined_by(namespace, last)
         }
-        None => drafts.defined_in(space, text),
+        None => drafts.defined_in(enclosing, text),
     }
 }
 

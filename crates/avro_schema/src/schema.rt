@@ -8,15 +8,15 @@ ghost use Rattle.avro_schema.specs.Declaring.{DeclaresNode};
 ghost use Rattle.avro_schema.specs.Fault.{Tells};
 ghost use Rattle.avro_schema.specs.Node.{IsWellFormed, NodeIsWellFormed, node_of, nodes_of};
 ghost use Rattle.avro_schema.specs.Schema.{Parses, declared, most_text};
-ghost use Rattle.avro_schema.specs.TextSizes.{DefaultsHaveTextsWithin};
+ghost use Rattle.avro_schema.specs.Sizes.{DefaultsHaveSizesWithin};
 ghost use Rattle.avro_schema.specs.Walk.{null_namespace};
 
 use crate::drafts::Drafts;
 use crate::error::SchemaError;
 use crate::finishing::{all_defaults, nodes_with};
 use crate::kind::Kind;
+use crate::namespace::Namespace;
 use crate::numbers::has_float;
-use crate::space::Space;
 use crate::walk::walk;
 use serde_json::Value;
 use std::alloc::Global;
@@ -104,9 +104,10 @@ impl Schema {
         let _opened = &self.nodes;
     }
 
-    /// The law that no text, byte string or key in a default is longer than the text of a schema may be.
+    /// The law that no text, byte string or key in a default is longer, and no array or map in it of more items, than the
+    /// text of a schema may have bytes.
     pub fn defaults_are_short(&self)
-        ensures { DefaultsHaveTextsWithin most_text self.now.nodes }
+        ensures { DefaultsHaveSizesWithin most_text most_text self.now.nodes }
     {
         let _opened = &self.nodes;
     }
@@ -125,8 +126,8 @@ fn nodes_in(alloc: Global, value: &Value) -> Result<Vec<Kind>, SchemaError>
     ensures defaults { IfOk result (λ v. DefaultsConform (nodes_of v.items)) }
 {
     let mut drafts = Drafts::new(alloc)?;
-    let space = Space::null(alloc)?;
-    walk(alloc, value, &space, &mut drafts)?;
+    let enclosing = Namespace::null(alloc)?;
+    walk(alloc, value, &enclosing, &mut drafts)?;
     let defaults = all_defaults(alloc, &drafts.nodes)?;
     Ok(nodes_with(alloc, drafts.nodes, defaults)?)
 }

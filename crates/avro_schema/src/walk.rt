@@ -5,7 +5,7 @@ ghost use Rattle.serde_json.specs.View.{view, items_view};
 ghost use Rattle.avro_schema.specs.Contract.{Walks, names_of, object_as, object_walk};
 ghost use Rattle.avro_schema.specs.Draft.{Whole, data_at, draft_field_of};
 ghost use Rattle.avro_schema.specs.Head.{IsUnnamed, head_of_node};
-ghost use Rattle.avro_schema.specs.Index.{IsSpaceOf};
+ghost use Rattle.avro_schema.specs.Index.{IsNamespaceOf};
 ghost use Rattle.avro_schema.specs.Node.{node_of};
 ghost use Rattle.avro_schema.specs.Walk.{leaf, reference, named, walk, members, if_room, union_of, or_unknown, fields, fields_after, field};
 
@@ -14,7 +14,7 @@ use crate::drafts::{Drafts, FieldList};
 use crate::error::SchemaError;
 use crate::kind::Kind;
 use crate::names::{defined_node, field_name, new_name};
-use crate::space::Space;
+use crate::namespace::Namespace;
 use crate::type_attributes::{default_symbol, size_of, symbols_of};
 use crate::unions::are_apart;
 use crate::word::{Form, Word};
@@ -26,9 +26,9 @@ const MOST_NODES: usize = 1024;
 const MOST_FIELDS: usize = 1024;
 
 /// The new node of a kind that holds no others.
-fn walk_leaf(kind: Kind, space: &Space, drafts: &mut Drafts) -> Result<usize, SchemaError>
+fn walk_leaf(kind: Kind, enclosing: &Namespace, drafts: &mut Drafts) -> Result<usize, SchemaError>
     requires { IsUnnamed (head_of_node (node_of kind)) }
-    ensures { Walks (λ n. n) result (leaf (node_of kind)) (arc_str_bytes space.now.text) drafts.old.nodes.items drafts.new.nodes.items }
+    ensures { Walks (λ n. n) result (leaf (node_of kind)) (arc_str_bytes enclosing.now.text) drafts.old.nodes.items drafts.new.nodes.items }
 {
     let node = drafts.nodes.len();
     if node >= MOST_NODES {
@@ -39,28 +39,32 @@ fn walk_leaf(kind: Kind, space: &Space, drafts: &mut Drafts) -> Result<usize, Sc
 }
 
 /// The node of the type that a text refers to.
-fn walk_reference(text: &str, space: &Space, drafts: &mut Drafts) -> Result<usize, SchemaError>
-    requires known { IsSpaceOf space.now drafts.old.nodes.items }
-    ensures { Walks (λ n. n) result (reference text.now) (arc_str_bytes space.now.text) drafts.old.nodes.items drafts.new.nodes.items }
+fn walk_reference(
+    text: &str,
+    enclosing: &Namespace,
+    drafts: &mut Drafts,
+) -> Result<usize, SchemaError>
+    requires known { IsNamespaceOf enclosing.now drafts.old.nodes.items }
+    ensures { Walks (λ n. n) result (reference text.now) (arc_str_bytes enclosing.now.text) drafts.old.nodes.items drafts.new.nodes.items }
 {
-    match defined_node(text, space, drafts) {
+    match defined_node(text, enclosing, drafts) {
         Some(node) => Ok(node),
         None => Err(SchemaError::Unknown),
     }
 }
 
 /// The node that a text names.
-fn walk_text(text: &str, space: &Space, drafts: &mut Drafts) -> Result<usize, SchemaError>
-    requires known { IsSpaceOf space.now drafts.old.nodes.items }
-    ensures { Walks (λ n. n) result (named text.now) (arc_str_bytes space.now.text) drafts.old.nodes.items drafts.new.nodes.items }
+fn walk_text(text: &str, enclosing: &Namespace, drafts: &mut Drafts) -> Result<usize, SchemaError>
+    requires known { IsNamespaceOf enclosing.now drafts.old.nodes.items }
+    ensures { Walks (λ n. n) result (named text.now) (arc_str_bytes enclosing.now.text) drafts.old.nodes.items drafts.new.nodes.items }
 {
     let word = Word::of_text(text);
     if word.is_left_out() {
         return Err(SchemaError::OutOfProfile);
     }
     match word.leaf() {
-        Some(kind) => walk_leaf(kind, space, drafts),
-        None => walk_reference(text, space, drafts),
+        Some(kind) => walk_leaf(kind, enclosing, drafts),
+        None => walk_reference(text, enclosing, drafts),
     }
 }
 
@@ -68,11 +72,11 @@ fn walk_text(text: &str, space: &Space, drafts: &mut Drafts) -> Result<usize, Sc
 fn walk_enum(
     alloc: Global,
     value: &Value,
-    space: &Space,
+    enclosing: &Namespace,
     drafts: &mut Drafts,
 ) -> Result<usize, SchemaError>
-    requires known { IsSpaceOf space.now drafts.old.nodes.items }
-    ensures { Walks (λ n. n) result (object_as Form.Enum (view value.now)) (arc_str_bytes space.now.text) drafts.old.nodes.items drafts.new.nodes.items }
+    requires known { IsNamespaceOf enclosing.now drafts.old.nodes.items }
+    ensures { Walks (λ n. n) result (object_as Form.Enum (view value.now)) (arc_str_bytes enclosing.now.text) drafts.old.nodes.items drafts.new.nodes.items }
 {
     let node = drafts.nodes.len();
     if node >= MOST_NODES {
@@ -82,7 +86,7 @@ fn walk_enum(
         alloc,
         value.get("name"),
         value.get("namespace"),
-        space,
+        enclosing,
         drafts,
     )?;
     let symbols = symbols_of(alloc, value.get("symbols"))?;
@@ -100,11 +104,11 @@ fn walk_enum(
 fn walk_fixed(
     alloc: Global,
     value: &Value,
-    space: &Space,
+    enclosing: &Namespace,
     drafts: &mut Drafts,
 ) -> Result<usize, SchemaError>
-    requires known { IsSpaceOf space.now drafts.old.nodes.items }
-    ensures { Walks (λ n. n) result (object_as Form.Fixed (view value.now)) (arc_str_bytes space.now.text) drafts.old.nodes.items drafts.new.nodes.items }
+    requires known { IsNamespaceOf enclosing.now drafts.old.nodes.items }
+    ensures { Walks (λ n. n) result (object_as Form.Fixed (view value.now)) (arc_str_bytes enclosing.now.text) drafts.old.nodes.items drafts.new.nodes.items }
 {
     let node = drafts.nodes.len();
     if node >= MOST_NODES {
@@ -114,7 +118,7 @@ fn walk_fixed(
         alloc,
         value.get("name"),
         value.get("namespace"),
-        space,
+        enclosing,
         drafts,
     )?;
     let size = size_of(value.get("size"))?;
@@ -129,17 +133,17 @@ fn walk_fixed(
 pub(crate) fn walk<'v>(
     alloc: Global,
     value: &'v Value,
-    space: &Space,
+    enclosing: &Namespace,
     drafts: &mut Drafts<'v>,
 ) -> Result<usize, SchemaError>
-    requires known { IsSpaceOf space.now drafts.old.nodes.items }
-    ensures { Walks (λ n. n) result (walk (view value.now)) (arc_str_bytes space.now.text) drafts.old.nodes.items drafts.new.nodes.items }
+    requires known { IsNamespaceOf enclosing.now drafts.old.nodes.items }
+    ensures { Walks (λ n. n) result (walk (view value.now)) (arc_str_bytes enclosing.now.text) drafts.old.nodes.items drafts.new.nodes.items }
 {
     match value {
         Value::Null | Value::Bool(_) | Value::Number(_) => Err(SchemaError::Unknown),
-        Value::String(text) => walk_text(text.as_str(), space, drafts),
-        Value::Array(items) => walk_union(alloc, items, space, drafts),
-        Value::Object(_) => walk_object(alloc, value, space, drafts),
+        Value::String(text) => walk_text(text.as_str(), enclosing, drafts),
+        Value::Array(items) => walk_union(alloc, items, enclosing, drafts),
+        Value::Object(_) => walk_object(alloc, value, enclosing, drafts),
     }
 }
 
@@ -148,14 +152,14 @@ pub(crate) fn walk<'v>(
 fn walk_at<'v>(
     alloc: Global,
     value: Option<&'v Value>,
-    space: &Space,
+    enclosing: &Namespace,
     drafts: &mut Drafts<'v>,
 ) -> Result<usize, SchemaError>
-    requires known { IsSpaceOf space.now drafts.old.nodes.items }
-    ensures { Walks (λ n. n) result (or_unknown (option_map walk (data_at value.entry))) (arc_str_bytes space.now.text) drafts.old.nodes.items drafts.new.nodes.items }
+    requires known { IsNamespaceOf enclosing.now drafts.old.nodes.items }
+    ensures { Walks (λ n. n) result (or_unknown (option_map walk (data_at value.entry))) (arc_str_bytes enclosing.now.text) drafts.old.nodes.items drafts.new.nodes.items }
 {
     match value {
-        Some(value) => walk(alloc, value, space, drafts),
+        Some(value) => walk(alloc, value, enclosing, drafts),
         None => Err(SchemaError::Unknown),
     }
 }
@@ -165,18 +169,18 @@ fn walk_at<'v>(
 fn walk_union<'v>(
     alloc: Global,
     items: &'v [Value],
-    space: &Space,
+    enclosing: &Namespace,
     drafts: &mut Drafts<'v>,
 ) -> Result<usize, SchemaError>
-    requires known { IsSpaceOf space.now drafts.old.nodes.items }
-    ensures { Walks (λ n. n) result (if_room (union_of (members (items_view items.now)))) (arc_str_bytes space.now.text) drafts.old.nodes.items drafts.new.nodes.items }
+    requires known { IsNamespaceOf enclosing.now drafts.old.nodes.items }
+    ensures { Walks (λ n. n) result (if_room (union_of (members (items_view items.now)))) (arc_str_bytes enclosing.now.text) drafts.old.nodes.items drafts.new.nodes.items }
 {
     let node = drafts.nodes.len();
     if node >= MOST_NODES {
         return Err(SchemaError::TooLarge);
     }
     drafts.push(Kind::Union(Vec::new(alloc)))?;
-    let members = walk_members(alloc, items, space, drafts)?;
+    let members = walk_members(alloc, items, enclosing, drafts)?;
     if !are_apart(alloc, &members, drafts)? {
         return Err(SchemaError::BadUnion);
     }
@@ -189,15 +193,15 @@ fn walk_union<'v>(
 fn walk_members<'v>(
     alloc: Global,
     items: &'v [Value],
-    space: &Space,
+    enclosing: &Namespace,
     drafts: &mut Drafts<'v>,
 ) -> Result<Vec<usize>, SchemaError>
-    requires known { IsSpaceOf space.now drafts.old.nodes.items }
-    ensures { Walks (λ v. v.items) result (members (items_view items.now)) (arc_str_bytes space.now.text) drafts.old.nodes.items drafts.new.nodes.items }
+    requires known { IsNamespaceOf enclosing.now drafts.old.nodes.items }
+    ensures { Walks (λ v. v.items) result (members (items_view items.now)) (arc_str_bytes enclosing.now.text) drafts.old.nodes.items drafts.new.nodes.items }
 {
     let mut members = Vec::new(alloc);
     for item in items {
-        let member = walk(alloc, item, space, drafts)?;
+        let member = walk(alloc, item, enclosing, drafts)?;
         members.push(member)?;
     }
     Ok(members)
@@ -208,20 +212,20 @@ fn walk_members<'v>(
 fn walk_object<'v>(
     alloc: Global,
     value: &'v Value,
-    space: &Space,
+    enclosing: &Namespace,
     drafts: &mut Drafts<'v>,
 ) -> Result<usize, SchemaError>
-    requires known { IsSpaceOf space.now drafts.old.nodes.items }
-    ensures { Walks (λ n. n) result (object_walk (view value.now)) (arc_str_bytes space.now.text) drafts.old.nodes.items drafts.new.nodes.items }
+    requires known { IsNamespaceOf enclosing.now drafts.old.nodes.items }
+    ensures { Walks (λ n. n) result (object_walk (view value.now)) (arc_str_bytes enclosing.now.text) drafts.old.nodes.items drafts.new.nodes.items }
 {
     match Form::of_type(value.get("type")) {
-        Form::Record => walk_record(alloc, value, space, drafts),
-        Form::Enum => walk_enum(alloc, value, space, drafts),
-        Form::Fixed => walk_fixed(alloc, value, space, drafts),
-        Form::Array => walk_array(alloc, value, space, drafts),
-        Form::Map => walk_map(alloc, value, space, drafts),
+        Form::Record => walk_record(alloc, value, enclosing, drafts),
+        Form::Enum => walk_enum(alloc, value, enclosing, drafts),
+        Form::Fixed => walk_fixed(alloc, value, enclosing, drafts),
+        Form::Array => walk_array(alloc, value, enclosing, drafts),
+        Form::Map => walk_map(alloc, value, enclosing, drafts),
         Form::Error => Err(SchemaError::OutOfProfile),
-        Form::Other => walk_at(alloc, value.get("type"), space, drafts),
+        Form::Other => walk_at(alloc, value.get("type"), enclosing, drafts),
     }
 }
 
@@ -230,18 +234,18 @@ fn walk_object<'v>(
 fn walk_array<'v>(
     alloc: Global,
     value: &'v Value,
-    space: &Space,
+    enclosing: &Namespace,
     drafts: &mut Drafts<'v>,
 ) -> Result<usize, SchemaError>
-    requires known { IsSpaceOf space.now drafts.old.nodes.items }
-    ensures { Walks (λ n. n) result (object_as Form.Array (view value.now)) (arc_str_bytes space.now.text) drafts.old.nodes.items drafts.new.nodes.items }
+    requires known { IsNamespaceOf enclosing.now drafts.old.nodes.items }
+    ensures { Walks (λ n. n) result (object_as Form.Array (view value.now)) (arc_str_bytes enclosing.now.text) drafts.old.nodes.items drafts.new.nodes.items }
 {
     let node = drafts.nodes.len();
     if node >= MOST_NODES {
         return Err(SchemaError::TooLarge);
     }
     drafts.push(Kind::Array(0))?;
-    let items = walk_at(alloc, value.get("items"), space, drafts)?;
+    let items = walk_at(alloc, value.get("items"), enclosing, drafts)?;
     drafts.set(node, Draft::Whole(Kind::Array(items)));
     Ok(node)
 }
@@ -251,18 +255,18 @@ fn walk_array<'v>(
 fn walk_map<'v>(
     alloc: Global,
     value: &'v Value,
-    space: &Space,
+    enclosing: &Namespace,
     drafts: &mut Drafts<'v>,
 ) -> Result<usize, SchemaError>
-    requires known { IsSpaceOf space.now drafts.old.nodes.items }
-    ensures { Walks (λ n. n) result (object_as Form.Map (view value.now)) (arc_str_bytes space.now.text) drafts.old.nodes.items drafts.new.nodes.items }
+    requires known { IsNamespaceOf enclosing.now drafts.old.nodes.items }
+    ensures { Walks (λ n. n) result (object_as Form.Map (view value.now)) (arc_str_bytes enclosing.now.text) drafts.old.nodes.items drafts.new.nodes.items }
 {
     let node = drafts.nodes.len();
     if node >= MOST_NODES {
         return Err(SchemaError::TooLarge);
     }
     drafts.push(Kind::Map(0))?;
-    let values = walk_at(alloc, value.get("values"), space, drafts)?;
+    let values = walk_at(alloc, value.get("values"), enclosing, drafts)?;
     drafts.set(node, Draft::Whole(Kind::Map(values)));
     Ok(node)
 }
@@ -272,11 +276,11 @@ fn walk_map<'v>(
 fn walk_record<'v>(
     alloc: Global,
     value: &'v Value,
-    space: &Space,
+    enclosing: &Namespace,
     drafts: &mut Drafts<'v>,
 ) -> Result<usize, SchemaError>
-    requires known { IsSpaceOf space.now drafts.old.nodes.items }
-    ensures { Walks (λ n. n) result (object_as Form.Record (view value.now)) (arc_str_bytes space.now.text) drafts.old.nodes.items drafts.new.nodes.items }
+    requires known { IsNamespaceOf enclosing.now drafts.old.nodes.items }
+    ensures { Walks (λ n. n) result (object_as Form.Record (view value.now)) (arc_str_bytes enclosing.now.text) drafts.old.nodes.items drafts.new.nodes.items }
 {
     let node = drafts.nodes.len();
     if node >= MOST_NODES {
@@ -286,7 +290,7 @@ fn walk_record<'v>(
         alloc,
         value.get("name"),
         value.get("namespace"),
-        space,
+        enclosing,
         drafts,
     )?;
     let open = Draft::Record {
@@ -294,7 +298,7 @@ fn walk_record<'v>(
         fields: Vec::new(alloc),
     };
     let number = drafts.define(alloc, &new.name, new.number, open)?;
-    let own = Space::of_name(&new.name, number)?;
+    let own = Namespace::of_name(&new.name, number)?;
     let fields = walk_fields(alloc, value.get("fields"), &own, drafts)?;
     let name = new.name;
     drafts.set(node, Draft::Record { name, fields });
@@ -306,17 +310,17 @@ fn walk_record<'v>(
 fn walk_fields<'v>(
     alloc: Global,
     value: Option<&'v Value>,
-    space: &Space,
+    enclosing: &Namespace,
     drafts: &mut Drafts<'v>,
 ) -> Result<Vec<DraftField<'v>>, SchemaError>
-    requires known { IsSpaceOf space.now drafts.old.nodes.items }
-    ensures { Walks (λ v. map draft_field_of v.items) result (or_unknown (option_map fields (data_at value.entry))) (arc_str_bytes space.now.text) drafts.old.nodes.items drafts.new.nodes.items }
+    requires known { IsNamespaceOf enclosing.now drafts.old.nodes.items }
+    ensures { Walks (λ v. map draft_field_of v.items) result (or_unknown (option_map fields (data_at value.entry))) (arc_str_bytes enclosing.now.text) drafts.old.nodes.items drafts.new.nodes.items }
 {
     match value {
         None => Err(SchemaError::Unknown),
         Some(value) => match value.as_array() {
             None => Err(SchemaError::Unknown),
-            Some(items) => walk_listed(alloc, items, space, drafts),
+            Some(items) => walk_listed(alloc, items, enclosing, drafts),
         },
     }
 }
@@ -326,15 +330,15 @@ fn walk_fields<'v>(
 fn walk_listed<'v>(
     alloc: Global,
     items: &'v [Value],
-    space: &Space,
+    enclosing: &Namespace,
     drafts: &mut Drafts<'v>,
 ) -> Result<Vec<DraftField<'v>>, SchemaError>
-    requires known { IsSpaceOf space.now drafts.old.nodes.items }
-    ensures { Walks (λ v. map draft_field_of v.items) result (fields_after (items_view items.now) []) (arc_str_bytes space.now.text) drafts.old.nodes.items drafts.new.nodes.items }
+    requires known { IsNamespaceOf enclosing.now drafts.old.nodes.items }
+    ensures { Walks (λ v. map draft_field_of v.items) result (fields_after (items_view items.now) []) (arc_str_bytes enclosing.now.text) drafts.old.nodes.items drafts.new.nodes.items }
 {
     let mut list = FieldList::new(alloc);
     for item in items {
-        let field = walk_field(alloc, item, &list, space, drafts)?;
+        let field = walk_field(alloc, item, &list, enclosing, drafts)?;
         list.push(field)?;
     }
     Ok(list.fields)
@@ -346,11 +350,11 @@ fn walk_field<'v>(
     alloc: Global,
     value: &'v Value,
     before: &FieldList<'v>,
-    space: &Space,
+    enclosing: &Namespace,
     drafts: &mut Drafts<'v>,
 ) -> Result<DraftField<'v>, SchemaError>
-    requires known { IsSpaceOf space.now drafts.old.nodes.items }
-    ensures { Walks draft_field_of result (field (view value.now) (names_of before.now.fields.items)) (arc_str_bytes space.now.text) drafts.old.nodes.items drafts.new.nodes.items }
+    requires known { IsNamespaceOf enclosing.now drafts.old.nodes.items }
+    ensures { Walks draft_field_of result (field (view value.now) (names_of before.now.fields.items)) (arc_str_bytes enclosing.now.text) drafts.old.nodes.items drafts.new.nodes.items }
 {
     if !value.is_object() {
         return Err(SchemaError::Unknown);
@@ -359,7 +363,7 @@ fn walk_field<'v>(
         return Err(SchemaError::TooLarge);
     }
     let name = field_name(alloc, value.get("name"), before)?;
-    let node = walk_at(alloc, value.get("type"), space, drafts)?;
+    let node = walk_at(alloc, value.get("type"), enclosing, drafts)?;
     Ok(DraftField {
         name,
         node,

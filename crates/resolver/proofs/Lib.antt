@@ -13,10 +13,10 @@ pub mod Partners
 pub mod Places
 pub mod Arriving
 pub mod Whole
-pub mod Short
 pub mod Answering
 pub mod Compatibility
 pub mod Closed
 pub mod Marks
 pub mod Within
 pub mod OneOutcome
+pub mod Writable

@@ -1,10 +1,10 @@
 -- What resolution makes of data that are of a writer's node (Avro 1.11, "Schema Resolution"), and what is answered.
-use Rattle.std.specs.Prelude.{◌≡◌, ◌<◌, ◌^◌, ℕ, List, Ok}
+use Rattle.std.specs.Prelude.{◌≡◌, ℕ, List, Ok}
 use Rattle.avro_schema.specs.Node.{Node}
 use Rattle.avro_schema.specs.Datum.{Datum}
 use Rattle.avro_schema.specs.Conforming.{Conforms}
 use Rattle.avro_datum.specs.Payload.{IsPayload}
-use Rattle.avro_datum.specs.Spelling.{Spells, units_of}
+use Rattle.avro_datum.specs.Spelling.{Spells}
 use Rattle.resolver.specs.Outcome.{Done, IsOutcome}
 use Rattle.resolver.specs.Resolution.{resolved}
 
@@ -12,7 +12,7 @@ use Rattle.resolver.specs.Resolution.{resolved}
 abbrev pub ResolutionIsWhole : List Node → List Node → Type 0
 ResolutionIsWhole W R = (w r : ℕ) (d e : Datum) → Conforms W w d → resolved W R w r d ≡ Ok e → Conforms R r e
 
--- An answer spells the datum of the reader's root that comes of the payload's, where a long can count its items.
+-- an answer spells the datum of the reader's root that comes of the payload's
 abbrev pub AnswersAreSpelled : List Node → List Node → Type 0
 AnswersAreSpelled W R = (payload bytes : List ℕ) → IsOutcome W R payload (Done bytes) →
-    (d : Datum) × (e : Datum) × IsPayload W d payload × (resolved W R 0 0 d ≡ Ok e) × Conforms R 0 e × (units_of e < 2 ^ 63 → Spells R 0 e bytes)
+    (d : Datum) × (e : Datum) × IsPayload W d payload × (resolved W R 0 0 d ≡ Ok e) × Conforms R 0 e × Spells R 0 e bytes

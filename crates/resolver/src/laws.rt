@@ -20,8 +20,7 @@ pub fn resolution_is_whole(w: &Schema, r: &Schema)
     r.defaults_conform();
 }
 
-/// The law that an answer spells, by the reader's schema, what comes of the payload's datum, where a long can count the
-/// items.
+/// The law that an answer spells, by the reader's schema, what comes of the payload's datum.
 pub fn answer_is_spelled(w: &Schema, r: &Schema)
     ensures { AnswersAreSpelled w.now.nodes r.now.nodes }
 {

@@ -14,15 +14,15 @@ pub returns-then-is_empty : goal.returns-then-is_empty
 returns-then-is_empty c =
     let parts = split-parts c.args.text.now c.in-Some.namespace.now c.in-Some.last.now c.in-Some.ensures.cases in
     let begins = dotted-empty c.args.text.now c.in-Some.namespace.now c.in-Some.last.now parts (sym c.is_empty.ensures ∙ c.if-is_empty.true) in
-    rw (dotted-full (arc_str_bytes c.args.space.now.text) c.args.text.now c.in-Some.namespace.now c.in-Some.last.now parts, begins) (sym (c.args.drafts.now.known.begins_none c.in-Some.last.now))
+    rw (dotted-full (arc_str_bytes c.args.enclosing.now.text) c.args.text.now c.in-Some.namespace.now c.in-Some.last.now parts, begins) (sym (c.args.drafts.now.known.begins_none c.in-Some.last.now))
 
 pub returns-else-is_empty : goal.returns-else-is_empty
 returns-else-is_empty c =
     let parts = split-parts c.args.text.now c.in-Some.namespace.now c.in-Some.last.now c.in-Some.ensures.cases in
     let split = dotted-some c.args.text.now c.in-Some.namespace.now c.in-Some.last.now parts (sym c.is_empty.ensures ∙ c.if-is_empty.false) in
-    rw (dotted-full (arc_str_bytes c.args.space.now.text) c.args.text.now c.in-Some.namespace.now c.in-Some.last.now parts, split) c.defined_by.ensures
+    rw (dotted-full (arc_str_bytes c.args.enclosing.now.text) c.args.text.now c.in-Some.namespace.now c.in-Some.last.now parts, split) c.defined_by.ensures
 
 pub returns-in-None : goal.returns-in-None
 returns-in-None c =
     let none = none-undotted c.args.text.now c.in-None.ensures.cases in
-    rw (undotted-full (arc_str_bytes c.args.space.now.text) c.args.text.now none) c.defined_in.ensures
+    rw (undotted-full (arc_str_bytes c.args.enclosing.now.text) c.args.text.now none) c.defined_in.ensures

@@ -15,7 +15,7 @@ use Rattle.avro_schema.proofs.MemberList.{members-on, members-fail, members-end,
 use Rattle.avro_schema.proofs.Members.{walk-scalar, walk-object, field-other, fields-none, fields-some, found-depth, item-depth}
 use Rattle.avro_schema.proofs.Records.{run-record, record-done, record-failed, pushed-record}
 use Rattle.avro_schema.proofs.Runs.{drafts_of-set, run-if_room, run-no_room, run-keeps, run-fault, closed, unclosed, pushed}
-use Rattle.avro_schema.proofs.SpaceKept.{space-pushed, space-walked}
+use Rattle.avro_schema.proofs.NamespaceKept.{enclosing-pushed, enclosing-walked}
 use Rattle.avro_schema.proofs.walk.+walk.Goals as goal
 
 -- ---- a value
@@ -85,12 +85,12 @@ walk_object-returns-in-Other t c = rw (← c.get.ensures, ← c.of_type.ensures,
 -- ---- an array
 
 pub walk_array-returns-then-node-ge-MOST_NODES : goal.walk_array-returns-then-node-ge-MOST_NODES
-walk_array-returns-then-node-ge-MOST_NODES t c = λ _. run-no_room _ (arc_str_bytes c.args.space.now.text) c.args.drafts.now.nodes.items (omega arith)
+walk_array-returns-then-node-ge-MOST_NODES t c = λ _. run-no_room _ (arc_str_bytes c.args.enclosing.now.text) c.args.drafts.now.nodes.items (omega arith)
 
 pub walk_array-walk_at-requires : goal.walk_array-walk_at-requires
 walk_array-walk_at-requires t c =
     let found = found-depth (codes "items") (option_map (λ v. view v.now) c.get.result) (view c.args.value.now) c.get.ensures in
-    (omega (arith, found), space-pushed c.args.space.now c.args.drafts.now.nodes.items c.push.new.self.nodes.items _ c.requires.known c.in_ok-push.ensures)
+    (omega (arith, found), enclosing-pushed c.args.enclosing.now c.args.drafts.now.nodes.items c.push.new.self.nodes.items _ c.requires.known c.in_ok-push.ensures)
 
 pub walk_array-returns-in_err-items : goal.walk_array-returns-in_err-items
 walk_array-returns-in_err-items t c =
@@ -98,13 +98,13 @@ walk_array-returns-in_err-items t c =
     let there = pushed c.args.drafts.now.nodes.items c.push.new.self.nodes.items _ c.in_ok-push.ensures in
     let room : length c.args.drafts.now.nodes.items < most_nodes = omega arith in
     rw (p.1, p.2, ← c.get.ensures)
-    (λ known. run-if_room _ (arc_str_bytes c.args.space.now.text) c.args.drafts.now.nodes.items room ∙ unclosed (λ n. Whole (ArrayNode n)) (Whole (ArrayNode 0)) _ (arc_str_bytes c.args.space.now.text) c.args.drafts.now.nodes.items _ (rw there at (c.in_err-items.ensures known)))
+    (λ known. run-if_room _ (arc_str_bytes c.args.enclosing.now.text) c.args.drafts.now.nodes.items room ∙ unclosed (λ n. Whole (ArrayNode n)) (Whole (ArrayNode 0)) _ (arc_str_bytes c.args.enclosing.now.text) c.args.drafts.now.nodes.items _ (rw there at (c.in_err-items.ensures known)))
 
 pub walk_array-set-requires : goal.walk_array-set-requires
 walk_array-set-requires t c =
     let there = pushed c.args.drafts.now.nodes.items c.push.new.self.nodes.items _ c.in_ok-push.ensures in
     let n : c.len-node.result ≡ length c.args.drafts.now.nodes.items = search rules in
-    rw n (run-keeps _ (arc_str_bytes c.args.space.now.text) c.args.drafts.now.nodes.items (Whole (ArrayNode 0)) _ _ (rw there at c.in_ok-items.ensures))
+    rw n (run-keeps _ (arc_str_bytes c.args.enclosing.now.text) c.args.drafts.now.nodes.items (Whole (ArrayNode 0)) _ _ (rw there at c.in_ok-items.ensures))
 
 pub walk_array-returns : goal.walk_array-returns
 walk_array-returns t c =
@@ -112,17 +112,17 @@ walk_array-returns t c =
     let room : length c.args.drafts.now.nodes.items < most_nodes = omega arith in
     let n : c.len-node.result ≡ length c.args.drafts.now.nodes.items = search rules in
     rw (c.set.ensures, n, drafts_of-set c.walk_at.new.drafts.nodes.items (length c.args.drafts.now.nodes.items) _, ← c.get.ensures)
-    (run-if_room _ (arc_str_bytes c.args.space.now.text) c.args.drafts.now.nodes.items room ∙ closed (λ n. Whole (ArrayNode n)) (Whole (ArrayNode 0)) _ (arc_str_bytes c.args.space.now.text) c.args.drafts.now.nodes.items _ _ (rw there at c.in_ok-items.ensures))
+    (run-if_room _ (arc_str_bytes c.args.enclosing.now.text) c.args.drafts.now.nodes.items room ∙ closed (λ n. Whole (ArrayNode n)) (Whole (ArrayNode 0)) _ (arc_str_bytes c.args.enclosing.now.text) c.args.drafts.now.nodes.items _ _ (rw there at c.in_ok-items.ensures))
 
 -- ---- an map
 
 pub walk_map-returns-then-node-ge-MOST_NODES : goal.walk_map-returns-then-node-ge-MOST_NODES
-walk_map-returns-then-node-ge-MOST_NODES t c = λ _. run-no_room _ (arc_str_bytes c.args.space.now.text) c.args.drafts.now.nodes.items (omega arith)
+walk_map-returns-then-node-ge-MOST_NODES t c = λ _. run-no_room _ (arc_str_bytes c.args.enclosing.now.text) c.args.drafts.now.nodes.items (omega arith)
 
 pub walk_map-walk_at-requires : goal.walk_map-walk_at-requires
 walk_map-walk_at-requires t c =
     let found = found-depth (codes "values") (option_map (λ v. view v.now) c.get.result) (view c.args.value.now) c.get.ensures in
-    (omega (arith, found), space-pushed c.args.space.now c.args.drafts.now.nodes.items c.push.new.self.nodes.items _ c.requires.known c.in_ok-push.ensures)
+    (omega (arith, found), enclosing-pushed c.args.enclosing.now c.args.drafts.now.nodes.items c.push.new.self.nodes.items _ c.requires.known c.in_ok-push.ensures)
 
 pub walk_map-returns-in_err-values : goal.walk_map-returns-in_err-values
 walk_map-returns-in_err-values t c =
@@ -130,13 +130,13 @@ walk_map-returns-in_err-values t c =
     let there = pushed c.args.drafts.now.nodes.items c.push.new.self.nodes.items _ c.in_ok-push.ensures in
     let room : length c.args.drafts.now.nodes.items < most_nodes = omega arith in
     rw (p.1, p.2, ← c.get.ensures)
-    (λ known. run-if_room _ (arc_str_bytes c.args.space.now.text) c.args.drafts.now.nodes.items room ∙ unclosed (λ n. Whole (MapNode n)) (Whole (MapNode 0)) _ (arc_str_bytes c.args.space.now.text) c.args.drafts.now.nodes.items _ (rw there at (c.in_err-values.ensures known)))
+    (λ known. run-if_room _ (arc_str_bytes c.args.enclosing.now.text) c.args.drafts.now.nodes.items room ∙ unclosed (λ n. Whole (MapNode n)) (Whole (MapNode 0)) _ (arc_str_bytes c.args.enclosing.now.text) c.args.drafts.now.nodes.items _ (rw there at (c.in_err-values.ensures known)))
 
 pub walk_map-set-requires : goal.walk_map-set-requires
 walk_map-set-requires t c =
     let there = pushed c.args.drafts.now.nodes.items c.push.new.self.nodes.items _ c.in_ok-push.ensures in
     let n : c.len-node.result ≡ length c.args.drafts.now.nodes.items = search rules in
-    rw n (run-keeps _ (arc_str_bytes c.args.space.now.text) c.args.drafts.now.nodes.items (Whole (MapNode 0)) _ _ (rw there at c.in_ok-values.ensures))
+    rw n (run-keeps _ (arc_str_bytes c.args.enclosing.now.text) c.args.drafts.now.nodes.items (Whole (MapNode 0)) _ _ (rw there at c.in_ok-values.ensures))
 
 pub walk_map-returns : goal.walk_map-returns
 walk_map-returns t c =
@@ -144,35 +144,35 @@ walk_map-returns t c =
     let room : length c.args.drafts.now.nodes.items < most_nodes = omega arith in
     let n : c.len-node.result ≡ length c.args.drafts.now.nodes.items = search rules in
     rw (c.set.ensures, n, drafts_of-set c.walk_at.new.drafts.nodes.items (length c.args.drafts.now.nodes.items) _, ← c.get.ensures)
-    (run-if_room _ (arc_str_bytes c.args.space.now.text) c.args.drafts.now.nodes.items room ∙ closed (λ n. Whole (MapNode n)) (Whole (MapNode 0)) _ (arc_str_bytes c.args.space.now.text) c.args.drafts.now.nodes.items _ _ (rw there at c.in_ok-values.ensures))
+    (run-if_room _ (arc_str_bytes c.args.enclosing.now.text) c.args.drafts.now.nodes.items room ∙ closed (λ n. Whole (MapNode n)) (Whole (MapNode 0)) _ (arc_str_bytes c.args.enclosing.now.text) c.args.drafts.now.nodes.items _ _ (rw there at c.in_ok-values.ensures))
 
 -- ---- a union
 
 pub walk_union-returns-then-node-ge-MOST_NODES : goal.walk_union-returns-then-node-ge-MOST_NODES
-walk_union-returns-then-node-ge-MOST_NODES t c = λ _. run-no_room _ (arc_str_bytes c.args.space.now.text) c.args.drafts.now.nodes.items (omega arith)
+walk_union-returns-then-node-ge-MOST_NODES t c = λ _. run-no_room _ (arc_str_bytes c.args.enclosing.now.text) c.args.drafts.now.nodes.items (omega arith)
 
 pub walk_union-walk_members-requires : goal.walk_union-walk_members-requires
-walk_union-walk_members-requires t c = (omega arith, space-pushed c.args.space.now c.args.drafts.now.nodes.items c.push.new.self.nodes.items _ c.requires.known c.in_ok-push.ensures)
+walk_union-walk_members-requires t c = (omega arith, enclosing-pushed c.args.enclosing.now c.args.drafts.now.nodes.items c.push.new.self.nodes.items _ c.requires.known c.in_ok-push.ensures)
 
 pub walk_union-returns-in_err-members : goal.walk_union-returns-in_err-members
 walk_union-returns-in_err-members t c =
     let p = err_from_is_err_and c.from_residual-in_err-members.result c.from_residual-in_err-members.ensures.1 in
     let there = pushed_union c.args.drafts.now.nodes.items c.push.new.self.nodes.items c.new.result c.in_ok-push.ensures c.new.ensures.items in
     let room : length c.args.drafts.now.nodes.items < most_nodes = omega arith in
-    rw (p.1, p.2) (λ known. union-failed _ (arc_str_bytes c.args.space.now.text) c.args.drafts.now.nodes.items room _ (rw there at (c.in_err-members.ensures known)))
+    rw (p.1, p.2) (λ known. union-failed _ (arc_str_bytes c.args.enclosing.now.text) c.args.drafts.now.nodes.items room _ (rw there at (c.in_err-members.ensures known)))
 
 pub walk_union-returns-then-not-branch : goal.walk_union-returns-then-not-branch
 walk_union-returns-then-not-branch t c =
     let there = pushed_union c.args.drafts.now.nodes.items c.push.new.self.nodes.items c.new.result c.in_ok-push.ensures c.new.ensures.items in
     let room : length c.args.drafts.now.nodes.items < most_nodes = omega arith in
     let bad = rw c.deref.ensures.value at (sym c.if-not-branch.true ∙ c.in_ok-are_apart.ensures) in
-    λ _. union-bad _ (arc_str_bytes c.args.space.now.text) c.args.drafts.now.nodes.items room _ _ (rw there at c.in_ok-members.ensures) bad
+    λ _. union-bad _ (arc_str_bytes c.args.enclosing.now.text) c.args.drafts.now.nodes.items room _ _ (rw there at c.in_ok-members.ensures) bad
 
 pub walk_union-set-requires : goal.walk_union-set-requires
 walk_union-set-requires t c =
     let there = pushed_union c.args.drafts.now.nodes.items c.push.new.self.nodes.items c.new.result c.in_ok-push.ensures c.new.ensures.items in
     let n : c.len-node.result ≡ length c.args.drafts.now.nodes.items = search rules in
-    rw n (run-keeps _ (arc_str_bytes c.args.space.now.text) c.args.drafts.now.nodes.items (Whole (UnionNode [])) _ _ (rw there at c.in_ok-members.ensures))
+    rw n (run-keeps _ (arc_str_bytes c.args.enclosing.now.text) c.args.drafts.now.nodes.items (Whole (UnionNode [])) _ _ (rw there at c.in_ok-members.ensures))
 
 pub walk_union-returns : goal.walk_union-returns
 walk_union-returns t c =
@@ -181,7 +181,7 @@ walk_union-returns t c =
     let good = rw c.deref.ensures.value at (sym c.if-not-branch.false ∙ c.in_ok-are_apart.ensures) in
     let n : c.len-node.result ≡ length c.args.drafts.now.nodes.items = search rules in
     rw (c.set.ensures, n, drafts_of-set c.walk_members.new.drafts.nodes.items (length c.args.drafts.now.nodes.items) _)
-    (union-done _ (arc_str_bytes c.args.space.now.text) c.args.drafts.now.nodes.items room _ _ (rw there at c.in_ok-members.ensures) good)
+    (union-done _ (arc_str_bytes c.args.enclosing.now.text) c.args.drafts.now.nodes.items room _ _ (rw there at c.in_ok-members.ensures) good)
 
 pub walk_members-walk-requires : goal.walk_members-walk-requires
 walk_members-walk-requires t c =
@@ -192,31 +192,31 @@ pub walk_members-returns-in_err-member : goal.walk_members-returns-in_err-member
 walk_members-returns-in_err-member t c =
     let p = err_from_is_err_and c.from_residual.result c.from_residual.ensures.1 in
     let l = c.loop-item in
-    rw (p.1, p.2) (λ known. sym l.invariant.1 ∙ members-fail (arc_str_bytes c.args.space.now.text) c.args.items.now l.item-index c.item-item.result (omega arith) c.item-item.is l.members.items (drafts_of l.drafts.nodes.items) _ (c.in_err-member.ensures known))
+    rw (p.1, p.2) (λ known. sym l.invariant.1 ∙ members-fail (arc_str_bytes c.args.enclosing.now.text) c.args.items.now l.item-index c.item-item.result (omega arith) c.item-item.is l.members.items (drafts_of l.drafts.nodes.items) _ (c.in_err-member.ensures known))
 
 pub walk_members-loop-item-preserved : goal.walk_members-loop-item-preserved
 walk_members-loop-item-preserved t c =
     let l = c.loop-item in (
-      space-walked _ _ c.args.space.now l.drafts.nodes.items _ _ l.invariant.0 c.in_ok-member.ensures,
+      enclosing-walked _ _ c.args.enclosing.now l.drafts.nodes.items _ _ l.invariant.0 c.in_ok-member.ensures,
       rw c.in_ok-push.ensures.items
-          (sym (members-on (arc_str_bytes c.args.space.now.text) c.args.items.now l.item-index c.item-item.result (omega arith) c.item-item.is l.members.items (drafts_of l.drafts.nodes.items) _ _ c.in_ok-member.ensures) ∙ l.invariant.1),
+          (sym (members-on (arc_str_bytes c.args.enclosing.now.text) c.args.items.now l.item-index c.item-item.result (omega arith) c.item-item.is l.members.items (drafts_of l.drafts.nodes.items) _ _ c.in_ok-member.ensures) ∙ l.invariant.1),
     )
 
 pub walk_members-returns : goal.walk_members-returns
 walk_members-returns t c =
     let l = c.loop-item in
-    sym l.invariant.1 ∙ members-end (arc_str_bytes c.args.space.now.text) c.args.items.now l.item-index (omega arith) l.members.items (drafts_of l.drafts.nodes.items)
+    sym l.invariant.1 ∙ members-end (arc_str_bytes c.args.enclosing.now.text) c.args.items.now l.item-index (omega arith) l.members.items (drafts_of l.drafts.nodes.items)
 
 -- ---- a record
 
 pub walk_record-returns-then-node-ge-MOST_NODES : goal.walk_record-returns-then-node-ge-MOST_NODES
-walk_record-returns-then-node-ge-MOST_NODES t c = λ _. run-no_room _ (arc_str_bytes c.args.space.now.text) c.args.drafts.now.nodes.items (omega arith)
+walk_record-returns-then-node-ge-MOST_NODES t c = λ _. run-no_room _ (arc_str_bytes c.args.enclosing.now.text) c.args.drafts.now.nodes.items (omega arith)
 
 pub walk_record-returns-in_err-new : goal.walk_record-returns-in_err-new
 walk_record-returns-in_err-new t c =
     let p = err_from_is_err_and c.from_residual.result c.from_residual.ensures.1 in
     let room : length c.args.drafts.now.nodes.items < most_nodes = omega arith in
-    rw (p.1, p.2) (λ known. run-record _ _ _ (arc_str_bytes c.args.space.now.text) c.args.drafts.now.nodes.items room ∙ rw (← c.get.ensures, ← c.get-2.ensures, c.in_err-new.ensures.name known) refl)
+    rw (p.1, p.2) (λ known. run-record _ _ _ (arc_str_bytes c.args.enclosing.now.text) c.args.drafts.now.nodes.items room ∙ rw (← c.get.ensures, ← c.get-2.ensures, c.in_err-new.ensures.name known) refl)
 
 pub walk_record-walk_fields-requires : goal.walk_record-walk_fields-requires
 walk_record-walk_fields-requires t c =
@@ -230,7 +230,7 @@ walk_record-returns-in_err-fields t c =
     let room : length c.args.drafts.now.nodes.items < most_nodes = omega arith in
     let named = rw (c.get.ensures, c.get-2.ensures) at c.in_ok-new.ensures.name in
     rw (p.1, p.2, ← c.get-3.ensures)
-    (λ known. record-failed _ _ _ (arc_str_bytes c.args.space.now.text) c.args.drafts.now.nodes.items room (full_of c.in_ok-new.new.name) named _ (rw (c.in_ok-own.ensures.text, there) at (c.in_err-fields.ensures known)))
+    (λ known. record-failed _ _ _ (arc_str_bytes c.args.enclosing.now.text) c.args.drafts.now.nodes.items room (full_of c.in_ok-new.new.name) named _ (rw (c.in_ok-own.ensures.text, there) at (c.in_err-fields.ensures known)))
 
 pub walk_record-define-requires : goal.walk_record-define-requires
 walk_record-define-requires t c = record {
@@ -252,7 +252,7 @@ walk_record-returns t c =
     let named = rw (c.get.ensures, c.get-2.ensures) at c.in_ok-new.ensures.name in
     let n : c.len-node.result ≡ length c.args.drafts.now.nodes.items = search rules in
     rw (c.set.ensures, n, drafts_of-set c.walk_fields.new.drafts.nodes.items (length c.args.drafts.now.nodes.items) _, ← c.get-3.ensures)
-    (record-done _ _ _ (arc_str_bytes c.args.space.now.text) c.args.drafts.now.nodes.items room (full_of c.in_ok-new.new.name) named _ _ (rw (c.in_ok-own.ensures.text, there) at c.in_ok-fields.ensures))
+    (record-done _ _ _ (arc_str_bytes c.args.enclosing.now.text) c.args.drafts.now.nodes.items room (full_of c.in_ok-new.new.name) named _ _ (rw (c.in_ok-own.ensures.text, there) at c.in_ok-fields.ensures))
 
 -- ---- its fields
 
@@ -275,22 +275,22 @@ pub walk_listed-returns-in_err-field : goal.walk_listed-returns-in_err-field
 walk_listed-returns-in_err-field t c =
     let p = err_from_is_err_and c.from_residual.result c.from_residual.ensures.1 in
     let l = c.loop-item in
-    rw (p.1, p.2) (λ known. sym l.invariant.1 ∙ fields-fail (arc_str_bytes c.args.space.now.text) c.args.items.now l.item-index c.item-item.result (omega arith) c.item-item.is (map draft_field_of l.list.fields.items) (names_of l.list.fields.items) (drafts_of l.drafts.nodes.items) _
+    rw (p.1, p.2) (λ known. sym l.invariant.1 ∙ fields-fail (arc_str_bytes c.args.enclosing.now.text) c.args.items.now l.item-index c.item-item.result (omega arith) c.item-item.is (map draft_field_of l.list.fields.items) (names_of l.list.fields.items) (drafts_of l.drafts.nodes.items) _
     (c.in_err-field.ensures known))
 
 pub walk_listed-loop-item-preserved : goal.walk_listed-loop-item-preserved
 walk_listed-loop-item-preserved t c =
     let l = c.loop-item in
     let f = c.in_ok-field.field in (
-      space-walked _ _ c.args.space.now l.drafts.nodes.items _ _ l.invariant.0 c.in_ok-field.ensures,
+      enclosing-walked _ _ c.args.enclosing.now l.drafts.nodes.items _ _ l.invariant.0 c.in_ok-field.ensures,
       rw (c.in_ok-push.ensures, map-push draft_field_of l.list.fields.items f, map-push (λ g. string_bytes g.name) l.list.fields.items f)
-          (sym (fields-on (arc_str_bytes c.args.space.now.text) c.args.items.now l.item-index c.item-item.result (omega arith) c.item-item.is (map draft_field_of l.list.fields.items) (names_of l.list.fields.items) (drafts_of l.drafts.nodes.items) _ _ c.in_ok-field.ensures) ∙ l.invariant.1),
+          (sym (fields-on (arc_str_bytes c.args.enclosing.now.text) c.args.items.now l.item-index c.item-item.result (omega arith) c.item-item.is (map draft_field_of l.list.fields.items) (names_of l.list.fields.items) (drafts_of l.drafts.nodes.items) _ _ c.in_ok-field.ensures) ∙ l.invariant.1),
     )
 
 pub walk_listed-returns : goal.walk_listed-returns
 walk_listed-returns t c =
     let l = c.loop-item in
-    sym l.invariant.1 ∙ fields-end (arc_str_bytes c.args.space.now.text) c.args.items.now l.item-index (omega arith) (map draft_field_of l.list.fields.items) (names_of l.list.fields.items) (drafts_of l.drafts.nodes.items)
+    sym l.invariant.1 ∙ fields-end (arc_str_bytes c.args.enclosing.now.text) c.args.items.now l.item-index (omega arith) (map draft_field_of l.list.fields.items) (names_of l.list.fields.items) (drafts_of l.drafts.nodes.items)
 
 -- ---- a field
 
@@ -298,13 +298,13 @@ pub walk_field-returns-then-not-is_object : goal.walk_field-returns-then-not-is_
 walk_field-returns-then-not-is_object t c = λ _. rw (field-other (view c.args.value.now) (names_of c.args.before.now.fields.items) c.if-not-is_object.ensures) (run-fault _ _ _)
 
 pub walk_field-returns-then-len-ge-MOST_FIELDS : goal.walk_field-returns-then-len-ge-MOST_FIELDS
-walk_field-returns-then-len-ge-MOST_FIELDS t c = λ _. run-many (view c.args.value.now) c.args.before.now.fields.items (arc_str_bytes c.args.space.now.text) _ c.if-not-is_object.ensures (let many : most_fields ≤ length c.args.before.now.fields.items = omega arith in many)
+walk_field-returns-then-len-ge-MOST_FIELDS t c = λ _. run-many (view c.args.value.now) c.args.before.now.fields.items (arc_str_bytes c.args.enclosing.now.text) _ c.if-not-is_object.ensures (let many : most_fields ≤ length c.args.before.now.fields.items = omega arith in many)
 
 pub walk_field-returns-in_err-name : goal.walk_field-returns-in_err-name
 walk_field-returns-in_err-name t c =
     let p = err_from_is_err_and c.from_residual.result c.from_residual.ensures.1 in
     let room : length c.args.before.now.fields.items < most_fields = omega arith in
-    rw (p.1, p.2) (λ known. run-field (view c.args.value.now) c.args.before.now.fields.items (arc_str_bytes c.args.space.now.text) _ c.if-not-is_object.ensures room ∙ rw (← c.get.ensures, c.in_err-name.ensures known) refl)
+    rw (p.1, p.2) (λ known. run-field (view c.args.value.now) c.args.before.now.fields.items (arc_str_bytes c.args.enclosing.now.text) _ c.if-not-is_object.ensures room ∙ rw (← c.get.ensures, c.in_err-name.ensures known) refl)
 
 pub walk_field-walk_at-requires : goal.walk_field-walk_at-requires
 walk_field-walk_at-requires t c =
@@ -315,10 +315,10 @@ pub walk_field-returns-in_err-node : goal.walk_field-returns-in_err-node
 walk_field-returns-in_err-node t c =
     let p = err_from_is_err_and c.from_residual-in_err-node.result c.from_residual-in_err-node.ensures.1 in
     let room : length c.args.before.now.fields.items < most_fields = omega arith in
-    rw (p.1, p.2) (λ known. run-field (view c.args.value.now) c.args.before.now.fields.items (arc_str_bytes c.args.space.now.text) _ c.if-not-is_object.ensures room ∙ rw (← c.get.ensures, c.in_ok-name.ensures, ← c.get-2.ensures, c.in_err-node.ensures known) refl)
+    rw (p.1, p.2) (λ known. run-field (view c.args.value.now) c.args.before.now.fields.items (arc_str_bytes c.args.enclosing.now.text) _ c.if-not-is_object.ensures room ∙ rw (← c.get.ensures, c.in_ok-name.ensures, ← c.get-2.ensures, c.in_err-node.ensures known) refl)
 
 pub walk_field-returns : goal.walk_field-returns
 walk_field-returns t c =
     let room : length c.args.before.now.fields.items < most_fields = omega arith in
-    run-field (view c.args.value.now) c.args.before.now.fields.items (arc_str_bytes c.args.space.now.text) _ c.if-not-is_object.ensures room
+    run-field (view c.args.value.now) c.args.before.now.fields.items (arc_str_bytes c.args.enclosing.now.text) _ c.if-not-is_object.ensures room
     ∙ rw (← c.get.ensures, c.in_ok-name.ensures, ← c.get-2.ensures, c.in_ok-node.ensures, ← c.get-3.ensures) refl

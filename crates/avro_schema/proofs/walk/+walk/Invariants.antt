@@ -4,7 +4,7 @@ use Rattle.serde_json.specs.Data.{depth, items_depth}
 use Rattle.serde_json.specs.View.{view, items_view}
 use Rattle.avro_schema.specs.Contract.{run, names_of}
 use Rattle.avro_schema.specs.Draft.{data_at, draft_field_of, drafts_of}
-use Rattle.avro_schema.specs.Index.{IsSpaceOf}
+use Rattle.avro_schema.specs.Index.{IsNamespaceOf}
 use Rattle.avro_schema.specs.Walk.{fields_after, members}
 use Rattle.avro_schema.proofs.FieldList.{behind}
 use Rattle.avro_schema.proofs.Members.{option_depth}
@@ -46,12 +46,12 @@ decreases-walk_field l = 8 * depth (view l.value.now) + 7
 
 abbrev pub invariant-walk_members-loop-item : goal.invariant-walk_members-loop-item
 invariant-walk_members-loop-item l =
-    IsSpaceOf l.space l.drafts.nodes.items
-    × (behind l.members.items (run (members (items_view (drop l.item-index l.items))) (arc_str_bytes l.space.text) (drafts_of l.drafts.nodes.items))
-    ≡ run (members (items_view l.items)) (arc_str_bytes l.space.text) (drafts_of l.initial.drafts.nodes.items))
+    IsNamespaceOf l.enclosing l.drafts.nodes.items
+    × (behind l.members.items (run (members (items_view (drop l.item-index l.items))) (arc_str_bytes l.enclosing.text) (drafts_of l.drafts.nodes.items))
+    ≡ run (members (items_view l.items)) (arc_str_bytes l.enclosing.text) (drafts_of l.initial.drafts.nodes.items))
 
 abbrev pub invariant-walk_listed-loop-item : goal.invariant-walk_listed-loop-item
 invariant-walk_listed-loop-item l =
-    IsSpaceOf l.space l.drafts.nodes.items
-    × (behind (map draft_field_of l.list.fields.items) (run (fields_after (items_view (drop l.item-index l.items)) (names_of l.list.fields.items)) (arc_str_bytes l.space.text) (drafts_of l.drafts.nodes.items))
-    ≡ run (fields_after (items_view l.items) []) (arc_str_bytes l.space.text) (drafts_of l.initial.drafts.nodes.items))
+    IsNamespaceOf l.enclosing l.drafts.nodes.items
+    × (behind (map draft_field_of l.list.fields.items) (run (fields_after (items_view (drop l.item-index l.items)) (names_of l.list.fields.items)) (arc_str_bytes l.enclosing.text) (drafts_of l.drafts.nodes.items))
+    ≡ run (fields_after (items_view l.items) []) (arc_str_bytes l.enclosing.text) (drafts_of l.initial.drafts.nodes.items))

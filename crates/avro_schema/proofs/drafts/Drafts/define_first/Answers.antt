@@ -6,7 +6,7 @@ use Rattle.std.specs.Cmp.Lexicographic.{slice_cmp}
 use Rattle.std.specs.String.{string_cmp}
 use Rattle.avro_schema.specs.Draft.{drafts_of}
 use Rattle.avro_schema.specs.Head.{heads_of}
-use Rattle.avro_schema.specs.Index.{number_of, spaces_of}
+use Rattle.avro_schema.specs.Index.{number_of, namespaces_of}
 use Rattle.avro_schema.proofs.Dots.{namespace-inside, unqualified-inside}
 use Rattle.avro_schema.proofs.NameParts.{name-undotted, parts-ruled}
 use Rattle.avro_schema.proofs.NewIndex.{index-first, fresh-first, pushed-all}
@@ -20,13 +20,13 @@ invariant_of-self-in-Ok c =
     let last = string_bytes name.last in
     let none = name-undotted last name.parts.last_is in
     let own = namespace-inside namespace last none in
-    let new = ap (λ s. number_of s (spaces_of (heads_of (drafts_of d.nodes.items)))) (sym own) ∙ c.requires.first in
+    let new = ap (λ s. number_of s (namespaces_of (heads_of (drafts_of d.nodes.items)))) (sym own) ∙ c.requires.first in
     let key : string_bytes c.in_ok-from_str.field-0 ≡ last = c.in_ok-from_str.ensures.ok ∙ c.last.ensures ∙ unqualified-inside namespace last none in
-    let space : string_bytes c.in_ok-namespace.namespace ≡ namespace = c.in_ok-namespace.ensures.ok ∙ c.namespace.ensures ∙ own in
+    let enclosing : string_bytes c.in_ok-namespace.namespace ≡ namespace = c.in_ok-namespace.ensures.ok ∙ c.namespace.ensures ∙ own in
     record {
       known = rw c.in_ok-push.ensures.items (index-first namespace last none (parts-ruled namespace last name.parts) d.nodes.items c.push-2.new.self.items c.args.draft c.requires.named (fresh-first namespace last none (heads_of (drafts_of d.nodes.items)) new) (pushed-all _ _ _ _ _ c.push-2.ensures.items c.is_err.ensures.negation c.if-is_err.false)
           d.numbers d.scopes.items d.known new c.insert-2.new.self c.new-scope.result c.insert.new.self c.len-number.result c.len-node.result (λ s. rw c.new-scope.ensures.empty refl)
           (let n : c.len-node.result ≡ length d.nodes.items = search rules in n) (let n : c.len-number.result ≡ length d.scopes.items = search rules in n)
           (subst (λ l. UpdatesBy string_cmp (λ k. slice_cmp nat_cmp l (string_bytes k)) c.new-scope.result c.insert.new.self (Some c.len-node.result)) key c.in_ok-insert.ensures.updates)
-          (subst (λ l. UpdatesBy string_cmp (λ k. slice_cmp nat_cmp l (string_bytes k)) d.numbers c.insert-2.new.self (Some c.len-number.result)) space c.in-Ok.ensures.updates));
+          (subst (λ l. UpdatesBy string_cmp (λ k. slice_cmp nat_cmp l (string_bytes k)) d.numbers c.insert-2.new.self (Some c.len-number.result)) enclosing c.in-Ok.ensures.updates));
     }

@@ -7,4 +7,4 @@ pub returns : goal.returns
 returns c =
     let d = c.args.self.now in
     c.copied.ensures ∙ c.get.ensures.value
-    ∙ found-under d.numbers d.scopes.items d.nodes.items d.known c.args.space.now.number (arc_str_bytes c.args.space.now.text) c.args.last.now c.index.result.now c.requires.known c.index.ensures c.requires.undotted
+    ∙ found-under d.numbers d.scopes.items d.nodes.items d.known c.args.enclosing.now.number (arc_str_bytes c.args.enclosing.now.text) c.args.last.now c.index.result.now c.requires.known c.index.ensures c.requires.undotted

@@ -4,8 +4,8 @@ use Rattle.serde_json.specs.Read.{read}
 use Rattle.serde_json.specs.View.{view}
 use Rattle.avro_schema.specs.Schema.{most_text}
 use Rattle.avro_schema.proofs.Declared.{too-large, small, no-json, some-json, a-float, walked}
-use Rattle.avro_schema.proofs.DeclaredTexts.{declared-within}
-use Rattle.avro_schema.proofs.ReadTexts.{read-within}
+use Rattle.avro_schema.proofs.DeclaredSizes.{declared-within}
+use Rattle.avro_schema.proofs.ReadSizes.{read-within}
 use Rattle.avro_schema.proofs.schema.Schema.parse.Goals as goal
 
 pub returns-then-text-gt-MOST_TEXT : goal.returns-then-text-gt-MOST_TEXT

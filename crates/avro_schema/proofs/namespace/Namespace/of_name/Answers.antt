@@ -3,7 +3,7 @@ use Rattle.std.specs.Arc.{arc_str_bytes}
 use Rattle.avro_schema.specs.FullNames.{is_namespace}
 use Rattle.avro_schema.proofs.Dots.{namespace-inside}
 use Rattle.avro_schema.proofs.NameParts.{name-undotted}
-use Rattle.avro_schema.proofs.space.Space.of_name.Goals as goal
+use Rattle.avro_schema.proofs.namespace.Namespace.of_name.Goals as goal
 
 pub invariant_of-result : goal.invariant_of-result
 invariant_of-result c = record { valid = ap is_namespace c.in_ok-shared_namespace.ensures ∙ c.args.name.now.parts.namespace_is }

@@ -9,30 +9,30 @@ use std::sync::ArcStr;
 
 /// A namespace, under the number that its names are kept by.
 #[derive(Drop)]
-pub(crate) struct Space {
+pub(crate) struct Namespace {
     pub(crate) text: ArcStr,
     pub(crate) number: usize,
     ghost valid: { is_namespace (arc_str_bytes text) ≡ true },
 }
 
-impl Space {
+impl Namespace {
     /// The null namespace, whose number is 0.
-    pub(crate) fn null(alloc: Global) -> Result<Space, AllocError>
+    pub(crate) fn null(alloc: Global) -> Result<Namespace, AllocError>
         ensures text { IfOk result (λ s. arc_str_bytes s.text ≡ []) }
         ensures number { IfOk result (λ s. s.number ≡ 0) }
     {
-        Ok(Space {
+        Ok(Namespace {
             text: ArcStr::from_str(alloc, "")?,
             number: 0,
         })
     }
 
     /// The namespace of a name, under its number.
-    pub(crate) fn of_name(name: &Name, number: usize) -> Result<Space, AllocError>
+    pub(crate) fn of_name(name: &Name, number: usize) -> Result<Namespace, AllocError>
         ensures text { IfOk result (λ s. arc_str_bytes s.text ≡ namespace_of (full_of name.now)) }
         ensures number { IfOk result (λ s. s.number ≡ number) }
     {
-        Ok(Space {
+        Ok(Namespace {
             text: name.shared_namespace()?,
             number,
         })

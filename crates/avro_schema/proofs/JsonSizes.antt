@@ -1,5 +1,5 @@
--- No string that a JSON text spells is longer than the text: its tokens.
-use Rattle.std.proofs.Common.{ℕ, ◌+◌, ◌≤◌, List, [], ◌∷◌, length, Bool, true, false, cond, ◌&&◌, ◌==◌, nat_lt, Option, Some, None, option_and_then, arith, length-append}
+-- No string that a JSON text spells is longer than the text, and the text has no more tokens than bytes, but for the one of a fault.
+use Rattle.std.proofs.Common.{ℕ, suc, ◌+◌, ◌≤◌, List, [], ◌∷◌, length, Bool, true, false, cond, ◌&&◌, ◌==◌, nat_lt, Option, Some, None, option_and_then, arith, length-append}
 use Rattle.std.specs.List.{AllByRecursion}
 use Rattle.std.specs.Char.{encode_utf8}
 use Rattle.json.specs.Token.{Token, begin_object, end_object, begin_array, end_array, key, string, number, boolean, null, bad}
@@ -65,20 +65,81 @@ content-within (after_high h) (s ∷ u ∷ a ∷ b ∷ c ∷ d ∷ xs) =
 -- ---- lexemes
 
 -- a key or a string is no longer than that
-abbrev pub TokenWithin : ℕ → Token → Type 0
+abbrev TokenWithin : ℕ → Token → Type 0
 TokenWithin most (key s) = length s ≤ most
 TokenWithin most (string s) = length s ≤ most
 TokenWithin most _ = Unit {0}
 
-abbrev pub LexemeWithin : ℕ → Lexeme → Type 0
+abbrev LexemeWithin : ℕ → Lexeme → Type 0
 LexemeWithin most (token t) = TokenWithin most t
 LexemeWithin most _ = Unit {0}
 
-abbrev pub TokensWithin : ℕ → List Token → Type 0
-TokensWithin most ts = AllByRecursion (TokenWithin most) ts
+abbrev AreWithin : ℕ → List Token → Type 0
+AreWithin most ts = AllByRecursion (TokenWithin most) ts
 
-abbrev pub LexemesWithin : ℕ → List Lexeme → Type 0
+abbrev LexemesWithin : ℕ → List Lexeme → Type 0
 LexemesWithin most ls = AllByRecursion (LexemeWithin most) ls
+
+-- ---- how many there are
+
+byte-few : (m : Mode) (c : Class) (x : ℕ) (xs : List ℕ) (k : Mode → List Lexeme) (n : ℕ) → ((next : Mode) → length (k next) ≤ n) → length (lex_byte m c x xs k) ≤ suc n
+byte-few between quote x xs k n h = omega (arith, h in_string)
+byte-few between backslash x xs k n h = omega (arith, h in_word)
+byte-few between operator x xs k n h = omega (arith, h between)
+byte-few between space x xs k n h = omega (arith, h between)
+byte-few between other x xs k n h = omega (arith, h in_word)
+byte-few in_word quote x xs k n h = omega (arith, h in_word)
+byte-few in_word backslash x xs k n h = omega (arith, h in_word)
+byte-few in_word operator x xs k n h = omega (arith, h between)
+byte-few in_word space x xs k n h = omega (arith, h between)
+byte-few in_word other x xs k n h = omega (arith, h in_word)
+byte-few in_string quote x xs k n h = omega (arith, h between)
+byte-few in_string backslash x xs k n h = omega (arith, h in_escape)
+byte-few in_string operator x xs k n h = omega (arith, h in_string)
+byte-few in_string space x xs k n h = omega (arith, h in_string)
+byte-few in_string other x xs k n h = omega (arith, h in_string)
+byte-few in_escape c x xs k n h = omega (arith, h in_string)
+
+lex-few : (m : Mode) (xs : List ℕ) → length (lex m xs) ≤ length xs
+unfolding lex
+lex-few m [] = omega arith
+lex-few m (x ∷ xs) = byte-few m (class x) x xs (λ next. lex next xs) (length xs) (λ next. lex-few next xs)
+
+allowed-few : (b : Bool) (t : Token) (k : Place → List Token) (next : Place) (n : ℕ) → ((p : Place) → length (k p) ≤ suc n) → length (if_allowed b t k next) ≤ suc (suc n)
+allowed-few true t k next n h = omega (arith, h next)
+allowed-few false t k next n h = omega arith
+
+place-few : (p : Place) (t : Token) (b : Bool) (k : Place → List Token) (n : ℕ) → ((next : Place) → length (k next) ≤ suc n) → length (place_token p t b k) ≤ suc (suc n)
+place-few p begin_object b k n h = allowed-few (may_begin p) begin_object k fresh n h
+place-few p end_object b k n h = allowed-few (may_close p) end_object k after_value n h
+place-few p begin_array b k n h = allowed-few (may_begin p) begin_array k fresh n h
+place-few p end_array b k n h = allowed-few (may_close p) end_array k after_value n h
+place-few p (key s) b k n h = omega arith
+place-few p (string s) true k n h = allowed-few (may_begin p) (key s) k after_key n h
+place-few p (string s) false k n h = allowed-few (may_begin p) (string s) k after_value n h
+place-few p (number s) b k n h = allowed-few (may_begin p) (number s) k after_value n h
+place-few p (boolean v) b k n h = allowed-few (may_begin p) (boolean v) k after_value n h
+place-few p null b k n h = allowed-few (may_begin p) null k after_value n h
+place-few p bad b k n h = omega arith
+
+punctuate-few : (p : Place) (ls : List Lexeme) → length (punctuate p ls) ≤ suc (length ls)
+unfolding punctuate
+punctuate-few fresh [] = omega arith
+punctuate-few after_value [] = omega arith
+punctuate-few after_comma [] = omega arith
+punctuate-few after_key [] = omega arith
+punctuate-few fresh (token t ∷ ls) = place-few fresh t (begins_colon ls) (λ next. punctuate next ls) (length ls) (λ next. punctuate-few next ls)
+punctuate-few after_value (token t ∷ ls) = place-few after_value t (begins_colon ls) (λ next. punctuate next ls) (length ls) (λ next. punctuate-few next ls)
+punctuate-few after_comma (token t ∷ ls) = place-few after_comma t (begins_colon ls) (λ next. punctuate next ls) (length ls) (λ next. punctuate-few next ls)
+punctuate-few after_key (token t ∷ ls) = place-few after_key t (begins_colon ls) (λ next. punctuate next ls) (length ls) (λ next. punctuate-few next ls)
+punctuate-few fresh (comma ∷ ls) = omega arith
+punctuate-few after_value (comma ∷ ls) = omega (arith, punctuate-few after_comma ls)
+punctuate-few after_comma (comma ∷ ls) = omega arith
+punctuate-few after_key (comma ∷ ls) = omega arith
+punctuate-few fresh (colon ∷ ls) = omega arith
+punctuate-few after_value (colon ∷ ls) = omega arith
+punctuate-few after_comma (colon ∷ ls) = omega arith
+punctuate-few after_key (colon ∷ ls) = omega (arith, punctuate-few fresh ls)
 
 module _ (most : ℕ) where
   one_of : (b : Bool) (t u : Token) → TokenWithin most t → TokenWithin most u → TokenWithin most (cond b t u)
@@ -132,11 +193,11 @@ module _ (most : ℕ) where
 
   -- ---- commas and colons
 
-  if_allowed-within : (b : Bool) (t : Token) (k : Place → List Token) (next : Place) → TokenWithin most t → ((p : Place) → TokensWithin most (k p)) → TokensWithin most (if_allowed b t k next)
+  if_allowed-within : (b : Bool) (t : Token) (k : Place → List Token) (next : Place) → TokenWithin most t → ((p : Place) → AreWithin most (k p)) → AreWithin most (if_allowed b t k next)
   if_allowed-within true t k next h f = (h, f next)
   if_allowed-within false t k next h f = (tt, tt)
 
-  place_token-within : (p : Place) (t : Token) (b : Bool) (k : Place → List Token) → TokenWithin most t → ((next : Place) → TokensWithin most (k next)) → TokensWithin most (place_token p t b k)
+  place_token-within : (p : Place) (t : Token) (b : Bool) (k : Place → List Token) → TokenWithin most t → ((next : Place) → AreWithin most (k next)) → AreWithin most (place_token p t b k)
   place_token-within p begin_object b k h f = if_allowed-within (may_begin p) begin_object k fresh tt f
   place_token-within p end_object b k h f = if_allowed-within (may_close p) end_object k after_value tt f
   place_token-within p begin_array b k h f = if_allowed-within (may_begin p) begin_array k fresh tt f
@@ -149,7 +210,7 @@ module _ (most : ℕ) where
   place_token-within p null b k h f = if_allowed-within (may_begin p) null k after_value tt f
   place_token-within p bad b k h f = (tt, tt)
 
-  punctuate-within : (p : Place) (ls : List Lexeme) → LexemesWithin most ls → TokensWithin most (punctuate p ls)
+  punctuate-within : (p : Place) (ls : List Lexeme) → LexemesWithin most ls → AreWithin most (punctuate p ls)
   unfolding punctuate
   punctuate-within fresh [] h = tt
   punctuate-within after_value [] h = tt
@@ -168,5 +229,15 @@ module _ (most : ℕ) where
   punctuate-within after_comma (colon ∷ ls) h = (tt, tt)
   punctuate-within after_key (colon ∷ ls) h = punctuate-within fresh ls h.1
 
-  pub tokens-within : (text : List ℕ) → length text ≤ most → TokensWithin most (tokens text)
-  tokens-within text le = punctuate-within fresh (lex between text) (lex-within between text le)
+  -- so is each token of a row, and no more than that stand behind it
+  abbrev pub TokensWithin : List Token → Type 0
+  TokensWithin [] = Unit {0}
+  TokensWithin (t ∷ ts) = (TokenWithin most t × (length ts ≤ most)) × TokensWithin ts
+
+  each-behind : (ts : List Token) → AreWithin most ts → length ts ≤ suc most → TokensWithin ts
+  each-behind [] h le = tt
+  each-behind (t ∷ ts) h le = ((h.0, omega arith), each-behind ts h.1 (omega arith))
+
+  pub tokens-within : (text : List ℕ) → length text ≤ most → TokensWithin (tokens text)
+  tokens-within text le =
+      each-behind (tokens text) (punctuate-within fresh (lex between text) (lex-within between text le)) (omega (arith, lex-few between text, punctuate-few fresh (lex between text), le))

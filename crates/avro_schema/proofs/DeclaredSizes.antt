@@ -9,14 +9,14 @@ use Rattle.avro_schema.specs.Draft.{Draft, Whole, RecordDraft, DraftField}
 use Rattle.avro_schema.specs.Head.{heads_of}
 use Rattle.avro_schema.specs.Node.{Node, FieldNode, RecordNode}
 use Rattle.avro_schema.specs.Schema.{declared}
-use Rattle.avro_schema.specs.TextSizes.{HasTextsWithin, DefaultsHaveTextsWithin}
+use Rattle.avro_schema.specs.Sizes.{HasSizesWithin, DefaultsHaveSizesWithin}
 use Rattle.avro_schema.specs.Walk.{walk, null_namespace}
-use Rattle.avro_schema.proofs.DefaultTexts.{default-within}
+use Rattle.avro_schema.proofs.DefaultSizes.{default-within}
 use Rattle.avro_schema.proofs.DefaultsConform.{map-inv}
 use Rattle.avro_schema.proofs.FinishedNodes.{in-row, node-finished}
 use Rattle.avro_schema.proofs.Fits.{DraftFits, AllFrom}
-use Rattle.avro_schema.proofs.ReadTexts.{HasDataWithin}
-use Rattle.avro_schema.proofs.WalkTexts.{Adds, AnyNode, DefaultWithin, DraftWithin, walk-within}
+use Rattle.avro_schema.proofs.ReadSizes.{HasDataWithin}
+use Rattle.avro_schema.proofs.WalkSizes.{Adds, AnyNode, DefaultWithin, DraftWithin, walk-within}
 use Rattle.avro_schema.proofs.WholeNodes.{declared_at, each_from, finished-with, walk_fits}
 
 -- what holds of each holds of the one at a place
@@ -29,26 +29,26 @@ module _ (most : ℕ) where
   -- ---- the nodes of drafts
 
   module _ (drafts : List Draft) where
-    field-within : (n : ℕ) (o : Option json.Data) (head : Option Datum) → IfSome o (HasDataWithin most) → field_default drafts n o ≡ Some head → IfSome head (HasTextsWithin most)
-    field-within n None head h e = let same : None ≡ head = cc in subst (λ d. IfSome d (HasTextsWithin most)) same tt
+    field-within : (n : ℕ) (o : Option json.Data) (head : Option Datum) → IfSome o (HasDataWithin most) → field_default drafts n o ≡ Some head → IfSome head (HasSizesWithin most most)
+    field-within n None head h e = let same : None ≡ head = cc in subst (λ d. IfSome d (HasSizesWithin most most)) same tt
     field-within n (Some v) head h e =
         let p = map-inv Some (default_of drafts n v) head e in
         rw p.2 (default-within most drafts n v p.0 p.1 h)
 
-    fields-within : (fs : List DraftField) (defaults : List (Option Datum)) → field_defaults drafts fs ≡ Some defaults → AllByRecursion (DefaultWithin most) fs → AllByRecursion (λ f. IfSome f.default (HasTextsWithin most)) (fields_with fs defaults)
+    fields-within : (fs : List DraftField) (defaults : List (Option Datum)) → field_defaults drafts fs ≡ Some defaults → AllByRecursion (DefaultWithin most) fs → AllByRecursion (λ f. IfSome f.default (HasSizesWithin most most)) (fields_with fs defaults)
     fields-within [] defaults e h = tt
     fields-within (f ∷ fs) defaults e h =
         let r = in-row (field_default drafts f.node f.default) (field_defaults drafts fs) defaults e in
         rw r.all_are (field-within f.node f.default r.head h.0 r.first_is, fields-within fs r.tail r.rest_is h.1)
 
     node-within : (own : ℕ) (d : Draft) (defaults : List (Option Datum)) (name : List ℕ) (fields : List FieldNode) → DraftFits (heads_of drafts) own d → DraftWithin most d → node_defaults drafts d ≡ Some defaults
-        → RecordNode name fields ≡ node_with d defaults → AllByRecursion (λ f. IfSome f.default (HasTextsWithin most)) fields
+        → RecordNode name fields ≡ node_with d defaults → AllByRecursion (λ f. IfSome f.default (HasSizesWithin most most)) fields
     node-within own (Whole n) defaults name fields fits h e is = absurd (subst (λ k. DraftFits (heads_of drafts) own (Whole k)) (sym is) fits)
     node-within own (RecordDraft name fs) defaults full fields fits h e is =
         let same : fields_with fs defaults ≡ fields = cc in
-        subst (AllByRecursion (λ f. IfSome f.default (HasTextsWithin most))) same (fields-within fs defaults e h)
+        subst (AllByRecursion (λ f. IfSome f.default (HasSizesWithin most most))) same (fields-within fs defaults e h)
 
-    nodes-within : (all : List (List (Option Datum))) → all_defaults drafts drafts ≡ Some all → AllFrom (DraftFits (heads_of drafts)) 0 drafts → AllByRecursion (DraftWithin most) drafts → DefaultsHaveTextsWithin most (nodes_with drafts all)
+    nodes-within : (all : List (List (Option Datum))) → all_defaults drafts drafts ≡ Some all → AllFrom (DraftFits (heads_of drafts)) 0 drafts → AllByRecursion (DraftWithin most) drafts → DefaultsHaveSizesWithin most most (nodes_with drafts all)
     nodes-within all read fits h node name fields at =
         let f = node-finished drafts drafts all read node (RecordNode name fields) at in
         node-within (0 + node) f.draft f.defaults name fields (each_from (DraftFits (heads_of drafts)) 0 drafts fits node f.draft f.placed) (at_place (DraftWithin most) drafts h node f.draft f.placed) f.read f.whole
@@ -59,9 +59,9 @@ module _ (most : ℕ) where
   drafts-within (Ok p) n drafts h e = subst (AllByRecursion (DraftWithin most)) (let same : p.1 ≡ drafts = cc in same) h.1
   drafts-within (Err x) n drafts h e = absurd (let no : ⊥ = cc in no)
 
-  pub declared-within : (d : json.Data) (nodes : List Node) → declared d ≡ Ok nodes → HasDataWithin most d → DefaultsHaveTextsWithin most nodes
+  pub declared-within : (d : json.Data) (nodes : List Node) → declared d ≡ Ok nodes → HasDataWithin most d → DefaultsHaveSizesWithin most most nodes
   declared-within d nodes e h =
       let f = declared_at d nodes (walk d null_namespace []) refl e in
       let w = finished-with f.drafts nodes f.finish in
-      subst (DefaultsHaveTextsWithin most) w.2
+      subst (DefaultsHaveSizesWithin most most) w.2
       (nodes-within f.drafts w.0 w.1 (walk_fits d f.root f.drafts f.walked).1 (drafts-within (walk d null_namespace []) f.root f.drafts (walk-within most d h null_namespace []) f.walked))

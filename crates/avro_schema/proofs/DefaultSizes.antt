@@ -9,13 +9,13 @@ use Rattle.std.specs.declared.cmp.Ordering.TheVariants.{Less, Equal, Greater}
 use Rattle.serde_json.specs.Data as json
 use Rattle.serde_json.specs.Data.{Num, null, boolean, number, string, array, object, Items, no_items, item, Members, no_members, member}
 use Rattle.serde_json.specs.Find.{as_i64}
-use Rattle.avro_schema.specs.Datum.{Datum, Data, Pairs, NullDatum, BooleanDatum, BytesDatum, TextDatum, EnumDatum, ArrayDatum, MapDatum, UnionDatum, RecordDatum, no_more, more, no_pairs, pair}
+use Rattle.avro_schema.specs.Datum.{Datum, Data, Pairs, NullDatum, BooleanDatum, BytesDatum, TextDatum, EnumDatum, ArrayDatum, MapDatum, UnionDatum, RecordDatum, no_more, more, no_pairs, pair, how_many, how_many_pairs}
 use Rattle.avro_schema.specs.Defaults.{Reading, array_value, at_node, by_first, bytes_in, default_of, fields_value, items_value, leaf_value, member_value, number_value, object_value, pairs_value, text_value, value_of}
 use Rattle.avro_schema.specs.Draft.{Draft, Whole, RecordDraft, DraftField}
 use Rattle.avro_schema.specs.Node.{NullNode, BooleanNode, IntNode, LongNode, BytesNode, TextNode, FixedNode, EnumNode, ArrayNode, MapNode, UnionNode}
-use Rattle.avro_schema.specs.TextSizes.{HasTextsWithin, HaveTextsWithin, HavePairsWithin}
+use Rattle.avro_schema.specs.Sizes.{HasSizesWithin, HaveSizesWithin, HavePairsWithin}
 use Rattle.avro_schema.proofs.DefaultsConform.{map-inv, then-inv, cond-inv, int-inv, long-inv, fixed-inv}
-use Rattle.avro_schema.proofs.ReadTexts.{HasDataWithin, HaveItemsWithin, HaveMembersWithin}
+use Rattle.avro_schema.proofs.ReadSizes.{HasDataWithin, HaveItemsWithin, HaveMembersWithin, items_in, members_in}
 
 -- ---- a text has no more characters than bytes
 
@@ -38,7 +38,7 @@ bytes-short s bytes e = let p = cond-inv (list_all _ (chars s)) (chars s) bytes 
 module _ (most : ℕ) where
   -- what a reading gives is within
   abbrev GivesWithin : Reading → Type 0
-  GivesWithin reading = (d : Draft) (t : Datum) → reading d ≡ Some t → HasTextsWithin most t
+  GivesWithin reading = (d : Draft) (t : Datum) → reading d ≡ Some t → HasSizesWithin most most t
 
   null-within : GivesWithin (leaf_value null)
   null-within (Whole NullNode) t e = let same : t ≡ NullDatum = cc in rw same tt
@@ -63,31 +63,37 @@ module _ (most : ℕ) where
   text-within s le (Whole (EnumNode name symbols default)) t e = let p = map-inv EnumDatum (position (λ other. bytes_eq other s) symbols) t e in rw p.2 tt
   text-within s le d t e = absurd (let no : ⊥ = cc in no)
 
-  array-within : (items : ℕ → Option Data) → ((m : ℕ) (es : Data) → items m ≡ Some es → HaveTextsWithin most es) → GivesWithin (array_value items)
+  abbrev Few : Data → Type 0
+  Few es = (how_many es ≤ most) × HaveSizesWithin most most es
+
+  abbrev FewPairs : Pairs → Type 0
+  FewPairs ps = (how_many_pairs ps ≤ most) × HavePairsWithin most most ps
+
+  array-within : (items : ℕ → Option Data) → ((m : ℕ) (es : Data) → items m ≡ Some es → Few es) → GivesWithin (array_value items)
   array-within items h (Whole (ArrayNode m)) t e = let p = map-inv ArrayDatum (items m) t e in rw p.2 (h m p.0 p.1)
   array-within items h d t e = absurd (let no : ⊥ = cc in no)
 
   module _ (drafts : List Draft) where
     -- ---- by the first member of a union
 
-    first-within : (reading : Reading) → GivesWithin reading → (members : List ℕ) (t : Datum) → by_first drafts reading (Some (Whole (UnionNode members))) ≡ Some t → HasTextsWithin most t
+    first-within : (reading : Reading) → GivesWithin reading → (members : List ℕ) (t : Datum) → by_first drafts reading (Some (Whole (UnionNode members))) ≡ Some t → HasSizesWithin most most t
     first-within reading h [] t e = absurd (let no : ⊥ = cc in no)
     first-within reading h (m ∷ ms) t e =
         let p = map-inv (UnionDatum 0) (option_and_then reading (slice_get drafts m)) t e in
         let q = then-inv reading (slice_get drafts m) p.0 p.1 in
         rw p.2 (h q.0 p.0 q.2)
 
-    found-within : (reading : Reading) → GivesWithin reading → (o : Option Draft) (t : Datum) → by_first drafts reading o ≡ Some t → HasTextsWithin most t
+    found-within : (reading : Reading) → GivesWithin reading → (o : Option Draft) (t : Datum) → by_first drafts reading o ≡ Some t → HasSizesWithin most most t
     found-within reading h None t e = absurd (let no : ⊥ = cc in no)
     found-within reading h (Some (Whole (UnionNode members))) t e = first-within reading h members t e
     found-within reading h (Some d) t e = h d t e
 
-    node-within : (reading : Reading) → GivesWithin reading → (n : ℕ) (t : Datum) → at_node drafts n reading ≡ Some t → HasTextsWithin most t
+    node-within : (reading : Reading) → GivesWithin reading → (n : ℕ) (t : Datum) → at_node drafts n reading ≡ Some t → HasSizesWithin most most t
     node-within reading h n t e = found-within reading h (slice_get drafts n) t e
 
     -- ---- a record's fields, and an object
 
-    fields-within : (value : List ℕ → Option Reading) → ((k : List ℕ) (r : Reading) → value k ≡ Some r → GivesWithin r) → (fs : List DraftField) (es : Data) → fields_value drafts value fs ≡ Some es → HaveTextsWithin most es
+    fields-within : (value : List ℕ → Option Reading) → ((k : List ℕ) (r : Reading) → value k ≡ Some r → GivesWithin r) → (fs : List DraftField) (es : Data) → fields_value drafts value fs ≡ Some es → HaveSizesWithin most most es
     fields-within value h [] es e = let same : es ≡ no_more = cc in rw same tt
     fields-within value h (f ∷ fs) es e =
         let p = then-inv (λ d. option_map (more d) (fields_value drafts value fs)) (option_and_then (at_node drafts f.node) (value f.name)) es e in
@@ -95,7 +101,7 @@ module _ (most : ℕ) where
         let v = then-inv (at_node drafts f.node) (value f.name) p.0 p.1 in
         rw q.2 (node-within v.0 (h f.name v.0 v.1) f.node p.0 v.2, fields-within value h fs q.0 q.1)
 
-    object-within : (value : List ℕ → Option Reading) → ((k : List ℕ) (r : Reading) → value k ≡ Some r → GivesWithin r) → (pairs : ℕ → Option Pairs) → ((m : ℕ) (ps : Pairs) → pairs m ≡ Some ps → HavePairsWithin most ps) → GivesWithin (object_value drafts value pairs)
+    object-within : (value : List ℕ → Option Reading) → ((k : List ℕ) (r : Reading) → value k ≡ Some r → GivesWithin r) → (pairs : ℕ → Option Pairs) → ((m : ℕ) (ps : Pairs) → pairs m ≡ Some ps → FewPairs ps) → GivesWithin (object_value drafts value pairs)
     object-within value h pairs each (Whole (MapNode m)) t e = let p = map-inv MapDatum (pairs m) t e in rw p.2 (each m p.0 p.1)
     object-within value h pairs each (RecordDraft name fs) t e = let p = map-inv RecordDatum (fields_value drafts value fs) t e in rw p.2 (fields-within value h fs p.0 p.1)
     object-within value h pairs each d t e = absurd (let no : ⊥ = cc in no)
@@ -115,26 +121,28 @@ module _ (most : ℕ) where
       value-within (boolean b) h d t e = boolean-within b d t e
       value-within (number x) h d t e = number-within x d t e
       value-within (string s) h d t e = text-within s h d t e
-      value-within (array vs) h d t e = array-within (items_value vs drafts) (items-within vs h) d t e
-      value-within (object ms) h d t e = object-within (member_value ms drafts) (member-within ms h) (pairs_value ms drafts) (pairs-within ms h) d t e
+      value-within (array vs) h d t e = array-within (items_value vs drafts) (λ m es i. let all = items-within vs h.1 m es i in (omega (arith, all.0, h.0), all.1)) d t e
+      value-within (object ms) h d t e = object-within (member_value ms drafts) (member-within ms h.1) (pairs_value ms drafts) (λ m ps i. let all = pairs-within ms h.1 m ps i in (omega (arith, all.0, h.0), all.1)) d t e
 
-      items-within : (vs : Items) → HaveItemsWithin most vs → (m : ℕ) (es : Data) → items_value vs drafts m ≡ Some es → HaveTextsWithin most es
-      items-within no_items h m es e = let same : es ≡ no_more = cc in rw same tt
+      items-within : (vs : Items) → HaveItemsWithin most vs → (m : ℕ) (es : Data) → items_value vs drafts m ≡ Some es → (how_many es ≤ items_in vs) × HaveSizesWithin most most es
+      items-within no_items h m es e = let same : es ≡ no_more = cc in rw same (omega arith, tt)
       items-within (item v vs) h m es e =
           let p = then-inv (λ d. option_map (more d) (items_value vs drafts m)) (at_node drafts m (value_of v drafts)) es e in
           let q = map-inv (more p.0) (items_value vs drafts m) es p.2 in
-          rw q.2 (node-within (value_of v drafts) (value-within v h.0) m p.0 p.1, items-within vs h.1 m q.0 q.1)
+          let others = items-within vs h.1 m q.0 q.1 in
+          rw q.2 (omega (arith, others.0), (node-within (value_of v drafts) (value-within v h.0) m p.0 p.1, others.1))
 
-      pairs-within : (ms : Members) → HaveMembersWithin most ms → (m : ℕ) (ps : Pairs) → pairs_value ms drafts m ≡ Some ps → HavePairsWithin most ps
-      pairs-within no_members h m ps e = let same : ps ≡ no_pairs = cc in rw same tt
+      pairs-within : (ms : Members) → HaveMembersWithin most ms → (m : ℕ) (ps : Pairs) → pairs_value ms drafts m ≡ Some ps → (how_many_pairs ps ≤ members_in ms) × HavePairsWithin most most ps
+      pairs-within no_members h m ps e = let same : ps ≡ no_pairs = cc in rw same (omega arith, tt)
       pairs-within (member k v ms) h m ps e =
           let p = then-inv (λ d. option_map (pair k d) (pairs_value ms drafts m)) (at_node drafts m (value_of v drafts)) ps e in
           let q = map-inv (pair k p.0) (pairs_value ms drafts m) ps p.2 in
-          rw q.2 (h.0, node-within (value_of v drafts) (value-within v h.1) m p.0 p.1, pairs-within ms h.2 m q.0 q.1)
+          let others = pairs-within ms h.2 m q.0 q.1 in
+          rw q.2 (omega (arith, others.0), (h.0, node-within (value_of v drafts) (value-within v h.1) m p.0 p.1, others.1))
 
       member-within : (ms : Members) → HaveMembersWithin most ms → (k : List ℕ) (r : Reading) → member_value ms drafts k ≡ Some r → GivesWithin r
       member-within no_members h k r e = absurd (let no : ⊥ = cc in no)
       member-within (member l v ms) h k r e = key-within (slice_cmp nat_cmp k l) (value_of v drafts) (member_value ms drafts k) r (value-within v h.1) (member-within ms h.2 k) e
 
-    pub default-within : (n : ℕ) (v : json.Data) (t : Datum) → default_of drafts n v ≡ Some t → HasDataWithin most v → HasTextsWithin most t
+    pub default-within : (n : ℕ) (v : json.Data) (t : Datum) → default_of drafts n v ≡ Some t → HasDataWithin most v → HasSizesWithin most most t
     default-within n v t e h = node-within (value_of v drafts) (value-within v h) n t e
