@@ -22,7 +22,7 @@ use Rattle.avro_schema.specs.Node.{Node, FixedNode, EnumNode, ArrayNode, MapNode
 use Rattle.avro_schema.specs.Walk.{Walk, are_apart, head_at, fault, found, leaf_or_reference, reference, named, or_unknown, around, union_of, record_of, enum_of, fixed_of, if_room, declared_by, draft_field, field_of, walk, members, walk_member, walk_fields, fields, fields_after, field}
 use Rattle.avro_schema.specs.Word.{word_of, leaf_of, is_left_out, is_primitive, form_of}
 use Rattle.avro_schema.proofs.Attributes.{new_named, field_named}
-use Rattle.avro_schema.proofs.EndsAs.{Ends, FieldEnds, FieldsEnd, ends_at, defined_node, default_there}
+use Rattle.avro_schema.proofs.EndsAs.{Ends, FieldEnds, FieldsEnd, ends_at, defined_node, is_default}
 use Rattle.avro_schema.proofs.FinishedNodes.{in-row}
 use Rattle.avro_schema.proofs.Places.{Placed, Places, PlacesIf, places-bind, places-done, places-or, placed-given, placed-if, placed-one, placed-before, placed-around, if_found}
 
@@ -158,7 +158,7 @@ OneFieldEnds d enclosing = FieldEnds (DeclaresField d enclosing)
 
 type_at : (ms : Members) (enclosing : List ℕ) (heads : List Head) (s : List ℕ) → IsNamed ms s → (r : Result (ℕ × List Draft) SchemaError) → Placed (AtKeyEnds ms (codes "type") enclosing) heads r
     → Placed (OneFieldEnds (object ms) enclosing) heads (r >>= λ p. Ok (draft_field s p.0 (get_member (codes "default") ms), p.1))
-type_at ms enclosing heads s is (Ok p) f = λ before after same nodes ends default e. (is, f before after same nodes ends, default_there _ p.0 (get_member (codes "default") ms) default e)
+type_at ms enclosing heads s is (Ok p) f = λ before after same nodes ends default e. (is, f before after same nodes ends, is_default _ nodes ends p.0 (get_member (codes "default") ms) default e)
 type_at ms enclosing heads s is (Err e) f = tt
 
 places-field_of : (ms : Members) (enclosing : List ℕ) (before : List (List ℕ)) (type : Option (Walk ℕ)) → PlacesIf (AtKeyEnds ms (codes "type") enclosing) enclosing type

@@ -1,21 +1,24 @@
 -- What drafts become: the finished nodes, seen from the drafts.
-use Rattle.std.proofs.Common.{◌≡◌, ℕ, suc, ◌+◌, List, [], ◌∷◌, ◌++◌, Bool, true, false, cond, Option, Some, None, refl, sym, ap, ◌∙◌, subst, arith, slice_get, is_some, option_map}
+use Rattle.std.proofs.Common.{◌≡◌, ℕ, suc, ◌+◌, List, [], ◌∷◌, ◌++◌, Bool, true, false, cond, Option, Some, refl, sym, ap, ◌∙◌, subst, arith, slice_get}
 use Rattle.std.specs.List.{position_from}
 use Rattle.std.proofs.lemmas.Slice.Eq.{bytes_eq-Decides}
 use Rattle.serde_json.specs.Data.{Data}
 use Rattle.avro_schema.specs.Datum.{Datum}
-use Rattle.avro_schema.specs.Defaults.{all_defaults, default_of, field_default, field_defaults, field_with, fields_with, node_defaults, node_with, nodes_with}
+use Rattle.avro_schema.specs.Defaults.{IsDefault, all_defaults, field_default, field_defaults, field_with, fields_with, node_defaults, node_with, nodes_with}
 use Rattle.avro_schema.specs.Draft.{Draft, DraftField}
 use Rattle.avro_schema.specs.Head.{Head, NullHead, BooleanHead, IntHead, LongHead, BytesHead, TextHead, ArrayHead, MapHead, UnionHead, Named, head_of, head_of_node, heads_of, defines, defined_at}
 use Rattle.avro_schema.specs.Node.{Node, FieldNode, IsWellFormed}
+use Rattle.avro_schema.proofs.BareNodes.{default-by-nodes}
 use Rattle.avro_schema.proofs.Booleans.{some_inside}
 use Rattle.avro_schema.proofs.FinishedNodes.{finished-at, head-finished}
+use Rattle.avro_schema.proofs.Fits.{AllFrom, DraftFits}
 
--- the drafts became these nodes, which are well formed
+-- the drafts fit, and became these nodes, which are well formed
 pub record EndsAs (drafts : List Draft) (nodes : List Node) : Type 0 where
   pub all : List (List (Option Datum))
   pub read : all_defaults drafts drafts ≡ Some all
   pub are : nodes_with drafts all ≡ nodes
+  pub fits : AllFrom (DraftFits (heads_of drafts)) 0 drafts
   pub well_formed : IsWellFormed nodes
 
 pub ends_at : (drafts : List Draft) (nodes : List Node) → EndsAs drafts nodes → (n : ℕ) (draft : Draft) → slice_get drafts n ≡ Some draft
@@ -74,10 +77,5 @@ defined_node full before after n nodes e ends =
 
 -- ---- defaults
 
-pub default_there : (drafts : List Draft) (n : ℕ) (value : Option Data) (default : Option Datum) → field_default drafts n value ≡ Some default → is_some default ≡ is_some value
-default_there drafts n None default e = let same : None ≡ default = cc in ap is_some (sym same)
-default_there drafts n (Some v) default e = at (default_of drafts n v) e
-  where
-    at : (o : Option Datum) → option_map Some o ≡ Some default → is_some default ≡ true
-    at None e = absurd (let wrong : ⊥ = cc in wrong)
-    at (Some t) e = let same : Some t ≡ default = cc in ap is_some (sym same)
+pub is_default : (drafts : List Draft) (nodes : List Node) → EndsAs drafts nodes → (n : ℕ) (value : Option Data) (default : Option Datum) → field_default drafts n value ≡ Some default → IsDefault nodes n value default
+is_default drafts nodes e n value default is = subst (λ ns. IsDefault ns n value default) e.are (default-by-nodes drafts (heads_of drafts) e.all e.fits e.read n value default is)

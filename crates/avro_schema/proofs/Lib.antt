@@ -1,4 +1,5 @@
 pub mod Attributes
+pub mod BareNodes
 pub mod Booleans
 pub mod Copies
 pub mod DatumOf

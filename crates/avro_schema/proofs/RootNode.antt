@@ -24,7 +24,7 @@ use Rattle.avro_schema.specs.Word.{word_of, leaf_of, is_left_out}
 use Rattle.avro_schema.proofs.DeclaredNodes.{places-walk}
 use Rattle.avro_schema.proofs.EndsAs.{Ends}
 use Rattle.avro_schema.proofs.Places.{Placed}
-use Rattle.avro_schema.proofs.WholeNodes.{declared_from, finished-with, declared-well_formed}
+use Rattle.avro_schema.proofs.WholeNodes.{declared_from, finished-with, declared-well_formed, walk_fits}
 
 -- a node that is given with none before is the first
 abbrev IsFirst : Result (ℕ × List Draft) SchemaError → Type 0
@@ -126,7 +126,7 @@ read-nodes text ns e =
     let f = declared_from text ns e in
     let w = finished-with f.2.drafts ns f.2.finish in
     let root = root_at f.0 (walk f.0 null_namespace []) f.2.root f.2.drafts (places-walk f.0 null_namespace []) (first-walk f.0 null_namespace) f.2.walked in
-    (f.0, f.1, root ns (record { all = w.0; read = w.1; are = w.2; well_formed = declared-well_formed text ns e }))
+    (f.0, f.1, root ns (record { all = w.0; read = w.1; are = w.2; fits = (walk_fits f.0 f.2.root f.2.drafts f.2.walked).1; well_formed = declared-well_formed text ns e }))
 
 size_at : (b : Bool) (text : List ℕ) (ns : List Node) → cond b (nodes_in_read (read text)) (Err TooLarge) ≡ Ok ns → nodes_in_read (read text) ≡ Ok ns
 size_at true text ns e = e

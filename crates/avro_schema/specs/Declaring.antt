@@ -1,10 +1,11 @@
 -- What a JSON value declares (Avro 1.11, "Schema Declaration" and "Names"), by recursion on the value.
-use Rattle.std.specs.Prelude.{◌≡◌, ◌≢◌, ◌⊎◌, ℕ, List, [], ◌∷◌, true, false, Option, Some, is_some, slice_get, Ok, codes}
+use Rattle.std.specs.Prelude.{◌≡◌, ◌≢◌, ◌⊎◌, ℕ, List, [], ◌∷◌, true, false, Option, Some, slice_get, Ok, codes}
 use Rattle.serde_json.specs.Data.{Data, string, array, object, Items, no_items, item, Members, no_members, member}
 use Rattle.serde_json.specs.Find.{get_member}
 use Rattle.avro_schema.specs.declared.word.Form.{Form}
 use Rattle.avro_schema.specs.declared.word.Form.TheVariants as forms
 use Rattle.avro_schema.specs.Attributes.{symbols_of, default_symbol, size_of}
+use Rattle.avro_schema.specs.Defaults.{IsDefault}
 use Rattle.avro_schema.specs.Head.{Named, head_of_node}
 use Rattle.avro_schema.specs.FullNames.{is_name, is_full_name, full_name, namespace_of, unqualified}
 use Rattle.avro_schema.specs.Names.{own_namespace}
@@ -88,7 +89,7 @@ abbrev mutual
   DeclareFields no_items enclosing nodes (f ∷ fs) = ⊥
   DeclareFields (item d ds) enclosing nodes [] = ⊥
 
-  -- the value declares a field of that name and type, with a default just where it has the attribute
+  -- the value declares a field of that name and type, with the default that the value at the attribute is
   pub DeclaresField : Data → List ℕ → List Node → FieldNode → Type 0
-  DeclaresField (object ms) enclosing nodes f = IsNamed ms f.name × NodeAt ms nodes (codes "type") enclosing f.node × (is_some f.default ≡ is_some (get_member (codes "default") ms))
+  DeclaresField (object ms) enclosing nodes f = IsNamed ms f.name × NodeAt ms nodes (codes "type") enclosing f.node × IsDefault nodes f.node (get_member (codes "default") ms) f.default
   DeclaresField _ enclosing nodes f = ⊥

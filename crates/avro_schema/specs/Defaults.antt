@@ -1,5 +1,5 @@
 -- The data that the defaults of fields are (Avro 1.11, "Complex Types", the table of default values by type).
-use Rattle.std.specs.Prelude.{ℕ, ◌^◌, ◌==◌, List, [], ◌∷◌, length, Bool, ℤ, pos, negsuc, nat_lt, if◌then◌else◌, Option, Some, None, option_map, option_and_then, slice_get, Result}
+use Rattle.std.specs.Prelude.{◌≡◌, ℕ, ◌^◌, ◌==◌, List, [], ◌∷◌, length, map, Bool, ℤ, pos, negsuc, nat_lt, if◌then◌else◌, Option, Some, None, option_map, option_and_then, slice_get, Result}
 use Rattle.std.specs.List.{list_all, position}
 use Rattle.std.specs.Option.{ok_or}
 use Rattle.std.specs.Ordering.{nat_cmp, match_ordering}
@@ -151,3 +151,17 @@ nodes_with _ _ = []
 -- all nodes, or the fault of a default
 unfoldable pub finished : List Draft → Result (List Node) SchemaError
 finished drafts = ok_or (option_map (nodes_with drafts) (all_defaults drafts drafts)) BadDefault
+
+-- ---- seen from the nodes
+
+abbrev pub bare_field : FieldNode → DraftField
+bare_field f = record { name = f.name; node = f.node; default = None }
+
+-- a node less the defaults of its fields, which no reading looks at
+abbrev pub bare : Node → Draft
+bare (RecordNode name fs) = RecordDraft name (map bare_field fs)
+bare n = Whole n
+
+-- the default is what the value is by the node of a number; there is none where no value is given
+abbrev pub IsDefault : List Node → ℕ → Option Data → Option Datum → Type 0
+IsDefault nodes n value default = field_default (map bare nodes) n value ≡ Some default
