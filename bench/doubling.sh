@@ -73,19 +73,19 @@ def references(size):
         return '{"name":"r%d","type":{"type":"record","name":"R%d","fields":[%s]}}' % (i, i, fields)
     return whole([small(0, "N")] + [referring(i) for i in range(size // 5200)], ',"namespace":"%s"' % ("n" * (size // 2)))
 
-def seconds(data, times):
-    best = float("inf")
-    for _ in range(times):
-        begin = time.perf_counter()
-        done = subprocess.run([program, "transcode"], input=data.encode(), capture_output=True)
-        best = min(best, time.perf_counter() - begin)
-        assert done.returncode == 0, done.stdout[:200]
-    return best
+def seconds(data):
+    begin = time.perf_counter()
+    done = subprocess.run([program, "transcode"], input=data, capture_output=True)
+    took = time.perf_counter() - begin
+    assert done.returncode == 0, done.stdout[:200]
+    return took
 
-start = seconds('"int"\n"int"\n', 20)
-for name, make, size, times in [("payload", points, 1 << 21, 5), ("schema of enums", enums, 100_000, 20), ("schema of names", names, 100_000, 20),
-                                ("schema of defaults of one enum", defaults, 50_000, 10), ("schema of one union", members, 100_000, 10),
-                                ("schema of one long namespace", namespace, 100_000, 10), ("schema of references in one long namespace", references, 100_000, 10)]:
-    once, twice = (seconds(make(size * k), times) - start for k in (1, 2))
+# the least of some turns, in which both sizes come, so that what else the machine does falls on both alike
+start = min(seconds(b'"int"\n"int"\n') for _ in range(40))
+for name, make, size, turns in [("payload", points, 1 << 21, 10), ("schema of enums", enums, 100_000, 30), ("schema of names", names, 100_000, 30),
+                                ("schema of defaults of one enum", defaults, 50_000, 30), ("schema of one union", members, 100_000, 30),
+                                ("schema of one long namespace", namespace, 100_000, 30), ("schema of references in one long namespace", references, 100_000, 30)]:
+    inputs = [make(size * k).encode() for k in (1, 2)]
+    once, twice = (min(took) - start for took in zip(*([seconds(data) for data in inputs] for _ in range(turns))))
     print("%s of %d and %d bytes: %.1f ms and %.1f ms, ratio %.2f" % (name, size, size * 2, once * 1000, twice * 1000, twice / once))
 PYTHON
