@@ -1,4 +1,4 @@
-ghost use Rattle.std.specs.Prelude.{option_map, map, []};
+ghost use Rattle.std.specs.Prelude.{ℕ, List, option_map, map, []};
 ghost use Rattle.std.specs.Arc.{arc_str_bytes};
 ghost use Rattle.serde_json.specs.Find.{get};
 ghost use Rattle.serde_json.specs.View.{view, items_view};
@@ -26,9 +26,9 @@ const MOST_NODES: usize = 1024;
 const MOST_FIELDS: usize = 1024;
 
 /// The new node of a kind that holds no others.
-fn walk_leaf(kind: Kind, enclosing: &Namespace, drafts: &mut Drafts) -> Result<usize, SchemaError>
+fn walk_leaf(kind: Kind, drafts: &mut Drafts) -> Result<usize, SchemaError>
     requires { IsUnnamed (head_of_node (node_of kind)) }
-    ensures { Walks (λ n. n) result (leaf (node_of kind)) (arc_str_bytes enclosing.now.text) drafts.old.nodes.items drafts.new.nodes.items }
+    ensures { (enclosing : List ℕ) → Walks (λ n. n) result (leaf (node_of kind)) enclosing drafts.old.nodes.items drafts.new.nodes.items }
 {
     let node = drafts.nodes.len();
     if node >= MOST_NODES {
@@ -63,7 +63,7 @@ fn walk_text(text: &str, enclosing: &Namespace, drafts: &mut Drafts) -> Result<u
         return Err(SchemaError::OutOfProfile);
     }
     match word.leaf() {
-        Some(kind) => walk_leaf(kind, enclosing, drafts),
+        Some(kind) => walk_leaf(kind, drafts),
         None => walk_reference(text, enclosing, drafts),
     }
 }

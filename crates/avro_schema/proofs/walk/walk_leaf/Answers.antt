@@ -1,13 +1,12 @@
 use Rattle.std.proofs.Common.{arith, rules, ◌≡◌, length, ◌<◌}
-use Rattle.std.specs.Arc.{arc_str_bytes}
 use Rattle.avro_schema.specs.Walk.{most_nodes}
 use Rattle.avro_schema.proofs.Runs.{run-no_room, run-leaf, pushed}
 use Rattle.avro_schema.proofs.walk.walk_leaf.Goals as goal
 
 pub returns-then-node-ge-MOST_NODES : goal.returns-then-node-ge-MOST_NODES
-returns-then-node-ge-MOST_NODES c = λ _. run-no_room _ (arc_str_bytes c.args.enclosing.now.text) c.args.drafts.now.nodes.items (omega arith)
+returns-then-node-ge-MOST_NODES c = λ enclosing _. run-no_room _ enclosing c.args.drafts.now.nodes.items (omega arith)
 
 pub returns : goal.returns
 returns c =
     let n : c.len-node.result ≡ length c.args.drafts.now.nodes.items = search rules in
-    rw (n, pushed c.args.drafts.now.nodes.items _ _ c.in_ok-push.ensures) (run-leaf _ (arc_str_bytes c.args.enclosing.now.text) c.args.drafts.now.nodes.items (let room : length c.args.drafts.now.nodes.items < most_nodes = omega arith in room))
+    λ enclosing. rw (n, pushed c.args.drafts.now.nodes.items _ _ c.in_ok-push.ensures) (run-leaf _ enclosing c.args.drafts.now.nodes.items (let room : length c.args.drafts.now.nodes.items < most_nodes = omega arith in room))

@@ -1,4 +1,5 @@
 use Rattle.std.proofs.Common.{◌∙◌, ap, sym, option_map, refl}
+use Rattle.std.specs.Arc.{arc_str_bytes}
 use Rattle.avro_schema.specs.Contract.{run}
 use Rattle.avro_schema.specs.Node.{node_of}
 use Rattle.avro_schema.specs.Walk.{named}
@@ -12,7 +13,7 @@ pub returns-in-Some : goal.returns-in-Some
 unfolding named
 returns-in-Some c =
     let leaf = sym c.leaf.ensures ∙ ap (λ k. option_map node_of k) c.in-Some.is in
-    rw (← c.of_text-word.ensures, ← c.is_left_out.ensures, c.if-is_left_out.false, leaf) c.walk_leaf.ensures
+    rw (← c.of_text-word.ensures, ← c.is_left_out.ensures, c.if-is_left_out.false, leaf) (c.walk_leaf.ensures (arc_str_bytes c.args.enclosing.now.text))
 
 pub returns-in-None : goal.returns-in-None
 unfolding named
