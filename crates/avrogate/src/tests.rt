@@ -61,10 +61,12 @@ impl Read for Trickle<'_> {
     }
 }
 
-/// A writer to memory that takes a byte at a time, fails at one call, and is interrupted at each third one.
+/// A writer to memory that takes a byte at a time, fails at one call, a flush too, and is interrupted at each third one.
 #[derive(Drop)]
 struct Drip {
     taken: Vec<u8>,
+    /// How many of them a flush has passed on.
+    passed_on: usize,
     calls: usize,
     fails_at: usize,
 }
@@ -87,6 +89,12 @@ impl Write for Drip {
     }
 
     fn flush(&mut self) -> io::Result<()> {
+        let call = self.calls;
+        self.calls = call.wrapping_add(1);
+        if call == self.fails_at {
+            return Err(io::Error::from(ErrorKind::Other));
+        }
+        self.passed_on = self.taken.len();
         Ok(())
     }
 }
@@ -215,6 +223,7 @@ fn fails_at_each_read_in_turn(rt: HostRuntime) {
 fn fails_at_each_write_in_turn(rt: HostRuntime) {
     let mut whole = Drip {
         taken: Vec::new(rt.alloc()),
+        passed_on: 0,
         calls: 0,
         fails_at: NEVER,
     };
@@ -222,15 +231,18 @@ fn fails_at_each_write_in_turn(rt: HostRuntime) {
     let done = run(rt.alloc(), &Verb::Transcode, &mut reader, &mut whole);
     assert_eq!(rt; done, Ok(0));
     assert_eq!(rt; whole.taken.as_slice(), EXAMPLE_OUTPUT);
+    assert_eq!(rt; whole.passed_on, EXAMPLE_OUTPUT.len());
     for call in 0..whole.calls {
         let mut reader = EXAMPLE;
         let mut writer = Drip {
             taken: Vec::new(rt.alloc()),
+            passed_on: 0,
             calls: 0,
             fails_at: call,
         };
         let done = run(rt.alloc(), &Verb::Transcode, &mut reader, &mut writer);
         assert_eq!(rt; done, Err(RunError::Write), "at {call}");
+        assert_eq!(rt; writer.passed_on, 0, "at {call}");
         assert!(rt; EXAMPLE_OUTPUT.starts_with(&writer.taken), "at {call}");
         assert_eq!(rt; writer.taken.len() + (call + 1) / 3, call, "at {call}");
     }
