@@ -81,11 +81,14 @@ def seconds(data):
     return took
 
 # the least of some turns, in which both sizes come, so that what else the machine does falls on both alike
+holds = True
 start = min(seconds(b'"int"\n"int"\n') for _ in range(40))
 for name, make, size, turns in [("payload", points, 1 << 21, 10), ("schema of enums", enums, 100_000, 30), ("schema of names", names, 100_000, 30),
                                 ("schema of defaults of one enum", defaults, 50_000, 30), ("schema of one union", members, 100_000, 30),
                                 ("schema of one long namespace", namespace, 100_000, 30), ("schema of references in one long namespace", references, 100_000, 30)]:
     inputs = [make(size * k).encode() for k in (1, 2)]
     once, twice = (min(took) - start for took in zip(*([seconds(data) for data in inputs] for _ in range(turns))))
-    print("%s of %d and %d bytes: %.1f ms and %.1f ms, ratio %.2f" % (name, size, size * 2, once * 1000, twice * 1000, twice / once))
+    holds = holds and twice / once <= 2.3
+    print("%s of %d and %d bytes: %.1f ms and %.1f ms, ratio %.2f (2.3 at most)" % (name, size, size * 2, once * 1000, twice * 1000, twice / once))
+sys.exit(0 if holds else 1)
 PYTHON

@@ -109,12 +109,11 @@ large = {name: lines_file(name, 1_000_000) for name in readers}
 short = {name: [] for name in readers}
 long = {name: [] for name in readers}
 peer = {name: [] for name in readers}
-for turn in range(10):
+for _ in range(10):
     for name in readers:
         long[name].append(run(large[name]))
-        short[name] += [run(small[name]) for _ in range(3)]
-        if turn < 2:
-            peer[name].append(python_avro(small[name], readers[name]))
+        short[name].append(run(small[name]))
+        peer[name].append(python_avro(small[name], readers[name]))
 least = {name: min(took for took, _ in long[name]) for name in readers}
 holds = [tell(name, min(took for took, _ in short[name]), least[name], max(peak for _, peak in long[name]), min(peer[name])) for name in readers]
 print("evolved takes %.2f times as long as flat" % (least["evolved"] / least["flat"]))
