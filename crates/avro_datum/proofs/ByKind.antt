@@ -12,10 +12,10 @@ use Rattle.avro_bytes.specs.Contract.{Finds, Reads}
 use Rattle.avro_bytes.specs.Decoding.{Decoding, Complete, Incomplete, ◌>>=◌, inside, map_decoding}
 use Rattle.avro_bytes.specs.Meter.{opened_blocks, opened_record}
 use Rattle.avro_bytes.specs.Laws.Meters.{blocks_were_opened, was_opened}
-use Rattle.avro_schema.specs.declared.datum.Datum as rust
-use Rattle.avro_schema.specs.Datum.{Datum, Data, ArrayDatum, MapDatum, UnionDatum, datum_of, data_of, pairs_of, more, pair}
-use Rattle.avro_schema.specs.Node.{Node, FieldNode, IsMember, ArrayNode, MapNode, UnionNode, RecordNode, is_union}
-use Rattle.avro_schema.proofs.DatumOf.{datum_of-Array, datum_of-Map, datum_of-Record}
+use Rattle.avro_types.specs.declared.datum.Datum as rust
+use Rattle.avro_types.specs.Datum.{Datum, Data, ArrayDatum, MapDatum, UnionDatum, datum_of, data_of, pairs_of, more, pair}
+use Rattle.avro_types.specs.Node.{Node, FieldNode, IsMember, ArrayNode, MapNode, UnionNode, RecordNode, is_union}
+use Rattle.avro_types.specs.Laws.DatumOf.{datum_of-Array, datum_of-Map, datum_of-Record}
 use Rattle.avro_datum.specs.Decoding.{Decoder, IsLeaf, array_of, closed_record, data_from, datum_at, fields_at, kind_at, leaf_at, map_of, member_at, node_at, pair_at, pairs_from, plain_at}
 use Rattle.avro_datum.specs.ItemDecoding.{Reader, blocks_at, items_at, steps_left}
 use Rattle.avro_datum.specs.Position.{position_at}

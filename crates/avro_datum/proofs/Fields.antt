@@ -8,10 +8,10 @@ use Rattle.avro_bytes.specs.declared.fault.Fault.{Fault}
 use Rattle.avro_bytes.specs.declared.fault.Fault.TheVariants.{Need, Malformed, NoMemory}
 use Rattle.avro_bytes.specs.Contract.{Reads}
 use Rattle.avro_bytes.specs.Decoding.{Decoding, Complete, Invalid, Incomplete, ◌>>=◌, map_decoding}
-use Rattle.avro_schema.specs.declared.datum.Datum as rust
-use Rattle.avro_schema.specs.declared.kind.Field.{Field}
-use Rattle.avro_schema.specs.Datum.{Datum, Data, no_more, more, datum_of, data_of}
-use Rattle.avro_schema.specs.Node.{FieldNode, FieldsBelow, field_of, fields_of}
+use Rattle.avro_types.specs.declared.datum.Datum as rust
+use Rattle.avro_types.specs.declared.kind.Field.{Field}
+use Rattle.avro_types.specs.Datum.{Datum, Data, no_more, more, datum_of, data_of}
+use Rattle.avro_types.specs.Node.{FieldNode, FieldsBelow, field_of, fields_of}
 use Rattle.avro_datum.specs.Decoding.{Decoder, fields_at}
 
 -- ---- a field of a list of them

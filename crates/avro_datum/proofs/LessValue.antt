@@ -12,9 +12,9 @@ use Rattle.std.specs.List.{AllByRecursion}
 use Rattle.avro_bytes.specs.declared.fault.MalformedKind.TheVariants.{BadBranch}
 use Rattle.avro_bytes.specs.Decoding.{Decoding, Complete, Invalid, Incomplete, ◌>>=◌, inside, map_decoding}
 use Rattle.avro_bytes.specs.Meter.{opened_blocks, opened_record}
-use Rattle.avro_schema.specs.declared.kind.Field.{Field}
-use Rattle.avro_schema.specs.Datum.{Datum, Data, UnionDatum, more}
-use Rattle.avro_schema.specs.Node.{Node, FieldNode, IsMember, ArrayNode, MapNode, UnionNode, RecordNode, fields_of}
+use Rattle.avro_types.specs.declared.kind.Field.{Field}
+use Rattle.avro_types.specs.Datum.{Datum, Data, UnionDatum, more}
+use Rattle.avro_types.specs.Node.{Node, FieldNode, IsMember, ArrayNode, MapNode, UnionNode, RecordNode, fields_of}
 use Rattle.avro_datum.specs.Decoding.{Decoder, IsLeaf, array_of, closed_record, datum_at, fields_at, leaf_at, map_of, member_at, node_at, pair_at, plain_at}
 use Rattle.avro_datum.specs.ItemDecoding.{items_at, steps_left}
 use Rattle.avro_datum.specs.Position.{position_at}

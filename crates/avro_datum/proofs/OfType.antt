@@ -2,11 +2,11 @@
 use Rattle.std.proofs.Common.{◌≡◌, ℕ, ◌≤◌, ◌*◌, ◌^◌, ◌<◌, List, [], ◌∷◌, Some, sym, subst, arith, ℤ, pos, negsuc, lit<, slice_get}
 use Rattle.avro_bytes.specs.Number.{int_limit, long_limit, zigzag}
 use Rattle.avro_bytes.specs.Laws.Numbers.{number_below}
-use Rattle.avro_schema.specs.Conforming.{Conforms, ConformAll, ConformPairs, ConformsEach, HasBits}
-use Rattle.avro_schema.specs.Node.{Node, FieldNode, FixedNode}
-use Rattle.avro_schema.specs.Datum.{Datum, Data, Pairs, NullDatum, BooleanDatum, IntDatum, LongDatum, BytesDatum, TextDatum, FixedDatum, EnumDatum, ArrayDatum, MapDatum, UnionDatum, RecordDatum, no_more, more, no_pairs, pair, how_many, how_many_pairs}
+use Rattle.avro_types.specs.Conforming.{Conforms, ConformAll, ConformPairs, ConformsEach, HasBits}
+use Rattle.avro_types.specs.Node.{Node, FieldNode, FixedNode}
+use Rattle.avro_types.specs.Datum.{Datum, Data, Pairs, NullDatum, BooleanDatum, IntDatum, LongDatum, BytesDatum, TextDatum, FixedDatum, EnumDatum, ArrayDatum, MapDatum, UnionDatum, RecordDatum, no_more, more, no_pairs, pair, how_many, how_many_pairs}
 use Rattle.avro_bytes.specs.declared.text.TheConstants.{LONGEST}
-use Rattle.avro_schema.specs.Sizes.{HasSizesWithin, HaveSizesWithin, HavePairsWithin}
+use Rattle.avro_types.specs.Sizes.{HasSizesWithin, HaveSizesWithin, HavePairsWithin}
 use Rattle.avro_datum.specs.Conforming.{IsWritable, most_items}
 use Rattle.avro_datum.specs.Spelling.{Spells, SpellsFields, SpellsItems, SpellsPairs, units_of, units_of_data, units_of_items, units_of_pairs}
 

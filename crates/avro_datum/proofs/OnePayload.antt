@@ -9,8 +9,8 @@ use Rattle.avro_bytes.specs.Decoding.{Decoding, Complete, Invalid, Incomplete}
 use Rattle.avro_bytes.specs.Fault.{Broken, CutShort}
 use Rattle.avro_bytes.specs.Meter.{start}
 use Rattle.avro_bytes.specs.Laws.Binds.{complete_is, stands_within}
-use Rattle.avro_schema.specs.Node.{Node}
-use Rattle.avro_schema.specs.Datum.{Datum}
+use Rattle.avro_types.specs.Node.{Node}
+use Rattle.avro_types.specs.Datum.{Datum}
 use Rattle.avro_datum.specs.Decoding.{datum_at}
 use Rattle.avro_datum.specs.Fault.{FirstFault, malformed, truncated, trailing}
 use Rattle.avro_datum.specs.Payload.{IsPayload}

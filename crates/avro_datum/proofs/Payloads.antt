@@ -7,8 +7,8 @@ use Rattle.avro_bytes.specs.declared.fault.MalformedKind.TheVariants.{Truncated,
 use Rattle.avro_bytes.specs.Decoding.{Decoding, Complete, Invalid, Incomplete}
 use Rattle.avro_bytes.specs.Fault.{Broken, HasDefect}
 use Rattle.avro_bytes.specs.Meter.{start, Counts}
-use Rattle.avro_schema.specs.Node.{Node}
-use Rattle.avro_schema.specs.Datum.{Datum}
+use Rattle.avro_types.specs.Node.{Node}
+use Rattle.avro_types.specs.Datum.{Datum}
 use Rattle.avro_datum.specs.Decoding.{datum_at}
 use Rattle.avro_datum.specs.Fault.{FaultyDatum, FirstFault, malformed, truncated, trailing}
 use Rattle.avro_datum.specs.Payload.{IsPayload}

@@ -9,9 +9,9 @@ use Rattle.avro_bytes.specs.Number.{IsNumber64, int_limit, long_limit, zigzag}
 use Rattle.avro_bytes.specs.Shortest.{shortest}
 use Rattle.avro_bytes.specs.Text.{IsText}
 use Rattle.avro_bytes.specs.Laws.Shortests.{shortest_is_number, shortest_is_shortest}
-use Rattle.avro_schema.specs.Conforming.{Conforms, ConformAll, ConformPairs, ConformsEach, HasBits}
-use Rattle.avro_schema.specs.Node.{IsWellFormed, Node, FieldNode, EnumNode, UnionNode}
-use Rattle.avro_schema.specs.Datum.{Datum, Data, Pairs, NullDatum, BooleanDatum, IntDatum, LongDatum, BytesDatum, TextDatum, FixedDatum, EnumDatum, ArrayDatum, MapDatum, UnionDatum, RecordDatum, no_more, more, no_pairs, pair, how_many, how_many_pairs}
+use Rattle.avro_types.specs.Conforming.{Conforms, ConformAll, ConformPairs, ConformsEach, HasBits}
+use Rattle.avro_types.specs.Node.{IsWellFormed, Node, FieldNode, EnumNode, UnionNode}
+use Rattle.avro_types.specs.Datum.{Datum, Data, Pairs, NullDatum, BooleanDatum, IntDatum, LongDatum, BytesDatum, TextDatum, FixedDatum, EnumDatum, ArrayDatum, MapDatum, UnionDatum, RecordDatum, no_more, more, no_pairs, pair, how_many, how_many_pairs}
 use Rattle.avro_datum.specs.Conforming.{IsWritable, AreWritable, AreWritablePairs, most_items}
 use Rattle.avro_datum.specs.Spelling.{Spells, SpellsFields, SpellsItems, SpellsPairs}
 use Rattle.avro_datum.specs.Writing.{behind_length, in_block, written, written_data, written_pairs}

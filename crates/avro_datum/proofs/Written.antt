@@ -3,9 +3,9 @@ use Rattle.std.proofs.Common.{◌≡◌, ℕ, zero, suc, ◌+◌, ◌<◌, arith
 use Rattle.std.proofs.Math.Seq.{drop-cons}
 use Rattle.std.proofs.lemmas.List.{length-append}
 use Rattle.std.specs.Global.{Vec}
-use Rattle.avro_schema.specs.declared.datum.Datum as rust
-use Rattle.avro_schema.specs.Datum.{datum_of, data_of, pairs_of, how_many, how_many_pairs}
-use Rattle.avro_schema.proofs.DatumOf.{datum_of-Array, datum_of-Map, datum_of-Record}
+use Rattle.avro_types.specs.declared.datum.Datum as rust
+use Rattle.avro_types.specs.Datum.{datum_of, data_of, pairs_of, how_many, how_many_pairs}
+use Rattle.avro_types.specs.Laws.DatumOf.{datum_of-Array, datum_of-Map, datum_of-Record}
 use Rattle.std.specs.Prelude.{OnErr}
 use Rattle.avro_bytes.specs.Shortest.{Extends, shortest}
 use Rattle.avro_datum.proofs.Counts.{block_len}

@@ -9,8 +9,8 @@ use Rattle.avro_bytes.specs.Fault.{Defect, Broken, CutShort, shifted, FaultyCont
 use Rattle.avro_bytes.specs.Meter.{Counts, OpensBlocks, OpensRecord, RefusesBlocks, RefusesRecord, start}
 use Rattle.avro_bytes.specs.Number.{int_limit, long_limit}
 use Rattle.avro_bytes.specs.Text.{IsText}
-use Rattle.avro_schema.specs.Node.{Node, FieldNode, BooleanNode, IntNode, LongNode, BytesNode, TextNode, FixedNode, EnumNode, ArrayNode, MapNode, UnionNode, RecordNode, is_array_or_map, is_union}
-use Rattle.avro_schema.specs.Datum.{Datum}
+use Rattle.avro_types.specs.Node.{Node, FieldNode, BooleanNode, IntNode, LongNode, BytesNode, TextNode, FixedNode, EnumNode, ArrayNode, MapNode, UnionNode, RecordNode, is_array_or_map, is_union}
+use Rattle.avro_types.specs.Datum.{Datum}
 use Rattle.avro_datum.specs.ItemFault.{Begins, FaultyBlocks}
 use Rattle.avro_datum.specs.Position.{FaultyPosition, SpellsPosition}
 use Rattle.avro_datum.specs.Spelling.{Spells, Fits, depth_of, units_of}

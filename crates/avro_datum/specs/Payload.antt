@@ -2,9 +2,9 @@
 use Rattle.std.specs.Prelude.{ℕ, List, Result, Ok, Err}
 use Rattle.avro_bytes.specs.declared.fault.Fault.{Fault}
 use Rattle.avro_bytes.specs.declared.fault.Fault.TheVariants.{Need, Malformed, NoMemory}
-use Rattle.avro_schema.specs.Node.{Node}
-use Rattle.avro_schema.specs.Datum.{Datum, datum_of}
-use Rattle.avro_schema.specs.declared.datum.Datum as rust
+use Rattle.avro_types.specs.Node.{Node}
+use Rattle.avro_types.specs.Datum.{Datum, datum_of}
+use Rattle.avro_types.specs.declared.datum.Datum as rust
 use Rattle.avro_datum.specs.Spelling.{Spells, Fits}
 use Rattle.avro_datum.specs.Fault.{FirstFault}
 

@@ -6,8 +6,8 @@ use Rattle.avro_bytes.specs.Blocks.{IsItems}
 use Rattle.avro_bytes.specs.Boolean.{IsBoolean}
 use Rattle.avro_bytes.specs.Number.{IsNumber32, IsNumber64}
 use Rattle.avro_bytes.specs.Text.{IsText}
-use Rattle.avro_schema.specs.Node.{Node, FieldNode, NullNode, BooleanNode, IntNode, LongNode, BytesNode, TextNode, FixedNode, EnumNode, ArrayNode, MapNode, UnionNode, RecordNode, is_union}
-use Rattle.avro_schema.specs.Datum.{Datum, Data, Pairs, NullDatum, BooleanDatum, IntDatum, LongDatum, BytesDatum, TextDatum, FixedDatum, EnumDatum, ArrayDatum, MapDatum, UnionDatum, RecordDatum, no_more, more, no_pairs, pair}
+use Rattle.avro_types.specs.Node.{Node, FieldNode, NullNode, BooleanNode, IntNode, LongNode, BytesNode, TextNode, FixedNode, EnumNode, ArrayNode, MapNode, UnionNode, RecordNode, is_union}
+use Rattle.avro_types.specs.Datum.{Datum, Data, Pairs, NullDatum, BooleanDatum, IntDatum, LongDatum, BytesDatum, TextDatum, FixedDatum, EnumDatum, ArrayDatum, MapDatum, UnionDatum, RecordDatum, no_more, more, no_pairs, pair}
 use Rattle.avro_datum.specs.Position.{SpellsPosition}
 
 abbrev mutual

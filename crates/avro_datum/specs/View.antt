@@ -1,8 +1,8 @@
 -- The items and pairs that a program holds, as the decoding of blocks gives them.
 use Rattle.std.specs.Prelude.{ℕ, List, map, String, string_bytes}
 use Rattle.std.specs.Global.{Global}
-use Rattle.avro_schema.specs.declared.datum.Datum as rust
-use Rattle.avro_schema.specs.Datum.{Datum, datum_of}
+use Rattle.avro_types.specs.declared.datum.Datum as rust
+use Rattle.avro_types.specs.Datum.{Datum, datum_of}
 
 abbrev pub each_datum : List rust.Datum → List Datum
 each_datum ds = map datum_of ds

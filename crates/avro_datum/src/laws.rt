@@ -1,8 +1,8 @@
 ghost use Rattle.std.specs.Prelude.{◌≡◌, ◌≤◌, ◌⊎◌, ℕ, List, length};
 ghost use Rattle.avro_bytes.specs.declared.fault.MalformedKind.{MalformedKind};
-ghost use Rattle.avro_schema.specs.Conforming.{Conforms};
-ghost use Rattle.avro_schema.specs.Node.{IsWellFormed, Node};
-ghost use Rattle.avro_schema.specs.Datum as datum;
+ghost use Rattle.avro_types.specs.Conforming.{Conforms};
+ghost use Rattle.avro_types.specs.Node.{IsWellFormed, Node};
+ghost use Rattle.avro_types.specs.Datum as datum;
 ghost use Rattle.avro_datum.specs.Conforming.{IsWritable, most_items};
 ghost use Rattle.avro_datum.specs.Fault.{FirstFault};
 ghost use Rattle.avro_datum.specs.Payload.{IsPayload};

@@ -1,12 +1,12 @@
 ghost use Rattle.std.specs.Prelude.{◌≡◌, ◌≤◌, length, IfOk};
 ghost use Rattle.avro_bytes.specs.Contract.{Reads, skipped};
-ghost use Rattle.avro_schema.specs.Datum.{datum_of};
-ghost use Rattle.avro_schema.specs.Node.{node_of};
+ghost use Rattle.avro_types.specs.Datum.{datum_of};
+ghost use Rattle.avro_types.specs.Node.{node_of};
 ghost use Rattle.avro_datum.specs.Decoding.{IsLeaf, leaf_at};
 
 use crate::position::read_position;
 use avro_bytes::{Blob, Bool, Fault, FixedBytes, Int, Long, MalformedKind, Meter, Text, WireForm};
-use avro_schema::{Datum, Kind};
+use avro_types::{Datum, Kind};
 use std::alloc::Global;
 
 /// The datum of a kind that holds no others.

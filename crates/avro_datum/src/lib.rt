@@ -2,16 +2,12 @@
 #![tactic(auto)]
 
 mod form;
-#[cfg(test)]
-mod kinds_tests;
 mod laws;
 mod leaf;
 mod payload;
 mod position;
 mod reading;
 mod skipping;
-#[cfg(test)]
-mod tests;
 mod writing;
 
 pub use form::NodeForm;
@@ -19,4 +15,4 @@ pub use laws::{
     payload_is_spelled_or_faulty, spelled_datum_conforms, written_form_is_the_shortest_spelling,
 };
 pub use payload::read_all;
-pub use writing::{MOST_OUTPUT, WriteError, write};
+pub use writing::{WriteError, write};

@@ -2,15 +2,15 @@ ghost use Rattle.avro_datum.specs.Payload.{ReadsAll};
 
 use crate::reading::read_node;
 use avro_bytes::{Fault, MalformedKind, Meter};
-use avro_schema::{Datum, Schema};
+use avro_types::{Datum, Nodes};
 use std::alloc::Global;
 
 /// The datum of the root that a whole payload spells, else its first fault, which is never `Need`.
-pub fn read_all(alloc: Global, schema: &Schema, payload: &[u8]) -> Result<Datum, Fault>
-    ensures { ReadsAll schema.now.nodes payload.now result }
+pub fn read_all(alloc: Global, nodes: &Nodes, payload: &[u8]) -> Result<Datum, Fault>
+    ensures { ReadsAll nodes.now payload.now result }
 {
-    schema.is_well_formed();
-    match read_node(alloc, schema, 0, payload, 0, Meter::START) {
+    nodes.is_well_formed();
+    match read_node(alloc, nodes, 0, payload, 0, Meter::START) {
         Ok((datum, to, _)) => {
             if to != payload.len() {
                 return Err(Fault::Malformed {

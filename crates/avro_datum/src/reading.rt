@@ -1,7 +1,7 @@
 ghost use Rattle.std.specs.Prelude.{◌≡◌, ◌<◌, ◌≤◌, ◌-◌, ◌+◌, length, slice_get, string_bytes, false, IfOk};
 ghost use Rattle.avro_bytes.specs.Contract.{Reads};
-ghost use Rattle.avro_schema.specs.Datum.{data_of, datum_of};
-ghost use Rattle.avro_schema.specs.Node.{FieldsBelow, fields_of, is_union};
+ghost use Rattle.avro_types.specs.Datum.{data_of, datum_of};
+ghost use Rattle.avro_types.specs.Node.{FieldsBelow, fields_of, is_union};
 ghost use Rattle.avro_datum.specs.Decoding.{datum_at, fields_at, node_at, pair_at};
 ghost use Rattle.avro_datum.specs.ItemDecoding.{items_at, steps_left};
 ghost use Rattle.avro_datum.specs.View.{each_datum, each_pair, pair_of};
@@ -9,32 +9,32 @@ ghost use Rattle.avro_datum.specs.View.{each_datum, each_pair, pair_of};
 use crate::leaf::read_leaf;
 use crate::position::read_position;
 use avro_bytes::{BlockWalk, Fault, MOST_DEPTH, MalformedKind, Meter, Text, WireForm};
-use avro_schema::{Datum, Field, Kind, Schema};
+use avro_types::{Datum, Field, Kind, Nodes};
 use std::alloc::Global;
 
 /// The datum of a node at a place.
 #[cycle(read)]
 pub(crate) fn read_node(
     alloc: Global,
-    schema: &Schema,
+    nodes: &Nodes,
     node: usize,
     bytes: &[u8],
     at: usize,
     m: Meter,
 ) -> Result<(Datum, usize, Meter), Fault>
-    requires node { node < length schema.now.nodes }
+    requires node { node < length nodes.now }
     requires in_bounds { at ≤ length bytes.now }
-    ensures reads { Reads datum_of result (datum_at schema.now.nodes bytes.now node at m) }
+    ensures reads { Reads datum_of result (datum_at nodes.now bytes.now node at m) }
     ensures within { IfOk result (λ r. r.1 ≤ length bytes.now) }
     ensures depth { IfOk result (λ r. r.2.depth ≡ m.depth) }
     ensures units { IfOk result (λ r. m.units ≤ r.2.units) }
 {
-    let Kind::Union(members) = schema.kind(node) else {
-        return read_plain(alloc, schema, node, bytes, at, m);
+    let Kind::Union(members) = nodes.kind(node) else {
+        return read_plain(alloc, nodes, node, bytes, at, m);
     };
     let (n, to, after) = read_position(MalformedKind::BadBranch, members.len(), bytes, at, m)?;
     let member = members[n as usize];
-    let (datum, end, last) = read_plain(alloc, schema, member, bytes, to, after)?;
+    let (datum, end, last) = read_plain(alloc, nodes, member, bytes, to, after)?;
     let datum = Box::new(alloc, datum)?;
     Ok((Datum::Union(n, datum), end, last))
 }
@@ -43,25 +43,25 @@ pub(crate) fn read_node(
 #[cycle(read)]
 fn read_plain(
     alloc: Global,
-    schema: &Schema,
+    nodes: &Nodes,
     node: usize,
     bytes: &[u8],
     at: usize,
     m: Meter,
 ) -> Result<(Datum, usize, Meter), Fault>
-    requires node { node < length schema.now.nodes }
-    requires no_union { is_union (slice_get schema.now.nodes node) ≡ false }
+    requires node { node < length nodes.now }
+    requires no_union { is_union (slice_get nodes.now node) ≡ false }
     requires in_bounds { at ≤ length bytes.now }
-    ensures reads { Reads datum_of result (datum_at schema.now.nodes bytes.now node at m) }
+    ensures reads { Reads datum_of result (datum_at nodes.now bytes.now node at m) }
     ensures within { IfOk result (λ r. r.1 ≤ length bytes.now) }
     ensures depth { IfOk result (λ r. r.2.depth ≡ m.depth) }
     ensures units { IfOk result (λ r. m.units ≤ r.2.units) }
 {
-    let kind = schema.kind(node);
+    let kind = nodes.kind(node);
     match kind {
         Kind::Record { fields, .. } => {
             let inside = m.enter_record(at)?;
-            let (data, to, after) = read_fields(alloc, schema, fields, bytes, at, inside)?;
+            let (data, to, after) = read_fields(alloc, nodes, fields, bytes, at, inside)?;
             let outside = Meter {
                 depth: m.depth,
                 units: after.units,
@@ -70,12 +70,12 @@ fn read_plain(
         }
         Kind::Array(inner) => {
             let (walk, inside) = BlockWalk::begin(at, m)?;
-            let (data, to, after) = read_items(alloc, schema, *inner, walk, bytes, at, inside)?;
+            let (data, to, after) = read_items(alloc, nodes, *inner, walk, bytes, at, inside)?;
             Ok((Datum::Array(data), to, after))
         }
         Kind::Map(inner) => {
             let (walk, inside) = BlockWalk::begin(at, m)?;
-            let (pairs, to, after) = read_pairs(alloc, schema, *inner, walk, bytes, at, inside)?;
+            let (pairs, to, after) = read_pairs(alloc, nodes, *inner, walk, bytes, at, inside)?;
             Ok((Datum::Map(pairs), to, after))
         }
         Kind::Union(_) => unreachable!(),
@@ -87,15 +87,15 @@ fn read_plain(
 #[cycle(read)]
 fn read_fields(
     alloc: Global,
-    schema: &Schema,
+    nodes: &Nodes,
     fields: &[Field],
     bytes: &[u8],
     at: usize,
     m: Meter,
 ) -> Result<(Vec<Datum>, usize, Meter), Fault>
-    requires fields { FieldsBelow (length schema.now.nodes) (fields_of fields.now) }
+    requires fields { FieldsBelow (length nodes.now) (fields_of fields.now) }
     requires in_bounds { at ≤ length bytes.now }
-    ensures reads { Reads (λ v. data_of v.items) result (fields_at (node_at (MOST_DEPTH - m.depth) schema.now.nodes bytes.now) (fields_of fields.now) at m) }
+    ensures reads { Reads (λ v. data_of v.items) result (fields_at (node_at (MOST_DEPTH - m.depth) nodes.now bytes.now) (fields_of fields.now) at m) }
     ensures within { IfOk result (λ r. r.1 ≤ length bytes.now) }
     ensures depth { IfOk result (λ r. r.2.depth ≡ m.depth) }
     ensures units { IfOk result (λ r. m.units ≤ r.2.units) }
@@ -104,7 +104,7 @@ fn read_fields(
     let mut to = at;
     let mut so_far = m;
     for field in fields {
-        let (datum, next, after) = read_node(alloc, schema, field.node, bytes, to, so_far)?;
+        let (datum, next, after) = read_node(alloc, nodes, field.node, bytes, to, so_far)?;
         data.push(datum)?;
         to = next;
         so_far = after;
@@ -116,17 +116,17 @@ fn read_fields(
 #[cycle(read)]
 fn read_items(
     alloc: Global,
-    schema: &Schema,
+    nodes: &Nodes,
     inner: usize,
     walk: BlockWalk,
     bytes: &[u8],
     at: usize,
     m: Meter,
 ) -> Result<(Vec<Datum>, usize, Meter), Fault>
-    requires inner { inner < length schema.now.nodes }
+    requires inner { inner < length nodes.now }
     requires in_bounds { at ≤ length bytes.now }
     requires deep { 0 < m.depth }
-    ensures reads { Reads (λ v. each_datum v.items) result (items_at (steps_left m) (node_at (MOST_DEPTH - m.depth) schema.now.nodes bytes.now inner) bytes.now walk at m) }
+    ensures reads { Reads (λ v. each_datum v.items) result (items_at (steps_left m) (node_at (MOST_DEPTH - m.depth) nodes.now bytes.now inner) bytes.now walk at m) }
     ensures within { IfOk result (λ r. r.1 ≤ length bytes.now) }
     ensures depth { IfOk result (λ r. r.2.depth + 1 ≡ m.depth) }
     ensures units { IfOk result (λ r. m.units ≤ r.2.units) }
@@ -140,7 +140,7 @@ fn read_items(
         if !further {
             return Ok((data, place, opened));
         }
-        let (datum, end, last) = read_node(alloc, schema, inner, bytes, place, opened)?;
+        let (datum, end, last) = read_node(alloc, nodes, inner, bytes, place, opened)?;
         data.push(datum)?;
         to = end;
         so_far = last;
@@ -151,17 +151,17 @@ fn read_items(
 #[cycle(read)]
 fn read_pairs(
     alloc: Global,
-    schema: &Schema,
+    nodes: &Nodes,
     inner: usize,
     walk: BlockWalk,
     bytes: &[u8],
     at: usize,
     m: Meter,
 ) -> Result<(Vec<(String, Datum)>, usize, Meter), Fault>
-    requires inner { inner < length schema.now.nodes }
+    requires inner { inner < length nodes.now }
     requires in_bounds { at ≤ length bytes.now }
     requires deep { 0 < m.depth }
-    ensures reads { Reads (λ v. each_pair v.items) result (items_at (steps_left m) (pair_at (node_at (MOST_DEPTH - m.depth) schema.now.nodes bytes.now) bytes.now inner) bytes.now walk at m) }
+    ensures reads { Reads (λ v. each_pair v.items) result (items_at (steps_left m) (pair_at (node_at (MOST_DEPTH - m.depth) nodes.now bytes.now) bytes.now inner) bytes.now walk at m) }
     ensures within { IfOk result (λ r. r.1 ≤ length bytes.now) }
     ensures depth { IfOk result (λ r. r.2.depth + 1 ≡ m.depth) }
     ensures units { IfOk result (λ r. m.units ≤ r.2.units) }
@@ -175,7 +175,7 @@ fn read_pairs(
         if !further {
             return Ok((pairs, place, opened));
         }
-        let (pair, end, last) = read_pair(alloc, schema, inner, bytes, place, opened)?;
+        let (pair, end, last) = read_pair(alloc, nodes, inner, bytes, place, opened)?;
         pairs.push(pair)?;
         to = end;
         so_far = last;
@@ -186,20 +186,20 @@ fn read_pairs(
 #[cycle(read)]
 fn read_pair(
     alloc: Global,
-    schema: &Schema,
+    nodes: &Nodes,
     inner: usize,
     bytes: &[u8],
     at: usize,
     m: Meter,
 ) -> Result<((String, Datum), usize, Meter), Fault>
-    requires inner { inner < length schema.now.nodes }
+    requires inner { inner < length nodes.now }
     requires in_bounds { at ≤ length bytes.now }
-    ensures reads { Reads pair_of result (pair_at (node_at (MOST_DEPTH - m.depth) schema.now.nodes bytes.now) bytes.now inner at m) }
+    ensures reads { Reads pair_of result (pair_at (node_at (MOST_DEPTH - m.depth) nodes.now bytes.now) bytes.now inner at m) }
     ensures within { IfOk result (λ r. r.1 ≤ length bytes.now) }
     ensures depth { IfOk result (λ r. r.2.depth ≡ m.depth) }
     ensures units { IfOk result (λ r. m.units ≤ r.2.units) }
 {
     let (key, to, after) = Text { alloc }.read(bytes, at, m)?;
-    let (datum, end, last) = read_node(alloc, schema, inner, bytes, to, after)?;
+    let (datum, end, last) = read_node(alloc, nodes, inner, bytes, to, after)?;
     Ok(((key, datum), end, last))
 }

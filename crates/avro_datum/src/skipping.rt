@@ -1,62 +1,62 @@
 ghost use Rattle.std.specs.Prelude.{◌≡◌, ◌<◌, ◌≤◌, ◌-◌, ◌+◌, length, slice_get, false, IfOk};
 ghost use Rattle.avro_bytes.specs.Contract.{skipped};
-ghost use Rattle.avro_schema.specs.Node.{FieldsBelow, fields_of, is_union};
+ghost use Rattle.avro_types.specs.Node.{FieldsBelow, fields_of, is_union};
 ghost use Rattle.avro_datum.specs.Decoding.{datum_at, fields_at, node_at, pair_at};
 ghost use Rattle.avro_datum.specs.ItemDecoding.{items_at, steps_left};
 
 use crate::leaf::skip_leaf;
 use crate::position::read_position;
 use avro_bytes::{BlockWalk, Fault, MOST_DEPTH, MalformedKind, Meter, Text, WireForm};
-use avro_schema::{Field, Kind, Schema};
+use avro_types::{Field, Kind, Nodes};
 use std::alloc::Global;
 
 /// The place behind the datum of a node.
 #[cycle(skip)]
 pub(crate) fn skip_node(
     alloc: Global,
-    schema: &Schema,
+    nodes: &Nodes,
     node: usize,
     bytes: &[u8],
     at: usize,
     m: Meter,
 ) -> Result<(usize, Meter), Fault>
-    requires node { node < length schema.now.nodes }
+    requires node { node < length nodes.now }
     requires in_bounds { at ≤ length bytes.now }
-    ensures skips { result ≡ skipped (datum_at schema.now.nodes bytes.now node at m) }
+    ensures skips { result ≡ skipped (datum_at nodes.now bytes.now node at m) }
     ensures within { IfOk result (λ r. r.0 ≤ length bytes.now) }
     ensures depth { IfOk result (λ r. r.1.depth ≡ m.depth) }
     ensures units { IfOk result (λ r. m.units ≤ r.1.units) }
 {
-    let Kind::Union(members) = schema.kind(node) else {
-        return skip_plain(alloc, schema, node, bytes, at, m);
+    let Kind::Union(members) = nodes.kind(node) else {
+        return skip_plain(alloc, nodes, node, bytes, at, m);
     };
     let (n, to, after) = read_position(MalformedKind::BadBranch, members.len(), bytes, at, m)?;
-    skip_plain(alloc, schema, members[n as usize], bytes, to, after)
+    skip_plain(alloc, nodes, members[n as usize], bytes, to, after)
 }
 
 /// The place behind the datum of a node that is no union.
 #[cycle(skip)]
 fn skip_plain(
     alloc: Global,
-    schema: &Schema,
+    nodes: &Nodes,
     node: usize,
     bytes: &[u8],
     at: usize,
     m: Meter,
 ) -> Result<(usize, Meter), Fault>
-    requires node { node < length schema.now.nodes }
-    requires no_union { is_union (slice_get schema.now.nodes node) ≡ false }
+    requires node { node < length nodes.now }
+    requires no_union { is_union (slice_get nodes.now node) ≡ false }
     requires in_bounds { at ≤ length bytes.now }
-    ensures skips { result ≡ skipped (datum_at schema.now.nodes bytes.now node at m) }
+    ensures skips { result ≡ skipped (datum_at nodes.now bytes.now node at m) }
     ensures within { IfOk result (λ r. r.0 ≤ length bytes.now) }
     ensures depth { IfOk result (λ r. r.1.depth ≡ m.depth) }
     ensures units { IfOk result (λ r. m.units ≤ r.1.units) }
 {
-    let kind = schema.kind(node);
+    let kind = nodes.kind(node);
     match kind {
         Kind::Record { fields, .. } => {
             let inside = m.enter_record(at)?;
-            let (to, after) = skip_fields(alloc, schema, fields, bytes, at, inside)?;
+            let (to, after) = skip_fields(alloc, nodes, fields, bytes, at, inside)?;
             let outside = Meter {
                 depth: m.depth,
                 units: after.units,
@@ -65,11 +65,11 @@ fn skip_plain(
         }
         Kind::Array(inner) => {
             let (walk, inside) = BlockWalk::begin(at, m)?;
-            skip_items(alloc, schema, *inner, walk, bytes, at, inside)
+            skip_items(alloc, nodes, *inner, walk, bytes, at, inside)
         }
         Kind::Map(inner) => {
             let (walk, inside) = BlockWalk::begin(at, m)?;
-            skip_pairs(alloc, schema, *inner, walk, bytes, at, inside)
+            skip_pairs(alloc, nodes, *inner, walk, bytes, at, inside)
         }
         Kind::Union(_) => unreachable!(),
         _ => skip_leaf(alloc, kind, bytes, at, m),
@@ -80,15 +80,15 @@ fn skip_plain(
 #[cycle(skip)]
 fn skip_fields(
     alloc: Global,
-    schema: &Schema,
+    nodes: &Nodes,
     fields: &[Field],
     bytes: &[u8],
     at: usize,
     m: Meter,
 ) -> Result<(usize, Meter), Fault>
-    requires fields { FieldsBelow (length schema.now.nodes) (fields_of fields.now) }
+    requires fields { FieldsBelow (length nodes.now) (fields_of fields.now) }
     requires in_bounds { at ≤ length bytes.now }
-    ensures skips { result ≡ skipped (fields_at (node_at (MOST_DEPTH - m.depth) schema.now.nodes bytes.now) (fields_of fields.now) at m) }
+    ensures skips { result ≡ skipped (fields_at (node_at (MOST_DEPTH - m.depth) nodes.now bytes.now) (fields_of fields.now) at m) }
     ensures within { IfOk result (λ r. r.0 ≤ length bytes.now) }
     ensures depth { IfOk result (λ r. r.1.depth ≡ m.depth) }
     ensures units { IfOk result (λ r. m.units ≤ r.1.units) }
@@ -96,7 +96,7 @@ fn skip_fields(
     let mut to = at;
     let mut so_far = m;
     for field in fields {
-        let (next, after) = skip_node(alloc, schema, field.node, bytes, to, so_far)?;
+        let (next, after) = skip_node(alloc, nodes, field.node, bytes, to, so_far)?;
         to = next;
         so_far = after;
     }
@@ -107,17 +107,17 @@ fn skip_fields(
 #[cycle(skip)]
 fn skip_items(
     alloc: Global,
-    schema: &Schema,
+    nodes: &Nodes,
     inner: usize,
     walk: BlockWalk,
     bytes: &[u8],
     at: usize,
     m: Meter,
 ) -> Result<(usize, Meter), Fault>
-    requires inner { inner < length schema.now.nodes }
+    requires inner { inner < length nodes.now }
     requires in_bounds { at ≤ length bytes.now }
     requires deep { 0 < m.depth }
-    ensures skips { result ≡ skipped (items_at (steps_left m) (node_at (MOST_DEPTH - m.depth) schema.now.nodes bytes.now inner) bytes.now walk at m) }
+    ensures skips { result ≡ skipped (items_at (steps_left m) (node_at (MOST_DEPTH - m.depth) nodes.now bytes.now inner) bytes.now walk at m) }
     ensures within { IfOk result (λ r. r.0 ≤ length bytes.now) }
     ensures depth { IfOk result (λ r. r.1.depth + 1 ≡ m.depth) }
     ensures units { IfOk result (λ r. m.units ≤ r.1.units) }
@@ -130,7 +130,7 @@ fn skip_items(
         if !further {
             return Ok((place, opened));
         }
-        let (end, last) = skip_node(alloc, schema, inner, bytes, place, opened)?;
+        let (end, last) = skip_node(alloc, nodes, inner, bytes, place, opened)?;
         to = end;
         so_far = last;
     }
@@ -140,17 +140,17 @@ fn skip_items(
 #[cycle(skip)]
 fn skip_pairs(
     alloc: Global,
-    schema: &Schema,
+    nodes: &Nodes,
     inner: usize,
     walk: BlockWalk,
     bytes: &[u8],
     at: usize,
     m: Meter,
 ) -> Result<(usize, Meter), Fault>
-    requires inner { inner < length schema.now.nodes }
+    requires inner { inner < length nodes.now }
     requires in_bounds { at ≤ length bytes.now }
     requires deep { 0 < m.depth }
-    ensures skips { result ≡ skipped (items_at (steps_left m) (pair_at (node_at (MOST_DEPTH - m.depth) schema.now.nodes bytes.now) bytes.now inner) bytes.now walk at m) }
+    ensures skips { result ≡ skipped (items_at (steps_left m) (pair_at (node_at (MOST_DEPTH - m.depth) nodes.now bytes.now) bytes.now inner) bytes.now walk at m) }
     ensures within { IfOk result (λ r. r.0 ≤ length bytes.now) }
     ensures depth { IfOk result (λ r. r.1.depth + 1 ≡ m.depth) }
     ensures units { IfOk result (λ r. m.units ≤ r.1.units) }
@@ -163,7 +163,7 @@ fn skip_pairs(
         if !further {
             return Ok((place, opened));
         }
-        let (end, last) = skip_pair(alloc, schema, inner, bytes, place, opened)?;
+        let (end, last) = skip_pair(alloc, nodes, inner, bytes, place, opened)?;
         to = end;
         so_far = last;
     }
@@ -173,19 +173,19 @@ fn skip_pairs(
 #[cycle(skip)]
 fn skip_pair(
     alloc: Global,
-    schema: &Schema,
+    nodes: &Nodes,
     inner: usize,
     bytes: &[u8],
     at: usize,
     m: Meter,
 ) -> Result<(usize, Meter), Fault>
-    requires inner { inner < length schema.now.nodes }
+    requires inner { inner < length nodes.now }
     requires in_bounds { at ≤ length bytes.now }
-    ensures skips { result ≡ skipped (pair_at (node_at (MOST_DEPTH - m.depth) schema.now.nodes bytes.now) bytes.now inner at m) }
+    ensures skips { result ≡ skipped (pair_at (node_at (MOST_DEPTH - m.depth) nodes.now bytes.now) bytes.now inner at m) }
     ensures within { IfOk result (λ r. r.0 ≤ length bytes.now) }
     ensures depth { IfOk result (λ r. r.1.depth ≡ m.depth) }
     ensures units { IfOk result (λ r. m.units ≤ r.1.units) }
 {
     let (to, after) = Text { alloc }.skip(bytes, at, m)?;
-    skip_node(alloc, schema, inner, bytes, to, after)
+    skip_node(alloc, nodes, inner, bytes, to, after)
 }

@@ -1,15 +1,13 @@
 ghost use Rattle.std.specs.Prelude.{◌≡◌, ◌++◌, ◌+◌, ◌<◌, ◌^◌, [], length, MatchOption, OnOk, OnErr};
 ghost use Rattle.avro_bytes.specs.Shortest.{Extends};
-ghost use Rattle.avro_schema.specs.Datum.{data_of, datum_of, pairs_of};
+ghost use Rattle.avro_types.specs.Datum.{data_of, datum_of, pairs_of};
 ghost use Rattle.avro_datum.specs.Writing.{Writes, behind_length, block_count, in_block, written, written_data, written_pairs};
 
 use avro_bytes::{long_len, put_long};
-use avro_schema::Datum;
+use avro_types::Datum;
+use outcome::MOST_OUTPUT;
 use std::alloc::AllocError;
 use thiserror::Error;
-
-/// How many bytes a written datum may have.
-pub const MOST_OUTPUT: usize = 67_108_864;
 
 /// Why a datum was not written.
 #[derive(Clone, Copy, Debug, PartialEq, Eq, Error)]

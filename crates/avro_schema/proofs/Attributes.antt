@@ -6,7 +6,7 @@ use Rattle.avro_schema.specs.declared.error.SchemaError.{SchemaError}
 use Rattle.avro_schema.specs.Declaring.{IsNamed, IsFullName}
 use Rattle.avro_schema.specs.Fault.{◌>>=◌, require}
 use Rattle.avro_schema.specs.Head.{Head}
-use Rattle.avro_schema.specs.FullNames.{full_name, is_full_name, is_name, unqualified}
+use Rattle.avro_types.specs.FullNames.{full_name, is_full_name, is_name, unqualified}
 use Rattle.avro_schema.specs.Names.{text_of, field_name, new_name, own_namespace}
 use Rattle.avro_schema.specs.Word.{word_of, is_primitive}
 

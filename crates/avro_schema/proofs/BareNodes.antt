@@ -7,11 +7,11 @@ use Rattle.std.specs.declared.cmp.Ordering.{Ordering}
 use Rattle.std.specs.declared.cmp.Ordering.TheVariants.{Less, Equal, Greater}
 use Rattle.serde_json.specs.Data as json
 use Rattle.serde_json.specs.Data.{null, boolean, number, string, array, object, Items, no_items, item, Members, no_members, member}
-use Rattle.avro_schema.specs.Datum.{Datum, Data, Pairs, ArrayDatum, MapDatum, RecordDatum, UnionDatum, more, pair}
+use Rattle.avro_types.specs.Datum.{Datum, Data, Pairs, ArrayDatum, MapDatum, RecordDatum, UnionDatum, more, pair}
 use Rattle.avro_schema.specs.Defaults.{Reading, IsDefault, all_defaults, array_value, at_node, bare, bare_field, by_first, field_default, field_defaults, fields_value, fields_with, items_value, leaf_value, member_value, node_defaults, node_with, nodes_with, object_value, pairs_value, value_of}
 use Rattle.avro_schema.specs.Draft.{Draft, Whole, RecordDraft, DraftField}
 use Rattle.avro_schema.specs.Head.{Head}
-use Rattle.avro_schema.specs.Node.{Node, NullNode, BooleanNode, IntNode, LongNode, BytesNode, TextNode, FixedNode, EnumNode, ArrayNode, MapNode, UnionNode, RecordNode}
+use Rattle.avro_types.specs.Node.{Node, NullNode, BooleanNode, IntNode, LongNode, BytesNode, TextNode, FixedNode, EnumNode, ArrayNode, MapNode, UnionNode, RecordNode}
 use Rattle.avro_schema.proofs.FinishedNodes.{in-row}
 use Rattle.avro_schema.proofs.Fits.{AllFrom, DraftFits}
 

@@ -5,21 +5,22 @@ use Rattle.std.proofs.lemmas.Bool.{le-leb, lt-leb}
 use Rattle.serde_json.specs.Data.{Data}
 use Rattle.serde_json.specs.Read.{read}
 use Rattle.serde_json.specs.Written.{has_float}
+use Rattle.avro_types.specs.declared.limits.TheConstants.{MOST_TEXT}
 use Rattle.avro_schema.specs.declared.error.SchemaError.{SchemaError}
 use Rattle.avro_schema.specs.declared.error.SchemaError.TheVariants.{TooLarge, NotJson, BadNumber, BadDefault}
 use Rattle.avro_schema.specs.Contract.{run}
 use Rattle.avro_schema.specs.Fault.{◌>>=◌}
-use Rattle.avro_schema.specs.Datum.{Datum}
+use Rattle.avro_types.specs.Datum.{Datum}
 use Rattle.avro_schema.specs.Defaults.{all_defaults, finished, nodes_with}
 use Rattle.avro_schema.specs.Draft.{Draft}
-use Rattle.avro_schema.specs.Schema.{schema_of, nodes_in_read, declared, most_text}
+use Rattle.avro_schema.specs.Schema.{schema_of, nodes_in_read, declared}
 use Rattle.avro_schema.specs.Walk.{walk, added, null_namespace}
 
-pub too-large : (text : List ℕ) → most_text < length text → schema_of text ≡ Err TooLarge
+pub too-large : (text : List ℕ) → MOST_TEXT < length text → schema_of text ≡ Err TooLarge
 unfolding schema_of
 too-large text lt = rw (lt-leb (length text) 262144 lt) refl
 
-pub small : (text : List ℕ) → length text ≤ most_text → schema_of text ≡ nodes_in_read (read text)
+pub small : (text : List ℕ) → length text ≤ MOST_TEXT → schema_of text ≡ nodes_in_read (read text)
 unfolding schema_of
 small text le = rw (le-leb (length text) 262144 le) refl
 

@@ -16,9 +16,9 @@ use Rattle.avro_schema.specs.Defaults.{field_default, field_defaults, fields_wit
 use Rattle.avro_schema.specs.Draft.{Draft, Whole, RecordDraft, DraftField}
 use Rattle.avro_schema.specs.Fault.{◌>>=◌}
 use Rattle.avro_schema.specs.Head.{Head, ArrayHead, MapHead, UnionHead, Named, heads_of, defined_at}
-use Rattle.avro_schema.specs.FullNames.{namespace_of, full_name}
+use Rattle.avro_types.specs.FullNames.{namespace_of, full_name}
 use Rattle.avro_schema.specs.Names.{new_name, field_name}
-use Rattle.avro_schema.specs.Node.{Node, FixedNode, EnumNode, ArrayNode, MapNode, UnionNode, RecordNode}
+use Rattle.avro_types.specs.Node.{Node, FixedNode, EnumNode, ArrayNode, MapNode, UnionNode, RecordNode}
 use Rattle.avro_schema.specs.Walk.{Walk, are_apart, head_at, fault, found, leaf_or_reference, reference, named, or_unknown, around, union_of, record_of, enum_of, fixed_of, if_room, declared_by, draft_field, field_of, walk, members, walk_member, walk_fields, fields, fields_after, field}
 use Rattle.avro_schema.specs.Word.{word_of, leaf_of, is_left_out, is_primitive, form_of}
 use Rattle.avro_schema.proofs.Attributes.{new_named, field_named}

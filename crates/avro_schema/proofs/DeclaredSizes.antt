@@ -3,13 +3,13 @@ use Rattle.std.proofs.Common.{◌≡◌, ℕ, zero, suc, ◌+◌, List, [], ◌�
 use Rattle.std.specs.List.{AllByRecursion}
 use Rattle.serde_json.specs.Data as json
 use Rattle.avro_schema.specs.declared.error.SchemaError.{SchemaError}
-use Rattle.avro_schema.specs.Datum.{Datum}
+use Rattle.avro_types.specs.Datum.{Datum}
 use Rattle.avro_schema.specs.Defaults.{all_defaults, default_of, field_default, field_defaults, fields_with, node_defaults, node_with, nodes_with}
 use Rattle.avro_schema.specs.Draft.{Draft, Whole, RecordDraft, DraftField}
 use Rattle.avro_schema.specs.Head.{heads_of}
-use Rattle.avro_schema.specs.Node.{Node, FieldNode, RecordNode}
+use Rattle.avro_types.specs.Node.{Node, FieldNode, RecordNode}
 use Rattle.avro_schema.specs.Schema.{declared}
-use Rattle.avro_schema.specs.Sizes.{HasSizesWithin, DefaultsHaveSizesWithin}
+use Rattle.avro_types.specs.Sizes.{HasSizesWithin, DefaultsHaveSizesWithin}
 use Rattle.avro_schema.specs.Walk.{walk, null_namespace}
 use Rattle.avro_schema.proofs.DefaultSizes.{default-within}
 use Rattle.avro_schema.proofs.DefaultsConform.{map-inv}

@@ -13,18 +13,18 @@ use Rattle.serde_json.specs.Data.{null, boolean, number, string, array, object, 
 use Rattle.serde_json.specs.Find.{get, get_member, as_array, as_object}
 use Rattle.serde_json.specs.View.{view, items_view, members_view}
 use Rattle.serde_json.specs.declared.value.Value.{Value}
-use Rattle.avro_schema.specs.declared.datum.Datum as rust
+use Rattle.avro_types.specs.declared.datum.Datum as rust
 use Rattle.avro_schema.specs.declared.draft.Draft as rust_draft
 use Rattle.avro_schema.specs.declared.draft.DraftField as rust_field
 use Rattle.avro_schema.specs.declared.error.SchemaError.{SchemaError}
 use Rattle.avro_schema.specs.declared.error.SchemaError.TheVariants.{BadDefault}
-use Rattle.avro_schema.specs.declared.kind.Kind.{Kind}
-use Rattle.avro_schema.specs.declared.kind.Kind.TheVariants as kinds
+use Rattle.avro_types.specs.declared.kind.Kind.{Kind}
+use Rattle.avro_types.specs.declared.kind.Kind.TheVariants as kinds
 use Rattle.std.specs.Global.{Vec}
-use Rattle.avro_schema.specs.Datum.{Datum, ArrayDatum, MapDatum, RecordDatum, UnionDatum, Pairs, more, pair, datum_of, data_of, pairs_of}
+use Rattle.avro_types.specs.Datum.{Datum, ArrayDatum, MapDatum, RecordDatum, UnionDatum, Pairs, more, pair, datum_of, data_of, pairs_of}
 use Rattle.avro_schema.specs.Defaults.{Reading, by_first, at_node, array_value, object_value, leaf_value, default_of, fields_value, items_value, pairs_value, member_value, value_of}
 use Rattle.avro_schema.specs.Draft.{Draft, Whole, RecordDraft, DraftField, HasFewSymbols, HaveFewSymbols, draft_field_of, draft_of, drafts_of}
-use Rattle.avro_schema.specs.Node.{Node, NullNode, BooleanNode, IntNode, LongNode, BytesNode, TextNode, FixedNode, EnumNode, ArrayNode, MapNode, UnionNode, RecordNode, node_of, is_array_or_map}
+use Rattle.avro_types.specs.Node.{Node, NullNode, BooleanNode, IntNode, LongNode, BytesNode, TextNode, FixedNode, EnumNode, ArrayNode, MapNode, UnionNode, RecordNode, node_of, is_array_or_map}
 use Rattle.avro_schema.proofs.DefaultValues.{first_datum, first_pair, before-data, before-pairs}
 use Rattle.avro_schema.proofs.OneByOne.{before, next, one-on, one-fails}
 

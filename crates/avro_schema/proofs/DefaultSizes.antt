@@ -9,13 +9,14 @@ use Rattle.std.specs.declared.cmp.Ordering.TheVariants.{Less, Equal, Greater}
 use Rattle.serde_json.specs.Data as json
 use Rattle.serde_json.specs.Data.{Num, null, boolean, number, string, array, object, Items, no_items, item, Members, no_members, member}
 use Rattle.serde_json.specs.Find.{as_i64}
-use Rattle.avro_schema.specs.Datum.{Datum, Data, Pairs, NullDatum, BooleanDatum, BytesDatum, TextDatum, EnumDatum, ArrayDatum, MapDatum, UnionDatum, RecordDatum, no_more, more, no_pairs, pair, how_many, how_many_pairs}
+use Rattle.avro_types.specs.Datum.{Datum, Data, Pairs, NullDatum, BooleanDatum, BytesDatum, TextDatum, EnumDatum, ArrayDatum, MapDatum, UnionDatum, RecordDatum, no_more, more, no_pairs, pair, how_many, how_many_pairs}
 use Rattle.avro_schema.specs.Defaults.{Reading, array_value, at_node, by_first, bytes_in, default_of, fields_value, items_value, leaf_value, member_value, number_value, object_value, pairs_value, text_value, value_of}
 use Rattle.avro_schema.specs.Draft.{Draft, Whole, RecordDraft, DraftField}
-use Rattle.avro_schema.specs.Node.{NullNode, BooleanNode, IntNode, LongNode, BytesNode, TextNode, FixedNode, EnumNode, ArrayNode, MapNode, UnionNode}
-use Rattle.avro_schema.specs.Sizes.{HasSizesWithin, HaveSizesWithin, HavePairsWithin}
+use Rattle.avro_types.specs.Node.{NullNode, BooleanNode, IntNode, LongNode, BytesNode, TextNode, FixedNode, EnumNode, ArrayNode, MapNode, UnionNode}
+use Rattle.avro_types.specs.Sizes.{HasSizesWithin, HaveSizesWithin, HavePairsWithin}
 use Rattle.avro_schema.proofs.DefaultsConform.{map-inv, then-inv, cond-inv, int-inv, long-inv, fixed-inv}
 use Rattle.avro_schema.proofs.ReadSizes.{HasDataWithin, HaveItemsWithin, HaveMembersWithin, items_in, members_in}
+use Rattle.avro_types.specs.Symbols.{place_of}
 
 -- ---- a text has no more characters than bytes
 
@@ -60,7 +61,7 @@ module _ (most : ℕ) where
       rw p.2 short
   text-within s le (Whole TextNode) t e = let same : t ≡ TextDatum s = cc in rw same le
   text-within s le (Whole (FixedNode name size)) t e = let p = fixed-inv size (bytes_in s) t e in rw p.1 tt
-  text-within s le (Whole (EnumNode name symbols default)) t e = let p = map-inv EnumDatum (position (λ other. bytes_eq other s) symbols) t e in rw p.2 tt
+  text-within s le (Whole (EnumNode name symbols default)) t e = let p = map-inv EnumDatum (place_of s symbols) t e in rw p.2 tt
   text-within s le d t e = absurd (let no : ⊥ = cc in no)
 
   abbrev Few : Data → Type 0

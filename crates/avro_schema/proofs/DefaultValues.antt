@@ -6,8 +6,8 @@ use Rattle.std.proofs.lemmas.Bool.{lt-ltb, le-ltb}
 use Rattle.std.specs.Global.{Global}
 use Rattle.std.proofs.Math.Seq.{drop-cons}
 use Rattle.std.proofs.Math.ListN.{drop_of_length-le}
-use Rattle.avro_schema.specs.declared.datum.Datum as rust
-use Rattle.avro_schema.specs.Datum.{Data, Pairs, no_more, more, no_pairs, pair, datum_of, data_of, pairs_of}
+use Rattle.avro_types.specs.declared.datum.Datum as rust
+use Rattle.avro_types.specs.Datum.{Data, Pairs, no_more, more, no_pairs, pair, datum_of, data_of, pairs_of}
 use Rattle.avro_schema.proofs.OneByOne.{before}
 
 -- ---- the bytes of a text

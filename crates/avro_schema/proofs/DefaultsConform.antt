@@ -10,13 +10,15 @@ use Rattle.std.proofs.lemmas.List.Quantifiers.{position-Some}
 use Rattle.serde_json.specs.Data as json
 use Rattle.serde_json.specs.Data.{Num, null, boolean, number, string, array, object, Items, no_items, item, Members, no_members, member}
 use Rattle.serde_json.specs.Find.{as_i64}
-use Rattle.avro_schema.specs.Conforming.{Conforms, ConformAll, ConformPairs, ConformsEach, HasBits}
-use Rattle.avro_schema.specs.Datum.{Datum, Data, Pairs, NullDatum, BooleanDatum, IntDatum, LongDatum, BytesDatum, TextDatum, FixedDatum, EnumDatum, ArrayDatum, MapDatum, UnionDatum, RecordDatum, no_more, more, no_pairs, pair}
+use Rattle.avro_types.specs.Laws.Placed.{place-within}
+use Rattle.avro_types.specs.Conforming.{Conforms, ConformAll, ConformPairs, ConformsEach, HasBits}
+use Rattle.avro_types.specs.Datum.{Datum, Data, Pairs, NullDatum, BooleanDatum, IntDatum, LongDatum, BytesDatum, TextDatum, FixedDatum, EnumDatum, ArrayDatum, MapDatum, UnionDatum, RecordDatum, no_more, more, no_pairs, pair}
 use Rattle.avro_schema.specs.Defaults.{Reading, all_defaults, array_value, at_node, by_first, bytes_in, default_of, field_default, field_defaults, fields_value, fields_with, fixed_value, has_bits, int_value, items_value, leaf_value, long_value, member_value, node_defaults, node_with, nodes_with, number_value, object_value, pairs_value, text_value, value_of}
 use Rattle.avro_schema.specs.Draft.{Draft, Whole, RecordDraft, DraftField}
-use Rattle.avro_schema.specs.Node.{Node, NullNode, BooleanNode, IntNode, LongNode, BytesNode, TextNode, FixedNode, EnumNode, ArrayNode, MapNode, UnionNode, RecordNode}
+use Rattle.avro_types.specs.Node.{Node, NullNode, BooleanNode, IntNode, LongNode, BytesNode, TextNode, FixedNode, EnumNode, ArrayNode, MapNode, UnionNode, RecordNode}
 use Rattle.avro_schema.proofs.FinishedNodes.{in-row, finished-at}
 use Rattle.avro_schema.proofs.ValueTexts.{HasUtf8, ItemsHaveUtf8, MembersHaveUtf8}
+use Rattle.avro_types.specs.Symbols.{place_of}
 
 -- ---- options that give something
 
@@ -118,8 +120,8 @@ module _ (drafts : List Draft) (ns : List Node)
   text-sound s utf8 (Whole TextNode) n t at e = let same : t ≡ TextDatum s = cc in rw same (whole n TextNode at, utf8)
   text-sound s utf8 (Whole (FixedNode name size)) n t at e = let p = fixed-inv size (bytes_in s) t e in rw (p.1, p.2) (name, whole n (FixedNode name size) at)
   text-sound s utf8 (Whole (EnumNode name symbols default)) n t at e =
-      let p = map-inv EnumDatum (position (λ other. bytes_eq other s) symbols) t e in
-      rw p.2 (name, symbols, default, whole n (EnumNode name symbols default) at, (position-Some (λ other. bytes_eq other s) symbols p.0 [] p.1).0)
+      let p = map-inv EnumDatum (place_of s symbols) t e in
+      rw p.2 (name, symbols, default, whole n (EnumNode name symbols default) at, place-within s symbols p.0 p.1)
   text-sound s utf8 (Whole (ArrayNode m)) n t at e = absurd (let no : ⊥ = cc in no)
   text-sound s utf8 (Whole (MapNode m)) n t at e = absurd (let no : ⊥ = cc in no)
   text-sound s utf8 (Whole (UnionNode members)) n t at e = absurd (let no : ⊥ = cc in no)

@@ -3,13 +3,13 @@ use Rattle.std.proofs.Common.{◌≡◌, ℕ, suc, ◌+◌, List, [], ◌∷◌,
 use Rattle.std.specs.List.{position_from}
 use Rattle.std.proofs.lemmas.Slice.Eq.{bytes_eq-Decides}
 use Rattle.serde_json.specs.Data.{Data}
-use Rattle.avro_schema.specs.Datum.{Datum}
+use Rattle.avro_types.specs.Datum.{Datum}
 use Rattle.avro_schema.specs.Defaults.{IsDefault, all_defaults, field_default, field_defaults, field_with, fields_with, node_defaults, node_with, nodes_with}
 use Rattle.avro_schema.specs.Draft.{Draft, DraftField}
 use Rattle.avro_schema.specs.Head.{Head, NullHead, BooleanHead, IntHead, LongHead, BytesHead, TextHead, ArrayHead, MapHead, UnionHead, Named, head_of, head_of_node, heads_of, defines, defined_at}
-use Rattle.avro_schema.specs.Node.{Node, FieldNode, IsWellFormed}
+use Rattle.avro_types.specs.Node.{Node, FieldNode, IsWellFormed}
 use Rattle.avro_schema.proofs.BareNodes.{default-by-nodes}
-use Rattle.avro_schema.proofs.Booleans.{some_inside}
+use Rattle.avro_types.specs.Laws.Booleans.{some_inside}
 use Rattle.avro_schema.proofs.FinishedNodes.{finished-at, head-finished}
 use Rattle.avro_schema.proofs.Fits.{AllFrom, DraftFits}
 

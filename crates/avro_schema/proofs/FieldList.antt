@@ -7,6 +7,7 @@ use Rattle.serde_json.specs.Data.{Data, Items, item}
 use Rattle.serde_json.specs.Find.{get, as_object}
 use Rattle.serde_json.specs.View.{view, items_view}
 use Rattle.serde_json.specs.declared.value.Value.{Value}
+use Rattle.avro_types.specs.declared.limits.TheConstants.{MOST_FIELDS}
 use Rattle.avro_schema.specs.declared.error.SchemaError.{SchemaError}
 use Rattle.avro_schema.specs.declared.error.SchemaError.TheVariants.{TooLarge}
 use Rattle.avro_schema.specs.declared.draft.DraftField as rust
@@ -15,7 +16,7 @@ use Rattle.avro_schema.specs.Fault.{◌>>=◌}
 use Rattle.avro_schema.specs.Names.{field_name}
 use Rattle.avro_schema.specs.Draft.{Draft, DraftField}
 use Rattle.avro_schema.specs.Head.{heads_of}
-use Rattle.avro_schema.specs.Walk.{Walk, added, done, followed_by, or_unknown, most_fields, draft_field, field_of, walk, fields_after, field}
+use Rattle.avro_schema.specs.Walk.{Walk, added, done, followed_by, or_unknown, draft_field, field_of, walk, fields_after, field}
 use Rattle.avro_schema.proofs.Members.{field-object}
 use Rattle.avro_schema.proofs.Runs.{run-followed_by, run-done, run-mapped}
 
@@ -78,12 +79,12 @@ length-names [] = refl
 length-names (f ∷ fs) = ap suc (length-names fs)
 
 module _ (d : Data) (fs : List rust.DraftField) (enclosing : List ℕ) (ns : List Draft) (is : true ≡ is_some (as_object d)) where
-  pub run-field : length fs < most_fields
+  pub run-field : length fs < MOST_FIELDS
       → run (field d (names_of fs)) enclosing ns ≡ (field_name (get (codes "name") d) (names_of fs) >>= λ s. typed (get (codes "default") d) s (run (or_unknown (option_map walk (get (codes "type") d))) enclosing ns))
   unfolding run field_walk field_of
   run-field few = rw (field-object d (names_of fs) is, length-names fs, lt-ltb (length fs) 1024 few) (name_at (get (codes "default") d) (or_unknown (option_map walk (get (codes "type") d))) enclosing ns (field_name (get (codes "name") d) (names_of fs)))
 
-  pub run-many : most_fields ≤ length fs → run (field d (names_of fs)) enclosing ns ≡ Err TooLarge
+  pub run-many : MOST_FIELDS ≤ length fs → run (field d (names_of fs)) enclosing ns ≡ Err TooLarge
   unfolding run field_walk
   run-many many = rw (field-object d (names_of fs) is, length-names fs, le-ltb (length fs) 1024 many) refl
 

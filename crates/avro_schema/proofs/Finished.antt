@@ -4,15 +4,15 @@ use Rattle.std.specs.Global.{Vec}
 use Rattle.std.specs.List.{zip}
 use Rattle.std.specs.Option.{ok_or}
 use Rattle.std.proofs.Math.ListN.{drop_of_length-le}
-use Rattle.avro_schema.specs.declared.datum.Datum as rust
+use Rattle.avro_types.specs.declared.datum.Datum as rust
 use Rattle.avro_schema.specs.declared.draft.Draft as rust_draft
 use Rattle.avro_schema.specs.declared.draft.DraftField as rust_field
 use Rattle.avro_schema.specs.declared.error.SchemaError.{SchemaError}
 use Rattle.avro_schema.specs.declared.error.SchemaError.TheVariants.{BadDefault}
-use Rattle.avro_schema.specs.Datum.{Datum, datum_of}
+use Rattle.avro_types.specs.Datum.{Datum, datum_of}
 use Rattle.avro_schema.specs.Defaults.{all_defaults, field_default, field_defaults, field_with, fields_with, node_defaults, node_with, nodes_with}
 use Rattle.avro_schema.specs.Draft.{Draft, data_at, draft_field_of, draft_of, drafts_of}
-use Rattle.avro_schema.specs.Node.{FieldNode, Node}
+use Rattle.avro_types.specs.Node.{FieldNode, Node}
 use Rattle.avro_schema.proofs.OneByOne.{before, next, one-on, one-fails}
 
 -- ---- a list of what was read

@@ -2,9 +2,10 @@
 use Rattle.std.proofs.Common.{◌≡◌, ℕ, zero, suc, ◌+◌, ◌<◌, ◌≤◌, ◌⊎◌, List, [], ◌∷◌, ◌++◌, length, map, Bool, true, false, Option, Some, refl, ap, subst, ◌∙◌, arith, slice_get, IfSome}
 use Rattle.std.specs.List.{AllByRecursion, IsDistinct}
 use Rattle.std.specs.Str.{bytes_eq}
+use Rattle.avro_types.specs.declared.limits.TheConstants.{MOST_FIXED, MOST_NODES, MOST_SYMBOLS}
 use Rattle.avro_schema.specs.Draft.{Draft, Whole, RecordDraft}
 use Rattle.avro_schema.specs.Head.{Head, ArrayHead, MapHead, UnionHead, Named}
-use Rattle.avro_schema.specs.Node.{FixedNode, EnumNode, ArrayNode, MapNode, UnionNode, RecordNode, most_symbols, most_fixed, most_members}
+use Rattle.avro_types.specs.Node.{FixedNode, EnumNode, ArrayNode, MapNode, UnionNode, RecordNode}
 
 abbrev pub holds_items : Option Head → Bool
 holds_items (Some ArrayHead) = true
@@ -33,11 +34,11 @@ pub record MemberFits (all : List Head) (n : ℕ) : Type 0 where
   pub no_union : is_union_there (slice_get all n) ≡ false
 
 abbrev pub DraftFits : List Head → ℕ → Draft → Type 0
-DraftFits all own (Whole (FixedNode name size)) = size ≤ most_fixed
-DraftFits all own (Whole (EnumNode name symbols default)) = IsDistinct bytes_eq symbols × (length symbols ≤ most_symbols) × IfSome default (λ n. n < length symbols)
+DraftFits all own (Whole (FixedNode name size)) = size ≤ MOST_FIXED
+DraftFits all own (Whole (EnumNode name symbols default)) = IsDistinct bytes_eq symbols × (length symbols ≤ MOST_SYMBOLS) × IfSome default (λ n. n < length symbols)
 DraftFits all own (Whole (ArrayNode n)) = ItemFits all own n
 DraftFits all own (Whole (MapNode n)) = ItemFits all own n
-DraftFits all own (Whole (UnionNode ms)) = AllByRecursion (MemberFits all) ms × (length ms ≤ most_members)
+DraftFits all own (Whole (UnionNode ms)) = AllByRecursion (MemberFits all) ms × (length ms ≤ MOST_NODES)
 DraftFits all own (Whole (RecordNode name fs)) = ⊥
 DraftFits all own (Whole leaf) = Unit {0}
 DraftFits all own (RecordDraft name fs) = AllByRecursion (λ f. f.node < length all) fs × IsDistinct bytes_eq (map (λ f. f.name) fs)

@@ -10,20 +10,21 @@ use Rattle.std.specs.String.{string_cmp}
 use Rattle.std.proofs.lemmas.Map.Text.{btree_set_updates_text}
 use Rattle.std.proofs.lemmas.Option.{slice_get_within, slice_get-get_or}
 use Rattle.std.proofs.lemmas.Slice.Eq.{bytes_eq-Decides}
+use Rattle.avro_types.specs.Laws.Placed.{none-used, place-some, or_last, position-behind, used-push}
 use Rattle.avro_schema.specs.declared.draft.Draft as rust
 use Rattle.avro_schema.specs.declared.draft.DraftField as rust_field
 use Rattle.avro_schema.specs.Contract.{names_of}
 use Rattle.avro_schema.specs.Draft.{draft_of, drafts_of}
-use Rattle.avro_schema.specs.FullNames.{has_dot, inside, namespace_of, unqualified}
+use Rattle.avro_types.specs.FullNames.{has_dot, inside, namespace_of, unqualified}
 use Rattle.avro_schema.specs.Head.{Head, defined_at, defines, head_of, heads_of}
 use Rattle.avro_schema.specs.Index.{AreNamesOf, IsIndexOf, namespaces_of}
-use Rattle.avro_schema.specs.SymbolIndex.{is_used}
-use Rattle.avro_schema.proofs.Booleans.{false_by, same_by}
-use Rattle.avro_schema.proofs.Dots.{namespace-inside, unqualified-inside}
+use Rattle.avro_types.specs.Symbols.{is_used}
+use Rattle.avro_types.specs.Laws.Booleans.{false_by, same_by}
+use Rattle.avro_types.specs.Laws.Dots.{namespace-inside, unqualified-inside}
 use Rattle.avro_schema.proofs.FieldList.{map-push}
 use Rattle.avro_schema.proofs.Runs.{drafts_of-append, heads_of-append}
-use Rattle.avro_schema.proofs.Namespaces.{none-used, number-some, or_last, position-behind, spaceless}
-use Rattle.avro_schema.proofs.Texts.{cond_or, used-push}
+use Rattle.avro_schema.proofs.Namespaces.{spaceless}
+use Rattle.avro_schema.proofs.Texts.{cond_or}
 
 -- ---- full names, by namespace and last part
 
@@ -58,7 +59,7 @@ module _ {A : Type 0} (numbers : BTreeMap (String A) ℕ) (scopes : List (BTreeM
   found-under number namespace last scope at is none = known.found number namespace last scope at (slice_get-get_or scopes number scope (number-below number namespace at) ∙ ap Some (sym is)) none
 
   pub number-found : (namespace : List ℕ) (number : ℕ) → get_by_text numbers namespace ≡ Some number → slice_get (namespaces_of (heads_of (drafts_of ks))) number ≡ Some namespace
-  number-found namespace number e = number-some namespace (namespaces_of (heads_of (drafts_of ks))) number (sym (known.numbered namespace) ∙ e)
+  number-found namespace number e = place-some namespace (namespaces_of (heads_of (drafts_of ks))) number (sym (known.numbered namespace) ∙ e)
 
   pub found-nowhere : (namespace last : List ℕ) → get_by_text numbers namespace ≡ None → has_dot last ≡ false → None ≡ defined_at (inside namespace last) (heads_of (drafts_of ks))
   found-nowhere namespace last e none =

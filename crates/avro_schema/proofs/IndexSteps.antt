@@ -8,16 +8,18 @@ use Rattle.std.specs.String.{string_cmp}
 use Rattle.std.proofs.lemmas.Bool.{ltb-true, ltb-false}
 use Rattle.std.proofs.lemmas.Map.Text.{btree_map_updates_text}
 use Rattle.std.proofs.lemmas.Slice.Eq.{bytes_eq-Decides}
+use Rattle.avro_types.specs.Laws.Placed.{last_not, or_last}
 use Rattle.avro_schema.specs.declared.draft.Draft as rust
 use Rattle.avro_schema.specs.Draft.{Draft, draft_of, drafts_of}
-use Rattle.avro_schema.specs.FullNames.{inside}
+use Rattle.avro_types.specs.FullNames.{inside}
 use Rattle.avro_schema.specs.Head.{Head, IsUnnamed, NullHead, BooleanHead, IntHead, LongHead, BytesHead, TextHead, ArrayHead, MapHead, UnionHead, Named, defined_at, defines, head_of, heads_of}
-use Rattle.avro_schema.specs.Index.{IsIndexOf, number_of, namespaces_of, with_namespace}
-use Rattle.avro_schema.proofs.Booleans.{no_true}
+use Rattle.avro_schema.specs.Index.{IsIndexOf, namespaces_of, with_namespace}
+use Rattle.avro_types.specs.Laws.Booleans.{no_true}
 use Rattle.avro_schema.proofs.Fits.{get-front}
 use Rattle.avro_schema.proofs.Index.{defined-behind, heads-behind}
 use Rattle.avro_schema.proofs.Runs.{drafts_of-set}
-use Rattle.avro_schema.proofs.Namespaces.{at-last, last_not, or_last, namespaces-one}
+use Rattle.avro_schema.proofs.Namespaces.{at-last, namespaces-one}
+use Rattle.avro_types.specs.Symbols.{place_of}
 
 -- ---- a name is defined once
 
@@ -53,7 +55,7 @@ module _ {A : Type 0} (numbers : BTreeMap (String A) ℕ) (scopes : List (BTreeM
   same-index : IsIndexOf numbers scopes ks → namespaces_of (heads_of (drafts_of ls)) ≡ namespaces_of (heads_of (drafts_of ks)) → ((full : List ℕ) → defined_at full (heads_of (drafts_of ls)) ≡ defined_at full (heads_of (drafts_of ks)))
       → ((n : ℕ) (full : List ℕ) → slice_get (heads_of (drafts_of ls)) n ≡ Some (Named full) → defined_at full (heads_of (drafts_of ls)) ≡ Some n) → IsIndexOf numbers scopes ls
   same-index known namespaces same once = record {
-    numbered = λ namespace. known.numbered namespace ∙ ap (number_of namespace) (sym namespaces);
+    numbered = λ namespace. known.numbered namespace ∙ ap (place_of namespace) (sym namespaces);
     each_has_one = known.each_has_one ∙ ap length (sym namespaces);
     found = λ number namespace last scope at is none. known.found number namespace last scope (ap (λ s. slice_get s number) (sym namespaces) ∙ at) is none ∙ sym (same (inside namespace last));
     once = once;

@@ -1,8 +1,5 @@
 pub mod Attributes
 pub mod BareNodes
-pub mod Booleans
-pub mod Copies
-pub mod DatumOf
 pub mod Declared
 pub mod DeclaredNodes
 pub mod DeclaredSizes
@@ -10,7 +7,6 @@ pub mod DefaultParts
 pub mod DefaultsConform
 pub mod DefaultSizes
 pub mod DefaultValues
-pub mod Dots
 pub mod DottedNames
 pub mod DraftsConform
 pub mod EndsAs
@@ -22,11 +18,9 @@ pub mod Heads
 pub mod Index
 pub mod IndexSteps
 pub mod JsonSizes
-pub mod LargerSizes
 pub mod MemberList
 pub mod Members
 pub mod NamedMembers
-pub mod NameParts
 pub mod NameRule
 pub mod NamespaceKept
 pub mod Namespaces
@@ -35,14 +29,12 @@ pub mod NewNames
 pub mod OneByOne
 pub mod OneNode
 pub mod Places
-pub mod Positions
 pub mod ReadSizes
 pub mod Records
 pub mod References
 pub mod RootNode
 pub mod Runs
 pub mod Sound
-pub mod SymbolPositions
 pub mod Texts
 pub mod UnionFits
 pub mod ValueTexts

@@ -5,17 +5,18 @@ use Rattle.std.proofs.Math.ListN.{drop_of_length-le}
 use Rattle.serde_json.specs.Data.{Data, Items, item}
 use Rattle.serde_json.specs.View.{view, items_view}
 use Rattle.serde_json.specs.declared.value.Value.{Value}
+use Rattle.avro_types.specs.declared.limits.TheConstants.{MOST_NODES}
 use Rattle.avro_schema.specs.declared.draft.Draft as rust
 use Rattle.avro_schema.specs.declared.draft.Draft.TheVariants as drafts
-use Rattle.avro_schema.specs.declared.kind.Kind.TheVariants as kinds
+use Rattle.avro_types.specs.declared.kind.Kind.TheVariants as kinds
 use Rattle.avro_schema.specs.declared.error.SchemaError.{SchemaError}
 use Rattle.avro_schema.specs.declared.error.SchemaError.TheVariants.{BadUnion}
 use Rattle.avro_schema.specs.Contract.{run}
 use Rattle.avro_schema.specs.Draft.{Draft, Whole, drafts_of}
 use Rattle.avro_schema.specs.Fault.{◌>>=◌}
 use Rattle.avro_schema.specs.Head.{UnionHead, heads_of}
-use Rattle.avro_schema.specs.Node.{UnionNode}
-use Rattle.avro_schema.specs.Walk.{Walk, added, done, followed_by, if_room, most_nodes, walk, members, are_apart, head_at, apart_union, union_of}
+use Rattle.avro_types.specs.Node.{UnionNode}
+use Rattle.avro_schema.specs.Walk.{Walk, added, done, followed_by, if_room, walk, members, are_apart, head_at, apart_union, union_of}
 use Rattle.avro_schema.proofs.FieldList.{behind, behind-one}
 use Rattle.avro_schema.proofs.Runs.{length-heads_of, length-drafts_of, heads_of-append, run-if_room, run-followed_by, run-done, run-mapped, pushed}
 
@@ -67,7 +68,7 @@ run-union : (w : Walk (List ℕ)) (enclosing : List ℕ) (ns : List Draft) → r
 unfolding run union_of
 run-union w enclosing ns = rw (heads_of-append ns (Whole (UnionNode []) ∷ [])) (union_closes ns (w enclosing (heads_of ns ++ UnionHead ∷ [])))
 
-module _ (w : Walk (List ℕ)) (enclosing : List ℕ) (ks : List rust.Draft) (room : length ks < most_nodes) where
+module _ (w : Walk (List ℕ)) (enclosing : List ℕ) (ks : List rust.Draft) (room : length ks < MOST_NODES) where
   whole_union : run (if_room (union_of w)) enclosing (drafts_of ks) ≡ (run w enclosing (drafts_of ks ++ Whole (UnionNode []) ∷ []) >>= closed_union (length ks))
   whole_union = run-if_room (union_of w) enclosing ks room ∙ run-union w enclosing (drafts_of ks) ∙ rw (length-drafts_of ks) refl
 

@@ -12,7 +12,7 @@ use Rattle.std.proofs.lemmas.Slice.Eq.{bytes_eq-Decides}
 use Rattle.avro_schema.specs.Head.{Head, NullHead, BooleanHead, IntHead, LongHead, BytesHead, TextHead, ArrayHead, MapHead, UnionHead, Named, defined_at, defines, is_named_head, is_same_type, is_union_head}
 use Rattle.avro_schema.specs.Index.{AreNamedMembers}
 use Rattle.avro_schema.specs.Walk.{head_at}
-use Rattle.avro_schema.proofs.Booleans.{or_false, or_true, same_by, same_number, some_inside}
+use Rattle.avro_types.specs.Laws.Booleans.{or_false, or_true, same_by, same_number, some_inside}
 
 -- ---- one type
 

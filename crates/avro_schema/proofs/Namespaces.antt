@@ -5,76 +5,13 @@ use Rattle.std.specs.Str.{bytes_eq}
 use Rattle.std.proofs.lemmas.Bool.{ltb-true, ltb-false}
 use Rattle.std.proofs.lemmas.Option.{slice_get_within}
 use Rattle.std.proofs.lemmas.Slice.Eq.{bytes_eq-Decides}
-use Rattle.avro_schema.specs.FullNames.{namespace_of}
+use Rattle.avro_types.specs.FullNames.{namespace_of}
+use Rattle.avro_types.specs.Laws.Placed.{place-behind, place-none, or_last, used-push}
 use Rattle.avro_schema.specs.Head.{Head, NullHead, BooleanHead, IntHead, LongHead, BytesHead, TextHead, ArrayHead, MapHead, UnionHead, Named, defined_at, defines}
-use Rattle.avro_schema.specs.Index.{number_of, namespaces_behind, namespaces_of, with_namespace}
-use Rattle.avro_schema.specs.SymbolIndex.{is_used}
-use Rattle.avro_schema.proofs.Booleans.{no_true, some_inside}
+use Rattle.avro_schema.specs.Index.{namespaces_behind, namespaces_of, with_namespace}
+use Rattle.avro_types.specs.Symbols.{is_used, place_of}
+use Rattle.avro_types.specs.Laws.Booleans.{no_true, some_inside}
 use Rattle.avro_schema.proofs.Fits.{get-front}
-use Rattle.avro_schema.proofs.Texts.{used-push}
-
--- ---- the place of one more
-
--- the first place, if there is one, and otherwise that of one more
-abbrev pub or_last : Bool → ℕ → Option ℕ → Option ℕ
-or_last here n None = cond here (Some n) None
-or_last here n (Some i) = Some i
-
-or_later : (b here : Bool) (i n : ℕ) (o : Option ℕ) → cond b (Some i) (or_last here n o) ≡ or_last here n (cond b (Some i) o)
-or_later true here i n o = refl
-or_later false here i n o = refl
-
-pub position-behind : {A : Type 0} (test : A → Bool) (i : ℕ) (xs : List A) (x : A) → position_from test i (xs ++ x ∷ []) ≡ or_last (test x) (i + length xs) (position_from test i xs)
-position-behind test i [] x = ap (λ n. cond (test x) (Some n) None) (let z : i ≡ i + 0 = omega arith in z)
-position-behind test i (y ∷ xs) x =
-    ap (cond (test y) (Some i)) (position-behind test (i + 1) xs x ∙ ap (λ n. or_last (test x) n (position_from test (i + 1) xs)) (let z : i + 1 + length xs ≡ i + suc (length xs) = omega arith in z))
-    ∙ or_later (test y) (test x) i (i + suc (length xs)) (position_from test (i + 1) xs)
-
-pub last_not : (n : ℕ) (o : Option ℕ) → or_last false n o ≡ o
-last_not n None = refl
-last_not n (Some i) = refl
-
--- ---- the number of a namespace
-
-pub number-behind : (namespace : List ℕ) (namespaces : List (List ℕ)) (s : List ℕ) → number_of namespace (namespaces ++ s ∷ []) ≡ or_last (bytes_eq s namespace) (length namespaces) (number_of namespace namespaces)
-number-behind namespace namespaces s = position-behind (λ other. bytes_eq other namespace) 0 namespaces s ∙ ap (λ n. or_last (bytes_eq s namespace) n (number_of namespace namespaces)) (let z : 0 + length namespaces ≡ length namespaces = omega arith in z)
-
-placed : (namespace : List ℕ) (i : ℕ) (namespaces : List (List ℕ)) (n : ℕ) → position_from (λ other. bytes_eq other namespace) i namespaces ≡ Some n → (j : ℕ) × (n ≡ i + j) × (slice_get namespaces j ≡ Some namespace)
-placed namespace i [] n e = absurd (let no : ⊥ = cc in no)
-placed namespace i (s ∷ namespaces) n e = at (bytes_eq s namespace) refl e (placed namespace (i + 1) namespaces n)
-  where
-    at : (b : Bool) → bytes_eq s namespace ≡ b → cond b (Some i) (position_from (λ other. bytes_eq other namespace) (i + 1) namespaces) ≡ Some n
-        → (position_from (λ other. bytes_eq other namespace) (i + 1) namespaces ≡ Some n → (j : ℕ) × (n ≡ i + 1 + j) × (slice_get namespaces j ≡ Some namespace)) → (j : ℕ) × (n ≡ i + j) × (slice_get (s ∷ namespaces) j ≡ Some namespace)
-    at true t e later = (0, sym (some_inside i n e) ∙ (let z : i ≡ i + 0 = omega arith in z), ap Some ((bytes_eq-Decides s namespace).0 t))
-    at false t e later = let k = later e in (suc k.0, omega (arith, k.1), k.2)
-
--- a namespace stands under its number
-pub number-some : (namespace : List ℕ) (namespaces : List (List ℕ)) (n : ℕ) → number_of namespace namespaces ≡ Some n → slice_get namespaces n ≡ Some namespace
-number-some namespace namespaces n e =
-    let k = placed namespace 0 namespaces n e in
-    subst (λ j. slice_get namespaces j ≡ Some namespace) (let z : k.0 ≡ n = omega (arith, k.1) in z) k.2
-
-unnumbered : (namespace : List ℕ) (i : ℕ) (namespaces : List (List ℕ)) → is_used namespace namespaces ≡ false → position_from (λ other. bytes_eq other namespace) i namespaces ≡ None
-unnumbered namespace i [] e = refl
-unnumbered namespace i (s ∷ namespaces) e = at (bytes_eq s namespace) e (unnumbered namespace (i + 1) namespaces)
-  where
-    at : (b : Bool) → (b || is_used namespace namespaces) ≡ false → (is_used namespace namespaces ≡ false → position_from (λ other. bytes_eq other namespace) (i + 1) namespaces ≡ None) → cond b (Some i) (position_from (λ other. bytes_eq other namespace) (i + 1) namespaces) ≡ None
-    at true e later = absurd (let no : ⊥ = cc in no)
-    at false e later = later e
-
-pub number-none : (namespace : List ℕ) (namespaces : List (List ℕ)) → is_used namespace namespaces ≡ false → number_of namespace namespaces ≡ None
-number-none namespace namespaces e = unnumbered namespace 0 namespaces e
-
-numbered : (namespace : List ℕ) (i : ℕ) (namespaces : List (List ℕ)) → position_from (λ other. bytes_eq other namespace) i namespaces ≡ None → is_used namespace namespaces ≡ false
-numbered namespace i [] e = refl
-numbered namespace i (s ∷ namespaces) e = at (bytes_eq s namespace) e (numbered namespace (i + 1) namespaces)
-  where
-    at : (b : Bool) → cond b (Some i) (position_from (λ other. bytes_eq other namespace) (i + 1) namespaces) ≡ None → (position_from (λ other. bytes_eq other namespace) (i + 1) namespaces ≡ None → is_used namespace namespaces ≡ false) → (b || is_used namespace namespaces) ≡ false
-    at true e later = absurd (let no : ⊥ = cc in no)
-    at false e later = later e
-
-pub none-used : (namespace : List ℕ) (namespaces : List (List ℕ)) → number_of namespace namespaces ≡ None → is_used namespace namespaces ≡ false
-none-used namespace namespaces e = numbered namespace 0 namespaces e
 
 -- ---- they only grow
 
@@ -114,7 +51,7 @@ namespaces-one hs h = behind-append ([] ∷ []) hs (h ∷ [])
 -- ---- none comes twice
 
 abbrev AreNumbered : List (List ℕ) → Type 0
-AreNumbered namespaces = (n : ℕ) (s : List ℕ) → slice_get namespaces n ≡ Some s → number_of s namespaces ≡ Some n
+AreNumbered namespaces = (n : ℕ) (s : List ℕ) → slice_get namespaces n ≡ Some s → place_of s namespaces ≡ Some n
 
 pub at-last : {A : Type 0} (namespaces : List A) (t : A) (n : ℕ) (s : A) → length namespaces ≤ n → slice_get (namespaces ++ t ∷ []) n ≡ Some s → (n ≡ length namespaces) × (t ≡ s)
 at-last [] t zero s le e = (refl, let same : t ≡ s = cc in same)
@@ -123,13 +60,13 @@ at-last (x ∷ namespaces) t zero s le e = absurd (omega arith)
 at-last (x ∷ namespaces) t (suc n) s le e = let k = at-last namespaces t n s (omega arith) e in (ap suc k.0, k.1)
 
 pushed-numbered : (namespaces : List (List ℕ)) (t : List ℕ) → is_used t namespaces ≡ false → AreNumbered namespaces → AreNumbered (namespaces ++ t ∷ [])
-pushed-numbered namespaces t new known n s e = number-behind s namespaces t ∙ at (ltb n (length namespaces)) refl
+pushed-numbered namespaces t new known n s e = place-behind s namespaces t ∙ at (ltb n (length namespaces)) refl
   where
-    at : (b : Bool) → ltb n (length namespaces) ≡ b → or_last (bytes_eq t s) (length namespaces) (number_of s namespaces) ≡ Some n
+    at : (b : Bool) → ltb n (length namespaces) ≡ b → or_last (bytes_eq t s) (length namespaces) (place_of s namespaces) ≡ Some n
     at true lt = ap (or_last (bytes_eq t s) (length namespaces)) (known n s (sym (get-front namespaces (t ∷ []) n (ltb-true n (length namespaces) lt)) ∙ e))
     at false ge =
         let k = at-last namespaces t n s (ltb-false n (length namespaces) ge) e in
-        rw (ap (λ x. number_of x namespaces) (sym k.1) ∙ number-none t namespaces new, (bytes_eq-Decides t s).1 k.1) (ap Some (sym k.0))
+        rw (ap (λ x. place_of x namespaces) (sym k.1) ∙ place-none t namespaces new, (bytes_eq-Decides t s).1 k.1) (ap Some (sym k.0))
 
 with-numbered : (namespaces : List (List ℕ)) (h : Head) → AreNumbered namespaces → AreNumbered (with_namespace namespaces h)
 with-numbered namespaces (Named full) known = at (is_used (namespace_of full) namespaces) refl
@@ -156,7 +93,7 @@ null-numbered zero s e = let same : [] ≡ s = cc in rw (← same) refl
 null-numbered (suc n) s e = absurd (let no : ⊥ = cc in no)
 
 -- a namespace is found under its number
-pub namespaces-numbered : (hs : List Head) (n : ℕ) (s : List ℕ) → slice_get (namespaces_of hs) n ≡ Some s → number_of s (namespaces_of hs) ≡ Some n
+pub namespaces-numbered : (hs : List Head) (n : ℕ) (s : List ℕ) → slice_get (namespaces_of hs) n ≡ Some s → place_of s (namespaces_of hs) ≡ Some n
 unfolding namespaces_of
 namespaces-numbered hs = behind-numbered ([] ∷ []) hs null-numbered
 

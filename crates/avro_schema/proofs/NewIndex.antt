@@ -9,20 +9,21 @@ use Rattle.std.proofs.lemmas.Bool.{ltb-true, ltb-false, eqb-true}
 use Rattle.std.proofs.lemmas.List.{length-set}
 use Rattle.std.proofs.lemmas.Map.Text.{btree_map_updates_text}
 use Rattle.std.proofs.lemmas.Slice.Eq.{bytes_eq-Decides}
+use Rattle.avro_types.specs.Laws.Placed.{last_not, named-last, none-used, place-behind, place-none, or_last, used-at}
 use Rattle.avro_schema.specs.declared.draft.Draft as rust
 use Rattle.avro_schema.specs.Draft.{draft_of, drafts_of}
-use Rattle.avro_schema.specs.FullNames.{has_dot, inside, is_full_name, namespace_of}
+use Rattle.avro_types.specs.FullNames.{has_dot, inside, is_full_name, namespace_of}
 use Rattle.avro_schema.specs.Head.{Head, Named, defined_at, head_of, heads_of}
-use Rattle.avro_schema.specs.Index.{IsIndexOf, number_of, namespaces_of, with_namespace}
-use Rattle.avro_schema.specs.SymbolIndex.{is_used}
-use Rattle.avro_schema.proofs.Booleans.{false_by, no_true, none_some, same_number, some_inside}
-use Rattle.avro_schema.proofs.Dots.{namespace-inside}
+use Rattle.avro_schema.specs.Index.{IsIndexOf, namespaces_of, with_namespace}
+use Rattle.avro_types.specs.Symbols.{is_used, place_of}
+use Rattle.avro_types.specs.Laws.Booleans.{false_by, no_true, none_some, same_number, some_inside}
+use Rattle.avro_types.specs.Laws.Dots.{namespace-inside}
 use Rattle.avro_schema.proofs.Fits.{get-front}
 use Rattle.avro_schema.proofs.Index.{defined-behind, heads-behind, inside-apart, inside-same}
 use Rattle.avro_schema.proofs.IndexSteps.{once-behind}
 use Rattle.avro_schema.proofs.NewNames.{begins-unruled}
 use Rattle.avro_schema.proofs.Runs.{length-drafts_of, length-heads_of}
-use Rattle.avro_schema.proofs.Namespaces.{at-last, last_not, none-used, number-behind, number-none, or_last, spaceless, namespaces-numbered, namespaces-one}
+use Rattle.avro_schema.proofs.Namespaces.{at-last, spaceless, namespaces-numbered, namespaces-one}
 
 -- ---- lists, with one element set
 
@@ -44,13 +45,6 @@ at-end (y ∷ xs) x = at-end xs x
 
 -- ---- the namespace of one more name
 
-pub used-at : (s : List ℕ) (namespaces : List (List ℕ)) (n : ℕ) → number_of s namespaces ≡ Some n → is_used s namespaces ≡ true
-used-at s namespaces n e = at (is_used s namespaces) refl
-  where
-    at : (b : Bool) → is_used s namespaces ≡ b → b ≡ true
-    at true t = refl
-    at false t = absurd (none_some n (sym (number-none s namespaces t) ∙ e))
-
 with-same : (namespaces : List (List ℕ)) (full : List ℕ) → is_used (namespace_of full) namespaces ≡ true → with_namespace namespaces (Named full) ≡ namespaces
 with-same namespaces full e = rw e refl
 
@@ -60,10 +54,6 @@ with-new namespaces full e = rw e refl
 -- ---- one more name
 
 -- one more name, where it is new
-pub named-last : (same : Bool) (o : Option ℕ) (n : ℕ) → (same ≡ true → o ≡ None) → cond same (Some n) o ≡ or_last same n o
-named-last true o n new = sym (ap (or_last true n) (new refl))
-named-last false o n new = sym (last_not n o)
-
 -- full is the name of k, which stands behind ks
 module _ (namespace last : List ℕ) (none : has_dot last ≡ false) (ruled : is_full_name (inside namespace last) ≡ true) (ks ls : List rust.Draft) (k : rust.Draft)
     (named : head_of (draft_of k) ≡ Named (inside namespace last)) (fresh : defined_at (inside namespace last) (heads_of (drafts_of ks)) ≡ None) (behind : ls ≡ ks ++ k ∷ []) where
@@ -119,7 +109,7 @@ module _ (namespace last : List ℕ) (none : has_dot last ≡ false) (ruled : is
     found-named number node old new there was is updates n s other scope here has also false t =
         let apart : n ≡ number → ⊥ = λ e. no_true (eqb n number) (same_number n number e) t in
         known.found n s other scope here (sym (set-other scopes number n new apart) ∙ has) also
-        ∙ found-other s other also (λ e. apart (some_inside n number (sym (namespaces-numbered (heads_of (drafts_of ks)) n s here) ∙ ap (λ x. number_of x (namespaces_of (heads_of (drafts_of ks)))) (sym e) ∙ namespaces-numbered (heads_of (drafts_of ks)) number namespace there)))
+        ∙ found-other s other also (λ e. apart (some_inside n number (sym (namespaces-numbered (heads_of (drafts_of ks)) n s here) ∙ ap (λ x. place_of x (namespaces_of (heads_of (drafts_of ks)))) (sym e) ∙ namespaces-numbered (heads_of (drafts_of ks)) number namespace there)))
 
     pub index-named : (number node : ℕ) (old new : BTreeMap (String A) ℕ) → slice_get (namespaces_of (heads_of (drafts_of ks))) number ≡ Some namespace → slice_get scopes number ≡ Some old → node ≡ length ks
         → UpdatesBy string_cmp (λ k. slice_cmp nat_cmp last (string_bytes k)) old new (Some node) → IsIndexOf numbers (set scopes number new) ls
@@ -129,7 +119,7 @@ module _ (namespace last : List ℕ) (none : has_dot last ≡ false) (ruled : is
         let used : is_used (namespace_of full) (namespaces_of hs) ≡ true = ap (λ s. is_used s (namespaces_of hs)) own ∙ used-at namespace (namespaces_of hs) number (namespaces-numbered hs number namespace there) in
         let namespaces : namespaces_of (heads_of (drafts_of ls)) ≡ namespaces_of hs = ap namespaces_of all ∙ namespaces-one hs (Named full) ∙ with-same (namespaces_of hs) full used in
         record {
-          numbered = λ s. known.numbered s ∙ ap (number_of s) (sym namespaces);
+          numbered = λ s. known.numbered s ∙ ap (place_of s) (sym namespaces);
           each_has_one = length-set scopes number new ∙ known.each_has_one ∙ ap length (sym namespaces);
           found = λ n s other scope here has also. found-named number node old new there was is updates n s other scope (ap (λ xs. slice_get xs n) (sym namespaces) ∙ here) has also (eqb n number) refl;
           once = once-now known.once;
@@ -138,7 +128,7 @@ module _ (namespace last : List ℕ) (none : has_dot last ≡ false) (ruled : is
 
     -- ---- in a namespace that is new
 
-    module _ (new : number_of namespace (namespaces_of (heads_of (drafts_of ks))) ≡ None) where
+    module _ (new : place_of namespace (namespaces_of (heads_of (drafts_of ks))) ≡ None) where
       unused : is_used namespace (namespaces_of (heads_of (drafts_of ks))) ≡ false
       unused = none-used namespace (namespaces_of (heads_of (drafts_of ks))) new
 
@@ -149,14 +139,14 @@ module _ (namespace last : List ℕ) (none : has_dot last ≡ false) (ruled : is
           ap namespaces_of all ∙ namespaces-one hs (Named full) ∙ with-new (namespaces_of hs) full (ap (λ s. is_used s (namespaces_of hs)) own ∙ unused) ∙ ap (λ s. namespaces_of hs ++ s ∷ []) own
 
       numbered-first : (next : BTreeMap (String A) ℕ) (number : ℕ) → number ≡ length scopes → UpdatesBy string_cmp (λ k. slice_cmp nat_cmp namespace (string_bytes k)) numbers next (Some number)
-          → (s : List ℕ) → get_by_text next s ≡ number_of s (namespaces_of (heads_of (drafts_of ls)))
+          → (s : List ℕ) → get_by_text next s ≡ place_of s (namespaces_of (heads_of (drafts_of ls)))
       numbered-first next number count numbered s =
           let namespaces = namespaces_of (heads_of (drafts_of ks)) in
-          let absent : bytes_eq namespace s ≡ true → number_of s namespaces ≡ None = λ t. ap (λ x. number_of x namespaces) (sym ((bytes_eq-Decides namespace s).0 t)) ∙ new in
+          let absent : bytes_eq namespace s ≡ true → place_of s namespaces ≡ None = λ t. ap (λ x. place_of x namespaces) (sym ((bytes_eq-Decides namespace s).0 t)) ∙ new in
           btree_map_updates_text namespace numbers next (Some number) numbered s
           ∙ ap (cond (bytes_eq namespace s) (Some number)) (known.numbered s)
-          ∙ named-last (bytes_eq namespace s) (number_of s namespaces) number absent
-          ∙ sym (ap (number_of s) namespaces-now ∙ number-behind s namespaces namespace ∙ ap (λ n. or_last (bytes_eq namespace s) n (number_of s namespaces)) (sym known.each_has_one ∙ sym count))
+          ∙ named-last (bytes_eq namespace s) (place_of s namespaces) number absent
+          ∙ sym (ap (place_of s) namespaces-now ∙ place-behind s namespaces namespace ∙ ap (λ n. or_last (bytes_eq namespace s) n (place_of s namespaces)) (sym known.each_has_one ∙ sym count))
 
       found-first : (empty scope : BTreeMap (String A) ℕ) (node : ℕ) → ((s : List ℕ) → get_by_text empty s ≡ None) → node ≡ length ks → UpdatesBy string_cmp (λ k. slice_cmp nat_cmp last (string_bytes k)) empty scope (Some node)
           → (n : ℕ) (s other : List ℕ) (found : BTreeMap (String A) ℕ) → slice_get (namespaces_of (heads_of (drafts_of ks)) ++ namespace ∷ []) n ≡ Some s → slice_get (scopes ++ scope ∷ []) n ≡ Some found → has_dot other ≡ false
@@ -165,7 +155,7 @@ module _ (namespace last : List ℕ) (none : has_dot last ≡ false) (ruled : is
           let hs = heads_of (drafts_of ks) in
           let below : n < length scopes = ltb-true n (length scopes) lt in
           let at = sym (get-front (namespaces_of hs) (namespace ∷ []) n (omega (arith, below, known.each_has_one))) ∙ here in
-          let apart : namespace ≡ s → ⊥ = λ e. none_some n (sym new ∙ ap (λ x. number_of x (namespaces_of hs)) e ∙ namespaces-numbered hs n s at) in
+          let apart : namespace ≡ s → ⊥ = λ e. none_some n (sym new ∙ ap (λ x. place_of x (namespaces_of hs)) e ∙ namespaces-numbered hs n s at) in
           known.found n s other found at (sym (get-front scopes (scope ∷ []) n below) ∙ has) also ∙ found-other s other also apart
       found-first empty scope node void is updates n s other found here has also false ge =
           let hs = heads_of (drafts_of ks) in
@@ -208,7 +198,7 @@ module _ {A : Type 0} (numbers : BTreeMap (String A) ℕ) (scopes : List (BTreeM
   }
 
 -- a name in a namespace that is not there is not there
-pub fresh-first : (namespace last : List ℕ) → has_dot last ≡ false → (hs : List Head) → number_of namespace (namespaces_of hs) ≡ None → defined_at (inside namespace last) hs ≡ None
+pub fresh-first : (namespace last : List ℕ) → has_dot last ≡ false → (hs : List Head) → place_of namespace (namespaces_of hs) ≡ None → defined_at (inside namespace last) hs ≡ None
 fresh-first namespace last none hs new = spaceless (inside namespace last) hs (ap (λ s. is_used s (namespaces_of hs)) (namespace-inside namespace last none) ∙ none-used namespace (namespaces_of hs) new)
 
 -- ---- what a push that did not fail leaves
@@ -218,6 +208,6 @@ pushed-all true failed xs ys zs e n f = e
 pushed-all false failed xs ys zs e n f = absurd (let no : ⊥ = let t = n ∙ ap not f in cc in no)
 
 -- the number of the next namespace
-pub first-number : (hs : List Head) (full : List ℕ) → number_of (namespace_of full) (namespaces_of hs) ≡ None → slice_get (namespaces_of (hs ++ Named full ∷ [])) (length (namespaces_of hs)) ≡ Some (namespace_of full)
+pub first-number : (hs : List Head) (full : List ℕ) → place_of (namespace_of full) (namespaces_of hs) ≡ None → slice_get (namespaces_of (hs ++ Named full ∷ [])) (length (namespaces_of hs)) ≡ Some (namespace_of full)
 first-number hs full new =
     ap (λ s. slice_get s (length (namespaces_of hs))) (namespaces-one hs (Named full) ∙ with-new (namespaces_of hs) full (none-used (namespace_of full) (namespaces_of hs) new)) ∙ at-end (namespaces_of hs) (namespace_of full)

@@ -4,12 +4,12 @@ use Rattle.std.proofs.lemmas.Bool.{eqb-true}
 use Rattle.serde_json.specs.Data.{Data}
 use Rattle.avro_schema.specs.declared.error.SchemaError.{SchemaError}
 use Rattle.avro_schema.specs.declared.error.SchemaError.TheVariants.{BadName, Redefined}
-use Rattle.avro_schema.specs.FullNames.{has_dot, full_name, inside, is_dot, is_full_name, is_name, is_namespace, unqualified}
+use Rattle.avro_types.specs.FullNames.{has_dot, full_name, inside, is_dot, is_full_name, is_name, is_namespace, unqualified}
 use Rattle.avro_schema.specs.Head.{Head, defined_at}
 use Rattle.avro_schema.specs.Names.{if_new, new_name, text_of}
 use Rattle.avro_schema.specs.Word.{is_primitive, word_of}
-use Rattle.avro_schema.proofs.Dots.{unqualified-inside}
-use Rattle.avro_schema.proofs.NameParts.{full-inside}
+use Rattle.avro_types.specs.Laws.Dots.{unqualified-inside}
+use Rattle.avro_types.specs.Laws.NameParts.{full-inside}
 
 -- ---- by its parts
 

@@ -1,7 +1,7 @@
 -- What holds of all nodes holds of one.
 use Rattle.std.proofs.Common.{◌≡◌, slice_get, Some, ℕ, zero, suc, ◌<◌, List, [], ◌∷◌, length, get_or, sym, ap, refl, arith, subst}
-use Rattle.avro_schema.specs.declared.kind.Kind.{Kind}
-use Rattle.avro_schema.specs.Node.{node_of, nodes_of, NodeIsWellFormed, IsWellFormed}
+use Rattle.avro_types.specs.declared.kind.Kind.{Kind}
+use Rattle.avro_types.specs.Node.{node_of, nodes_of, NodeIsWellFormed, IsWellFormed}
 
 pub length-nodes_of : (kinds : List Kind) → length (nodes_of kinds) ≡ length kinds
 length-nodes_of [] = refl

@@ -15,9 +15,9 @@ use Rattle.avro_schema.specs.Declaring.{DeclaresNode}
 use Rattle.avro_schema.specs.Draft.{Draft, RecordDraft, DraftField}
 use Rattle.avro_schema.specs.Fault.{◌>>=◌}
 use Rattle.avro_schema.specs.Head.{Head, ArrayHead, MapHead, UnionHead, Named, heads_of, defined_at}
-use Rattle.avro_schema.specs.FullNames.{namespace_of}
+use Rattle.avro_types.specs.FullNames.{namespace_of}
 use Rattle.avro_schema.specs.Names.{new_name}
-use Rattle.avro_schema.specs.Node.{Node}
+use Rattle.avro_types.specs.Node.{Node}
 use Rattle.avro_schema.specs.Schema.{schema_of, nodes_in_read}
 use Rattle.avro_schema.specs.Walk.{Walk, are_apart, fault, head_at, leaf_or_reference, reference, named, or_unknown, around, union_of, record_of, enum_of, fixed_of, declared_by, walk, members, walk_member, walk_fields, null_namespace}
 use Rattle.avro_schema.specs.Word.{word_of, leaf_of, is_left_out}

@@ -2,6 +2,7 @@
 use Rattle.std.proofs.Common.{◌≡◌, ℕ, zero, suc, ◌<◌, ◌≤◌, List, [], ◌∷◌, ◌++◌, length, Some, Result, Ok, Err, slice_get, refl, sym, ap, subst, ◌∙◌, arith, append_assoc, append-nil, length-append, set}
 use Rattle.std.proofs.lemmas.Bool.{lt-ltb, le-ltb}
 use Rattle.std.proofs.Math.Seq.{set-append_seam}
+use Rattle.avro_types.specs.declared.limits.TheConstants.{MOST_NODES}
 use Rattle.avro_schema.specs.declared.error.SchemaError.{SchemaError}
 use Rattle.avro_schema.specs.declared.error.SchemaError.TheVariants.{TooLarge}
 use Rattle.avro_schema.specs.declared.draft.Draft as rust
@@ -9,8 +10,8 @@ use Rattle.avro_schema.specs.Contract.{run}
 use Rattle.avro_schema.specs.Fault.{◌>>=◌}
 use Rattle.avro_schema.specs.Draft.{Draft, Whole, draft_of, drafts_of}
 use Rattle.avro_schema.specs.Head.{head_of, heads_of}
-use Rattle.avro_schema.specs.Node.{Node}
-use Rattle.avro_schema.specs.Walk.{Walk, added, one_node, done, followed_by, fault, leaf, if_room, most_nodes, around}
+use Rattle.avro_types.specs.Node.{Node}
+use Rattle.avro_schema.specs.Walk.{Walk, added, one_node, done, followed_by, fault, leaf, if_room, around}
 
 pub length-drafts_of : (ks : List rust.Draft) → length (drafts_of ks) ≡ length ks
 length-drafts_of [] = refl
@@ -39,11 +40,11 @@ run-fault e enclosing ns = refl
 
 -- ---- room
 
-pub run-if_room : {A : Type 0} (w : Walk A) (enclosing : List ℕ) (ks : List rust.Draft) → length ks < most_nodes → run (if_room w) enclosing (drafts_of ks) ≡ run w enclosing (drafts_of ks)
+pub run-if_room : {A : Type 0} (w : Walk A) (enclosing : List ℕ) (ks : List rust.Draft) → length ks < MOST_NODES → run (if_room w) enclosing (drafts_of ks) ≡ run w enclosing (drafts_of ks)
 unfolding run
 run-if_room w enclosing ks lt = rw (length-heads_of (drafts_of ks), length-drafts_of ks, lt-ltb (length ks) 1024 lt)
 
-pub run-no_room : {A : Type 0} (w : Walk A) (enclosing : List ℕ) (ks : List rust.Draft) → most_nodes ≤ length ks → run (if_room w) enclosing (drafts_of ks) ≡ Err TooLarge
+pub run-no_room : {A : Type 0} (w : Walk A) (enclosing : List ℕ) (ks : List rust.Draft) → MOST_NODES ≤ length ks → run (if_room w) enclosing (drafts_of ks) ≡ Err TooLarge
 unfolding run
 run-no_room w enclosing ks le = rw (length-heads_of (drafts_of ks), length-drafts_of ks, le-ltb (length ks) 1024 le)
 
@@ -109,7 +110,7 @@ pub run-one : (d : Draft) (enclosing : List ℕ) (ks : List rust.Draft) → run 
 unfolding run
 run-one d enclosing ks = rw (length-heads_of (drafts_of ks), length-drafts_of ks) refl
 
-pub run-leaf : (n : Node) (enclosing : List ℕ) (ks : List rust.Draft) → length ks < most_nodes → run (leaf n) enclosing (drafts_of ks) ≡ Ok (length ks, drafts_of ks ++ Whole n ∷ [])
+pub run-leaf : (n : Node) (enclosing : List ℕ) (ks : List rust.Draft) → length ks < MOST_NODES → run (leaf n) enclosing (drafts_of ks) ≡ Ok (length ks, drafts_of ks ++ Whole n ∷ [])
 run-leaf n enclosing ks lt = run-if_room _ enclosing ks lt ∙ run-one (Whole n) enclosing ks
 
 -- the nodes, and one more

@@ -4,12 +4,13 @@ use Rattle.std.specs.Ordering.{match_ordering}
 use Rattle.std.specs.declared.cmp.Ordering.{Ordering}
 use Rattle.std.specs.declared.cmp.Ordering.TheVariants.{Less, Equal, Greater}
 use Rattle.std.proofs.lemmas.Bool.{ltb-true}
+use Rattle.avro_types.specs.declared.limits.TheConstants.{MOST_NODES}
 use Rattle.avro_schema.specs.declared.error.SchemaError.{SchemaError}
 use Rattle.avro_schema.specs.declared.error.SchemaError.TheVariants.{TooLarge}
 use Rattle.avro_schema.specs.Draft.{Draft}
 use Rattle.avro_schema.specs.Fault.{◌>>=◌}
 use Rattle.avro_schema.specs.Head.{Head, head_of, heads_of}
-use Rattle.avro_schema.specs.Walk.{Walk, added, done, followed_by, if_room, one_node, or_unknown, around, most_nodes}
+use Rattle.avro_schema.specs.Walk.{Walk, added, done, followed_by, if_room, one_node, or_unknown, around}
 use Rattle.avro_schema.proofs.Fits.{Gives, DraftFits, AllFrom, all-behind}
 use Rattle.avro_schema.proofs.Runs.{length-heads_of, heads_of-append}
 
@@ -19,7 +20,7 @@ Whatever heads P = (all more : List Head) → all ≡ heads ++ more → P all
 
 -- what holds of a value that a walk gives from such heads on, and of its nodes, whatever comes behind them
 abbrev pub Fine : {A : Type 0} → (List Head → List Head → A → Type 0) → List Head → Result (A × List Draft) SchemaError → Type 0
-Fine In heads (Ok p) = length heads ≤ most_nodes → (length heads + length p.1 ≤ most_nodes) × Whatever (heads ++ heads_of p.1) (λ all. In heads all p.0 × AllFrom (DraftFits all) (length heads) p.1)
+Fine In heads (Ok p) = length heads ≤ MOST_NODES → (length heads + length p.1 ≤ MOST_NODES) × Whatever (heads ++ heads_of p.1) (λ all. In heads all p.0 × AllFrom (DraftFits all) (length heads) p.1)
 Fine In heads (Err e) = Unit {0}
 
 abbrev pub Sound : {A : Type 0} → (List Head → List Head → A → Type 0) → Walk A → Type 0
@@ -71,11 +72,11 @@ fine-done In a enclosing heads h = λ few. (omega (arith, few), λ all more e. (
 
 -- ---- nodes
 
-room_at : {A : Type 0} (In : List Head → List Head → A → Type 0) (heads : List Head) (b : Bool) (r : Result (A × List Draft) SchemaError) → nat_lt (length heads) 1024 ≡ b → (length heads < most_nodes → Fine In heads r) → Fine In heads (cond b r (Err TooLarge))
+room_at : {A : Type 0} (In : List Head → List Head → A → Type 0) (heads : List Head) (b : Bool) (r : Result (A × List Draft) SchemaError) → nat_lt (length heads) 1024 ≡ b → (length heads < MOST_NODES → Fine In heads r) → Fine In heads (cond b r (Err TooLarge))
 room_at In heads true r e f = f (ltb-true (length heads) 1024 e)
 room_at In heads false r e f = tt
 
-pub sound-room : {A : Type 0} (In : List Head → List Head → A → Type 0) (w : Walk A) → ((enclosing : List ℕ) (heads : List Head) → length heads < most_nodes → Fine In heads (w enclosing heads)) → Sound In (if_room w)
+pub sound-room : {A : Type 0} (In : List Head → List Head → A → Type 0) (w : Walk A) → ((enclosing : List ℕ) (heads : List Head) → length heads < MOST_NODES → Fine In heads (w enclosing heads)) → Sound In (if_room w)
 sound-room In w f enclosing heads = room_at In heads (nat_lt (length heads) 1024) (w enclosing heads) refl (f enclosing heads)
 
 -- the new node is there
@@ -85,12 +86,12 @@ is_new heads h rest all more e = record {
   new = inl (omega arith);
 }
 
-pub fine-one : (d : Draft) (enclosing : List ℕ) (heads : List Head) → length heads < most_nodes → ((all : List Head) → DraftFits all (length heads) d) → Fine Gives heads (one_node d enclosing heads)
+pub fine-one : (d : Draft) (enclosing : List ℕ) (heads : List Head) → length heads < MOST_NODES → ((all : List Head) → DraftFits all (length heads) d) → Fine Gives heads (one_node d enclosing heads)
 fine-one d enclosing heads room fits = λ few. (omega arith, λ all more e. (is_new heads (head_of d) [] all more e, (fits all, tt)))
 
 module _ {A : Type 0} (In : List Head → List Head → A → Type 0) (make : A → Draft) (head : Head) (same : (a : A) → head_of (make a) ≡ head)
     (fits : (own : List Head) (all : List Head) (a : A) → In (own ++ head ∷ []) all a → DraftFits all (length own) (make a)) where
-  around_at : (heads : List Head) → length heads < most_nodes → (r : Result (A × List Draft) SchemaError) → Fine In (heads ++ head ∷ []) r → Fine Gives heads (r >>= λ p. Ok (length heads, make p.0 ∷ p.1))
+  around_at : (heads : List Head) → length heads < MOST_NODES → (r : Result (A × List Draft) SchemaError) → Fine In (heads ++ head ∷ []) r → Fine Gives heads (r >>= λ p. Ok (length heads, make p.0 ∷ p.1))
   around_at heads room (Ok p) f = λ few.
       let one : length (heads ++ head ∷ []) ≡ length heads + 1 = length-append heads (head ∷ []) in
       let h = f (omega (arith, one)) in (
@@ -102,7 +103,7 @@ module _ {A : Type 0} (In : List Head → List Head → A → Type 0) (make : A 
       )
   around_at heads room (Err e) f = tt
 
-  pub fine-around : (w : Walk A) (inner enclosing : List ℕ) (heads : List Head) → length heads < most_nodes → Sound In w → Fine Gives heads (around make head w inner heads)
+  pub fine-around : (w : Walk A) (inner enclosing : List ℕ) (heads : List Head) → length heads < MOST_NODES → Sound In w → Fine Gives heads (around make head w inner heads)
   unfolding around
   fine-around w inner enclosing heads room f = around_at heads room (w inner (heads ++ head ∷ [])) (f inner (heads ++ head ∷ []))
 

@@ -8,13 +8,16 @@ use Rattle.serde_json.specs.View.{view, items_view}
 use Rattle.serde_json.specs.declared.value.Value.{Value}
 use Rattle.avro_schema.specs.declared.error.SchemaError.{SchemaError}
 use Rattle.avro_schema.specs.Attributes.{texts_in}
-use Rattle.avro_schema.specs.SymbolIndex.{are_new}
+use Rattle.avro_types.specs.Symbols.{are_new, place_of}
 use Rattle.avro_schema.specs.Fault.{◌>>=◌}
-use Rattle.avro_schema.specs.FullNames.{is_name}
+use Rattle.avro_types.specs.FullNames.{is_name}
 use Rattle.avro_schema.specs.Names.{text_of}
-use Rattle.avro_schema.specs.SymbolIndex.{is_used}
-use Rattle.avro_schema.proofs.Positions.{position-map}
+use Rattle.avro_types.specs.Symbols.{is_used, place_of}
+use Rattle.avro_types.specs.Laws.Positions.{position-map}
 use Rattle.avro_schema.proofs.Heads.{map-one}
+
+abbrev pub names : List (String Global) → List (List ℕ)
+names ts = map string_bytes ts
 
 -- ---- texts that a value lists
 
@@ -40,37 +43,6 @@ module _ (vs : List Value) (i : ℕ) (v : Value) (lt : i < length vs) (is : v �
 pub texts-end : (vs : List Value) (i : ℕ) → length vs ≤ i → (front : List (List ℕ)) → listed front (texts_in (items_view (drop i vs))) ≡ Ok front
 texts-end vs i le front = rw (drop_of_length-le vs le) (ap (λ xs. Ok xs) (append-nil front))
 
--- ---- each is new
-
-abbrev pub names : List (String Global) → List (List ℕ)
-names ts = map string_bytes ts
-
-take-one : (ts : List (String Global)) (i : ℕ) (t : String Global) → i < length ts → t ≡ get_or ts i t → take (suc i) ts ≡ take i ts ++ t ∷ []
-take-one [] i t lt is = absurd (omega arith)
-take-one (x ∷ ts) zero t lt is = ap (λ y. y ∷ []) (sym is)
-take-one (x ∷ ts) (suc i) t lt is = ap (λ xs. x ∷ xs) (take-one ts i t (omega arith) is)
-
-pub names-take : (ts : List (String Global)) (i : ℕ) (t : String Global) → i < length ts → t ≡ get_or ts i t → names (take (i + 1) ts) ≡ names (take i ts) ++ string_bytes t ∷ []
-names-take ts i t lt is = rw add-one (ap names (take-one ts i t lt is) ∙ map-one string_bytes (take i ts) t)
-
-pub new-step : (before : List (List ℕ)) (ts : List (String Global)) (i : ℕ) (t : String Global) → i < length ts → t ≡ get_or ts i t
-    → are_new before (names (drop i ts)) ≡ (not (is_used (string_bytes t) before) && are_new (before ++ string_bytes t ∷ []) (names (drop (i + 1) ts)))
-new-step before ts i t lt is = rw (drop-cons ts i t lt, ← is, add-one i) refl
-
-pub new-end : (before : List (List ℕ)) (ts : List (String Global)) (i : ℕ) → length ts ≤ i → are_new before (names (drop i ts)) ≡ true
-new-end before ts i le = rw (drop_of_length-le ts le) refl
-
--- one more name that is used
-pub used-push : (name : List ℕ) (before : List (List ℕ)) (s : List ℕ) → is_used name (before ++ s ∷ []) ≡ (bytes_eq s name || is_used name before)
-used-push name [] s = refl
-used-push name (x ∷ before) s = ap (λ b. bytes_eq x name || b) (used-push name before s) ∙ swap (bytes_eq x name) (bytes_eq s name) (is_used name before)
-  where
-    swap : (a b c : Bool) → (a || (b || c)) ≡ (b || (a || c))
-    swap true true c = refl
-    swap true false c = refl
-    swap false true c = refl
-    swap false false c = refl
-
 pub cond_or : (a b : Bool) → cond a true b ≡ (a || b)
 cond_or true b = refl
 cond_or false b = refl
@@ -82,6 +54,3 @@ not_not false e = refl
 pub all_names : (ts : List (String Global)) → list_all is_name (map string_bytes ts) ≡ list_all (λ s. is_name (string_bytes s)) ts
 all_names [] = refl
 all_names (t ∷ ts) = ap (λ b. is_name (string_bytes t) && b) (all_names ts)
-
-pub position_names : (text : List ℕ) (ts : List (String Global)) → position (λ other. bytes_eq other text) (map string_bytes ts) ≡ position (λ s. bytes_eq (string_bytes s) text) ts
-position_names text ts = position-map (λ other. bytes_eq other text) string_bytes ts

@@ -4,14 +4,15 @@ use Rattle.std.specs.List.{AllByRecursion, IsDistinct, list_any}
 use Rattle.std.proofs.lemmas.Slice.Eq.{bytes_eq-Decides}
 use Rattle.std.proofs.lemmas.Bool.{eqb-true}
 use Rattle.std.proofs.lemmas.Map.Steps.{length-le_from_distinct_below}
+use Rattle.avro_types.specs.declared.limits.TheConstants.{MOST_NODES}
 use Rattle.avro_schema.specs.declared.error.SchemaError.{SchemaError}
 use Rattle.avro_schema.specs.declared.error.SchemaError.TheVariants.{BadUnion}
 use Rattle.avro_schema.specs.Draft.{Draft, Whole}
 use Rattle.avro_schema.specs.Fault.{◌>>=◌}
 use Rattle.avro_schema.specs.Head.{Head, NullHead, BooleanHead, IntHead, LongHead, BytesHead, TextHead, ArrayHead, MapHead, UnionHead, Named, heads_of, is_same_type, is_union_head}
-use Rattle.avro_schema.specs.Node.{UnionNode}
-use Rattle.avro_schema.specs.Walk.{Walk, are_apart, apart_union, head_at, union_of, if_room, most_nodes}
-use Rattle.avro_schema.proofs.Booleans.{both, neither, not_true}
+use Rattle.avro_types.specs.Node.{UnionNode}
+use Rattle.avro_schema.specs.Walk.{Walk, are_apart, apart_union, head_at, union_of, if_room}
+use Rattle.avro_types.specs.Laws.Booleans.{both, neither, not_true}
 use Rattle.avro_schema.proofs.Fits.{Gives, MemberFits, DraftFits, AllFrom, is_union_there, get-extended, distinct-more}
 use Rattle.avro_schema.proofs.Heads.{map-one}
 use Rattle.avro_schema.proofs.Runs.{length-heads_of}
@@ -104,7 +105,7 @@ none_apart : IsDistinct eqb []
 unfolding IsDistinct
 none_apart = tt
 
-union_at : (heads : List Head) → length heads < most_nodes → (b : Bool) (ms : List ℕ) (added : List Draft) → are_apart [] (map (head_at ((heads ++ UnionHead ∷ []) ++ heads_of added)) ms) ≡ b
+union_at : (heads : List Head) → length heads < MOST_NODES → (b : Bool) (ms : List ℕ) (added : List Draft) → are_apart [] (map (head_at ((heads ++ UnionHead ∷ []) ++ heads_of added)) ms) ≡ b
     → Fine AllBelow (heads ++ UnionHead ∷ []) (Ok (ms, added)) → Fine Gives heads (cond b (Ok (length heads, Whole (UnionNode ms) ∷ added)) (Err BadUnion))
 union_at heads room false ms added e f = tt
 union_at heads room true ms added e f = λ few.
@@ -113,7 +114,7 @@ union_at heads room true ms added e f = λ few.
     let h = f (omega (arith, one)) in
     let here = h.1 hs [] (sym (append-nil hs)) in
     let apart = apart_are hs [] ms e none_apart in
-    let count : length hs ≤ most_nodes = omega (arith, h.0, length-append (heads ++ UnionHead ∷ []) (heads_of added), length-heads_of added) in (
+    let count : length hs ≤ MOST_NODES = omega (arith, h.0, length-append (heads ++ UnionHead ∷ []) (heads_of added), length-heads_of added) in (
       omega (arith, h.0, one),
       λ all more same.
           let whole : all ≡ hs ++ more = same ∙ ap (λ x. x ++ more) (sym (append_assoc heads (UnionHead ∷ []) (heads_of added))) in
@@ -126,7 +127,7 @@ union_at heads room true ms added e f = λ few.
           ),
     )
 
-bound_at : (heads : List Head) → length heads < most_nodes → (r : Result (List ℕ × List Draft) SchemaError) → Fine AllBelow (heads ++ UnionHead ∷ []) r
+bound_at : (heads : List Head) → length heads < MOST_NODES → (r : Result (List ℕ × List Draft) SchemaError) → Fine AllBelow (heads ++ UnionHead ∷ []) r
     → Fine Gives heads (r >>= λ p. apart_union heads ((heads ++ UnionHead ∷ []) ++ heads_of p.1) p.0 p.1)
 bound_at heads room (Ok p) f = union_at heads room (are_apart [] (map (head_at ((heads ++ UnionHead ∷ []) ++ heads_of p.1)) p.0)) p.0 p.1 refl f
 bound_at heads room (Err e) f = tt

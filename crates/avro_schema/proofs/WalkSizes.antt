@@ -14,9 +14,9 @@ use Rattle.avro_schema.specs.Attributes.{symbols_of, default_symbol, size_of}
 use Rattle.avro_schema.specs.Draft.{Draft, Whole, RecordDraft, DraftField}
 use Rattle.avro_schema.specs.Fault.{◌>>=◌}
 use Rattle.avro_schema.specs.Head.{Head, ArrayHead, MapHead, UnionHead, Named, heads_of, defined_at}
-use Rattle.avro_schema.specs.FullNames.{full_name, namespace_of}
+use Rattle.avro_types.specs.FullNames.{full_name, namespace_of}
 use Rattle.avro_schema.specs.Names.{new_name, field_name}
-use Rattle.avro_schema.specs.Node.{Node, ArrayNode, MapNode}
+use Rattle.avro_types.specs.Node.{Node, ArrayNode, MapNode}
 use Rattle.avro_schema.specs.Walk.{Walk, added, apart_union, are_apart, around, declared_by, draft_field, enum_of, fault, field, field_of, fields, fields_after, fixed_of, followed_by, found, head_at, if_room, leaf, leaf_or_reference, members, named, one_node, or_unknown, record_of, reference, union_of, walk, walk_fields, walk_member}
 use Rattle.avro_schema.specs.Word.{word_of, leaf_of, is_left_out, form_of}
 use Rattle.avro_schema.proofs.ReadSizes.{HasDataWithin, HaveItemsWithin, HaveMembersWithin}

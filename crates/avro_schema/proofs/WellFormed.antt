@@ -9,6 +9,8 @@ use Rattle.std.proofs.lemmas.Bool.{leb-true}
 use Rattle.std.proofs.lemmas.List.Quantifiers.{position-Some}
 use Rattle.serde_json.specs.Data.{Data, null, boolean, number, string, array, object, Items, no_items, item, Members, no_members, member}
 use Rattle.serde_json.specs.Find.{as_number, as_u64}
+use Rattle.avro_types.specs.Laws.Placed.{place-within}
+use Rattle.avro_types.specs.declared.limits.TheConstants.{MOST_FIXED, MOST_NODES, MOST_SYMBOLS}
 use Rattle.avro_schema.specs.declared.error.SchemaError.{SchemaError}
 use Rattle.avro_schema.specs.declared.error.SchemaError.TheVariants.{BadSymbols, BadNumber}
 use Rattle.avro_schema.specs.declared.word.Form.{Form}
@@ -16,17 +18,17 @@ use Rattle.avro_schema.specs.declared.word.Form.TheVariants as forms
 use Rattle.avro_schema.specs.declared.word.Word.{Word}
 use Rattle.avro_schema.specs.declared.word.Word.TheVariants as words
 use Rattle.avro_schema.specs.Attributes.{symbols_of, texts_of, default_symbol, size_of}
-use Rattle.avro_schema.specs.SymbolIndex.{are_new}
+use Rattle.avro_types.specs.Symbols.{are_new, place_of}
 use Rattle.avro_schema.specs.Draft.{Draft, Whole, RecordDraft, DraftField}
 use Rattle.avro_schema.specs.Fault.{◌>>=◌, require}
 use Rattle.avro_schema.specs.Head.{Head, NullHead, BooleanHead, IntHead, LongHead, BytesHead, TextHead, ArrayHead, MapHead, UnionHead, Named, defines, defined_at}
-use Rattle.avro_schema.specs.FullNames.{namespace_of, full_name, is_name}
+use Rattle.avro_types.specs.FullNames.{namespace_of, full_name, is_name}
 use Rattle.avro_schema.specs.Names.{text_of, new_name, field_name}
-use Rattle.avro_schema.specs.SymbolIndex.{is_used}
-use Rattle.avro_schema.specs.Node.{Node, NullNode, BooleanNode, IntNode, LongNode, BytesNode, TextNode, FixedNode, EnumNode, ArrayNode, MapNode, most_symbols, most_fixed}
-use Rattle.avro_schema.specs.Walk.{Walk, found, leaf, one_node, leaf_or_reference, reference, named, or_unknown, record_of, enum_of, fixed_of, declared_by, walk, members, walk_member, walk_fields, fields, fields_after, field, field_of, draft_field, most_nodes}
+use Rattle.avro_types.specs.Symbols.{is_used, place_of}
+use Rattle.avro_types.specs.Node.{Node, NullNode, BooleanNode, IntNode, LongNode, BytesNode, TextNode, FixedNode, EnumNode, ArrayNode, MapNode}
+use Rattle.avro_schema.specs.Walk.{Walk, found, leaf, one_node, leaf_or_reference, reference, named, or_unknown, record_of, enum_of, fixed_of, declared_by, walk, members, walk_member, walk_fields, fields, fields_after, field, field_of, draft_field}
 use Rattle.avro_schema.specs.Word.{word_of, leaf_of, is_left_out}
-use Rattle.avro_schema.proofs.Booleans.{both, neither, not_true, some_inside}
+use Rattle.avro_types.specs.Laws.Booleans.{both, neither, not_true, some_inside}
 use Rattle.avro_schema.proofs.Fits.{Gives, ItemFits, DraftFits, is_named_there, holds_items, get-extended, distinct-more}
 use Rattle.avro_schema.proofs.Sound.{Fine, Sound, SoundIf, fine-bind, fine-done, fine-one, fine-around, sound-room, sound-or, if_found}
 use Rattle.avro_schema.proofs.UnionFits.{AllBelow, sound-union}
@@ -166,12 +168,12 @@ given_fine In heads (Err e) f h = tt
 record_fits : (own all : List Head) (full : List ℕ) (fs : List DraftField) → FieldsFit [] (own ++ Named full ∷ []) all fs → DraftFits all (length own) (RecordDraft full fs)
 record_fits own all full fs h = (h.0, h.1 none_distinct)
 
-sound-record : (name namespace : Option Data) (o : Option (Walk (List DraftField))) → SoundIf (FieldsFit []) o → (enclosing : List ℕ) (heads : List Head) → length heads < most_nodes → Fine Gives heads (record_of name namespace o enclosing heads)
+sound-record : (name namespace : Option Data) (o : Option (Walk (List DraftField))) → SoundIf (FieldsFit []) o → (enclosing : List ℕ) (heads : List Head) → length heads < MOST_NODES → Fine Gives heads (record_of name namespace o enclosing heads)
 unfolding record_of
 sound-record name namespace o f enclosing heads room = given_fine Gives heads (new_name name namespace enclosing heads) _ (λ full is.
     fine-around (FieldsFit []) (λ fs. RecordDraft full fs) (Named full) (λ fs. refl) (λ own all fs h. record_fits own all full fs h) (or_unknown o) (namespace_of full) enclosing heads room (sound-or (FieldsFit []) o f))
 
-symbols_fit : (symbols : Option Data) (ss : List (List ℕ)) → symbols_of symbols ≡ Ok ss → IsDistinct bytes_eq ss × (length ss ≤ most_symbols)
+symbols_fit : (symbols : Option Data) (ss : List (List ℕ)) → symbols_of symbols ≡ Ok ss → IsDistinct bytes_eq ss × (length ss ≤ MOST_SYMBOLS)
 unfolding symbols_of
 symbols_fit symbols ss e =
     let p = bound (texts_of symbols) _ ss e in
@@ -179,19 +181,19 @@ symbols_fit symbols ss e =
     let r = required _ _ _ ss q.1 in
     let same : p.0 ≡ ss = ok_inside p.0 ss r.1 in
     let h = both (list_all is_name p.0) (are_new [] p.0) q.0 in
-    subst (λ x. IsDistinct bytes_eq x × (length x ≤ most_symbols)) same (new_distinct [] p.0 h.1 none_distinct, leb-true (length p.0) 4096 r.0)
+    subst (λ x. IsDistinct bytes_eq x × (length x ≤ MOST_SYMBOLS)) same (new_distinct [] p.0 h.1 none_distinct, leb-true (length p.0) 4096 r.0)
 
-position_below : (ss : List (List ℕ)) (o : Option ℕ) (p : List ℕ → Bool) (n : Option ℕ) → position p ss ≡ o → (ok_or o BadSymbols >>= λ k. Ok (Some k)) ≡ Ok n → IfSome n (λ k. k < length ss)
-position_below ss None p n is e = absurd (let wrong : ⊥ = cc in wrong)
-position_below ss (Some k) p n is e = subst (λ x. IfSome x (λ j. j < length ss)) (ok_inside (Some k) n e) ((position-Some p ss k [] is).0)
+position_below : (ss : List (List ℕ)) (o : Option ℕ) (s : List ℕ) (n : Option ℕ) → place_of s ss ≡ o → (ok_or o BadSymbols >>= λ k. Ok (Some k)) ≡ Ok n → IfSome n (λ k. k < length ss)
+position_below ss None s n is e = absurd (let wrong : ⊥ = cc in wrong)
+position_below ss (Some k) s n is e = subst (λ x. IfSome x (λ j. j < length ss)) (ok_inside (Some k) n e) (place-within s ss k is)
 
 default_fits : (ss : List (List ℕ)) (default : Option Data) (n : Option ℕ) → default_symbol ss default ≡ Ok n → IfSome n (λ k. k < length ss)
 default_fits ss None n e = subst (λ x. IfSome x (λ k. k < length ss)) (ok_inside None n e) tt
 default_fits ss (Some d) n e =
     let p = bound (text_of (Some d)) _ n e in
-    position_below ss (position (λ other. bytes_eq other p.0) ss) (λ other. bytes_eq other p.0) n refl p.2
+    position_below ss (place_of p.0 ss) p.0 n refl p.2
 
-sound-enum : (name namespace symbols default : Option Data) (enclosing : List ℕ) (heads : List Head) → length heads < most_nodes → Fine Gives heads (enum_of name namespace symbols default enclosing heads)
+sound-enum : (name namespace symbols default : Option Data) (enclosing : List ℕ) (heads : List Head) → length heads < MOST_NODES → Fine Gives heads (enum_of name namespace symbols default enclosing heads)
 unfolding enum_of
 sound-enum name namespace symbols default enclosing heads room =
     given_fine Gives heads (new_name name namespace enclosing heads) _ (λ full is.
@@ -200,14 +202,14 @@ sound-enum name namespace symbols default enclosing heads room =
     let h = symbols_fit symbols ss are in
     fine-one (Whole (EnumNode full ss n)) enclosing heads room (λ all. (h.0, h.1, default_fits ss default n at)))))
 
-size_fits : (size : Option Data) (n : ℕ) → size_of size ≡ Ok n → n ≤ most_fixed
+size_fits : (size : Option Data) (n : ℕ) → size_of size ≡ Ok n → n ≤ MOST_FIXED
 size_fits None n e = absurd (let wrong : ⊥ = cc in wrong)
 size_fits (Some d) n e =
     let p = bound (ok_or (option_and_then as_u64 (as_number d)) BadNumber) _ n e in
     let q = required _ _ _ n p.2 in
-    subst (λ k. k ≤ most_fixed) (ok_inside p.0 n q.1) (leb-true p.0 1048576 q.0)
+    subst (λ k. k ≤ MOST_FIXED) (ok_inside p.0 n q.1) (leb-true p.0 1048576 q.0)
 
-sound-fixed : (name namespace size : Option Data) (enclosing : List ℕ) (heads : List Head) → length heads < most_nodes → Fine Gives heads (fixed_of name namespace size enclosing heads)
+sound-fixed : (name namespace size : Option Data) (enclosing : List ℕ) (heads : List Head) → length heads < MOST_NODES → Fine Gives heads (fixed_of name namespace size enclosing heads)
 unfolding fixed_of
 sound-fixed name namespace size enclosing heads room =
     given_fine Gives heads (new_name name namespace enclosing heads) _ (λ full is.

@@ -9,12 +9,12 @@ use Rattle.serde_json.specs.Written.{has_float}
 use Rattle.avro_schema.specs.declared.error.SchemaError.{SchemaError}
 use Rattle.avro_schema.specs.declared.error.SchemaError.TheVariants.{BadNumber, BadDefault}
 use Rattle.avro_schema.specs.Contract.{run}
-use Rattle.avro_schema.specs.Datum.{Datum}
+use Rattle.avro_types.specs.Datum.{Datum}
 use Rattle.avro_schema.specs.Defaults.{all_defaults, field_defaults, fields_with, finished, node_defaults, node_with, nodes_with, field_default}
 use Rattle.avro_schema.specs.Draft.{Draft, Whole, RecordDraft, DraftField, HasFewSymbols, HaveFewSymbols}
 use Rattle.avro_schema.specs.Fault.{◌>>=◌}
 use Rattle.avro_schema.specs.Head.{Head, head_of, head_of_node, heads_of}
-use Rattle.avro_schema.specs.Node.{Node, NullNode, BooleanNode, IntNode, LongNode, BytesNode, TextNode, FixedNode, EnumNode, ArrayNode, MapNode, UnionNode, RecordNode, is_array_or_map, is_union, HoldsItem, IsMember, FieldsBelow, NodeIsWellFormed, IsWellFormed}
+use Rattle.avro_types.specs.Node.{Node, NullNode, BooleanNode, IntNode, LongNode, BytesNode, TextNode, FixedNode, EnumNode, ArrayNode, MapNode, UnionNode, RecordNode, is_array_or_map, is_union, HoldsItem, IsMember, FieldsBelow, NodeIsWellFormed, IsWellFormed}
 use Rattle.avro_schema.specs.Schema.{declared, nodes_in_read}
 use Rattle.avro_schema.specs.Walk.{added, walk, null_namespace}
 use Rattle.avro_schema.proofs.FinishedNodes.{in-row, node-finished, length-finished, head-finished}

@@ -5,13 +5,13 @@ use Rattle.std.specs.List.{list_all, position}
 use Rattle.std.specs.Str.{bytes_eq}
 use Rattle.serde_json.specs.Data.{Data, array, Items, no_items, item}
 use Rattle.serde_json.specs.Find.{as_number, as_u64}
+use Rattle.avro_types.specs.declared.limits.TheConstants.{MOST_FIXED, MOST_SYMBOLS}
 use Rattle.avro_schema.specs.declared.error.SchemaError.{SchemaError}
 use Rattle.avro_schema.specs.declared.error.SchemaError.TheVariants.{Unknown, BadSymbols, BadNumber, TooLarge}
 use Rattle.avro_schema.specs.Fault.{◌>>=◌, require}
-use Rattle.avro_schema.specs.FullNames.{is_name}
+use Rattle.avro_types.specs.FullNames.{is_name}
 use Rattle.avro_schema.specs.Names.{text_of}
-use Rattle.avro_schema.specs.Node.{most_symbols, most_fixed}
-use Rattle.avro_schema.specs.SymbolIndex.{are_distinct}
+use Rattle.avro_types.specs.Symbols.{are_distinct, place_of}
 
 -- the texts that a value lists
 abbrev pub texts_in : Items → Result (List (List ℕ)) SchemaError
@@ -27,18 +27,18 @@ unfoldable pub symbols_of : Option Data → Result (List (List ℕ)) SchemaError
 symbols_of symbols = do
   ss ← texts_of symbols
   _ ← require (list_all is_name ss && are_distinct ss) BadSymbols
-  _ ← require (nat_le (length ss) most_symbols) TooLarge
+  _ ← require (nat_le (length ss) MOST_SYMBOLS) TooLarge
   Ok ss
 
 -- the position of the symbol that `default` names
 abbrev pub default_symbol : List (List ℕ) → Option Data → Result (Option ℕ) SchemaError
 default_symbol ss None = Ok None
-default_symbol ss (Some d) = text_of (Some d) >>= λ s. ok_or (position (λ other. bytes_eq other s) ss) BadSymbols >>= λ n. Ok (Some n)
+default_symbol ss (Some d) = text_of (Some d) >>= λ s. ok_or (place_of s ss) BadSymbols >>= λ n. Ok (Some n)
 
 -- the number of bytes that `size` gives
 abbrev pub size_of : Option Data → Result ℕ SchemaError
 size_of None = Err Unknown
 size_of (Some d) = do
   n ← ok_or (option_and_then as_u64 (as_number d)) BadNumber
-  _ ← require (nat_le n most_fixed) TooLarge
+  _ ← require (nat_le n MOST_FIXED) TooLarge
   Ok n

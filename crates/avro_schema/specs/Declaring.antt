@@ -7,9 +7,9 @@ use Rattle.avro_schema.specs.declared.word.Form.TheVariants as forms
 use Rattle.avro_schema.specs.Attributes.{symbols_of, default_symbol, size_of}
 use Rattle.avro_schema.specs.Defaults.{IsDefault}
 use Rattle.avro_schema.specs.Head.{Named, head_of_node}
-use Rattle.avro_schema.specs.FullNames.{is_name, is_full_name, full_name, namespace_of, unqualified}
+use Rattle.avro_types.specs.FullNames.{is_name, is_full_name, full_name, namespace_of, unqualified}
 use Rattle.avro_schema.specs.Names.{own_namespace}
-use Rattle.avro_schema.specs.Node.{Node, FieldNode, FixedNode, EnumNode, ArrayNode, MapNode, UnionNode, RecordNode, HaveDistinctNames}
+use Rattle.avro_types.specs.Node.{Node, FieldNode, FixedNode, EnumNode, ArrayNode, MapNode, UnionNode, RecordNode, HaveDistinctNames}
 use Rattle.avro_schema.specs.Word.{word_of, leaf_of, is_primitive, form_of}
 
 -- ---- names

@@ -9,10 +9,11 @@ use Rattle.serde_json.specs.Data.{Num, Data, null, boolean, number, string, arra
 use Rattle.serde_json.specs.Find.{as_i64}
 use Rattle.avro_schema.specs.declared.error.SchemaError.{SchemaError}
 use Rattle.avro_schema.specs.declared.error.SchemaError.TheVariants.{BadDefault}
-use Rattle.avro_schema.specs.Datum as datum
-use Rattle.avro_schema.specs.Datum.{Datum, NullDatum, BooleanDatum, IntDatum, LongDatum, BytesDatum, TextDatum, FixedDatum, EnumDatum, ArrayDatum, MapDatum, UnionDatum, RecordDatum, no_more, more, Pairs, no_pairs, pair}
+use Rattle.avro_types.specs.Datum as datum
+use Rattle.avro_types.specs.Datum.{Datum, NullDatum, BooleanDatum, IntDatum, LongDatum, BytesDatum, TextDatum, FixedDatum, EnumDatum, ArrayDatum, MapDatum, UnionDatum, RecordDatum, no_more, more, Pairs, no_pairs, pair}
 use Rattle.avro_schema.specs.Draft.{Draft, Whole, RecordDraft, DraftField}
-use Rattle.avro_schema.specs.Node.{Node, FieldNode, NullNode, BooleanNode, IntNode, LongNode, BytesNode, TextNode, FixedNode, EnumNode, ArrayNode, MapNode, UnionNode, RecordNode}
+use Rattle.avro_types.specs.Node.{Node, FieldNode, NullNode, BooleanNode, IntNode, LongNode, BytesNode, TextNode, FixedNode, EnumNode, ArrayNode, MapNode, UnionNode, RecordNode}
+use Rattle.avro_types.specs.Symbols.{place_of}
 
 -- the datum that a value is by a node that is no union
 abbrev pub Reading : Type 0
@@ -61,7 +62,7 @@ abbrev pub text_value : List ℕ → Reading
 text_value s (Whole BytesNode) = option_map BytesDatum (bytes_in s)
 text_value s (Whole TextNode) = Some (TextDatum s)
 text_value s (Whole (FixedNode name size)) = fixed_value size (bytes_in s)
-text_value s (Whole (EnumNode name symbols default)) = option_map EnumDatum (position (λ other. bytes_eq other s) symbols)
+text_value s (Whole (EnumNode name symbols default)) = option_map EnumDatum (place_of s symbols)
 text_value s _ = None
 
 -- ---- values with parts

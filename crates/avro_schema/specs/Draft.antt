@@ -5,10 +5,11 @@ use Rattle.std.specs.List.{AllByRecursion}
 use Rattle.serde_json.specs.Data.{Data}
 use Rattle.serde_json.specs.View.{view}
 use Rattle.serde_json.specs.declared.value.Value.{Value}
+use Rattle.avro_types.specs.declared.limits.TheConstants.{MOST_SYMBOLS}
 use Rattle.avro_schema.specs.declared.draft.Draft as rust
 use Rattle.avro_schema.specs.declared.draft.Draft.TheVariants as drafts
 use Rattle.avro_schema.specs.declared.draft.DraftField as rust_field
-use Rattle.avro_schema.specs.Node.{Node, EnumNode, full_of, most_symbols, node_of}
+use Rattle.avro_types.specs.Node.{Node, EnumNode, node_of}
 
 -- a field, and the value at its `default`
 pub record DraftField : Type 0 where
@@ -29,14 +30,14 @@ draft_field_of f = record { name = string_bytes f.name; node = f.node; default =
 
 abbrev pub draft_of : rust.Draft → Draft
 draft_of (drafts.Whole kind) = Whole (node_of kind)
-draft_of (drafts.Record name fields) = RecordDraft (full_of name) (map draft_field_of fields.items)
+draft_of (drafts.Record name fields) = RecordDraft name (map draft_field_of fields.items)
 
 abbrev pub drafts_of : List rust.Draft → List Draft
 drafts_of ds = map draft_of ds
 
 -- an enum's symbols are few enough to be numbered
 abbrev pub HasFewSymbols : Draft → Type 0
-HasFewSymbols (Whole (EnumNode name symbols default)) = length symbols ≤ most_symbols
+HasFewSymbols (Whole (EnumNode name symbols default)) = length symbols ≤ MOST_SYMBOLS
 HasFewSymbols _ = Unit {0}
 
 abbrev pub HaveFewSymbols : List Draft → Type 0

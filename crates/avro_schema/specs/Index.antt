@@ -8,14 +8,13 @@ use Rattle.std.specs.Ordering.{nat_cmp}
 use Rattle.std.specs.Str.{bytes_eq}
 use Rattle.avro_schema.specs.declared.draft.Draft as rust
 use Rattle.avro_schema.specs.declared.draft.DraftField as rust_field
-use Rattle.avro_schema.specs.declared.name.Name.{Name}
+use Rattle.avro_types.specs.declared.name.Name.{Name}
 use Rattle.avro_schema.specs.declared.namespace.Namespace.{Namespace}
 use Rattle.avro_schema.specs.Contract.{names_of}
 use Rattle.avro_schema.specs.Draft.{drafts_of}
-use Rattle.avro_schema.specs.FullNames.{dot, has_dot, inside, namespace_of}
+use Rattle.avro_types.specs.FullNames.{dot, has_dot, inside, namespace_of}
 use Rattle.avro_schema.specs.Head.{Head, Named, defined_at, heads_of, is_named_head}
-use Rattle.avro_schema.specs.Node.{full_of}
-use Rattle.avro_schema.specs.SymbolIndex.{is_used}
+use Rattle.avro_types.specs.Symbols.{is_used, place_of}
 use Rattle.avro_schema.specs.Walk.{head_at}
 
 -- ---- namespaces
@@ -33,23 +32,19 @@ namespaces_behind before (h ∷ hs) = namespaces_behind (with_namespace before h
 unfoldable pub namespaces_of : List Head → List (List ℕ)
 namespaces_of hs = namespaces_behind ([] ∷ []) hs
 
--- the number of a namespace
-abbrev pub number_of : List ℕ → List (List ℕ) → Option ℕ
-number_of namespace namespaces = position_from (λ other. bytes_eq other namespace) 0 namespaces
-
 -- the namespace is one of theirs, under its number
 abbrev pub IsNamespaceOf : Namespace → List rust.Draft → Type 0
 IsNamespaceOf enclosing ds = slice_get (namespaces_of (heads_of (drafts_of ds))) enclosing.number ≡ Some (arc_str_bytes enclosing.text)
 
 -- the number is that of the name's namespace, where it has one
 abbrev pub IsNumbered : Name → Option ℕ → List rust.Draft → Type 0
-IsNumbered name number ds = number ≡ number_of (namespace_of (full_of name)) (namespaces_of (heads_of (drafts_of ds)))
+IsNumbered name number ds = number ≡ place_of (namespace_of name) (namespaces_of (heads_of (drafts_of ds)))
 
 -- ---- names
 
 -- Under each namespace stands its number, and under that, by the last part of a full name, the node that defines it.
 pub record IsIndexOf {A : Type 0} (numbers : BTreeMap (String A) ℕ) (scopes : List (BTreeMap (String A) ℕ)) (ds : List rust.Draft) : Type 0 where
-  pub numbered : (namespace : List ℕ) → get_by_text numbers namespace ≡ number_of namespace (namespaces_of (heads_of (drafts_of ds)))
+  pub numbered : (namespace : List ℕ) → get_by_text numbers namespace ≡ place_of namespace (namespaces_of (heads_of (drafts_of ds)))
   pub each_has_one : length scopes ≡ length (namespaces_of (heads_of (drafts_of ds)))
   pub found : (number : ℕ) (namespace last : List ℕ) (scope : BTreeMap (String A) ℕ) → slice_get (namespaces_of (heads_of (drafts_of ds))) number ≡ Some namespace → slice_get scopes number ≡ Some scope
       → has_dot last ≡ false → get_by_text scope last ≡ defined_at (inside namespace last) (heads_of (drafts_of ds))

@@ -3,14 +3,18 @@ use Rattle.std.specs.Prelude.{◌≡◌, ◌≢◌, ℕ, List, [], length, nat_l
 use Rattle.serde_json.specs.Data.{Data}
 use Rattle.serde_json.specs.Read.{read}
 use Rattle.serde_json.specs.Written.{has_float, compact_text}
+use Rattle.avro_types.specs.declared.limits.TheConstants.{MOST_TEXT}
 use Rattle.avro_schema.specs.declared.error.SchemaError.{SchemaError}
 use Rattle.avro_schema.specs.declared.error.SchemaError.TheVariants.{TooLarge, NotJson, BadNumber, NoMemory}
-use Rattle.avro_schema.specs.Conforming.{DefaultsConform}
 use Rattle.avro_schema.specs.Defaults.{finished}
 use Rattle.avro_schema.specs.Fault.{◌>>=◌}
-use Rattle.avro_schema.specs.Node.{Node, Declaration}
-use Rattle.avro_schema.specs.Sizes.{DefaultsHaveSizesWithin}
+use Rattle.avro_types.specs.Node.{Node}
 use Rattle.avro_schema.specs.Walk.{walk, null_namespace}
+
+-- a schema as callers see it: its compact text, and its nodes
+pub record Declaration : Type 0 where
+  pub text : List ℕ
+  pub nodes : List Node
 
 -- the nodes that a JSON value declares, or the first fault: the walk's, and then that of a default
 abbrev pub declared : Data → Result (List Node) SchemaError
@@ -23,19 +27,13 @@ abbrev pub nodes_in_read : Option Data → Result (List Node) SchemaError
 nodes_in_read None = Err NotJson
 nodes_in_read (Some d) = nodes_in d
 
-abbrev pub most_text : ℕ
-most_text = 262144
-
 -- the nodes of a text, or its first fault
 unfoldable pub schema_of : List ℕ → Result (List Node) SchemaError
-schema_of text = if nat_le (length text) most_text then nodes_in_read (read text) else Err TooLarge
+schema_of text = if nat_le (length text) MOST_TEXT then nodes_in_read (read text) else Err TooLarge
 
--- The nodes are those of the value that the text reads as. Each default is of its field's type, and no text in it is longer, no array or map in it of more items,
--- than a schema's text may have bytes.
-pub record Declares (text : List ℕ) (nodes : List Node) : Type 0 where
-  pub nodes_are : nodes_in_read (read text) ≡ Ok nodes
-  pub defaults_conform : DefaultsConform nodes
-  pub defaults_are_short : DefaultsHaveSizesWithin most_text most_text nodes
+-- the nodes are those of the value that the text reads as
+abbrev pub Declares : List ℕ → List Node → Type 0
+Declares text nodes = nodes_in_read (read text) ≡ Ok nodes
 
 -- The answer is what the text declares, unless memory ran out. Its own text is the compact one of the value that was read.
 abbrev pub Parses : Result Declaration SchemaError → List ℕ → Type 0

@@ -5,6 +5,7 @@ use Rattle.std.specs.Ordering.{nat_cmp, match_ordering}
 use Rattle.std.specs.Cmp.Lexicographic.{slice_cmp}
 use Rattle.serde_json.specs.Data.{Data, string, array, object, Items, no_items, item, Members, no_members, member}
 use Rattle.serde_json.specs.Find.{get_member}
+use Rattle.avro_types.specs.declared.limits.TheConstants.{MOST_FIELDS, MOST_NODES}
 use Rattle.avro_schema.specs.declared.error.SchemaError.{SchemaError}
 use Rattle.avro_schema.specs.declared.error.SchemaError.TheVariants.{TooLarge, Unknown, OutOfProfile, BadUnion}
 use Rattle.avro_schema.specs.declared.word.Form.{Form}
@@ -13,9 +14,9 @@ use Rattle.avro_schema.specs.Attributes.{symbols_of, default_symbol, size_of}
 use Rattle.avro_schema.specs.Draft.{Draft, Whole, RecordDraft, DraftField}
 use Rattle.avro_schema.specs.Fault.{◌>>=◌}
 use Rattle.avro_schema.specs.Head.{Head, ArrayHead, MapHead, UnionHead, Named, heads_of, is_same_type, is_union_head, defined_at}
-use Rattle.avro_schema.specs.FullNames.{full_name, namespace_of}
+use Rattle.avro_types.specs.FullNames.{full_name, namespace_of}
 use Rattle.avro_schema.specs.Names.{new_name, field_name}
-use Rattle.avro_schema.specs.Node.{Node, FixedNode, EnumNode, ArrayNode, MapNode, UnionNode}
+use Rattle.avro_types.specs.Node.{Node, FixedNode, EnumNode, ArrayNode, MapNode, UnionNode}
 use Rattle.avro_schema.specs.Word.{word_of, leaf_of, is_left_out, form_of}
 
 -- Given the enclosing namespace and the heads of the nodes so far: a value, and the nodes that it adds.
@@ -48,12 +49,9 @@ followed_by first rest enclosing heads = first enclosing heads >>= λ p. added p
 
 -- ---- nodes
 
-abbrev pub most_nodes : ℕ
-most_nodes = 1024
-
 -- there is room for one more node
 abbrev pub if_room : {A : Type 0} → Walk A → Walk A
-if_room w enclosing heads = if nat_lt (length heads) most_nodes then w enclosing heads else Err TooLarge
+if_room w enclosing heads = if nat_lt (length heads) MOST_NODES then w enclosing heads else Err TooLarge
 
 -- a node that has no parts
 abbrev pub one_node : Draft → Walk ℕ
@@ -138,12 +136,9 @@ declared_by forms.Other value schema fields = or_unknown (schema (codes "type"))
 
 -- ---- fields
 
-abbrev pub most_fields : ℕ
-most_fields = 1024
-
 -- there is room for one more field
 abbrev pub if_few : {A : Type 0} → List (List ℕ) → Walk A → Walk A
-if_few before w enclosing heads = if nat_lt (length before) most_fields then w enclosing heads else Err TooLarge
+if_few before w enclosing heads = if nat_lt (length before) MOST_FIELDS then w enclosing heads else Err TooLarge
 
 abbrev pub draft_field : List ℕ → ℕ → Option Data → DraftField
 draft_field s n default = record { name = s; node = n; default = default }

@@ -2,16 +2,15 @@ ghost use Rattle.std.specs.Prelude.{Some, map, option_map};
 ghost use Rattle.std.specs.Option.{ok_or};
 ghost use Rattle.serde_json.specs.Find.{get};
 ghost use Rattle.serde_json.specs.View.{number_view, view, items_view, members_view};
-ghost use Rattle.avro_schema.specs.Datum.{data_of, datum_of, pairs_of};
+ghost use Rattle.avro_types.specs.Datum.{data_of, datum_of, pairs_of};
 ghost use Rattle.avro_schema.specs.Defaults.{bytes_in, by_first, default_of, fields_value, items_value, leaf_value, number_value, pairs_value, text_value, value_of};
 ghost use Rattle.avro_schema.specs.Draft.{HasFewSymbols, HaveFewSymbols, Whole, draft_field_of, draft_of, drafts_of};
 ghost use Rattle.avro_schema.specs.Fault.{Tells};
-ghost use Rattle.avro_schema.specs.Node.{UnionNode, node_of};
+ghost use Rattle.avro_types.specs.Node.{UnionNode, node_of};
 
-use crate::datum::Datum;
 use crate::draft::{Draft, DraftField};
 use crate::error::SchemaError;
-use crate::kind::Kind;
+use avro_types::{Datum, Kind};
 use serde_json::{Map, Number, Value};
 use std::alloc::Global;
 

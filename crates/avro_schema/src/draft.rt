@@ -1,5 +1,4 @@
-use crate::kind::Kind;
-use crate::name::Name;
+use avro_types::{Kind, Name};
 use serde_json::Value;
 
 /// What a node is before the defaults of its fields have been read.

@@ -3,16 +3,15 @@ ghost use Rattle.std.specs.Arc.{arc_str_bytes};
 ghost use Rattle.avro_schema.specs.Contract.{names_of};
 ghost use Rattle.avro_schema.specs.Draft.{draft_of, drafts_of};
 ghost use Rattle.avro_schema.specs.declared.draft.Draft.TheVariants as drafts;
-ghost use Rattle.avro_schema.specs.FullNames.{has_dot, inside, namespace_of};
+ghost use Rattle.avro_types.specs.FullNames.{has_dot, inside, namespace_of};
 ghost use Rattle.avro_schema.specs.Head.{IsUnnamed, Named, defined_at, head_of, head_of_node, heads_of};
-ghost use Rattle.avro_schema.specs.Index.{AreNamesOf, IsIndexOf, IsNumbered, IsNamespaceOf, number_of, namespaces_of};
-ghost use Rattle.avro_schema.specs.SymbolIndex.{is_used};
-ghost use Rattle.avro_schema.specs.Node.{full_of, node_of};
+ghost use Rattle.avro_schema.specs.Index.{AreNamesOf, IsIndexOf, IsNumbered, IsNamespaceOf, namespaces_of};
+ghost use Rattle.avro_types.specs.Symbols.{is_used, place_of};
+ghost use Rattle.avro_types.specs.Node.{node_of};
 
 use crate::draft::{Draft, DraftField};
-use crate::kind::Kind;
-use crate::name::Name;
 use crate::namespace::Namespace;
+use avro_types::{Kind, Name};
 use std::alloc::{AllocError, Global};
 use std::collections::{BTreeMap, BTreeSet};
 
@@ -53,7 +52,7 @@ impl<'v> Drafts<'v> {
 
     /// The number of a namespace that has names.
     pub(crate) fn number_of(&self, namespace: &str) -> Option<usize>
-        ensures { result ≡ number_of namespace.now (namespaces_of (heads_of (drafts_of self.now.nodes.items))) }
+        ensures { result ≡ place_of namespace.now (namespaces_of (heads_of (drafts_of self.now.nodes.items))) }
     {
         self.numbers.get(namespace).copied()
     }
@@ -87,11 +86,11 @@ impl<'v> Drafts<'v> {
         number: Option<usize>,
         draft: Draft<'v>,
     ) -> Result<usize, AllocError>
-        requires new { defined_at (full_of name.now) (heads_of (drafts_of self.old.nodes.items)) ≡ None }
-        requires named { head_of (draft_of draft) ≡ Named (full_of name.now) }
+        requires new { defined_at name.now (heads_of (drafts_of self.old.nodes.items)) ≡ None }
+        requires named { head_of (draft_of draft) ≡ Named name.now }
         requires numbered { IsNumbered name.now number self.old.nodes.items }
         ensures nodes { OnOk result (self.new.nodes.items ≡ self.old.nodes.items ++ draft.entry ∷ []) }
-        ensures number { IfOk result (λ n. slice_get (namespaces_of (heads_of (drafts_of self.new.nodes.items))) n ≡ Some (namespace_of (full_of name.now))) }
+        ensures number { IfOk result (λ n. slice_get (namespaces_of (heads_of (drafts_of self.new.nodes.items))) n ≡ Some (namespace_of name.now)) }
     {
         match number {
             Some(number) => {
@@ -114,11 +113,12 @@ impl<'v> Drafts<'v> {
         name: &Name,
         draft: Draft<'v>,
     ) -> Result<(), AllocError>
-        requires new { defined_at (full_of name.now) (heads_of (drafts_of self.old.nodes.items)) ≡ None }
-        requires named { head_of (draft_of draft) ≡ Named (full_of name.now) }
-        requires numbered { slice_get (namespaces_of (heads_of (drafts_of self.old.nodes.items))) number ≡ Some (namespace_of (full_of name.now)) }
+        requires new { defined_at name.now (heads_of (drafts_of self.old.nodes.items)) ≡ None }
+        requires named { head_of (draft_of draft) ≡ Named name.now }
+        requires numbered { slice_get (namespaces_of (heads_of (drafts_of self.old.nodes.items))) number ≡ Some (namespace_of name.now) }
         ensures { OnOk result (self.new.nodes.items ≡ self.old.nodes.items ++ draft.entry ∷ []) }
     {
+        name.has_two_parts();
         let node = self.nodes.len();
         let last = String::from_str(alloc, name.last())?;
         self.nodes.push(draft)?;
@@ -138,10 +138,11 @@ impl<'v> Drafts<'v> {
         name: &Name,
         draft: Draft<'v>,
     ) -> Result<(), AllocError>
-        requires named { head_of (draft_of draft) ≡ Named (full_of name.now) }
-        requires first { number_of (namespace_of (full_of name.now)) (namespaces_of (heads_of (drafts_of self.old.nodes.items))) ≡ None }
+        requires named { head_of (draft_of draft) ≡ Named name.now }
+        requires first { place_of (namespace_of name.now) (namespaces_of (heads_of (drafts_of self.old.nodes.items))) ≡ None }
         ensures { OnOk result (self.new.nodes.items ≡ self.old.nodes.items ++ draft.entry ∷ []) }
     {
+        name.has_two_parts();
         let node = self.nodes.len();
         let number = self.scopes.len();
         let mut scope = BTreeMap::new(alloc);

@@ -1,16 +1,15 @@
 ghost use Rattle.std.specs.Prelude.{◌≡◌, IfOk, map, option_map};
 ghost use Rattle.std.specs.Option.{ok_or};
-ghost use Rattle.avro_schema.specs.Datum.{datum_of};
+ghost use Rattle.avro_types.specs.Datum.{datum_of};
 ghost use Rattle.avro_schema.specs.Defaults.{all_defaults, field_default, field_defaults, fields_with, node_defaults, node_with, nodes_with};
 ghost use Rattle.avro_schema.specs.Draft.{HaveFewSymbols, data_at, draft_field_of, draft_of, drafts_of};
 ghost use Rattle.avro_schema.specs.Fault.{Tells};
-ghost use Rattle.avro_schema.specs.Node.{fields_of, node_of, nodes_of};
+ghost use Rattle.avro_types.specs.Node.{fields_of, node_of, nodes_of};
 
-use crate::datum::Datum;
 use crate::defaults::default_at;
 use crate::draft::{Draft, DraftField};
 use crate::error::SchemaError;
-use crate::kind::{Field, Kind};
+use avro_types::{Datum, Field, Kind};
 use std::alloc::{AllocError, Global};
 
 /// The datum of a field's default, where it has one.

@@ -2,7 +2,7 @@ ghost use Rattle.std.specs.Prelude.{◌≡◌, ℕ, List, Some, Ok};
 ghost use Rattle.serde_json.specs.Data.{Data};
 ghost use Rattle.serde_json.specs.Read.{read};
 ghost use Rattle.avro_schema.specs.Declaring.{DeclaresNode};
-ghost use Rattle.avro_schema.specs.Node.{Node};
+ghost use Rattle.avro_types.specs.Node.{Node};
 ghost use Rattle.avro_schema.specs.Schema.{schema_of};
 ghost use Rattle.avro_schema.specs.Walk.{null_namespace};
 

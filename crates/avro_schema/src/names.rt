@@ -5,18 +5,17 @@ ghost use Rattle.serde_json.specs.Find.{as_str};
 ghost use Rattle.avro_schema.specs.Contract.{names_of};
 ghost use Rattle.avro_schema.specs.Draft.{data_at, drafts_of};
 ghost use Rattle.avro_schema.specs.Fault.{Tells};
-ghost use Rattle.avro_schema.specs.FullNames.{full_name, has_dot, inside, is_full_name, is_letter, is_letter_or_digit, is_name, is_namespace};
+ghost use Rattle.avro_types.specs.FullNames.{full_name, has_dot, inside, is_full_name, is_letter, is_letter_or_digit, is_name, is_namespace};
 ghost use Rattle.avro_schema.specs.Head.{defined_at, heads_of};
 ghost use Rattle.avro_schema.specs.Index.{IsNumbered, IsNamespaceOf};
 ghost use Rattle.avro_schema.specs.Names.{field_name, if_new, new_name, text_of};
-ghost use Rattle.avro_schema.specs.Node.{full_of};
 ghost use Rattle.avro_schema.specs.Word.{is_primitive, word_of};
 
 use crate::drafts::{Drafts, FieldList};
 use crate::error::SchemaError;
-use crate::name::Name;
 use crate::namespace::Namespace;
 use crate::word::Word;
+use avro_types::Name;
 use serde_json::Value;
 use std::alloc::Global;
 use std::sync::ArcStr;
@@ -112,8 +111,8 @@ fn inherited_name(
     requires known { IsNamespaceOf enclosing.now drafts.now.nodes.items }
     requires undotted { has_dot last.now ≡ false }
     ensures numbered { IfOk result (λ n. IsNumbered n.name n.number drafts.now.nodes.items) }
-    ensures name { Tells (λ n. full_of n.name) result (if_new (inside (arc_str_bytes enclosing.now.text) last.now) (heads_of (drafts_of drafts.now.nodes.items))) }
-    ensures new { IfOk result (λ n. defined_at (full_of n.name) (heads_of (drafts_of drafts.now.nodes.items)) ≡ None) }
+    ensures name { Tells (λ n. n.name) result (if_new (inside (arc_str_bytes enclosing.now.text) last.now) (heads_of (drafts_of drafts.now.nodes.items))) }
+    ensures new { IfOk result (λ n. defined_at (n.name) (heads_of (drafts_of drafts.now.nodes.items)) ≡ None) }
 {
     if !is_last_part(last) {
         return Err(SchemaError::BadName);
@@ -139,8 +138,8 @@ fn own_name(
 ) -> Result<NewName, SchemaError>
     requires undotted { has_dot last.now ≡ false }
     ensures numbered { IfOk result (λ n. IsNumbered n.name n.number drafts.now.nodes.items) }
-    ensures name { Tells (λ n. full_of n.name) result (if_new (inside namespace.now last.now) (heads_of (drafts_of drafts.now.nodes.items))) }
-    ensures new { IfOk result (λ n. defined_at (full_of n.name) (heads_of (drafts_of drafts.now.nodes.items)) ≡ None) }
+    ensures name { Tells (λ n. n.name) result (if_new (inside namespace.now last.now) (heads_of (drafts_of drafts.now.nodes.items))) }
+    ensures new { IfOk result (λ n. defined_at (n.name) (heads_of (drafts_of drafts.now.nodes.items)) ≡ None) }
 {
     if !is_namespace(namespace) || !is_last_part(last) {
         return Err(SchemaError::BadName);
@@ -165,8 +164,8 @@ pub(crate) fn new_name(
 ) -> Result<NewName, SchemaError>
     requires { IsNamespaceOf enclosing.now drafts.now.nodes.items }
     ensures numbered { IfOk result (λ n. IsNumbered n.name n.number drafts.now.nodes.items) }
-    ensures name { Tells (λ n. full_of n.name) result (new_name (data_at name.entry) (data_at namespace.entry) (arc_str_bytes enclosing.now.text) (heads_of (drafts_of drafts.now.nodes.items))) }
-    ensures new { IfOk result (λ n. defined_at (full_of n.name) (heads_of (drafts_of drafts.now.nodes.items)) ≡ None) }
+    ensures name { Tells (λ n. n.name) result (new_name (data_at name.entry) (data_at namespace.entry) (arc_str_bytes enclosing.now.text) (heads_of (drafts_of drafts.now.nodes.items))) }
+    ensures new { IfOk result (λ n. defined_at (n.name) (heads_of (drafts_of drafts.now.nodes.items)) ≡ None) }
 {
     let name = text_of(name)?;
     match name.rsplit_once('.') {

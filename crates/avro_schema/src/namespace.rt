@@ -1,9 +1,8 @@
 ghost use Rattle.std.specs.Prelude.{◌≡◌, [], IfOk, true};
 ghost use Rattle.std.specs.Arc.{arc_str_bytes};
-ghost use Rattle.avro_schema.specs.FullNames.{is_namespace, namespace_of};
-ghost use Rattle.avro_schema.specs.Node.{full_of};
+ghost use Rattle.avro_types.specs.FullNames.{is_namespace, namespace_of};
 
-use crate::name::Name;
+use avro_types::Name;
 use std::alloc::{AllocError, Global};
 use std::sync::ArcStr;
 
@@ -29,7 +28,7 @@ impl Namespace {
 
     /// The namespace of a name, under its number.
     pub(crate) fn of_name(name: &Name, number: usize) -> Result<Namespace, AllocError>
-        ensures text { IfOk result (λ s. arc_str_bytes s.text ≡ namespace_of (full_of name.now)) }
+        ensures text { IfOk result (λ s. arc_str_bytes s.text ≡ namespace_of name.now) }
         ensures number { IfOk result (λ s. s.number ≡ number) }
     {
         Ok(Namespace {

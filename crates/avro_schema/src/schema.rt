@@ -3,26 +3,23 @@ ghost use Rattle.std.specs.Option.{ok_or};
 ghost use Rattle.serde_json.specs.Data.{Data, depth};
 ghost use Rattle.serde_json.specs.Read.{read, max_depth};
 ghost use Rattle.serde_json.specs.View.{view};
-ghost use Rattle.avro_schema.specs.Conforming.{DefaultsConform};
+ghost use Rattle.avro_types.specs.Conforming.{DefaultsConform};
+ghost use Rattle.avro_types.specs.Node.{NodeIsWellFormed, node_of, nodes_of};
 ghost use Rattle.avro_schema.specs.Declaring.{DeclaresNode};
 ghost use Rattle.avro_schema.specs.Fault.{Tells};
-ghost use Rattle.avro_schema.specs.Node.{IsWellFormed, NodeIsWellFormed, node_of, nodes_of};
-ghost use Rattle.avro_schema.specs.Schema.{Parses, declared, most_text};
-ghost use Rattle.avro_schema.specs.Sizes.{DefaultsHaveSizesWithin};
+ghost use Rattle.avro_schema.specs.Schema.{Parses, declared};
 ghost use Rattle.avro_schema.specs.Walk.{null_namespace};
 
 use crate::drafts::Drafts;
 use crate::error::SchemaError;
 use crate::finishing::{all_defaults, nodes_with};
-use crate::kind::Kind;
 use crate::namespace::Namespace;
 use crate::numbers::has_float;
 use crate::walk::walk;
+use avro_types::{Kind, MOST_TEXT, Nodes};
 use serde_json::Value;
 use std::alloc::Global;
 use std::marker::Model;
-
-const MOST_TEXT: usize = 262_144;
 
 /// A schema: its compact text, and its nodes.
 ///
@@ -31,23 +28,22 @@ const MOST_TEXT: usize = 262_144;
 #[derive(Debug, Drop)]
 pub struct Schema {
     text: String,
-    nodes: Vec<Kind>,
+    nodes: Nodes,
 }
 
 impl Model for Schema {
     ghost use Rattle.std.specs.Prelude.{string_bytes};
-    ghost use Rattle.avro_schema.specs.Node.{Declaration, nodes_of};
-    ghost use Rattle.avro_schema.specs.Schema.{Declares};
-    ghost use Rattle.avro_schema.specs.DatumCode.{datum_coded};
+    ghost use Rattle.avro_types.specs.DatumCode.{datum_coded};
+    ghost use Rattle.avro_schema.specs.Schema.{Declaration, Declares};
     ghost use Rattle.std.specs.Coded.{codes};
 
     ghost Value = { Declaration };
 
     ghost coded = { Prim.hlevel (codes, datum_coded) };
 
-    ghost view = { λ s. record { text = string_bytes s.text; nodes = nodes_of s.nodes.items } };
+    ghost view = { λ s. record { text = string_bytes s.text; nodes = s.nodes } };
 
-    ghost invariant = { λ s. Declares (string_bytes s.text) (nodes_of s.nodes.items) };
+    ghost invariant = { λ s. Declares (string_bytes s.text) s.nodes };
 }
 
 impl Schema {
@@ -62,9 +58,12 @@ impl Schema {
         if has_float(&value) {
             return Err(SchemaError::BadNumber);
         }
-        let nodes = nodes_in(alloc, &value)?;
+        let kinds = kinds_in(alloc, &value)?;
         let text = value.to_string(alloc)?;
-        Ok(Schema { text, nodes })
+        Ok(Schema {
+            text,
+            nodes: Nodes::new(kinds),
+        })
     }
 
     /// Its compact JSON text: no spaces, the keys of each object sorted.
@@ -87,29 +86,14 @@ impl Schema {
         ensures kind { slice_get self.now.nodes node ≡ Some (node_of result.now) }
         ensures well_formed { NodeIsWellFormed self.now.nodes node (node_of result.now) }
     {
-        &self.nodes[node]
+        self.nodes.kind(node)
     }
 
-    /// The law that nodes name nodes of the same schema, the root is one, and the fields of a record have distinct names.
-    pub fn is_well_formed(&self)
-        ensures { IsWellFormed self.now.nodes }
+    /// Its nodes.
+    pub fn nodes(&self) -> &Nodes
+        ensures { result.now ≡ self.now.nodes }
     {
-        let _opened = &self.nodes;
-    }
-
-    /// The law that each default of a field is of the field's type.
-    pub fn defaults_conform(&self)
-        ensures { DefaultsConform self.now.nodes }
-    {
-        let _opened = &self.nodes;
-    }
-
-    /// The law that no text, byte string or key in a default is longer, and no array or map in it of more items, than the
-    /// text of a schema may have bytes.
-    pub fn defaults_are_short(&self)
-        ensures { DefaultsHaveSizesWithin most_text most_text self.now.nodes }
-    {
-        let _opened = &self.nodes;
+        &self.nodes
     }
 
     /// The law that the root is what the JSON value of its text declares.
@@ -120,10 +104,10 @@ impl Schema {
     }
 }
 
-/// The nodes that a JSON value declares.
-fn nodes_in(alloc: Global, value: &Value) -> Result<Vec<Kind>, SchemaError>
-    ensures declared { Tells (λ v. nodes_of v.items) result (declared (view value.now)) }
-    ensures defaults { IfOk result (λ v. DefaultsConform (nodes_of v.items)) }
+/// What the nodes are that a JSON value declares.
+fn kinds_in(alloc: Global, value: &Value) -> Result<Vec<Kind>, SchemaError>
+    ensures declared { Tells (λ kinds. nodes_of kinds.items) result (declared (view value.now)) }
+    ensures defaults { IfOk result (λ kinds. DefaultsConform (nodes_of kinds.items)) }
 {
     let mut drafts = Drafts::new(alloc)?;
     let enclosing = Namespace::null(alloc)?;

@@ -4,19 +4,14 @@ ghost use Rattle.serde_json.specs.View.{items_view};
 ghost use Rattle.avro_schema.specs.Attributes.{default_symbol, size_of, symbols_of, texts_in, texts_of};
 ghost use Rattle.avro_schema.specs.Draft.{data_at};
 ghost use Rattle.avro_schema.specs.Fault.{Tells};
-ghost use Rattle.avro_schema.specs.FullNames.{is_name};
-ghost use Rattle.avro_schema.specs.Node.{symbols_in};
-ghost use Rattle.avro_schema.specs.SymbolIndex.{are_distinct};
+ghost use Rattle.avro_types.specs.FullNames.{is_name};
+ghost use Rattle.avro_types.specs.Symbols.{are_distinct};
 
 use crate::error::SchemaError;
 use crate::names::{is_name, text_of};
-use crate::symbols::Symbols;
+use avro_types::{MOST_FIXED, MOST_SYMBOLS, Symbols};
 use serde_json::Value;
 use std::alloc::Global;
-
-const MOST_SYMBOLS: usize = 4096;
-
-const MOST_FIXED: u64 = 1_048_576;
 
 /// The texts that some values are.
 fn texts_in(alloc: Global, items: &[Value]) -> Result<Vec<String>, SchemaError>
@@ -50,7 +45,7 @@ fn are_names(texts: &[String]) -> bool
 /// Texts as symbols, which are names, and each another.
 #[tactic(auto, using(crate::proofs::Texts::all_names))]
 fn as_symbols(alloc: Global, texts: Vec<String>) -> Result<Symbols, SchemaError>
-    ensures { Tells symbols_in result (if list_all is_name (map string_bytes texts.items) && are_distinct (map string_bytes texts.items) then Ok (map string_bytes texts.items) else Err SchemaError.BadSymbols) }
+    ensures { Tells (λ s. s) result (if list_all is_name (map string_bytes texts.items) && are_distinct (map string_bytes texts.items) then Ok (map string_bytes texts.items) else Err SchemaError.BadSymbols) }
 {
     if !are_names(&texts) {
         return Err(SchemaError::BadSymbols);
@@ -64,8 +59,8 @@ fn as_symbols(alloc: Global, texts: Vec<String>) -> Result<Symbols, SchemaError>
 /// The symbols of an enum.
 #[tactic(auto, unfolding(crate::specs::Attributes::symbols_of))]
 pub(crate) fn symbols_of(alloc: Global, value: Option<&Value>) -> Result<Symbols, SchemaError>
-    ensures symbols { Tells symbols_in result (symbols_of (data_at value.entry)) }
-    ensures few { IfOk result (λ s. length (symbols_in s) ≤ MOST_SYMBOLS) }
+    ensures symbols { Tells (λ s. s) result (symbols_of (data_at value.entry)) }
+    ensures few { IfOk result (λ s. length (s) ≤ MOST_SYMBOLS) }
 {
     let symbols = as_symbols(alloc, texts_of(alloc, value)?)?;
     if symbols.len() > MOST_SYMBOLS {
@@ -79,8 +74,8 @@ pub(crate) fn default_symbol(
     symbols: &Symbols,
     value: Option<&Value>,
 ) -> Result<Option<u32>, SchemaError>
-    requires { length (symbols_in symbols.now) ≤ MOST_SYMBOLS }
-    ensures { Tells (λ n. n) result (default_symbol (symbols_in symbols.now) (data_at value.entry)) }
+    requires { length (symbols.now) ≤ MOST_SYMBOLS }
+    ensures { Tells (λ n. n) result (default_symbol (symbols.now) (data_at value.entry)) }
 {
     if value.is_none() {
         return Ok(None);
@@ -102,7 +97,7 @@ pub(crate) fn size_of(value: Option<&Value>) -> Result<usize, SchemaError>
     let Some(size) = value.as_u64() else {
         return Err(SchemaError::BadNumber);
     };
-    if size > MOST_FIXED {
+    if size > MOST_FIXED as u64 {
         return Err(SchemaError::TooLarge);
     }
     Ok(size as usize)

@@ -7,7 +7,7 @@ ghost use Rattle.avro_schema.specs.Walk.{are_apart, head_at};
 
 use crate::draft::Draft;
 use crate::drafts::Drafts;
-use crate::kind::Kind;
+use avro_types::Kind;
 use std::alloc::{AllocError, Global};
 use std::collections::BTreeSet;
 

@@ -6,24 +6,20 @@ ghost use Rattle.avro_schema.specs.Contract.{Walks, names_of, object_as, object_
 ghost use Rattle.avro_schema.specs.Draft.{Whole, data_at, draft_field_of};
 ghost use Rattle.avro_schema.specs.Head.{IsUnnamed, head_of_node};
 ghost use Rattle.avro_schema.specs.Index.{IsNamespaceOf};
-ghost use Rattle.avro_schema.specs.Node.{node_of};
+ghost use Rattle.avro_types.specs.Node.{node_of};
 ghost use Rattle.avro_schema.specs.Walk.{leaf, reference, named, walk, members, if_room, union_of, or_unknown, fields, fields_after, field};
 
 use crate::draft::{Draft, DraftField};
 use crate::drafts::{Drafts, FieldList};
 use crate::error::SchemaError;
-use crate::kind::Kind;
 use crate::names::{defined_node, field_name, new_name};
 use crate::namespace::Namespace;
 use crate::type_attributes::{default_symbol, size_of, symbols_of};
 use crate::unions::are_apart;
 use crate::word::{Form, Word};
+use avro_types::{Kind, MOST_FIELDS, MOST_NODES};
 use serde_json::Value;
 use std::alloc::Global;
-
-const MOST_NODES: usize = 1024;
-
-const MOST_FIELDS: usize = 1024;
 
 /// The new node of a kind that holds no others.
 fn walk_leaf(kind: Kind, drafts: &mut Drafts) -> Result<usize, SchemaError>

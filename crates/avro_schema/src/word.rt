@@ -1,9 +1,9 @@
 ghost use Rattle.std.specs.Prelude.{◌≡◌, option_map};
 ghost use Rattle.avro_schema.specs.Draft.{data_at};
-ghost use Rattle.avro_schema.specs.Node.{node_of};
+ghost use Rattle.avro_types.specs.Node.{node_of};
 ghost use Rattle.avro_schema.specs.Word.{word_of, leaf_of, is_left_out, is_primitive, form_of, form_of_word};
 
-use crate::kind::Kind;
+use avro_types::Kind;
 use serde_json::Value;
 
 /// A word that names a type.

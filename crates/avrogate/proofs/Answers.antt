@@ -1,6 +1,6 @@
 -- Answers to lines, one after the other.
 use Rattle.std.proofs.Common.{◌≡◌, ℕ, List, [], ◌∷◌, ◌++◌, refl, sym, ap, ◌∙◌, append_assoc, append-nil}
-use Rattle.avro_schema.specs.Node.{Node}
+use Rattle.avro_types.specs.Node.{Node}
 use Rattle.avrogate.specs.Answer.{IsAnswer, IsAnswers}
 
 pub no_answers : (W R : List Node) → IsAnswers W R [] []

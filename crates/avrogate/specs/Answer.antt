@@ -3,10 +3,11 @@ use Rattle.std.specs.Prelude.{◌≡◌, ℕ, List, [], ◌∷◌, ◌++◌, len
 use Rattle.std.specs.Fmt.{decimal}
 use Rattle.hex.specs.Hex.{encode_lower}
 use Rattle.avro_bytes.specs.MalformedKind as malformed
-use Rattle.avro_schema.specs.Node.{Node}
-use Rattle.resolver.specs.MismatchKind as mismatch
-use Rattle.resolver.specs.Outcome.{Outcome, Done, Mismatched, Malformed, OutputTooLarge, IsOutcome}
-use Rattle.resolver.specs.declared.outcome.TheConstants.{MOST_PAYLOAD}
+use Rattle.avro_types.specs.Node.{Node}
+use Rattle.outcome.specs.MismatchKind as mismatch
+use Rattle.outcome.specs.Outcome.{Outcome, Done, Mismatched, Malformed, OutputTooLarge}
+use Rattle.resolver.specs.Outcome.{IsOutcome}
+use Rattle.outcome.specs.declared.limits.TheConstants.{MOST_PAYLOAD}
 use Rattle.avrogate.specs.Payload.{payload_of}
 
 -- bytes in hexadecimal, in lower case, and `-` for none

@@ -2,7 +2,7 @@
 use Rattle.std.specs.Prelude.{◌≡◌, ℕ, List, [], ◌∷◌, ◌++◌, codes, drop, slice_index_or, if◌then◌else◌, Result, Ok, Err}
 use Rattle.std.specs.Fmt.{decimal}
 use Rattle.std.specs.Str.{is_utf8}
-use Rattle.avro_schema.specs.Node.{Node}
+use Rattle.avro_types.specs.Node.{Node}
 use Rattle.avro_schema.specs.Schema.{schema_of}
 use Rattle.avro_schema.specs.SchemaError.{name_of}
 use Rattle.avro_schema.specs.declared.error.SchemaError.{SchemaError}

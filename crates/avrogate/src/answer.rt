@@ -1,9 +1,9 @@
 ghost use Rattle.std.specs.Prelude.{◌≡◌, ◌++◌, ℕ, List, false, string_bytes, OnOk};
-ghost use Rattle.resolver.specs.Outcome.{outcome_of};
+ghost use Rattle.outcome.specs.Outcome.{outcome_of};
 ghost use Rattle.avrogate.specs.Answer.{IsAnswer, IsPayloadAnswer, hex_of, line_of};
 
 use crate::payload::payload_of;
-use avro_schema::Schema;
+use avro_types::Nodes;
 use resolver::{Outcome, TranscodeError, transcode_tree};
 use std::alloc::{AllocError, Global};
 use std::fmt::Write;
@@ -48,12 +48,12 @@ pub(crate) fn push_outcome(
 /// Appends the answer to a payload, without its LF.
 pub(crate) fn push_payload_answer(
     alloc: Global,
-    writer: &Schema,
-    reader: &Schema,
+    writer: &Nodes,
+    reader: &Nodes,
     payload: &[u8],
     output: &mut String,
 ) -> Result<(), AllocError>
-    ensures { OnOk result ((answer : List ℕ) × IsPayloadAnswer writer.now.nodes reader.now.nodes answer payload.now
+    ensures { OnOk result ((answer : List ℕ) × IsPayloadAnswer writer.now reader.now answer payload.now
         × (string_bytes output.new ≡ string_bytes output.old ++ answer)) }
 {
     match transcode_tree(alloc, writer, reader, payload) {
@@ -66,12 +66,12 @@ pub(crate) fn push_payload_answer(
 /// Appends the answer to a line, without its LF.
 pub(crate) fn push_answer(
     alloc: Global,
-    writer: &Schema,
-    reader: &Schema,
+    writer: &Nodes,
+    reader: &Nodes,
     line: &[u8],
     output: &mut String,
 ) -> Result<(), AllocError>
-    ensures { OnOk result ((answer : List ℕ) × IsAnswer writer.now.nodes reader.now.nodes line.now answer
+    ensures { OnOk result ((answer : List ℕ) × IsAnswer writer.now reader.now line.now answer
         × (string_bytes output.new ≡ string_bytes output.old ++ answer)) }
 {
     match payload_of(alloc, line)? {

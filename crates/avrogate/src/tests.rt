@@ -443,7 +443,7 @@ fn measures_payloads(rt: HostRuntime) -> Result<(), Fail> {
     for (len, answer) in table {
         let payload = vec![in alloc; 0u8; len]?;
         let mut output = String::new(alloc);
-        push_payload_answer(alloc, &long, &long, &payload, &mut output)?;
+        push_payload_answer(alloc, long.nodes(), long.nodes(), &payload, &mut output)?;
         assert_eq!(rt; output.as_str(), answer, "at {len}");
     }
     Ok(())

@@ -8,6 +8,7 @@ ghost use Rattle.avrogate.specs.declared.command.Verb.TheVariants.{Transcode};
 use crate::answer::push_answer;
 use crate::lines::{split_line, split_line_or_empty};
 use avro_schema::{Schema, SchemaError};
+use avro_types::Nodes;
 use std::alloc::{AllocError, Global};
 
 /// The schema of a line.
@@ -37,11 +38,11 @@ fn bad_schema(alloc: Global, number: u8, error: SchemaError) -> Result<(String, 
 /// The answers to payload lines.
 fn answers(
     alloc: Global,
-    writer: &Schema,
-    reader: &Schema,
+    writer: &Nodes,
+    reader: &Nodes,
     payloads: &[u8],
 ) -> Result<String, AllocError>
-    ensures { IfOk result (λ output. IsAnswers writer.now.nodes reader.now.nodes (lines payloads.now) (string_bytes output)) }
+    ensures { IfOk result (λ output. IsAnswers writer.now reader.now (lines payloads.now) (string_bytes output)) }
 {
     let mut output = String::new(alloc);
     let mut rest = payloads;
@@ -67,5 +68,5 @@ pub(crate) fn transcode(alloc: Global, input: &[u8]) -> Result<(String, u8), All
         Ok(schema) => schema,
         Err(error) => return bad_schema(alloc, 2, error),
     };
-    Ok((answers(alloc, &writer, &reader, payloads)?, 0))
+    Ok((answers(alloc, writer.nodes(), reader.nodes(), payloads)?, 0))
 }

@@ -1,12 +1,12 @@
 -- An answer is written as what is resolved, and that conforms and can be written.
 use Rattle.std.proofs.Common.{◌≤◌, ℕ, List, lit≤, sym, subst, arith}
 use Rattle.avro_bytes.specs.declared.text.TheConstants.{LONGEST}
-use Rattle.avro_schema.specs.Conforming.{Conforms}
-use Rattle.avro_schema.specs.Datum.{Datum}
-use Rattle.avro_schema.specs.Node.{Node, IsWellFormed}
-use Rattle.avro_schema.specs.Schema.{most_text}
-use Rattle.avro_schema.specs.Sizes.{DefaultsHaveSizesWithin}
-use Rattle.avro_schema.proofs.LargerSizes.{defaults-within}
+use Rattle.avro_types.specs.Conforming.{Conforms}
+use Rattle.avro_types.specs.Datum.{Datum}
+use Rattle.avro_types.specs.Node.{Node, IsWellFormed}
+use Rattle.avro_types.specs.declared.limits.TheConstants.{MOST_TEXT}
+use Rattle.avro_types.specs.Sizes.{DefaultsHaveSizesWithin}
+use Rattle.avro_types.specs.Laws.LargerSizes.{defaults-within}
 use Rattle.avro_datum.specs.Conforming.{IsWritable, most_items}
 use Rattle.avro_datum.specs.Spelling.{Spells, units_of}
 use Rattle.avro_datum.specs.Writing.{written}
@@ -22,9 +22,9 @@ CanBeWritten = (nodes : List Node) (node : ℕ) (d : Datum) (bytes : List ℕ) �
 abbrev AreWritten : Type 0
 AreWritten = (nodes : List Node) (node : ℕ) (d : Datum) → IsWellFormed nodes → Conforms nodes node d → IsWritable d → Spells nodes node d (written d)
 
-pub answers_spelled : (W R : List Node) → IsWellFormed R → DefaultsHaveSizesWithin most_text most_text R → ResolutionIsWhole W R → AreOfType → CanBeWritten → AreWritten → AnswersAreSpelled W R
+pub answers_spelled : (W R : List Node) → IsWellFormed R → DefaultsHaveSizesWithin MOST_TEXT MOST_TEXT R → ResolutionIsWhole W R → AreOfType → CanBeWritten → AreWritten → AnswersAreSpelled W R
 answers_spelled W R formed within whole of_type writable spells payload bytes o =
     let e = whole 0 0 o.0 o.1 (of_type W 0 o.0 payload o.2.spelled) o.3 in
     let d = writable W 0 o.0 payload o.2.spelled (omega (arith, o.2.fits.1)) in
-    let defaults = defaults-within most_text most_text LONGEST most_items (lit≤ tt) (lit≤ tt) R within in
+    let defaults = defaults-within MOST_TEXT MOST_TEXT LONGEST most_items (lit≤ tt) (lit≤ tt) R within in
     (o.0, o.1, o.2, o.3, e, subst (Spells R 0 o.1) (sym o.4) (spells R 0 o.1 formed e (datum_writable W R defaults o.0 0 0 o.1 d o.3)))

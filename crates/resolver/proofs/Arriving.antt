@@ -4,9 +4,9 @@ use Rattle.std.specs.List.{AllByRecursion}
 use Rattle.std.specs.Str.{bytes_eq}
 use Rattle.std.proofs.lemmas.Map.Keys.{IsDistinct-head, IsDistinct-tail}
 use Rattle.std.proofs.lemmas.Slice.Eq.{bytes_eq-Decides}
-use Rattle.avro_schema.specs.Node.{Node, FieldNode, HaveDistinctNames}
-use Rattle.avro_schema.specs.Datum.{Datum, Data, no_more, more}
-use Rattle.avro_schema.specs.Conforming.{Conforms, ConformsEach}
+use Rattle.avro_types.specs.Node.{Node, FieldNode, HaveDistinctNames}
+use Rattle.avro_types.specs.Datum.{Datum, Data, no_more, more}
+use Rattle.avro_types.specs.Conforming.{Conforms, ConformsEach}
 use Rattle.resolver.specs.Matching.{given}
 use Rattle.resolver.specs.Resolution.{Resolved, ◌>>=◌, Came, came_as, or_else, field_named, lacks, lacking, gathered, resolved, resolved_fields}
 use Rattle.resolver.proofs.Slots.{names, apart}

@@ -1,6 +1,6 @@
 -- Matching is the rule: items and values come later or are of named types, so the steps suffice.
 use Rattle.std.proofs.Common.{◌≡◌, ℕ, zero, suc, ◌+◌, ◌≤◌, Bool, true, false, ◌||◌, List, [], ◌∷◌, length, Option, Some, None, refl, sym, ap, subst, ◌∙◌, inl, inr, slice_get, arith}
-use Rattle.avro_schema.specs.Node.{Node, NullNode, BooleanNode, IntNode, LongNode, BytesNode, TextNode, FixedNode, EnumNode, ArrayNode, MapNode, UnionNode, RecordNode, HoldsItem, IsWellFormed, NodeIsWellFormed, is_array_or_map}
+use Rattle.avro_types.specs.Node.{Node, NullNode, BooleanNode, IntNode, LongNode, BytesNode, TextNode, FixedNode, EnumNode, ArrayNode, MapNode, UnionNode, RecordNode, HoldsItem, IsWellFormed, NodeIsWellFormed, is_array_or_map}
 use Rattle.resolver.specs.Matching.{MatchesByRule, both_items, both_match, both_values, given, kinds_match, matches, matches_within, rule}
 
 -- the item of an array or the value of a map

@@ -4,7 +4,7 @@ use Rattle.std.proofs.lemmas.List.{take-append-le, take_more, length-append}
 use Rattle.std.proofs.Math.Seq.{take-length}
 use Rattle.resolver.specs.Pairs.{Listed, Adds, AddsAll}
 use Rattle.std.specs.List.{AllByRecursion}
-use Rattle.avro_schema.specs.Node.{Node}
+use Rattle.avro_types.specs.Node.{Node}
 use Rattle.resolver.specs.Safety.{Pair, Among, Reached, root, step, IsSafe, next_pairs, is_bad}
 
 -- good, and all that comes next is there

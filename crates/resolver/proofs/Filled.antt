@@ -1,9 +1,9 @@
 -- The loop that fills the slots: what is done, before what is left.
 use Rattle.std.proofs.Common.{◌≡◌, ◌⊎◌, inl, inr, List, [], ◌∷◌, ◌++◌, length, option_map, Option, Some, refl, sym, ap, ◌∙◌}
-use Rattle.avro_schema.specs.declared.datum.Datum as rust
-use Rattle.avro_schema.specs.declared.kind.Field.{Field}
-use Rattle.avro_schema.specs.Node.{FieldNode, field_of, fields_of}
-use Rattle.avro_schema.specs.Datum.{Datum, Data, no_more, more, datum_of, data_of}
+use Rattle.avro_types.specs.declared.datum.Datum as rust
+use Rattle.avro_types.specs.declared.kind.Field.{Field}
+use Rattle.avro_types.specs.Node.{FieldNode, field_of, fields_of}
+use Rattle.avro_types.specs.Datum.{Datum, Data, no_more, more, datum_of, data_of}
 use Rattle.resolver.specs.Matching.{given}
 use Rattle.resolver.specs.Resolution.{or_else}
 use Rattle.resolver.specs.Steps.{filled, slots_of}

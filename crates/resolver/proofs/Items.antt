@@ -1,9 +1,9 @@
 -- The loops over items and values: what is done, before what is left.
 use Rattle.std.proofs.Common.{◌≡◌, ℕ, List, [], ◌∷◌, ◌++◌, length, Ok, Err, refl, sym, ap, ◌∙◌, arith, String, Global, string_bytes}
 use Rattle.std.specs.Global.{Vec}
-use Rattle.avro_schema.specs.declared.datum.Datum as rust
-use Rattle.avro_schema.specs.Node.{Node}
-use Rattle.avro_schema.specs.Datum.{Datum, Data, Pairs, no_more, more, no_pairs, pair, datum_of, data_of, pairs_of}
+use Rattle.avro_types.specs.declared.datum.Datum as rust
+use Rattle.avro_types.specs.Node.{Node}
+use Rattle.avro_types.specs.Datum.{Datum, Data, Pairs, no_more, more, no_pairs, pair, datum_of, data_of, pairs_of}
 use Rattle.resolver.specs.declared.mismatch.ResolveError.{ResolveError}
 use Rattle.resolver.specs.declared.mismatch.ResolveError.TheVariants as errors
 use Rattle.resolver.specs.Resolution.{Resolved, ◌>>=◌, Resolves, resolved, resolved_items, resolved_values}

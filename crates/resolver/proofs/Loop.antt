@@ -1,10 +1,10 @@
 -- The loop over the writer's fields, on the program's own values.
 use Rattle.std.proofs.Common.{◌≡◌, ℕ, zero, suc, ◌⊎◌, inl, inr, List, [], ◌∷◌, length, map, slice_set, position, option_map, Option, Some, None, IfSome, Ok, Err, refl, ap, arith}
 use Rattle.std.specs.Global.{Vec}
-use Rattle.avro_schema.specs.declared.datum.Datum as rust
-use Rattle.avro_schema.specs.declared.kind.Field.{Field}
-use Rattle.avro_schema.specs.Node.{Node, HaveDistinctNames, field_of, fields_of}
-use Rattle.avro_schema.specs.Datum.{Datum, more, datum_of, data_of}
+use Rattle.avro_types.specs.declared.datum.Datum as rust
+use Rattle.avro_types.specs.declared.kind.Field.{Field}
+use Rattle.avro_types.specs.Node.{Node, HaveDistinctNames, field_of, fields_of}
+use Rattle.avro_types.specs.Datum.{Datum, more, datum_of, data_of}
 use Rattle.resolver.specs.declared.mismatch.ResolveError.{ResolveError}
 use Rattle.resolver.specs.declared.mismatch.ResolveError.TheVariants as errors
 use Rattle.resolver.specs.Resolution.{Resolved, Resolves, resolved_fields}

@@ -6,8 +6,8 @@ use Rattle.std.proofs.lemmas.List.{get_or_default}
 use Rattle.std.proofs.lemmas.List.Quantifiers.{position-Some}
 use Rattle.std.proofs.lemmas.List.Sums.{fails_before_first}
 use Rattle.std.specs.List.{position_or_len}
-use Rattle.avro_schema.specs.declared.kind.Field.{Field}
-use Rattle.avro_schema.specs.Node.{FieldNode, field_of, fields_of}
+use Rattle.avro_types.specs.declared.kind.Field.{Field}
+use Rattle.avro_types.specs.Node.{FieldNode, field_of, fields_of}
 use Rattle.resolver.specs.Resolution.{field_named, lacking, lacks}
 use Rattle.resolver.specs.Steps.{is_named}
 

@@ -3,13 +3,14 @@ use Rattle.std.proofs.Common.{◌≡◌, ℕ, List, length, Ok, Err, refl, sym, 
 use Rattle.std.proofs.lemmas.Bool.{cases_lt, lt-ltb, le-ltb}
 use Rattle.std.specs.Prelude.{nat_lt, if◌then◌else◌}
 use Rattle.avro_bytes.specs.declared.fault.MalformedKind.{MalformedKind}
-use Rattle.avro_schema.specs.Datum.{Datum}
-use Rattle.avro_schema.specs.Node.{Node}
+use Rattle.avro_types.specs.Datum.{Datum}
+use Rattle.avro_types.specs.Node.{Node}
 use Rattle.avro_datum.specs.Fault.{FirstFault}
 use Rattle.avro_datum.specs.Payload.{IsPayload}
 use Rattle.avro_datum.specs.Writing.{written}
-use Rattle.resolver.specs.declared.mismatch.Mismatch.{Mismatch}
-use Rattle.resolver.specs.Outcome.{Outcome, Done, Mismatched, Malformed, OutputTooLarge, IsOutcome}
+use Rattle.outcome.specs.declared.mismatch.Mismatch.{Mismatch}
+use Rattle.outcome.specs.Outcome.{Outcome, Done, Mismatched, Malformed, OutputTooLarge}
+use Rattle.resolver.specs.Outcome.{IsOutcome}
 use Rattle.resolver.specs.Resolution.{Resolved, resolved}
 
 -- what is told of a datum, by what resolution makes of it

@@ -3,9 +3,9 @@ use Rattle.std.proofs.Common.{◌≡◌, ℕ, ◌⊎◌, inl, inr, List, [], ◌
 use Rattle.std.proofs.lemmas.List.{length-set}
 use Rattle.std.specs.Str.{bytes_eq}
 use Rattle.std.proofs.lemmas.Map.Keys.{IsDistinct-head, IsDistinct-tail}
-use Rattle.avro_schema.specs.Node.{Node, FieldNode, HaveDistinctNames}
-use Rattle.avro_schema.specs.Datum.{Datum, Data, no_more, more}
-use Rattle.resolver.specs.declared.mismatch.Mismatch.{Mismatch}
+use Rattle.avro_types.specs.Node.{Node, FieldNode, HaveDistinctNames}
+use Rattle.avro_types.specs.Datum.{Datum, Data, no_more, more}
+use Rattle.outcome.specs.declared.mismatch.Mismatch.{Mismatch}
 use Rattle.resolver.specs.Resolution.{Resolved, ◌>>=◌, Came, field_named, resolved, resolved_fields}
 use Rattle.resolver.specs.Matching.{given}
 use Rattle.resolver.specs.Steps.{AreFields, slots_from, into_slots, kept, one_field}

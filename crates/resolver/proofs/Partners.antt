@@ -1,7 +1,7 @@
 -- Which nodes of the reader match a node of the writer, where that is no union.
 use Rattle.std.proofs.Common.{◌≡◌, ℕ, Bool, true, false, ◌==◌, ◌&&◌, ◌||◌, List, Option, Some, None, refl, sym, ap, ◌∙◌, ◌⊎◌, inl, inr, slice_get, length, arith}
 use Rattle.std.proofs.lemmas.Bool.Decides.{nat_tests}
-use Rattle.avro_schema.specs.Node.{Node, FieldNode, NullNode, BooleanNode, IntNode, LongNode, BytesNode, TextNode, FixedNode, EnumNode, ArrayNode, MapNode, UnionNode, RecordNode, is_union}
+use Rattle.avro_types.specs.Node.{Node, FieldNode, NullNode, BooleanNode, IntNode, LongNode, BytesNode, TextNode, FixedNode, EnumNode, ArrayNode, MapNode, UnionNode, RecordNode, is_union}
 use Rattle.resolver.specs.Matching.{both_match, have_same_name, matches, matches_within}
 
 -- what a reader's node is that matches a writer's

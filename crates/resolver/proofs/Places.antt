@@ -1,9 +1,9 @@
 -- What a value in its place is.
 use Rattle.std.proofs.Common.{◌≡◌, ℕ, zero, suc, ◌+◌, Bool, true, false, cond, List, [], ◌∷◌, slice_get, Option, Some, None, Ok, Err, refl, sym, ap, subst, ◌∙◌, arith}
 use Rattle.std.specs.List.{AllByRecursion}
-use Rattle.avro_schema.specs.Node.{Node, NullNode, BooleanNode, IntNode, LongNode, BytesNode, TextNode, FixedNode, EnumNode, ArrayNode, MapNode, UnionNode, RecordNode, IsMember, IsWellFormed, is_union}
-use Rattle.avro_schema.specs.Datum.{Datum, UnionDatum}
-use Rattle.avro_schema.specs.Conforming.{Conforms}
+use Rattle.avro_types.specs.Node.{Node, NullNode, BooleanNode, IntNode, LongNode, BytesNode, TextNode, FixedNode, EnumNode, ArrayNode, MapNode, UnionNode, RecordNode, IsMember, IsWellFormed, is_union}
+use Rattle.avro_types.specs.Datum.{Datum, UnionDatum}
+use Rattle.avro_types.specs.Conforming.{Conforms}
 use Rattle.resolver.specs.declared.place.Place.{Place}
 use Rattle.resolver.specs.declared.place.Place.TheVariants.{Straight, IntoMember, Nowhere, Unmatched}
 use Rattle.resolver.specs.Matching.{first_member, matches, place, place_at}

@@ -5,9 +5,9 @@ use Rattle.std.specs.Str.{bytes_eq}
 use Rattle.std.proofs.lemmas.Map.Keys.{IsDistinct-head, IsDistinct-tail}
 use Rattle.std.proofs.lemmas.Slice.Eq.{bytes_eq-Decides}
 use Rattle.std.proofs.lemmas.List.Quantifiers.{position-Some}
-use Rattle.avro_schema.specs.declared.kind.Field.{Field}
-use Rattle.avro_schema.specs.Node.{FieldNode, HaveDistinctNames, field_of, fields_of}
-use Rattle.avro_schema.specs.Datum.{Datum, Data, more}
+use Rattle.avro_types.specs.declared.kind.Field.{Field}
+use Rattle.avro_types.specs.Node.{FieldNode, HaveDistinctNames, field_of, fields_of}
+use Rattle.avro_types.specs.Datum.{Datum, Data, more}
 use Rattle.resolver.specs.Resolution.{Came, came_as, gathered, or_else}
 use Rattle.resolver.specs.Matching.{given}
 use Rattle.resolver.specs.Steps.{filled, is_named, slots_from}

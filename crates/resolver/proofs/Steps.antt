@@ -1,12 +1,12 @@
 -- What one step of resolution makes of a datum.
 use Rattle.std.proofs.Common.{◌≡◌, ℕ, zero, suc, ◌<◌, List, [], ◌∷◌, length, get_or, slice_get, position, option_map, Option, Some, None, Result, Ok, Err, refl, sym, ap, ◌∙◌, arith, String, Global, Box}
 use Rattle.std.specs.Global.{Vec}
-use Rattle.avro_schema.specs.declared.datum.Datum as rust
-use Rattle.avro_schema.specs.declared.kind.Field.{Field}
-use Rattle.avro_schema.specs.Node.{Node, FieldNode, FieldsBelow, field_of, fields_of}
-use Rattle.avro_schema.specs.Datum.{Datum, Data, Pairs, ArrayDatum, MapDatum, RecordDatum, datum_of, data_of, pairs_of}
-use Rattle.avro_schema.proofs.DatumOf.{datum_of-Array, datum_of-Map, datum_of-Record}
-use Rattle.resolver.specs.declared.mismatch.MismatchKind.TheVariants.{NoMatch}
+use Rattle.avro_types.specs.declared.datum.Datum as rust
+use Rattle.avro_types.specs.declared.kind.Field.{Field}
+use Rattle.avro_types.specs.Node.{Node, FieldNode, FieldsBelow, field_of, fields_of}
+use Rattle.avro_types.specs.Datum.{Datum, Data, Pairs, ArrayDatum, MapDatum, RecordDatum, datum_of, data_of, pairs_of}
+use Rattle.avro_types.specs.Laws.DatumOf.{datum_of-Array, datum_of-Map, datum_of-Record}
+use Rattle.outcome.specs.declared.mismatch.MismatchKind.TheVariants.{NoMatch}
 use Rattle.resolver.specs.declared.mismatch.ResolveError.{ResolveError}
 use Rattle.resolver.specs.declared.mismatch.ResolveError.TheVariants as errors
 use Rattle.resolver.specs.Matching.{given, both_items, both_values, place}

@@ -2,9 +2,9 @@
 use Rattle.std.proofs.Common.{◌≡◌, ℕ, Bool, true, false, cond, List, Option, Some, Ok, refl, sym, ap, ◌∙◌}
 use Rattle.std.specs.Str.{IsUtf8, is_utf8}
 use Rattle.std.proofs.lemmas.Str.{IsUtf8-from_is_utf8, is_utf8-from_IsUtf8}
-use Rattle.avro_schema.specs.Datum.{TextDatum}
-use Rattle.avro_schema.specs.Node.{Node, TextNode}
-use Rattle.resolver.specs.declared.mismatch.MismatchKind.TheVariants.{BytesNotText}
+use Rattle.avro_types.specs.Datum.{TextDatum}
+use Rattle.avro_types.specs.Node.{Node, TextNode}
+use Rattle.outcome.specs.declared.mismatch.MismatchKind.TheVariants.{BytesNotText}
 use Rattle.resolver.specs.Resolution.{bytes_for, mismatch}
 
 pub is_text : (bytes : List ℕ) → IsUtf8 bytes → is_utf8 bytes ≡ true

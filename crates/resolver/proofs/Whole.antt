@@ -3,10 +3,12 @@ use Rattle.std.proofs.Common.{◌≡◌, ℕ, ◌<◌, Bool, true, false, cond, 
 use Rattle.std.specs.Str.{bytes_eq, is_utf8}
 use Rattle.std.proofs.lemmas.Str.{IsUtf8-from_is_utf8}
 use Rattle.std.proofs.lemmas.List.Quantifiers.{position-Some}
-use Rattle.avro_schema.specs.Node.{Node, FieldNode, NullNode, BooleanNode, IntNode, LongNode, BytesNode, TextNode, FixedNode, EnumNode, ArrayNode, MapNode, RecordNode, IsWellFormed, is_union}
-use Rattle.avro_schema.specs.Datum.{Datum, Data, Pairs, NullDatum, BooleanDatum, IntDatum, LongDatum, BytesDatum, TextDatum, FixedDatum, EnumDatum, ArrayDatum, MapDatum, UnionDatum, RecordDatum, no_more, more, no_pairs, pair}
-use Rattle.avro_schema.specs.Conforming.{Conforms, ConformAll, ConformPairs, ConformsEach, DefaultsConform, HasBits}
-use Rattle.resolver.specs.declared.mismatch.MismatchKind.TheVariants.{NoMatch, NoSymbol, BytesNotText}
+use Rattle.avro_types.specs.Laws.Placed.{place-within}
+use Rattle.avro_types.specs.Symbols.{place_of}
+use Rattle.avro_types.specs.Node.{Node, FieldNode, NullNode, BooleanNode, IntNode, LongNode, BytesNode, TextNode, FixedNode, EnumNode, ArrayNode, MapNode, RecordNode, IsWellFormed, is_union}
+use Rattle.avro_types.specs.Datum.{Datum, Data, Pairs, NullDatum, BooleanDatum, IntDatum, LongDatum, BytesDatum, TextDatum, FixedDatum, EnumDatum, ArrayDatum, MapDatum, UnionDatum, RecordDatum, no_more, more, no_pairs, pair}
+use Rattle.avro_types.specs.Conforming.{Conforms, ConformAll, ConformPairs, ConformsEach, DefaultsConform, HasBits}
+use Rattle.outcome.specs.declared.mismatch.MismatchKind.TheVariants.{NoMatch, NoSymbol, BytesNotText}
 use Rattle.resolver.specs.Matching.{given, both_items, both_values, matches}
 use Rattle.resolver.specs.Resolution.{Resolved, ◌>>=◌, Came, mismatch, int_for, text_for, bytes_for, or_else, symbol_at, symbol_for, symbol_in, member_at, field_lists, field_named, lacking, unless_lacking, gathered, resolved, resolved_items, resolved_values, resolved_fields}
 use Rattle.resolver.specs.Conforming.{ResolutionIsWhole}
@@ -37,9 +39,9 @@ enum_made (Some symbol) o w r d h = one (symbol_for o symbol) refl h where
   one (Some m) is h = (symbol, m, is, cc)
 
 symbol_within : (symbols : List (List ℕ)) (default : Option ℕ) (symbol : List ℕ) (m : ℕ) → IfSome default (λ n. n < length symbols) → symbol_in symbols default symbol ≡ Some m → m < length symbols
-symbol_within symbols default symbol m within e = one (position (bytes_eq symbol) symbols) refl default within e where
-  one : (found : Option ℕ) → position (bytes_eq symbol) symbols ≡ found → (default : Option ℕ) → IfSome default (λ n. n < length symbols) → or_else found default ≡ Some m → m < length symbols
-  one (Some i) is default within e = let same : i ≡ m = cc in subst (λ (x : ℕ). x < length symbols) same (position-Some (bytes_eq symbol) symbols i symbol is).0
+symbol_within symbols default symbol m within e = one (place_of symbol symbols) refl default within e where
+  one : (found : Option ℕ) → place_of symbol symbols ≡ found → (default : Option ℕ) → IfSome default (λ n. n < length symbols) → or_else found default ≡ Some m → m < length symbols
+  one (Some i) is default within e = let same : i ≡ m = cc in subst (λ (x : ℕ). x < length symbols) same (place-within symbol symbols i is)
   one None is None within e = absurd cc
   one None is (Some n) within e = let same : n ≡ m = cc in subst (λ (x : ℕ). x < length symbols) same within
 

@@ -5,8 +5,8 @@ use Rattle.std.specs.declared.alloc.AllocError.{AllocError}
 use Rattle.std.specs.List.{AllByRecursion}
 use Rattle.std.specs.Str.{bytes_eq}
 use Rattle.std.proofs.Math.Seq.{drop-cons}
-use Rattle.avro_schema.specs.declared.kind.Field.{Field}
-use Rattle.avro_schema.specs.Node.{Node, FieldNode, FieldsBelow, IsMember, field_of, fields_of}
+use Rattle.avro_types.specs.declared.kind.Field.{Field}
+use Rattle.avro_types.specs.Node.{Node, FieldNode, FieldsBelow, IsMember, field_of, fields_of}
 use Rattle.resolver.specs.Matching.{given}
 use Rattle.resolver.specs.Pairs.{AreWithin}
 use Rattle.resolver.specs.Resolution.{field_named}

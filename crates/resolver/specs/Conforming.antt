@@ -1,11 +1,12 @@
 -- What resolution makes of data that are of a writer's node (Avro 1.11, "Schema Resolution"), and what is answered.
 use Rattle.std.specs.Prelude.{◌≡◌, ℕ, List, Ok}
-use Rattle.avro_schema.specs.Node.{Node}
-use Rattle.avro_schema.specs.Datum.{Datum}
-use Rattle.avro_schema.specs.Conforming.{Conforms}
+use Rattle.avro_types.specs.Node.{Node}
+use Rattle.avro_types.specs.Datum.{Datum}
+use Rattle.avro_types.specs.Conforming.{Conforms}
 use Rattle.avro_datum.specs.Payload.{IsPayload}
 use Rattle.avro_datum.specs.Spelling.{Spells}
-use Rattle.resolver.specs.Outcome.{Done, IsOutcome}
+use Rattle.outcome.specs.Outcome.{Done}
+use Rattle.resolver.specs.Outcome.{IsOutcome}
 use Rattle.resolver.specs.Resolution.{resolved}
 
 -- what comes of a writer's datum is a datum of the reader's

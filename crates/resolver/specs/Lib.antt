@@ -1,5 +1,4 @@
 pub mod Matching
-pub mod MismatchKind
 pub mod Resolution
 pub mod Steps
 pub mod Safety

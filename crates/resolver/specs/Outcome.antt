@@ -1,32 +1,17 @@
 -- The outcome of a payload, said of the relations and not of what reads it.
 use Rattle.std.specs.Prelude.{◌≡◌, ◌≤◌, ◌<◌, ℕ, List, length, Option, Some, None, Result, Ok, Err, nat_lt, if◌then◌else◌}
-use Rattle.avro_bytes.specs.declared.fault.MalformedKind.{MalformedKind}
-use Rattle.avro_schema.specs.Datum.{Datum}
-use Rattle.avro_schema.specs.Node.{Node}
-use Rattle.avro_datum.specs.declared.writing.TheConstants.{MOST_OUTPUT}
+use Rattle.avro_types.specs.Datum.{Datum}
+use Rattle.avro_types.specs.Node.{Node}
+use Rattle.outcome.specs.declared.limits.TheConstants.{MOST_OUTPUT, MOST_PAYLOAD}
 use Rattle.avro_datum.specs.Fault.{FirstFault}
 use Rattle.avro_datum.specs.Payload.{IsPayload}
 use Rattle.avro_datum.specs.Writing.{written}
-use Rattle.resolver.specs.declared.mismatch.Mismatch.{Mismatch}
-use Rattle.resolver.specs.declared.outcome.TheConstants.{MOST_PAYLOAD}
-use Rattle.resolver.specs.declared.outcome.Outcome as rust
-use Rattle.resolver.specs.declared.outcome.Outcome.TheVariants as variants
-use Rattle.resolver.specs.declared.outcome.TranscodeError.{TranscodeError}
-use Rattle.resolver.specs.declared.outcome.TranscodeError.TheVariants.{TooLarge, NoMemory}
+use Rattle.outcome.specs.Outcome.{Outcome, Done, Mismatched, Malformed, OutputTooLarge, outcome_of}
+use Rattle.outcome.specs.declared.payload.Outcome as rust
+use Rattle.outcome.specs.declared.payload.Outcome.TheVariants as variants
+use Rattle.resolver.specs.declared.transcoding.TranscodeError.{TranscodeError}
+use Rattle.resolver.specs.declared.transcoding.TranscodeError.TheVariants.{TooLarge, NoMemory}
 use Rattle.resolver.specs.Resolution.{resolved}
-
--- what becomes of a payload, wherever its bytes lie in memory
-pub data Outcome : Type 0 where
-  Done : List ℕ → Outcome
-  Mismatched : Mismatch → Outcome
-  Malformed : MalformedKind → ℕ → Outcome
-  OutputTooLarge : Outcome
-
-abbrev pub outcome_of : rust.Outcome → Outcome
-outcome_of (variants.Done bytes) = Done bytes.items
-outcome_of (variants.Mismatch m) = Mismatched m
-outcome_of (variants.Malformed kind at) = Malformed kind at
-outcome_of variants.OutputTooLarge = OutputTooLarge
 
 -- The payload is malformed; or it spells a datum of the writer's root which has no place with the reader; or it
 -- spells one of which the reader makes a datum, whose written form passes the limit; or that form is the answer.

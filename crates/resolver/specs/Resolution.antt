@@ -1,13 +1,14 @@
 -- What resolution makes of a datum (Avro 1.11, "Schema Resolution").
-use Rattle.std.specs.Prelude.{◌≡◌, ℕ, Bool, ◌&&◌, List, [], ◌∷◌, Option, Some, None, is_none, position, Result, Ok, Err, if◌then◌else◌, slice_get}
+use Rattle.std.specs.Prelude.{◌≡◌, ℕ, Bool, ◌&&◌, List, [], ◌∷◌, Option, Some, None, is_none, Result, Ok, Err, if◌then◌else◌, slice_get}
 use Rattle.std.specs.Str.{bytes_eq, is_utf8}
-use Rattle.avro_schema.specs.Node.{Node, FieldNode, LongNode, BytesNode, TextNode, EnumNode, UnionNode, RecordNode}
-use Rattle.avro_schema.specs.Datum.{Datum, Data, Pairs, NullDatum, BooleanDatum, IntDatum, LongDatum, BytesDatum, TextDatum, FixedDatum, EnumDatum, ArrayDatum, MapDatum, UnionDatum, RecordDatum, no_more, more, no_pairs, pair}
+use Rattle.avro_types.specs.Node.{Node, FieldNode, LongNode, BytesNode, TextNode, EnumNode, UnionNode, RecordNode}
+use Rattle.avro_types.specs.Symbols.{place_of}
+use Rattle.avro_types.specs.Datum.{Datum, Data, Pairs, NullDatum, BooleanDatum, IntDatum, LongDatum, BytesDatum, TextDatum, FixedDatum, EnumDatum, ArrayDatum, MapDatum, UnionDatum, RecordDatum, no_more, more, no_pairs, pair}
 use Rattle.resolver.specs.declared.place.Place.{Place}
 use Rattle.resolver.specs.declared.place.Place.TheVariants.{Straight, IntoMember, Nowhere, Unmatched}
-use Rattle.resolver.specs.declared.mismatch.Mismatch.{Mismatch}
-use Rattle.resolver.specs.declared.mismatch.MismatchKind.{MismatchKind}
-use Rattle.resolver.specs.declared.mismatch.MismatchKind.TheVariants.{NoMatch, NoBranch, NoSymbol, NoDefault, BytesNotText}
+use Rattle.outcome.specs.declared.mismatch.Mismatch.{Mismatch}
+use Rattle.outcome.specs.declared.mismatch.MismatchKind.{MismatchKind}
+use Rattle.outcome.specs.declared.mismatch.MismatchKind.TheVariants.{NoMatch, NoBranch, NoSymbol, NoDefault, BytesNotText}
 use Rattle.resolver.specs.declared.mismatch.ResolveError.{ResolveError}
 use Rattle.resolver.specs.declared.mismatch.ResolveError.TheVariants as errors
 use Rattle.resolver.specs.Matching.{given, both_items, both_values, place}
@@ -55,7 +56,7 @@ or_else None other = other
 
 -- the position of a symbol among others, or else the default
 abbrev pub symbol_in : List (List ℕ) → Option ℕ → List ℕ → Option ℕ
-symbol_in symbols default symbol = or_else (position (bytes_eq symbol) symbols) default
+symbol_in symbols default symbol = or_else (place_of symbol symbols) default
 
 -- the symbol of a position in an enum
 abbrev pub symbol_at : Option Node → ℕ → Option (List ℕ)

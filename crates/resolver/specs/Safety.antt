@@ -1,9 +1,9 @@
 -- When every datum of a writer can be read (Avro 1.11, "Schema Resolution", by the schemas alone).
 use Rattle.std.specs.Prelude.{◌≡◌, ℕ, Bool, true, false, ◌||◌, List, [], ◌∷◌, ◌++◌, map, Option, Some, is_none, is_some, option_to_list, Ok, Err, slice_get, ◌⊎◌}
-use Rattle.avro_schema.specs.Node.{Node, FieldNode, EnumNode, UnionNode, IsWellFormed}
-use Rattle.avro_schema.specs.Datum.{Datum}
-use Rattle.avro_schema.specs.Conforming.{Conforms}
-use Rattle.resolver.specs.declared.mismatch.MismatchKind.TheVariants.{BytesNotText}
+use Rattle.avro_types.specs.Node.{Node, FieldNode, EnumNode, UnionNode, IsWellFormed}
+use Rattle.avro_types.specs.Datum.{Datum}
+use Rattle.avro_types.specs.Conforming.{Conforms}
+use Rattle.outcome.specs.declared.mismatch.MismatchKind.TheVariants.{BytesNotText}
 use Rattle.resolver.specs.declared.place.Place.{Place}
 use Rattle.resolver.specs.declared.place.Place.TheVariants.{Straight, IntoMember, Nowhere, Unmatched}
 use Rattle.resolver.specs.Matching.{given, both_items, both_values, place}

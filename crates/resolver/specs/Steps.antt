@@ -2,11 +2,11 @@
 use Rattle.std.specs.Prelude.{ℕ, Bool, List, [], ◌∷◌, map, Option, Some, None, Ok, option_map, string_bytes, slice_get, slice_set}
 use Rattle.std.specs.Str.{bytes_eq}
 use Rattle.std.specs.Borrow.{Bor}
-use Rattle.avro_schema.specs.declared.kind.Field.{Field}
-use Rattle.avro_schema.specs.declared.datum.Datum as rust
-use Rattle.avro_schema.specs.Node.{Node, FieldNode, FieldsBelow, HaveDistinctNames, fields_of}
-use Rattle.avro_schema.specs.Datum.{Datum, Data, NullDatum, BooleanDatum, IntDatum, LongDatum, BytesDatum, TextDatum, FixedDatum, EnumDatum, ArrayDatum, MapDatum, UnionDatum, RecordDatum, no_more, more, datum_of}
-use Rattle.resolver.specs.declared.mismatch.MismatchKind.TheVariants.{NoMatch, NoSymbol}
+use Rattle.avro_types.specs.declared.kind.Field.{Field}
+use Rattle.avro_types.specs.declared.datum.Datum as rust
+use Rattle.avro_types.specs.Node.{Node, FieldNode, FieldsBelow, HaveDistinctNames, fields_of}
+use Rattle.avro_types.specs.Datum.{Datum, Data, NullDatum, BooleanDatum, IntDatum, LongDatum, BytesDatum, TextDatum, FixedDatum, EnumDatum, ArrayDatum, MapDatum, UnionDatum, RecordDatum, no_more, more, datum_of}
+use Rattle.outcome.specs.declared.mismatch.MismatchKind.TheVariants.{NoMatch, NoSymbol}
 use Rattle.resolver.specs.Matching.{given, both_items, both_values}
 use Rattle.resolver.specs.Resolution.{Resolved, ◌>>=◌, mismatch, int_for, text_for, bytes_for, or_else, symbol_at, symbol_for, Came, came_as, field_lists, lacking, unless_lacking, resolved, resolved_items, resolved_values, resolved_fields, field_named, gathered}
 

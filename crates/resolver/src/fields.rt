@@ -1,24 +1,24 @@
 ghost use Rattle.std.specs.Prelude.{◌≡◌, ◌<◌, length, map, slice_get, IfOk, IfSome, option_map, position};
-ghost use Rattle.avro_schema.specs.Datum.{data_of, datum_of};
-ghost use Rattle.avro_schema.specs.Node.{field_of, fields_of};
+ghost use Rattle.avro_types.specs.Datum.{data_of, datum_of};
+ghost use Rattle.avro_types.specs.Node.{field_of, fields_of};
 ghost use Rattle.resolver.specs.Resolution.{field_lists, lacking, lacks, or_else};
 ghost use Rattle.resolver.specs.Steps.{AreFields, both_lists, filled, is_named, kept, slots_of};
 
-use avro_schema::{Datum, Field, Kind, Schema};
+use avro_types::{Datum, Field, Kind, Nodes};
 use std::alloc::{AllocError, Global};
 
 /// The fields of two records.
 pub(crate) fn field_lists<'a, 'b>(
-    w: &'a Schema,
+    w: &'a Nodes,
     wn: usize,
-    r: &'b Schema,
+    r: &'b Nodes,
     rn: usize,
 ) -> Option<(&'a [Field], &'b [Field])>
-    requires writer { wn < length w.now.nodes }
-    requires reader { rn < length r.now.nodes }
-    ensures lists { option_map both_lists result ≡ field_lists (slice_get w.now.nodes wn) (slice_get r.now.nodes rn) }
-    ensures writer { IfSome result (λ p. AreFields (length w.now.nodes) (fields_of p.0.now)) }
-    ensures reader { IfSome result (λ p. AreFields (length r.now.nodes) (fields_of p.1.now)) }
+    requires writer { wn < length w.now }
+    requires reader { rn < length r.now }
+    ensures lists { option_map both_lists result ≡ field_lists (slice_get w.now wn) (slice_get r.now rn) }
+    ensures writer { IfSome result (λ p. AreFields (length w.now) (fields_of p.0.now)) }
+    ensures reader { IfSome result (λ p. AreFields (length r.now) (fields_of p.1.now)) }
 {
     w.is_well_formed();
     r.is_well_formed();

@@ -1,11 +1,12 @@
 ghost use Rattle.std.specs.Prelude.{◌≡◌, ℕ, List};
-ghost use Rattle.avro_schema.specs.Node.{Node};
-ghost use Rattle.resolver.specs.Outcome as outcome;
+ghost use Rattle.avro_types.specs.Node.{Node};
+ghost use Rattle.outcome.specs.Outcome.{Outcome};
+ghost use Rattle.resolver.specs.Outcome.{IsOutcome};
 ghost use Rattle.resolver.specs.Safety.{SafeDataAreReadable};
 ghost use Rattle.resolver.specs.Conforming.{AnswersAreSpelled, ResolutionIsWhole};
 ghost use Rattle.resolver.specs.Matching.{MatchesByRule};
 
-use avro_schema::Schema;
+use avro_types::Nodes;
 
 /// The law that matching is the rule as the standard writes it, however deep arrays and maps nest.
 pub fn matches_by_rule()
@@ -13,16 +14,16 @@ pub fn matches_by_rule()
 {}
 
 /// The law that what comes of a writer's datum is a datum of the reader's node, whole and in range.
-pub fn resolution_is_whole(w: &Schema, r: &Schema)
-    ensures { ResolutionIsWhole w.now.nodes r.now.nodes }
+pub fn resolution_is_whole(w: &Nodes, r: &Nodes)
+    ensures { ResolutionIsWhole w.now r.now }
 {
     r.is_well_formed();
     r.defaults_conform();
 }
 
 /// The law that an answer spells, by the reader's schema, what comes of the payload's datum.
-pub fn answer_is_spelled(w: &Schema, r: &Schema)
-    ensures { AnswersAreSpelled w.now.nodes r.now.nodes }
+pub fn answer_is_spelled(w: &Nodes, r: &Nodes)
+    ensures { AnswersAreSpelled w.now r.now }
 {
     r.is_well_formed();
     r.defaults_are_short();
@@ -38,9 +39,9 @@ pub fn what_is_safe_can_be_read()
 
 /// The law that each payload has just one outcome.
 pub fn payload_has_one_outcome()
-    ensures some { (W R : List Node) (payload : List ℕ) → (o : outcome.Outcome) × outcome.IsOutcome W R payload o }
-    ensures one { (W R : List Node) (payload : List ℕ) (a b : outcome.Outcome) →
-        outcome.IsOutcome W R payload a → outcome.IsOutcome W R payload b → a ≡ b }
+    ensures some { (W R : List Node) (payload : List ℕ) → (o : Outcome) × IsOutcome W R payload o }
+    ensures one { (W R : List Node) (payload : List ℕ) (a b : Outcome) →
+        IsOutcome W R payload a → IsOutcome W R payload b → a ≡ b }
 {
     avro_datum::payload_is_spelled_or_faulty();
 }

@@ -2,21 +2,16 @@
 #![tactic(auto)]
 
 mod fields;
-#[cfg(test)]
-mod kinds_tests;
 mod laws;
 mod leaves;
 mod matching;
 mod memory;
 mod mismatch;
-mod outcome;
 mod pairs;
 mod place;
 mod reading;
 mod resolving;
 mod symbols;
-#[cfg(test)]
-mod tests;
 mod transcoding;
 mod unions;
 
@@ -26,9 +21,9 @@ pub use laws::{
 };
 pub use matching::matches;
 pub use memory::NoMemory;
-pub use mismatch::{Mismatch, MismatchKind, ResolveError};
-pub use outcome::{MOST_PAYLOAD, Outcome, TranscodeError};
+pub use mismatch::ResolveError;
+pub use outcome::{MOST_OUTPUT, MOST_PAYLOAD, Mismatch, MismatchKind, Outcome};
 pub use place::{Place, place_of};
 pub use reading::can_read;
 pub use resolving::resolve;
-pub use transcoding::transcode_tree;
+pub use transcoding::{TranscodeError, transcode_tree};

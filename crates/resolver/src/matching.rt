@@ -1,12 +1,12 @@
 ghost use Rattle.std.specs.Prelude.{◌≡◌, ◌<◌, Some, false, length, slice_get, suc, IfSome};
-ghost use Rattle.avro_schema.specs.Node.{full_of, is_union, node_of};
+ghost use Rattle.avro_types.specs.Node.{is_union, node_of};
 ghost use Rattle.resolver.specs.Matching.{ArePair, both_items, both_values, given, have_same_name, kinds_match, matches, matches_within, names_match, primitives_match};
 
-use avro_schema::{Kind, Name, Schema};
+use avro_types::{Kind, Name, Nodes};
 
 /// Whether the last parts of two full names are the same.
 fn have_same_name(name: &Name, other: &Name) -> bool
-    ensures { result ≡ have_same_name (full_of name.now) (full_of other.now) }
+    ensures { result ≡ have_same_name (name.now) (other.now) }
 {
     name.last() == other.last()
 }
@@ -57,11 +57,11 @@ fn names_match(writer: &Kind, reader: &Kind) -> bool
 }
 
 /// The nodes of the items of two arrays.
-pub(crate) fn both_items(w: &Schema, wn: usize, r: &Schema, rn: usize) -> Option<(usize, usize)>
-    requires writer { wn < length w.now.nodes }
-    requires reader { rn < length r.now.nodes }
-    ensures nodes { result ≡ both_items (slice_get w.now.nodes wn) (slice_get r.now.nodes rn) }
-    ensures within { IfSome result (ArePair w.now.nodes r.now.nodes) }
+pub(crate) fn both_items(w: &Nodes, wn: usize, r: &Nodes, rn: usize) -> Option<(usize, usize)>
+    requires writer { wn < length w.now }
+    requires reader { rn < length r.now }
+    ensures nodes { result ≡ both_items (slice_get w.now wn) (slice_get r.now rn) }
+    ensures within { IfSome result (ArePair w.now r.now) }
 {
     match (w.kind(wn), r.kind(rn)) {
         (Kind::Array(item), Kind::Array(other)) => Some((*item, *other)),
@@ -70,11 +70,11 @@ pub(crate) fn both_items(w: &Schema, wn: usize, r: &Schema, rn: usize) -> Option
 }
 
 /// The nodes of the values of two maps.
-pub(crate) fn both_values(w: &Schema, wn: usize, r: &Schema, rn: usize) -> Option<(usize, usize)>
-    requires writer { wn < length w.now.nodes }
-    requires reader { rn < length r.now.nodes }
-    ensures nodes { result ≡ both_values (slice_get w.now.nodes wn) (slice_get r.now.nodes rn) }
-    ensures within { IfSome result (ArePair w.now.nodes r.now.nodes) }
+pub(crate) fn both_values(w: &Nodes, wn: usize, r: &Nodes, rn: usize) -> Option<(usize, usize)>
+    requires writer { wn < length w.now }
+    requires reader { rn < length r.now }
+    ensures nodes { result ≡ both_values (slice_get w.now wn) (slice_get r.now rn) }
+    ensures within { IfSome result (ArePair w.now r.now) }
 {
     match (w.kind(wn), r.kind(rn)) {
         (Kind::Map(value), Kind::Map(other)) => Some((*value, *other)),
@@ -95,9 +95,9 @@ fn kinds_match(writer: &Kind, reader: &Kind) -> bool
 /// Whether the items or values of two nodes match, where there are such, by so many steps.
 #[tactic(auto, unfolding(crate::specs::Matching::matches_within))]
 #[cycle(matches)]
-fn parts_match(steps: usize, w: &Schema, r: &Schema, parts: Option<(usize, usize)>) -> bool
-    requires { IfSome parts (ArePair w.now.nodes r.now.nodes) }
-    ensures { result ≡ given parts false (λ p. matches_within w.now.nodes r.now.nodes steps p.0 p.1) }
+fn parts_match(steps: usize, w: &Nodes, r: &Nodes, parts: Option<(usize, usize)>) -> bool
+    requires { IfSome parts (ArePair w.now r.now) }
+    ensures { result ≡ given parts false (λ p. matches_within w.now r.now steps p.0 p.1) }
 {
     match parts {
         Some((wn, rn)) => steps > 0 && matches_within(steps - 1, w, wn, r, rn),
@@ -108,10 +108,10 @@ fn parts_match(steps: usize, w: &Schema, r: &Schema, parts: Option<(usize, usize
 /// Whether a writer's node and a reader's node match, by so many steps into items and values.
 #[tactic(auto, unfolding(crate::specs::Matching::matches_within))]
 #[cycle(matches)]
-fn matches_within(steps: usize, w: &Schema, wn: usize, r: &Schema, rn: usize) -> bool
-    requires writer { wn < length w.now.nodes }
-    requires reader { rn < length r.now.nodes }
-    ensures { result ≡ matches_within w.now.nodes r.now.nodes (suc steps) wn rn }
+fn matches_within(steps: usize, w: &Nodes, wn: usize, r: &Nodes, rn: usize) -> bool
+    requires writer { wn < length w.now }
+    requires reader { rn < length r.now }
+    ensures { result ≡ matches_within w.now r.now (suc steps) wn rn }
 {
     kinds_match(w.kind(wn), r.kind(rn))
         || parts_match(steps, w, r, both_items(w, wn, r, rn))
@@ -119,10 +119,10 @@ fn matches_within(steps: usize, w: &Schema, wn: usize, r: &Schema, rn: usize) ->
 }
 
 /// Whether a writer's node and a reader's node match.
-pub fn matches(w: &Schema, wn: usize, r: &Schema, rn: usize) -> bool
-    requires writer { wn < length w.now.nodes }
-    requires reader { rn < length r.now.nodes }
-    ensures { result ≡ matches w.now.nodes r.now.nodes wn rn }
+pub fn matches(w: &Nodes, wn: usize, r: &Nodes, rn: usize) -> bool
+    requires writer { wn < length w.now }
+    requires reader { rn < length r.now }
+    ensures { result ≡ matches w.now r.now wn rn }
 {
     matches_within(w.len(), w, wn, r, rn)
 }

@@ -1,10 +1,10 @@
 ghost use Rattle.std.specs.Prelude.{◌≡◌, ◌<◌, ◌≤◌, length};
 ghost use Rattle.std.specs.List.{AllByRecursion};
-ghost use Rattle.avro_schema.specs.Node.{IsMember, most_members};
+ghost use Rattle.avro_types.specs.Node.{IsMember};
 ghost use Rattle.resolver.specs.Matching.{IsNodeOf, first_member, matches, place};
 
 use crate::matching::matches;
-use avro_schema::{Kind, Schema};
+use avro_types::{Kind, MOST_NODES, Nodes};
 
 /// Where a value of a writer's node goes with a reader's node.
 #[derive(Clone, Copy, Debug, PartialEq, Eq)]
@@ -20,12 +20,12 @@ pub enum Place {
 }
 
 /// The first of a union's members that matches a writer's node.
-fn first_member(w: &Schema, wn: usize, r: &Schema, members: &[usize]) -> Place
-    requires writer { wn < length w.now.nodes }
-    requires members { AllByRecursion (IsMember r.now.nodes) members.now }
-    requires few { length members.now ≤ most_members }
-    ensures place { result ≡ first_member (matches w.now.nodes r.now.nodes wn) 0 members.now }
-    ensures within { IsNodeOf (length r.now.nodes) result }
+fn first_member(w: &Nodes, wn: usize, r: &Nodes, members: &[usize]) -> Place
+    requires writer { wn < length w.now }
+    requires members { AllByRecursion (IsMember r.now) members.now }
+    requires few { length members.now ≤ MOST_NODES }
+    ensures place { result ≡ first_member (matches w.now r.now wn) 0 members.now }
+    ensures within { IsNodeOf (length r.now) result }
 {
     for (position, node) in members.iter().enumerate() {
         if matches(w, wn, r, *node) {
@@ -39,11 +39,11 @@ fn first_member(w: &Schema, wn: usize, r: &Schema, members: &[usize]) -> Place
 }
 
 /// Where a value of a writer's node goes with a reader's node.
-pub fn place_of(w: &Schema, wn: usize, r: &Schema, rn: usize) -> Place
-    requires writer { wn < length w.now.nodes }
-    requires reader { rn < length r.now.nodes }
-    ensures place { result ≡ place w.now.nodes r.now.nodes wn rn }
-    ensures within { IsNodeOf (length r.now.nodes) result }
+pub fn place_of(w: &Nodes, wn: usize, r: &Nodes, rn: usize) -> Place
+    requires writer { wn < length w.now }
+    requires reader { rn < length r.now }
+    ensures place { result ≡ place w.now r.now wn rn }
+    ensures within { IsNodeOf (length r.now) result }
 {
     match r.kind(rn) {
         Kind::Union(members) => first_member(w, wn, r, members),

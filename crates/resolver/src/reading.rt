@@ -1,5 +1,5 @@
 ghost use Rattle.std.specs.Prelude.{◌≡◌, ◌<◌, ◌↔◌, [], ◌∷◌, length, map, slice_get, option_map, string_bytes, IfOk, IsTrue, OnOk};
-ghost use Rattle.avro_schema.specs.Node.{fields_of};
+ghost use Rattle.avro_types.specs.Node.{fields_of};
 ghost use Rattle.resolver.specs.Pairs.{AddsAll, AreWithin};
 ghost use Rattle.resolver.specs.Resolution.{field_named};
 ghost use Rattle.resolver.specs.Safety.{IsSafe, is_bad, lacks_field, lacks_symbol, next_pairs, part_pairs, partner_pairs};
@@ -9,14 +9,14 @@ use crate::memory::NoMemory;
 use crate::pairs::PairList;
 use crate::place::{Place, place_of};
 use crate::symbols::some_missing;
-use avro_schema::{Field, Kind, Schema};
+use avro_types::{Field, Kind, Nodes};
 use std::alloc::{AllocError, Global};
 
 /// Whether the reader's record lacks a field without a default.
-fn lacks_field(w: &Schema, wn: usize, r: &Schema, rn: usize) -> bool
-    requires writer { wn < length w.now.nodes }
-    requires reader { rn < length r.now.nodes }
-    ensures { result ≡ lacks_field (slice_get w.now.nodes wn) (slice_get r.now.nodes rn) }
+fn lacks_field(w: &Nodes, wn: usize, r: &Nodes, rn: usize) -> bool
+    requires writer { wn < length w.now }
+    requires reader { rn < length r.now }
+    ensures { result ≡ lacks_field (slice_get w.now wn) (slice_get r.now rn) }
 {
     match field_lists(w, wn, r, rn) {
         Some((ws, rs)) => first_lacking(ws, rs).is_some(),
@@ -25,10 +25,10 @@ fn lacks_field(w: &Schema, wn: usize, r: &Schema, rn: usize) -> bool
 }
 
 /// Whether the reader's enum lacks a symbol, and has no default.
-fn lacks_symbol(w: &Schema, wn: usize, r: &Schema, rn: usize) -> bool
-    requires writer { wn < length w.now.nodes }
-    requires reader { rn < length r.now.nodes }
-    ensures { result ≡ lacks_symbol (slice_get w.now.nodes wn) (slice_get r.now.nodes rn) }
+fn lacks_symbol(w: &Nodes, wn: usize, r: &Nodes, rn: usize) -> bool
+    requires writer { wn < length w.now }
+    requires reader { rn < length r.now }
+    ensures { result ≡ lacks_symbol (slice_get w.now wn) (slice_get r.now rn) }
 {
     match (w.kind(wn), r.kind(rn)) {
         (
@@ -45,10 +45,10 @@ fn lacks_symbol(w: &Schema, wn: usize, r: &Schema, rn: usize) -> bool
 
 /// Whether a pair mismatches whatever the datum, or for some symbol.
 #[tactic(auto, unfolding(crate::specs::Safety::is_bad))]
-fn is_bad(w: &Schema, wn: usize, r: &Schema, rn: usize) -> bool
-    requires writer { wn < length w.now.nodes }
-    requires reader { rn < length r.now.nodes }
-    ensures { result ≡ is_bad w.now.nodes r.now.nodes (wn, rn) }
+fn is_bad(w: &Nodes, wn: usize, r: &Nodes, rn: usize) -> bool
+    requires writer { wn < length w.now }
+    requires reader { rn < length r.now }
+    ensures { result ≡ is_bad w.now r.now (wn, rn) }
 {
     match w.kind(wn) {
         Kind::Union(_) => false,
@@ -112,15 +112,15 @@ fn one_pair(alloc: Global, pair: (usize, usize)) -> Result<Vec<(usize, usize)>, 
 /// The pairs of the items, values or fields of two nodes.
 fn part_pairs(
     alloc: Global,
-    w: &Schema,
+    w: &Nodes,
     wn: usize,
-    r: &Schema,
+    r: &Nodes,
     rn: usize,
 ) -> Result<Vec<(usize, usize)>, AllocError>
-    requires writer { wn < length w.now.nodes }
-    requires reader { rn < length r.now.nodes }
-    ensures pairs { IfOk result (λ v. v.items ≡ part_pairs (slice_get w.now.nodes wn) (slice_get r.now.nodes rn)) }
-    ensures within { IfOk result (λ v. AreWithin (length w.now.nodes) (length r.now.nodes) v.items) }
+    requires writer { wn < length w.now }
+    requires reader { rn < length r.now }
+    ensures pairs { IfOk result (λ v. v.items ≡ part_pairs (slice_get w.now wn) (slice_get r.now rn)) }
+    ensures within { IfOk result (λ v. AreWithin (length w.now) (length r.now) v.items) }
 {
     match (w.kind(wn), r.kind(rn)) {
         (Kind::Array(item), Kind::Array(other)) => one_pair(alloc, (*item, *other)),
@@ -136,15 +136,15 @@ fn part_pairs(
 #[tactic(auto, unfolding(crate::specs::Safety::next_pairs))]
 fn next_pairs(
     alloc: Global,
-    w: &Schema,
+    w: &Nodes,
     wn: usize,
-    r: &Schema,
+    r: &Nodes,
     rn: usize,
 ) -> Result<Vec<(usize, usize)>, AllocError>
-    requires writer { wn < length w.now.nodes }
-    requires reader { rn < length r.now.nodes }
-    ensures pairs { IfOk result (λ v. v.items ≡ next_pairs w.now.nodes r.now.nodes (wn, rn)) }
-    ensures within { IfOk result (λ v. AreWithin (length w.now.nodes) (length r.now.nodes) v.items) }
+    requires writer { wn < length w.now }
+    requires reader { rn < length r.now }
+    ensures pairs { IfOk result (λ v. v.items ≡ next_pairs w.now r.now (wn, rn)) }
+    ensures within { IfOk result (λ v. AreWithin (length w.now) (length r.now) v.items) }
 {
     match w.kind(wn) {
         Kind::Union(members) => member_pairs(alloc, members, rn),
@@ -169,8 +169,8 @@ fn add_all(pairs: &mut PairList, more: &[(usize, usize)]) -> Result<(), NoMemory
 }
 
 /// Whether each datum of the writer can be read, but for bytes that are no UTF-8.
-pub fn can_read(alloc: Global, w: &Schema, r: &Schema) -> Result<bool, NoMemory>
-    ensures { IfOk result (λ yes. IsTrue yes ↔ IsSafe w.now.nodes r.now.nodes) }
+pub fn can_read(alloc: Global, w: &Nodes, r: &Nodes) -> Result<bool, NoMemory>
+    ensures { IfOk result (λ yes. IsTrue yes ↔ IsSafe w.now r.now) }
 {
     w.is_well_formed();
     r.is_well_formed();

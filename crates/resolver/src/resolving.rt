@@ -1,6 +1,6 @@
 ghost use Rattle.std.specs.Prelude.{◌≡◌, ◌<◌, length, position, string_bytes, IfOk, IfSome, option_map};
-ghost use Rattle.avro_schema.specs.Node.{field_of, fields_of};
-ghost use Rattle.avro_schema.specs.Datum.{ArrayDatum, MapDatum, RecordDatum, data_of, datum_of, pairs_of};
+ghost use Rattle.avro_types.specs.Node.{field_of, fields_of};
+ghost use Rattle.avro_types.specs.Datum.{ArrayDatum, MapDatum, RecordDatum, data_of, datum_of, pairs_of};
 ghost use Rattle.resolver.specs.Matching.{place};
 ghost use Rattle.resolver.specs.Steps.{AreFields, inside, into_slots, is_named, one_field, slots_of, value_of};
 ghost use Rattle.resolver.specs.Resolution.{Resolves, placed, resolved, resolved_fields, resolved_items, resolved_values};
@@ -8,10 +8,11 @@ ghost use Rattle.resolver.specs.Resolution.{Resolves, placed, resolved, resolved
 use crate::fields::{empty_slots, field_lists, fill, first_lacking, keep, place_of_name};
 use crate::leaves::{bytes_for, enum_for, int_for, text_for};
 use crate::matching::{both_items, both_values};
-use crate::mismatch::{MismatchKind, ResolveError, mismatched};
+use crate::mismatch::{ResolveError, mismatched};
 use crate::place::{Place, place_of};
 use crate::unions::member_of;
-use avro_schema::{Datum, Field, Schema};
+use avro_types::{Datum, Field, Nodes};
+use outcome::MismatchKind;
 use std::alloc::Global;
 
 /// Resolves a datum of a writer's node for a reader's node. A writer's union goes first.
@@ -19,15 +20,15 @@ use std::alloc::Global;
 #[cycle(resolve)]
 fn resolve_at(
     alloc: Global,
-    w: &Schema,
+    w: &Nodes,
     wn: usize,
-    r: &Schema,
+    r: &Nodes,
     rn: usize,
     datum: Datum,
 ) -> Result<Datum, ResolveError>
-    requires writer { wn < length w.now.nodes }
-    requires reader { rn < length r.now.nodes }
-    ensures { Resolves datum_of result (resolved w.now.nodes r.now.nodes wn rn (datum_of datum)) }
+    requires writer { wn < length w.now }
+    requires reader { rn < length r.now }
+    ensures { Resolves datum_of result (resolved w.now r.now wn rn (datum_of datum)) }
 {
     match datum {
         Datum::Union(position, inner) => match member_of(w, wn, position) {
@@ -42,15 +43,15 @@ fn resolve_at(
 #[cycle(resolve)]
 fn resolve_placed(
     alloc: Global,
-    w: &Schema,
+    w: &Nodes,
     wn: usize,
-    r: &Schema,
+    r: &Nodes,
     rn: usize,
     datum: Datum,
 ) -> Result<Datum, ResolveError>
-    requires writer { wn < length w.now.nodes }
-    requires reader { rn < length r.now.nodes }
-    ensures { Resolves datum_of result (placed (place w.now.nodes r.now.nodes wn rn) wn rn (λ node. inside w.now.nodes r.now.nodes wn node (datum_of datum))) }
+    requires writer { wn < length w.now }
+    requires reader { rn < length r.now }
+    ensures { Resolves datum_of result (placed (place w.now r.now wn rn) wn rn (λ node. inside w.now r.now wn node (datum_of datum))) }
 {
     match place_of(w, wn, r, rn) {
         Place::Straight => resolve_inside(alloc, w, wn, r, rn, datum),
@@ -69,15 +70,15 @@ fn resolve_placed(
 #[cycle(resolve)]
 fn resolve_inside(
     alloc: Global,
-    w: &Schema,
+    w: &Nodes,
     wn: usize,
-    r: &Schema,
+    r: &Nodes,
     rn: usize,
     datum: Datum,
 ) -> Result<Datum, ResolveError>
-    requires writer { wn < length w.now.nodes }
-    requires reader { rn < length r.now.nodes }
-    ensures { Resolves datum_of result (inside w.now.nodes r.now.nodes wn rn (datum_of datum)) }
+    requires writer { wn < length w.now }
+    requires reader { rn < length r.now }
+    ensures { Resolves datum_of result (inside w.now r.now wn rn (datum_of datum)) }
 {
     match datum {
         Datum::Null => Ok(Datum::Null),
@@ -101,14 +102,14 @@ fn resolve_inside(
 fn resolve_array(
     alloc: Global,
     items: Vec<Datum>,
-    w: &Schema,
+    w: &Nodes,
     wn: usize,
-    r: &Schema,
+    r: &Nodes,
     rn: usize,
 ) -> Result<Datum, ResolveError>
-    requires writer { wn < length w.now.nodes }
-    requires reader { rn < length r.now.nodes }
-    ensures { Resolves datum_of result (inside w.now.nodes r.now.nodes wn rn (ArrayDatum (data_of items.items))) }
+    requires writer { wn < length w.now }
+    requires reader { rn < length r.now }
+    ensures { Resolves datum_of result (inside w.now r.now wn rn (ArrayDatum (data_of items.items))) }
 {
     let Some((item, other)) = both_items(w, wn, r, rn) else {
         return Err(mismatched(MismatchKind::NoMatch, wn, rn));
@@ -122,14 +123,14 @@ fn resolve_array(
 fn resolve_items(
     alloc: Global,
     items: Vec<Datum>,
-    w: &Schema,
+    w: &Nodes,
     wn: usize,
-    r: &Schema,
+    r: &Nodes,
     rn: usize,
 ) -> Result<Vec<Datum>, ResolveError>
-    requires writer { wn < length w.now.nodes }
-    requires reader { rn < length r.now.nodes }
-    ensures { Resolves (λ v. data_of v.items) result (resolved_items w.now.nodes r.now.nodes wn rn (data_of items.items)) }
+    requires writer { wn < length w.now }
+    requires reader { rn < length r.now }
+    ensures { Resolves (λ v. data_of v.items) result (resolved_items w.now r.now wn rn (data_of items.items)) }
 {
     let mut all = Vec::new(alloc);
     for item in items {
@@ -145,14 +146,14 @@ fn resolve_items(
 fn resolve_map(
     alloc: Global,
     pairs: Vec<(String, Datum)>,
-    w: &Schema,
+    w: &Nodes,
     wn: usize,
-    r: &Schema,
+    r: &Nodes,
     rn: usize,
 ) -> Result<Datum, ResolveError>
-    requires writer { wn < length w.now.nodes }
-    requires reader { rn < length r.now.nodes }
-    ensures { Resolves datum_of result (inside w.now.nodes r.now.nodes wn rn (MapDatum (pairs_of pairs.items))) }
+    requires writer { wn < length w.now }
+    requires reader { rn < length r.now }
+    ensures { Resolves datum_of result (inside w.now r.now wn rn (MapDatum (pairs_of pairs.items))) }
 {
     let Some((value, other)) = both_values(w, wn, r, rn) else {
         return Err(mismatched(MismatchKind::NoMatch, wn, rn));
@@ -166,14 +167,14 @@ fn resolve_map(
 fn resolve_values(
     alloc: Global,
     pairs: Vec<(String, Datum)>,
-    w: &Schema,
+    w: &Nodes,
     wn: usize,
-    r: &Schema,
+    r: &Nodes,
     rn: usize,
 ) -> Result<Vec<(String, Datum)>, ResolveError>
-    requires writer { wn < length w.now.nodes }
-    requires reader { rn < length r.now.nodes }
-    ensures { Resolves (λ v. pairs_of v.items) result (resolved_values w.now.nodes r.now.nodes wn rn (pairs_of pairs.items)) }
+    requires writer { wn < length w.now }
+    requires reader { rn < length r.now }
+    ensures { Resolves (λ v. pairs_of v.items) result (resolved_values w.now r.now wn rn (pairs_of pairs.items)) }
 {
     let mut all = Vec::new(alloc);
     for pair in pairs {
@@ -188,14 +189,14 @@ fn resolve_values(
 fn resolve_value(
     alloc: Global,
     pair: (String, Datum),
-    w: &Schema,
+    w: &Nodes,
     wn: usize,
-    r: &Schema,
+    r: &Nodes,
     rn: usize,
 ) -> Result<(String, Datum), ResolveError>
-    requires writer { wn < length w.now.nodes }
-    requires reader { rn < length r.now.nodes }
-    ensures value { Resolves (λ p. datum_of p.1) result (resolved w.now.nodes r.now.nodes wn rn (datum_of pair.1)) }
+    requires writer { wn < length w.now }
+    requires reader { rn < length r.now }
+    ensures value { Resolves (λ p. datum_of p.1) result (resolved w.now r.now wn rn (datum_of pair.1)) }
     ensures key { IfOk result (λ p. p.0 ≡ pair.0) }
 {
     let (key, value) = pair;
@@ -209,14 +210,14 @@ fn resolve_value(
 fn resolve_record(
     alloc: Global,
     fields: Vec<Datum>,
-    w: &Schema,
+    w: &Nodes,
     wn: usize,
-    r: &Schema,
+    r: &Nodes,
     rn: usize,
 ) -> Result<Datum, ResolveError>
-    requires writer { wn < length w.now.nodes }
-    requires reader { rn < length r.now.nodes }
-    ensures { Resolves datum_of result (inside w.now.nodes r.now.nodes wn rn (RecordDatum (data_of fields.items))) }
+    requires writer { wn < length w.now }
+    requires reader { rn < length r.now }
+    ensures { Resolves datum_of result (inside w.now r.now wn rn (RecordDatum (data_of fields.items))) }
 {
     let Some((ws, rs)) = field_lists(w, wn, r, rn) else {
         return Err(mismatched(MismatchKind::NoMatch, wn, rn));
@@ -234,15 +235,15 @@ fn resolve_record(
 fn resolve_fields(
     alloc: Global,
     fields: Vec<Datum>,
-    w: &Schema,
+    w: &Nodes,
     ws: &[Field],
-    r: &Schema,
+    r: &Nodes,
     rs: &[Field],
 ) -> Result<Vec<Option<Datum>>, ResolveError>
-    requires writer { AreFields (length w.now.nodes) (fields_of ws.now) }
-    requires reader { AreFields (length r.now.nodes) (fields_of rs.now) }
+    requires writer { AreFields (length w.now) (fields_of ws.now) }
+    requires reader { AreFields (length r.now) (fields_of rs.now) }
     ensures { Resolves (λ v. slots_of v.items) result
-        (into_slots (fields_of rs.now) (resolved_fields w.now.nodes r.now.nodes (fields_of ws.now) (fields_of rs.now) (data_of fields.items))) }
+        (into_slots (fields_of rs.now) (resolved_fields w.now r.now (fields_of ws.now) (fields_of rs.now) (data_of fields.items))) }
 {
     let mut slots = empty_slots(alloc, rs)?;
     for (field, datum) in ws.iter().zip(fields) {
@@ -257,14 +258,14 @@ fn resolve_fields(
 fn resolve_field(
     alloc: Global,
     datum: Datum,
-    w: &Schema,
+    w: &Nodes,
     field: &Field,
-    r: &Schema,
+    r: &Nodes,
     rs: &[Field],
 ) -> Result<Option<(usize, Datum)>, ResolveError>
-    requires writer { field.now.node < length w.now.nodes }
-    requires reader { AreFields (length r.now.nodes) (fields_of rs.now) }
-    ensures value { Resolves (option_map value_of) result (one_field w.now.nodes r.now.nodes (field_of field.now) (fields_of rs.now) (datum_of datum)) }
+    requires writer { field.now.node < length w.now }
+    requires reader { AreFields (length r.now) (fields_of rs.now) }
+    ensures value { Resolves (option_map value_of) result (one_field w.now r.now (field_of field.now) (fields_of rs.now) (datum_of datum)) }
     ensures place { IfOk result (λ o. IfSome o (λ p. position (is_named (string_bytes field.now.name)) rs.now ≡ Some p.0)) }
     ensures within { IfOk result (λ o. IfSome o (λ p. p.0 < length rs.now)) }
 {
@@ -277,9 +278,9 @@ fn resolve_field(
     }
 }
 
-/// What a reader's schema makes of a datum of a writer's (Avro 1.11, "Schema Resolution").
-pub fn resolve(alloc: Global, w: &Schema, r: &Schema, datum: Datum) -> Result<Datum, ResolveError>
-    ensures { Resolves datum_of result (resolved w.now.nodes r.now.nodes 0 0 (datum_of datum)) }
+/// What a reader's schema makes of a datum of a writer's (Avro 1.11, "Nodes Resolution").
+pub fn resolve(alloc: Global, w: &Nodes, r: &Nodes, datum: Datum) -> Result<Datum, ResolveError>
+    ensures { Resolves datum_of result (resolved w.now r.now 0 0 (datum_of datum)) }
 {
     w.is_well_formed();
     r.is_well_formed();

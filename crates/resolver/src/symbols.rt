@@ -1,26 +1,24 @@
 ghost use Rattle.std.specs.Prelude.{◌≡◌, ◌<◌, ◌≤◌, length, map, option_map, position, slice_get, string_bytes, IfSome};
-ghost use Rattle.avro_schema.specs.Node.{most_symbols, symbols_in};
 ghost use Rattle.resolver.specs.Resolution.{symbol_at, symbol_for, symbol_in};
 ghost use Rattle.resolver.specs.Safety.{some_missing};
 
-use avro_schema::{Kind, Schema, Symbols};
+use avro_types::{Kind, MOST_SYMBOLS, Nodes, Symbols};
 
 /// The symbol of a position in an enum.
-pub(crate) fn symbol_at(schema: &Schema, node: usize, position: u32) -> Option<&str>
-    requires { node < length schema.now.nodes }
-    ensures { option_map (λ s. s.now) result ≡ symbol_at (slice_get schema.now.nodes node) position }
+pub(crate) fn symbol_at(nodes: &Nodes, node: usize, position: u32) -> Option<&str>
+    requires { node < length nodes.now }
+    ensures { option_map (λ s. s.now) result ≡ symbol_at (slice_get nodes.now node) position }
 {
-    match schema.kind(node) {
+    match nodes.kind(node) {
         Kind::Enum { symbols, .. } => symbols.get(position as usize),
         _ => None,
     }
 }
 
 /// The position of a symbol among others, and else the default.
-#[tactic(auto, using(crate::proofs::SymbolPlace::found_symbol))]
 fn symbol_in(symbols: &Symbols, default: Option<u32>, symbol: &str) -> Option<u32>
-    requires { length (symbols_in symbols.now) ≤ most_symbols }
-    ensures { result ≡ symbol_in (symbols_in symbols.now) default symbol.now }
+    requires { length (symbols.now) ≤ MOST_SYMBOLS }
+    ensures { result ≡ symbol_in (symbols.now) default symbol.now }
 {
     match symbols.position_of(symbol) {
         Some(position) => Some(position as u32),
@@ -29,11 +27,11 @@ fn symbol_in(symbols: &Symbols, default: Option<u32>, symbol: &str) -> Option<u3
 }
 
 /// The position of a symbol in an enum, and else that of its default.
-pub(crate) fn symbol_for(schema: &Schema, node: usize, symbol: &str) -> Option<u32>
-    requires { node < length schema.now.nodes }
-    ensures { result ≡ symbol_for (slice_get schema.now.nodes node) symbol.now }
+pub(crate) fn symbol_for(nodes: &Nodes, node: usize, symbol: &str) -> Option<u32>
+    requires { node < length nodes.now }
+    ensures { result ≡ symbol_for (slice_get nodes.now node) symbol.now }
 {
-    match schema.kind(node) {
+    match nodes.kind(node) {
         Kind::Enum {
             symbols,
             default,
@@ -46,8 +44,8 @@ pub(crate) fn symbol_for(schema: &Schema, node: usize, symbol: &str) -> Option<u
 /// Whether some of a writer's symbols is not among a reader's, which has no default.
 #[tactic(auto, using(crate::proofs::SymbolPlace::missing_here))]
 pub(crate) fn some_missing(theirs: &Symbols, default: Option<u32>, symbols: &[String]) -> bool
-    requires { length (symbols_in theirs.now) ≤ most_symbols }
-    ensures { result ≡ some_missing (symbols_in theirs.now) default (map string_bytes symbols.now) }
+    requires { length (theirs.now) ≤ MOST_SYMBOLS }
+    ensures { result ≡ some_missing (theirs.now) default (map string_bytes symbols.now) }
 {
     for symbol in symbols {
         if symbol_in(theirs, default, symbol).is_none() {

@@ -1,13 +1,23 @@
 ghost use Rattle.resolver.specs.Outcome.{Transcodes, WritesOutcome};
-ghost use Rattle.avro_schema.specs.Datum.{datum_of};
+ghost use Rattle.avro_types.specs.Datum.{datum_of};
 
 use crate::mismatch::ResolveError;
-use crate::outcome::{MOST_PAYLOAD, Outcome, TranscodeError};
 use crate::resolving::resolve;
 use avro_bytes::Fault;
 use avro_datum::{WriteError, read_all, write};
-use avro_schema::{Datum, Schema};
+use avro_types::{Datum, Nodes};
+use outcome::{MOST_PAYLOAD, Outcome};
 use std::alloc::Global;
+use thiserror::Error;
+
+/// Why there is no outcome, the first reason.
+#[derive(Clone, Copy, Debug, PartialEq, Eq, Error)]
+pub enum TranscodeError {
+    #[error("the payload passes its limit")]
+    TooLarge,
+    #[error("out of memory")]
+    NoMemory,
+}
 
 /// Writes what the reader makes of a datum.
 fn write_resolved(alloc: Global, resolved: &Datum) -> Result<Outcome, TranscodeError>
@@ -24,11 +34,11 @@ fn write_resolved(alloc: Global, resolved: &Datum) -> Result<Outcome, TranscodeE
 /// The outcome of a payload: reads it by the writer's schema, resolves the datum, and writes it by the reader's.
 pub fn transcode_tree(
     alloc: Global,
-    w: &Schema,
-    r: &Schema,
+    w: &Nodes,
+    r: &Nodes,
     payload: &[u8],
 ) -> Result<Outcome, TranscodeError>
-    ensures { Transcodes w.now.nodes r.now.nodes payload.now result }
+    ensures { Transcodes w.now r.now payload.now result }
 {
     if payload.len() > MOST_PAYLOAD {
         return Err(TranscodeError::TooLarge);

@@ -5,8 +5,8 @@ use Rattle.avro_bytes.specs.Decoding.{Complete, Incomplete, Stands, map_decoding
 use Rattle.avro_bytes.specs.Fault.{Defect, HasDefect, failing, shifted}
 use Rattle.avro_bytes.specs.Meter.{Counts, OpensBlocks}
 use Rattle.avro_bytes.specs.Laws.Binds.{defect_map, failing_map}
-use Rattle.avro_schema.specs.Node.{Node, ArrayNode, is_array_or_map}
-use Rattle.avro_schema.specs.Datum.{Datum, Data, ArrayDatum, no_more, more}
+use Rattle.avro_types.specs.Node.{Node, ArrayNode, is_array_or_map}
+use Rattle.avro_types.specs.Datum.{Datum, Data, ArrayDatum, no_more, more}
 use Rattle.avro_datum.specs.Decoding.{Decoder, array_of, data_from}
 use Rattle.avro_datum.specs.Fault.{FaultyDatum, faulty_array, faulty_item, refused_blocks}
 use Rattle.avro_datum.specs.ItemDecoding.{blocks_at}

@@ -14,8 +14,8 @@ use Rattle.avro_bytes.specs.Laws.Booleans.{boolean_complete}
 use Rattle.avro_bytes.specs.Laws.Fixeds.{fixed_complete}
 use Rattle.avro_bytes.specs.Laws.Numbers.{number_complete}
 use Rattle.avro_bytes.specs.Laws.Texts.{text_complete}
-use Rattle.avro_schema.specs.Node.{Node, NullNode, BooleanNode, IntNode, LongNode, BytesNode, TextNode, FixedNode, EnumNode, ArrayNode, MapNode, UnionNode, RecordNode, is_union}
-use Rattle.avro_schema.specs.Datum.{Datum, NullDatum, BooleanDatum, IntDatum, LongDatum, BytesDatum, TextDatum, FixedDatum, EnumDatum, ArrayDatum, MapDatum, UnionDatum, RecordDatum}
+use Rattle.avro_types.specs.Node.{Node, NullNode, BooleanNode, IntNode, LongNode, BytesNode, TextNode, FixedNode, EnumNode, ArrayNode, MapNode, UnionNode, RecordNode, is_union}
+use Rattle.avro_types.specs.Datum.{Datum, NullDatum, BooleanDatum, IntDatum, LongDatum, BytesDatum, TextDatum, FixedDatum, EnumDatum, ArrayDatum, MapDatum, UnionDatum, RecordDatum}
 use Rattle.avro_datum.specs.Decoding.{Decoder, datum_at, kind_at, node_at, plain_at}
 use Rattle.avro_datum.specs.Position.{position_at}
 use Rattle.avro_datum.specs.Spelling.{Spells, depth_of, units_of}

@@ -4,8 +4,8 @@ use Rattle.avro_bytes.specs.declared.meter.Meter.{Meter}
 use Rattle.avro_bytes.specs.Decoding.{Complete, Incomplete, Stands}
 use Rattle.avro_bytes.specs.Fault.{Defect, HasDefect, failing}
 use Rattle.avro_bytes.specs.Meter.{Counts}
-use Rattle.avro_schema.specs.Node.{Node}
-use Rattle.avro_schema.specs.Datum.{Datum}
+use Rattle.avro_types.specs.Node.{Node}
+use Rattle.avro_types.specs.Datum.{Datum}
 use Rattle.avro_datum.specs.Decoding.{Decoder}
 use Rattle.avro_datum.specs.Fault.{FaultyDatum}
 use Rattle.avro_datum.specs.Spelling.{Spells, depth_of, units_of}

@@ -1,7 +1,7 @@
 -- The kinds of a node in groups: those that hold no others, arrays, maps, unions and records.
 use Rattle.std.proofs.Common.{◌≡◌, ℕ, suc, List, Option, Some, None, false, refl, sym, subst, ◌∙◌, arith}
 use Rattle.avro_bytes.specs.declared.meter.Meter.{Meter}
-use Rattle.avro_schema.specs.Node.{Node, FieldNode, NullNode, BooleanNode, IntNode, LongNode, BytesNode, TextNode, FixedNode, EnumNode, ArrayNode, MapNode, UnionNode, RecordNode, is_union}
+use Rattle.avro_types.specs.Node.{Node, FieldNode, NullNode, BooleanNode, IntNode, LongNode, BytesNode, TextNode, FixedNode, EnumNode, ArrayNode, MapNode, UnionNode, RecordNode, is_union}
 use Rattle.avro_datum.specs.Decoding.{Decoder, IsLeaf, kind_at, leaf_at, plain_at}
 use Rattle.avro_datum.specs.Laws.Decoders.{Deeper}
 

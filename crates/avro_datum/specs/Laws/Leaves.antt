@@ -18,8 +18,8 @@ use Rattle.avro_bytes.specs.Laws.Fixeds.{fixed_defect, fixed_sound, fixed_steady
 use Rattle.avro_bytes.specs.Laws.Numbers.{number_sound, number_steady}
 use Rattle.avro_bytes.specs.Laws.Texts.{text_sound, text_steady}
 use Rattle.avro_bytes.specs.Laws.TextDefects.{content_defect, text_defect}
-use Rattle.avro_schema.specs.Node.{Node, NullNode, BooleanNode, IntNode, LongNode, BytesNode, TextNode, FixedNode, EnumNode, ArrayNode, MapNode, UnionNode, RecordNode}
-use Rattle.avro_schema.specs.Datum.{Datum, NullDatum, BooleanDatum, IntDatum, LongDatum, BytesDatum, TextDatum, FixedDatum, EnumDatum}
+use Rattle.avro_types.specs.Node.{Node, NullNode, BooleanNode, IntNode, LongNode, BytesNode, TextNode, FixedNode, EnumNode, ArrayNode, MapNode, UnionNode, RecordNode}
+use Rattle.avro_types.specs.Datum.{Datum, NullDatum, BooleanDatum, IntDatum, LongDatum, BytesDatum, TextDatum, FixedDatum, EnumDatum}
 use Rattle.avro_datum.specs.Decoding.{IsLeaf, leaf_at}
 use Rattle.avro_datum.specs.Fault.{FaultyDatum, faulty_boolean, faulty_int, faulty_long, faulty_bytes, faulty_text, faulty_fixed, faulty_enum}
 use Rattle.avro_datum.specs.Position.{FaultyPosition, position_at}

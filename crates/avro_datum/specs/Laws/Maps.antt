@@ -9,8 +9,8 @@ use Rattle.avro_bytes.specs.Text.{IsText, text_at}
 use Rattle.avro_bytes.specs.Laws.Binds.{behind, defect_as, defect_behind, defect_map, defect_then, failing_map, stands_within, then_complete, then_steady}
 use Rattle.avro_bytes.specs.Laws.TextDefects.{text_defect}
 use Rattle.avro_bytes.specs.Laws.Texts.{text_complete, text_sound, text_steady}
-use Rattle.avro_schema.specs.Node.{Node, MapNode, is_array_or_map}
-use Rattle.avro_schema.specs.Datum.{Datum, Pairs, MapDatum, no_pairs, pair}
+use Rattle.avro_types.specs.Node.{Node, MapNode, is_array_or_map}
+use Rattle.avro_types.specs.Datum.{Datum, Pairs, MapDatum, no_pairs, pair}
 use Rattle.avro_datum.specs.Decoding.{Decoder, map_of, pair_at, pairs_from}
 use Rattle.avro_datum.specs.Fault.{FaultyDatum, SpellsPair, faulty_key, faulty_map, faulty_value, pair_depth, pair_units, refused_blocks}
 use Rattle.avro_datum.specs.ItemDecoding.{blocks_at}

@@ -13,8 +13,8 @@ use Rattle.avro_bytes.specs.Laws.Booleans.{boolean_one_form}
 use Rattle.avro_bytes.specs.Laws.Fixeds.{fixed_one_form}
 use Rattle.avro_bytes.specs.Laws.Numbers.{number_one_form}
 use Rattle.avro_bytes.specs.Laws.Texts.{text_one_form}
-use Rattle.avro_schema.specs.Node.{Node, FieldNode, FixedNode, EnumNode, ArrayNode, MapNode, UnionNode, RecordNode}
-use Rattle.avro_schema.specs.Datum.{Datum, Data, Pairs, NullDatum, BooleanDatum, IntDatum, LongDatum, BytesDatum, TextDatum, FixedDatum, EnumDatum, ArrayDatum, MapDatum, UnionDatum, RecordDatum, no_more, more, no_pairs, pair}
+use Rattle.avro_types.specs.Node.{Node, FieldNode, FixedNode, EnumNode, ArrayNode, MapNode, UnionNode, RecordNode}
+use Rattle.avro_types.specs.Datum.{Datum, Data, Pairs, NullDatum, BooleanDatum, IntDatum, LongDatum, BytesDatum, TextDatum, FixedDatum, EnumDatum, ArrayDatum, MapDatum, UnionDatum, RecordDatum, no_more, more, no_pairs, pair}
 use Rattle.avro_datum.specs.Position.{SpellsPosition}
 use Rattle.avro_datum.specs.Spelling.{Spells, SpellsFields, SpellsItems, SpellsPairs}
 use Rattle.avro_datum.specs.Laws.Positions.{position_one_form}

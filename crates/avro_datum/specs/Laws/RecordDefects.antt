@@ -8,8 +8,8 @@ use Rattle.avro_bytes.specs.Fault.{Defect, HasDefect, failing}
 use Rattle.avro_bytes.specs.Meter.{OpensRecord}
 use Rattle.avro_bytes.specs.Laws.Binds.{behind, defect_as, defect_behind, defect_then, failing_shifted, failing_then}
 use Rattle.avro_bytes.specs.Laws.Meters.{opened_again, record_defect}
-use Rattle.avro_schema.specs.Node.{Node, FieldNode, RecordNode}
-use Rattle.avro_schema.specs.Datum.{Datum, Data, more}
+use Rattle.avro_types.specs.Node.{Node, FieldNode, RecordNode}
+use Rattle.avro_types.specs.Datum.{Datum, Data, more}
 use Rattle.avro_datum.specs.Decoding.{Decoder, closed_record, fields_at, record_at}
 use Rattle.avro_datum.specs.Fault.{FaultyDatum, faulty_record, refused_record, FaultyFields, here as first_faulty, behind as later_faulty}
 use Rattle.avro_datum.specs.Laws.Decoders.{Deeper, HasFault, IsComplete, IsSound, TellsFault}

@@ -7,8 +7,8 @@ use Rattle.avro_bytes.specs.Decoding.{Decoding, Complete, Incomplete, Stands, â—
 use Rattle.avro_bytes.specs.Meter.{Counts, opened_record}
 use Rattle.avro_bytes.specs.Laws.Binds.{complete_is, stands_within, then_complete, then_steady}
 use Rattle.avro_bytes.specs.Laws.Meters.{opened_again, same_meter, was_opened}
-use Rattle.avro_schema.specs.Node.{Node, FieldNode, RecordNode}
-use Rattle.avro_schema.specs.Datum.{Datum, Data, RecordDatum, no_more, more}
+use Rattle.avro_types.specs.Node.{Node, FieldNode, RecordNode}
+use Rattle.avro_types.specs.Datum.{Datum, Data, RecordDatum, no_more, more}
 use Rattle.avro_datum.specs.Decoding.{Decoder, closed_record, fields_at, record_at}
 use Rattle.avro_datum.specs.Spelling.{Spells, SpellsFields, depth_of, depth_of_data, units_of, units_of_data}
 use Rattle.avro_datum.specs.Laws.Decoders.{Deeper, IsComplete, IsSound, IsSteady}

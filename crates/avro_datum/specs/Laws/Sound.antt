@@ -3,8 +3,8 @@ use Rattle.std.proofs.Common.{◌≡◌, ℕ, zero, suc, ◌-◌, List, Option, 
 use Rattle.avro_bytes.specs.declared.meter.Meter.{Meter}
 use Rattle.avro_bytes.specs.Decoding.{Complete, Incomplete, Stands}
 use Rattle.avro_bytes.specs.Meter.{Counts}
-use Rattle.avro_schema.specs.Node.{Node, is_union}
-use Rattle.avro_schema.specs.Datum.{Datum}
+use Rattle.avro_types.specs.Node.{Node, is_union}
+use Rattle.avro_types.specs.Datum.{Datum}
 use Rattle.avro_datum.specs.Decoding.{Decoder, datum_at, kind_at, node_at, plain_at}
 use Rattle.avro_datum.specs.Spelling.{Spells, depth_of, units_of}
 use Rattle.avro_datum.specs.Laws.Arrays.{array_sound}

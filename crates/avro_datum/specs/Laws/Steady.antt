@@ -2,8 +2,8 @@
 use Rattle.std.proofs.Common.{◌≡◌, ◌≢◌, ℕ, zero, suc, ◌-◌, ◌≤◌, List, ◌++◌, length, Option, Some, refl, sym, ◌∙◌, slice_get}
 use Rattle.avro_bytes.specs.declared.meter.Meter.{Meter}
 use Rattle.avro_bytes.specs.Decoding.{Decoding, Incomplete}
-use Rattle.avro_schema.specs.Node.{Node}
-use Rattle.avro_schema.specs.Datum.{Datum}
+use Rattle.avro_types.specs.Node.{Node}
+use Rattle.avro_types.specs.Datum.{Datum}
 use Rattle.avro_datum.specs.Decoding.{Decoder, datum_at, kind_at, leaf_at, node_at, plain_at}
 use Rattle.avro_datum.specs.Laws.Arrays.{array_steady}
 use Rattle.avro_datum.specs.Laws.Decoders.{Deeper, IsSound, IsSteady}

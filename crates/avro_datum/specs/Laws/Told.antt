@@ -19,8 +19,8 @@ use Rattle.avro_bytes.specs.Laws.Fixeds.{fixed_told}
 use Rattle.avro_bytes.specs.Laws.Meters.{blocks_refused_told, refused_told}
 use Rattle.avro_bytes.specs.Laws.TextDefects.{content_told, text_told}
 use Rattle.avro_bytes.specs.Laws.Texts.{text_complete}
-use Rattle.avro_schema.specs.Node.{Node, BooleanNode, IntNode, LongNode, BytesNode, TextNode, FixedNode, EnumNode, ArrayNode, MapNode, UnionNode, RecordNode, is_array_or_map, is_union}
-use Rattle.avro_schema.specs.Datum.{Datum, BooleanDatum, IntDatum, LongDatum, BytesDatum, TextDatum, FixedDatum, EnumDatum}
+use Rattle.avro_types.specs.Node.{Node, BooleanNode, IntNode, LongNode, BytesNode, TextNode, FixedNode, EnumNode, ArrayNode, MapNode, UnionNode, RecordNode, is_array_or_map, is_union}
+use Rattle.avro_types.specs.Datum.{Datum, BooleanDatum, IntDatum, LongDatum, BytesDatum, TextDatum, FixedDatum, EnumDatum}
 use Rattle.avro_datum.specs.Decoding.{Decoder, IsLeaf, array_of, closed_record, datum_at, fields_at, kind_at, map_of, node_at, pair_at, plain_at}
 use Rattle.avro_datum.specs.Fault.{FaultyDatum, faulty_boolean, faulty_int, faulty_long, faulty_bytes, faulty_text, faulty_fixed, faulty_enum, faulty_branch, faulty_member, refused_blocks, faulty_array, faulty_item, faulty_map, faulty_key, faulty_value, refused_record, faulty_record, no_node, no_member}
 use Rattle.avro_datum.specs.ItemDecoding.{items_at, steps_left}

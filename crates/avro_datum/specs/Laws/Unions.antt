@@ -8,8 +8,8 @@ use Rattle.avro_bytes.specs.Decoding.{Decoding, Complete, Incomplete, Stands, â—
 use Rattle.avro_bytes.specs.Fault.{Defect, HasDefect, failing, shifted}
 use Rattle.avro_bytes.specs.Meter.{Counts}
 use Rattle.avro_bytes.specs.Laws.Binds.{behind, defect_as, defect_behind, defect_map, defect_then, failing_map, failing_shifted, failing_then, stands_within, then_complete, then_steady}
-use Rattle.avro_schema.specs.Node.{Node, UnionNode, is_union}
-use Rattle.avro_schema.specs.Datum.{Datum, UnionDatum}
+use Rattle.avro_types.specs.Node.{Node, UnionNode, is_union}
+use Rattle.avro_types.specs.Datum.{Datum, UnionDatum}
 use Rattle.avro_datum.specs.Decoding.{Decoder, member_at, union_at}
 use Rattle.avro_datum.specs.Fault.{FaultyDatum, faulty_branch, faulty_member, no_member}
 use Rattle.avro_datum.specs.Position.{FaultyPosition, SpellsPosition, position_at}

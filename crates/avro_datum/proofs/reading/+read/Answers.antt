@@ -3,8 +3,8 @@ use Rattle.std.proofs.lemmas.Option.{slice_get_read}
 use Rattle.std.proofs.lemmas.Result.{err_from_is_err_and}
 use Rattle.avro_datum.proofs.Fields.{field_below, goes_on, fails, ends}
 use Rattle.avro_bytes.specs.Decoding.{Complete}
-use Rattle.avro_schema.specs.Datum.{UnionDatum, datum_of}
-use Rattle.avro_schema.specs.declared.datum.Datum as rust
+use Rattle.avro_types.specs.Datum.{UnionDatum, datum_of}
+use Rattle.avro_types.specs.declared.datum.Datum as rust
 use Rattle.avro_datum.proofs.ByKind.{array_ends, array_fails, array_not_opened, at_depth, fields_end, fields_fail, map_ends, map_fails, map_not_opened, member_ends, member_fails, not_opened, pair_at_depth, position_fails, reads_leaf}
 use Rattle.avro_datum.proofs.Items as items
 use Rattle.avro_datum.proofs.reading.+read.Goals as goal

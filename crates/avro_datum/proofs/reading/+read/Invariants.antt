@@ -1,6 +1,6 @@
 use Rattle.std.proofs.Common.{◌≡◌, ◌≤◌, ◌-◌, ◌+◌, ◌*◌, length}
-use Rattle.avro_schema.specs.Datum.{datum_of}
-use Rattle.avro_schema.specs.Node.{fields_of}
+use Rattle.avro_types.specs.Datum.{datum_of}
+use Rattle.avro_types.specs.Node.{fields_of}
 use Rattle.avro_datum.specs.Decoding.{fields_at, node_at, pair_at}
 use Rattle.avro_datum.specs.ItemDecoding.{items_at, steps_left}
 use Rattle.avro_datum.specs.View.{pair_of}
@@ -30,7 +30,7 @@ decreases-read_pair l = 4 * (1000 - l.m.depth) + 2
 
 abbrev pub invariant-read_fields-loop-field : goal.invariant-read_fields-loop-field
 invariant-read_fields-loop-field l =
-    let decoder = node_at (1000 - l.fn.m.depth) l.schema.nodes l.bytes in
+    let decoder = node_at (1000 - l.fn.m.depth) l.nodes l.bytes in
     record {
       within : l.to ≤ length l.bytes;
       depth : l.so_far.depth ≡ l.fn.m.depth;
@@ -40,7 +40,7 @@ invariant-read_fields-loop-field l =
 
 abbrev pub invariant-read_items-loop-data : goal.invariant-read_items-loop-data
 invariant-read_items-loop-data l =
-    let reader = node_at (1000 - l.fn.m.depth) l.schema.nodes l.bytes l.inner in
+    let reader = node_at (1000 - l.fn.m.depth) l.nodes l.bytes l.inner in
     record {
       within : l.to ≤ length l.bytes;
       depth : l.so_far.depth ≡ l.fn.m.depth;
@@ -53,7 +53,7 @@ decreases-read_items-loop-data l = 1048576 - l.so_far.units
 
 abbrev pub invariant-read_pairs-loop-pairs : goal.invariant-read_pairs-loop-pairs
 invariant-read_pairs-loop-pairs l =
-    let reader = pair_at (node_at (1000 - l.fn.m.depth) l.schema.nodes l.bytes) l.bytes l.inner in
+    let reader = pair_at (node_at (1000 - l.fn.m.depth) l.nodes l.bytes) l.bytes l.inner in
     record {
       within : l.to ≤ length l.bytes;
       depth : l.so_far.depth ≡ l.fn.m.depth;

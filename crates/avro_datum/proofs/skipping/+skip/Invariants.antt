@@ -1,6 +1,6 @@
 use Rattle.std.proofs.Common.{◌≡◌, ◌≤◌, ◌-◌, ◌+◌, ◌*◌, length, drop}
 use Rattle.avro_bytes.specs.Contract.{skipped}
-use Rattle.avro_schema.specs.Node.{fields_of}
+use Rattle.avro_types.specs.Node.{fields_of}
 use Rattle.avro_datum.specs.Decoding.{fields_at, node_at, pair_at}
 use Rattle.avro_datum.specs.ItemDecoding.{items_at, steps_left}
 use Rattle.avro_datum.proofs.Items.{Skipped}
@@ -28,7 +28,7 @@ decreases-skip_pair l = 4 * (1000 - l.m.depth) + 2
 
 abbrev pub invariant-skip_fields-loop-field : goal.invariant-skip_fields-loop-field
 invariant-skip_fields-loop-field l =
-    let decoder = node_at (1000 - l.fn.m.depth) l.schema.nodes l.bytes in
+    let decoder = node_at (1000 - l.fn.m.depth) l.nodes l.bytes in
     record {
       within : l.to ≤ length l.bytes;
       depth : l.so_far.depth ≡ l.fn.m.depth;
@@ -38,7 +38,7 @@ invariant-skip_fields-loop-field l =
 
 abbrev pub invariant-skip_items-loop-further : goal.invariant-skip_items-loop-further
 invariant-skip_items-loop-further l =
-    let reader = node_at (1000 - l.fn.m.depth) l.schema.nodes l.bytes l.inner in
+    let reader = node_at (1000 - l.fn.m.depth) l.nodes l.bytes l.inner in
     record {
       within : l.to ≤ length l.bytes;
       depth : l.so_far.depth ≡ l.fn.m.depth;
@@ -51,7 +51,7 @@ decreases-skip_items-loop-further l = 1048576 - l.so_far.units
 
 abbrev pub invariant-skip_pairs-loop-further : goal.invariant-skip_pairs-loop-further
 invariant-skip_pairs-loop-further l =
-    let reader = pair_at (node_at (1000 - l.fn.m.depth) l.schema.nodes l.bytes) l.bytes l.inner in
+    let reader = pair_at (node_at (1000 - l.fn.m.depth) l.nodes l.bytes) l.bytes l.inner in
     record {
       within : l.to ≤ length l.bytes;
       depth : l.so_far.depth ≡ l.fn.m.depth;

@@ -1,5 +1,5 @@
 use Rattle.std.proofs.Common.{◌≡◌, ◌+◌, length, drop}
-use Rattle.avro_schema.specs.Datum.{data_of, pairs_of}
+use Rattle.avro_types.specs.Datum.{data_of, pairs_of}
 use Rattle.avro_datum.specs.Writing.{written_data, written_pairs}
 use Rattle.avro_datum.proofs.writing.+measure.Given as goal
 

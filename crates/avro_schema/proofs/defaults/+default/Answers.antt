@@ -4,12 +4,12 @@ use Rattle.std.specs.Option.{ok_or}
 use Rattle.serde_json.specs.Data.{depth, items_depth}
 use Rattle.serde_json.specs.View.{view, items_view, members_view}
 use Rattle.avro_schema.specs.declared.error.SchemaError.TheVariants.{BadDefault}
-use Rattle.avro_schema.specs.Datum.{Data, Pairs, Datum, ArrayDatum, MapDatum, RecordDatum, UnionDatum}
+use Rattle.avro_types.specs.Datum.{Data, Pairs, Datum, ArrayDatum, MapDatum, RecordDatum, UnionDatum}
 use Rattle.avro_schema.specs.Defaults.{value_of}
 use Rattle.serde_json.specs.Find.{get}
 use Rattle.avro_schema.specs.Draft.{Whole, draft_field_of, draft_of, drafts_of}
-use Rattle.avro_schema.specs.Node.{node_of, full_of}
-use Rattle.avro_schema.proofs.DatumOf.{datum_of-Array, datum_of-Map, datum_of-Record}
+use Rattle.avro_types.specs.Node.{node_of}
+use Rattle.avro_types.specs.Laws.DatumOf.{datum_of-Array, datum_of-Map, datum_of-Record}
 use Rattle.avro_schema.proofs.DefaultParts.{draft-at, few-at, items-on, items-fail, items-end, pairs-on, pairs-fail, pairs-end, members-depth, union-value, whole-plain, fault-map, told-map, fields-on, fields-fail, fields-end, record-value, record-other, array-value, array-other, map-value, map-other, whole-leaf, leaf-value}
 use Rattle.avro_schema.proofs.Members.{item-depth, found-depth, option_depth}
 use Rattle.avro_schema.proofs.defaults.+default.Goals as goal
@@ -123,19 +123,19 @@ fields_default-returns t c =
 pub plain_default-returns-then-not-is_object : goal.plain_default-returns-then-not-is_object
 plain_default-returns-then-not-is_object t c =
     λ _. ap (λ (o : Option Datum). ok_or o BadDefault) (ap (value_of (view c.args.value.now) (drafts_of c.args.drafts.now)) (ap draft_of c.in-Record.is)
-    ∙ record-other (view c.args.value.now) c.if-not-is_object.ensures (drafts_of c.args.drafts.now) (full_of c.in-Record.name) (map draft_field_of c.in-Record.fields.items))
+    ∙ record-other (view c.args.value.now) c.if-not-is_object.ensures (drafts_of c.args.drafts.now) c.in-Record.name (map draft_field_of c.in-Record.fields.items))
 
 pub plain_default-returns-in_err-data-in-Record : goal.plain_default-returns-in_err-data-in-Record
 plain_default-returns-in_err-data-in-Record t c =
     let p = err_from_is_err_and c.from_residual.result c.from_residual.ensures.1 in
     rw (p.1, p.2) (λ known. ap (λ (o : Option Datum). ok_or o BadDefault) (ap (value_of (view c.args.value.now) (drafts_of c.args.drafts.now)) (ap draft_of c.in-Record.is)
-    ∙ record-value (view c.args.value.now) c.if-not-is_object.ensures (drafts_of c.args.drafts.now) (full_of c.in-Record.name) (map draft_field_of c.in-Record.fields.items))
+    ∙ record-value (view c.args.value.now) c.if-not-is_object.ensures (drafts_of c.args.drafts.now) c.in-Record.name (map draft_field_of c.in-Record.fields.items))
     ∙ fault-map RecordDatum _ _ (rw c.deref.ensures.value at (c.in_err-data-in-Record.ensures known)))
 
 pub plain_default-returns-in_ok-data-in-Record : goal.plain_default-returns-in_ok-data-in-Record
 plain_default-returns-in_ok-data-in-Record t c =
     ap (λ (o : Option Datum). ok_or o BadDefault) (ap (value_of (view c.args.value.now) (drafts_of c.args.drafts.now)) (ap draft_of c.in-Record.is)
-    ∙ record-value (view c.args.value.now) c.if-not-is_object.ensures (drafts_of c.args.drafts.now) (full_of c.in-Record.name) (map draft_field_of c.in-Record.fields.items))
+    ∙ record-value (view c.args.value.now) c.if-not-is_object.ensures (drafts_of c.args.drafts.now) c.in-Record.name (map draft_field_of c.in-Record.fields.items))
     ∙ told-map RecordDatum _ _ (rw c.deref.ensures.value at c.in_ok-data-in-Record.ensures) ∙ ap Ok (sym (datum_of-Record c.in_ok-data-in-Record.data))
 
 pub whole_default-returns-in_default-as_array : goal.whole_default-returns-in_default-as_array

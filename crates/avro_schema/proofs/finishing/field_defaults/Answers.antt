@@ -1,7 +1,7 @@
 use Rattle.std.proofs.Common.{List, Option, option_map, refl, sym, ap, ◌∙◌, arith}
 use Rattle.std.specs.Option.{ok_or}
 use Rattle.avro_schema.specs.declared.error.SchemaError.TheVariants.{BadDefault}
-use Rattle.avro_schema.specs.Datum.{Datum, datum_of}
+use Rattle.avro_types.specs.Datum.{Datum, datum_of}
 use Rattle.avro_schema.specs.Draft.{drafts_of}
 use Rattle.avro_schema.proofs.Finished.{field_read, fields_read, fields_read-steps, row-on, row-ends}
 use Rattle.avro_schema.proofs.finishing.field_defaults.Goals as goal

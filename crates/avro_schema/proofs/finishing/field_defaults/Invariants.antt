@@ -1,5 +1,5 @@
 use Rattle.std.proofs.Common.{◌≡◌, drop, option_map}
-use Rattle.avro_schema.specs.Datum.{datum_of}
+use Rattle.avro_types.specs.Datum.{datum_of}
 use Rattle.avro_schema.specs.Draft.{drafts_of}
 use Rattle.avro_schema.proofs.Finished.{fields_read, first_as}
 use Rattle.avro_schema.proofs.OneByOne.{before}

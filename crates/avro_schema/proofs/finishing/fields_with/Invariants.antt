@@ -1,5 +1,5 @@
 use Rattle.std.proofs.Common.{◌≡◌, map}
-use Rattle.avro_schema.specs.Node.{fields_of}
+use Rattle.avro_types.specs.Node.{fields_of}
 use Rattle.avro_schema.proofs.Finished.{field_from}
 use Rattle.avro_schema.proofs.finishing.fields_with.Given as goal
 

@@ -1,5 +1,5 @@
 use Rattle.std.proofs.Common.{◌≡◌, map}
-use Rattle.avro_schema.specs.Node.{nodes_of}
+use Rattle.avro_types.specs.Node.{nodes_of}
 use Rattle.avro_schema.proofs.Finished.{node_from}
 use Rattle.avro_schema.proofs.finishing.nodes_with.Given as goal
 

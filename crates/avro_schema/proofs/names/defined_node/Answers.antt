@@ -1,6 +1,6 @@
 use Rattle.std.proofs.Common.{sym, ◌∙◌}
 use Rattle.std.specs.Arc.{arc_str_bytes}
-use Rattle.avro_schema.proofs.Dots.{back-undotted, none-undotted, split-parts}
+use Rattle.avro_types.specs.Laws.Dots.{back-undotted, none-undotted, split-parts}
 use Rattle.avro_schema.proofs.NewNames.{dotted-empty, dotted-full, dotted-some, undotted-full}
 use Rattle.avro_schema.proofs.names.defined_node.Goals as goal
 

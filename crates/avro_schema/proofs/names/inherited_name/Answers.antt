@@ -2,8 +2,8 @@ use Rattle.std.proofs.Common.{sym, ◌∙◌}
 use Rattle.std.specs.Arc.{arc_str_bytes}
 use Rattle.avro_schema.specs.Draft.{drafts_of}
 use Rattle.avro_schema.specs.Head.{heads_of}
-use Rattle.avro_schema.proofs.Booleans.{is_nowhere}
-use Rattle.avro_schema.proofs.Dots.{namespace-inside}
+use Rattle.avro_types.specs.Laws.Booleans.{is_nowhere}
+use Rattle.avro_types.specs.Laws.Dots.{namespace-inside}
 use Rattle.avro_schema.proofs.Namespaces.{namespaces-numbered}
 use Rattle.avro_schema.proofs.NewNames.{new-bad_last, new-used, new-fine}
 use Rattle.avro_schema.proofs.names.inherited_name.Goals as goal
@@ -18,16 +18,16 @@ returns-then-is_some-clause-name c =
 
 pub returns-clause-name : goal.returns-clause-name
 returns-clause-name c =
-    rw (c.new-name.ensures.namespace, c.new-name.ensures.last, c.in_ok-namespace.ensures.cases, c.in_ok-from_str.ensures.ok)
+    rw (c.new-name.ensures, c.in_ok-namespace.ensures.cases, c.in_ok-from_str.ensures.ok)
     (new-fine (arc_str_bytes c.args.enclosing.now.text) c.args.last.now c.requires.undotted _ c.args.enclosing.now.valid (sym c.is_last_part.ensures ∙ c.if-not-is_last_part.false)
     (rw (← c.defined_in.ensures) (sym c.is_some.ensures ∙ c.if-is_some.false)))
 
 pub returns-clause-numbered : goal.returns-clause-numbered
 returns-clause-numbered c =
     let enclosing = c.args.enclosing.now in
-    rw (c.new-name.ensures.namespace, c.new-name.ensures.last, c.in_ok-namespace.ensures.cases, c.in_ok-from_str.ensures.ok, namespace-inside (arc_str_bytes enclosing.text) c.args.last.now c.requires.undotted)
+    rw (c.new-name.ensures, c.in_ok-namespace.ensures.cases, c.in_ok-from_str.ensures.ok, namespace-inside (arc_str_bytes enclosing.text) c.args.last.now c.requires.undotted)
     (sym (namespaces-numbered (heads_of (drafts_of c.args.drafts.now.nodes.items)) enclosing.number (arc_str_bytes enclosing.text) c.requires.known))
 
 pub returns-clause-new : goal.returns-clause-new
 returns-clause-new c =
-    rw (c.new-name.ensures.namespace, c.new-name.ensures.last, c.in_ok-namespace.ensures.cases, c.in_ok-from_str.ensures.ok) (is_nowhere _ (rw (← c.defined_in.ensures) (sym c.is_some.ensures ∙ c.if-is_some.false)))
+    rw (c.new-name.ensures, c.in_ok-namespace.ensures.cases, c.in_ok-from_str.ensures.ok) (is_nowhere _ (rw (← c.defined_in.ensures) (sym c.is_some.ensures ∙ c.if-is_some.false)))

@@ -1,5 +1,5 @@
 use Rattle.std.proofs.Common.{rules, ◌≡◌, sym, ◌∙◌, ap, lit<, refl}
-use Rattle.avro_schema.specs.FullNames.{is_name, is_full_name}
+use Rattle.avro_types.specs.FullNames.{is_name, is_full_name}
 use Rattle.avro_schema.proofs.DottedNames.{full_single, full_parts}
 use Rattle.avro_schema.proofs.names.is_full_name.Goals as goal
 

@@ -1,6 +1,6 @@
 use Rattle.std.proofs.Common.{sym, ◌∙◌}
-use Rattle.avro_schema.proofs.Booleans.{is_nowhere}
-use Rattle.avro_schema.proofs.Dots.{namespace-inside}
+use Rattle.avro_types.specs.Laws.Booleans.{is_nowhere}
+use Rattle.avro_types.specs.Laws.Dots.{namespace-inside}
 use Rattle.avro_schema.proofs.NewNames.{new-bad_space, new-bad_last, new-used, new-fine}
 use Rattle.avro_schema.proofs.names.own_name.Goals as goal
 use Rattle.avro_schema.proofs.names.own_name.Goals.{then-not-is_namespace-via-then-not-is_namespace, then-not-is_namespace-via-else-not-is_namespace+then-not-is_last_part}
@@ -19,14 +19,14 @@ returns-then-is_some-clause-name c =
 
 pub returns-clause-name : goal.returns-clause-name
 returns-clause-name c =
-    rw (c.new-name.ensures.namespace, c.new-name.ensures.last, c.in_ok-namespace.ensures.ok, c.in_ok-from_str.ensures.ok)
+    rw (c.new-name.ensures, c.in_ok-namespace.ensures.ok, c.in_ok-from_str.ensures.ok)
     (new-fine c.args.namespace.now c.args.last.now c.requires.undotted _ (sym c.is_namespace.ensures ∙ c.if-not-is_namespace.false) (sym c.is_last_part.ensures ∙ c.if-not-is_last_part.false)
     (rw (← c.defined_by.ensures) (sym c.is_some.ensures ∙ c.if-is_some.false)))
 
 pub returns-clause-numbered : goal.returns-clause-numbered
 returns-clause-numbered c =
-    rw (c.new-name.ensures.namespace, c.new-name.ensures.last, c.in_ok-namespace.ensures.ok, c.in_ok-from_str.ensures.ok, namespace-inside c.args.namespace.now c.args.last.now c.requires.undotted) c.number_of-number.ensures
+    rw (c.new-name.ensures, c.in_ok-namespace.ensures.ok, c.in_ok-from_str.ensures.ok, namespace-inside c.args.namespace.now c.args.last.now c.requires.undotted) c.number_of-number.ensures
 
 pub returns-clause-new : goal.returns-clause-new
 returns-clause-new c =
-    rw (c.new-name.ensures.namespace, c.new-name.ensures.last, c.in_ok-namespace.ensures.ok, c.in_ok-from_str.ensures.ok) (is_nowhere _ (rw (← c.defined_by.ensures) (sym c.is_some.ensures ∙ c.if-is_some.false)))
+    rw (c.new-name.ensures, c.in_ok-namespace.ensures.ok, c.in_ok-from_str.ensures.ok) (is_nowhere _ (rw (← c.defined_by.ensures) (sym c.is_some.ensures ∙ c.if-is_some.false)))

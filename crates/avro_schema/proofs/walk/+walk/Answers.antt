@@ -5,11 +5,12 @@ use Rattle.serde_json.specs.Data.{string, depth, items_depth}
 use Rattle.serde_json.specs.View.{view, items_view}
 use Rattle.serde_json.specs.declared.value.Value.{the_lemmas}
 use Rattle.serde_json.proofs.Views.{view-Array, view-Object}
+use Rattle.avro_types.specs.declared.limits.TheConstants.{MOST_FIELDS, MOST_NODES}
 use Rattle.avro_schema.specs.Contract.{names_of, object_walk}
 use Rattle.avro_schema.specs.Draft.{Whole, RecordDraft, draft_field_of, drafts_of}
 use Rattle.avro_schema.specs.Head.{Named}
-use Rattle.avro_schema.specs.Node.{ArrayNode, MapNode, UnionNode, full_of}
-use Rattle.avro_schema.specs.Walk.{walk, most_nodes, most_fields}
+use Rattle.avro_types.specs.Node.{ArrayNode, MapNode, UnionNode}
+use Rattle.avro_schema.specs.Walk.{walk}
 use Rattle.avro_schema.proofs.FieldList.{fields-on, fields-fail, fields-end, map-push, run-field, run-many}
 use Rattle.avro_schema.proofs.MemberList.{members-on, members-fail, members-end, union-failed, union-bad, union-done, pushed_union}
 use Rattle.avro_schema.proofs.Members.{walk-scalar, walk-object, field-other, fields-none, fields-some, found-depth, item-depth}
@@ -96,7 +97,7 @@ pub walk_array-returns-in_err-items : goal.walk_array-returns-in_err-items
 walk_array-returns-in_err-items t c =
     let p = err_from_is_err_and c.from_residual-in_err-items.result c.from_residual-in_err-items.ensures.1 in
     let there = pushed c.args.drafts.now.nodes.items c.push.new.self.nodes.items _ c.in_ok-push.ensures in
-    let room : length c.args.drafts.now.nodes.items < most_nodes = omega arith in
+    let room : length c.args.drafts.now.nodes.items < MOST_NODES = omega arith in
     rw (p.1, p.2, ← c.get.ensures)
     (λ known. run-if_room _ (arc_str_bytes c.args.enclosing.now.text) c.args.drafts.now.nodes.items room ∙ unclosed (λ n. Whole (ArrayNode n)) (Whole (ArrayNode 0)) _ (arc_str_bytes c.args.enclosing.now.text) c.args.drafts.now.nodes.items _ (rw there at (c.in_err-items.ensures known)))
 
@@ -109,7 +110,7 @@ walk_array-set-requires t c =
 pub walk_array-returns : goal.walk_array-returns
 walk_array-returns t c =
     let there = pushed c.args.drafts.now.nodes.items c.push.new.self.nodes.items _ c.in_ok-push.ensures in
-    let room : length c.args.drafts.now.nodes.items < most_nodes = omega arith in
+    let room : length c.args.drafts.now.nodes.items < MOST_NODES = omega arith in
     let n : c.len-node.result ≡ length c.args.drafts.now.nodes.items = search rules in
     rw (c.set.ensures, n, drafts_of-set c.walk_at.new.drafts.nodes.items (length c.args.drafts.now.nodes.items) _, ← c.get.ensures)
     (run-if_room _ (arc_str_bytes c.args.enclosing.now.text) c.args.drafts.now.nodes.items room ∙ closed (λ n. Whole (ArrayNode n)) (Whole (ArrayNode 0)) _ (arc_str_bytes c.args.enclosing.now.text) c.args.drafts.now.nodes.items _ _ (rw there at c.in_ok-items.ensures))
@@ -128,7 +129,7 @@ pub walk_map-returns-in_err-values : goal.walk_map-returns-in_err-values
 walk_map-returns-in_err-values t c =
     let p = err_from_is_err_and c.from_residual-in_err-values.result c.from_residual-in_err-values.ensures.1 in
     let there = pushed c.args.drafts.now.nodes.items c.push.new.self.nodes.items _ c.in_ok-push.ensures in
-    let room : length c.args.drafts.now.nodes.items < most_nodes = omega arith in
+    let room : length c.args.drafts.now.nodes.items < MOST_NODES = omega arith in
     rw (p.1, p.2, ← c.get.ensures)
     (λ known. run-if_room _ (arc_str_bytes c.args.enclosing.now.text) c.args.drafts.now.nodes.items room ∙ unclosed (λ n. Whole (MapNode n)) (Whole (MapNode 0)) _ (arc_str_bytes c.args.enclosing.now.text) c.args.drafts.now.nodes.items _ (rw there at (c.in_err-values.ensures known)))
 
@@ -141,7 +142,7 @@ walk_map-set-requires t c =
 pub walk_map-returns : goal.walk_map-returns
 walk_map-returns t c =
     let there = pushed c.args.drafts.now.nodes.items c.push.new.self.nodes.items _ c.in_ok-push.ensures in
-    let room : length c.args.drafts.now.nodes.items < most_nodes = omega arith in
+    let room : length c.args.drafts.now.nodes.items < MOST_NODES = omega arith in
     let n : c.len-node.result ≡ length c.args.drafts.now.nodes.items = search rules in
     rw (c.set.ensures, n, drafts_of-set c.walk_at.new.drafts.nodes.items (length c.args.drafts.now.nodes.items) _, ← c.get.ensures)
     (run-if_room _ (arc_str_bytes c.args.enclosing.now.text) c.args.drafts.now.nodes.items room ∙ closed (λ n. Whole (MapNode n)) (Whole (MapNode 0)) _ (arc_str_bytes c.args.enclosing.now.text) c.args.drafts.now.nodes.items _ _ (rw there at c.in_ok-values.ensures))
@@ -158,13 +159,13 @@ pub walk_union-returns-in_err-members : goal.walk_union-returns-in_err-members
 walk_union-returns-in_err-members t c =
     let p = err_from_is_err_and c.from_residual-in_err-members.result c.from_residual-in_err-members.ensures.1 in
     let there = pushed_union c.args.drafts.now.nodes.items c.push.new.self.nodes.items c.new.result c.in_ok-push.ensures c.new.ensures.items in
-    let room : length c.args.drafts.now.nodes.items < most_nodes = omega arith in
+    let room : length c.args.drafts.now.nodes.items < MOST_NODES = omega arith in
     rw (p.1, p.2) (λ known. union-failed _ (arc_str_bytes c.args.enclosing.now.text) c.args.drafts.now.nodes.items room _ (rw there at (c.in_err-members.ensures known)))
 
 pub walk_union-returns-then-not-branch : goal.walk_union-returns-then-not-branch
 walk_union-returns-then-not-branch t c =
     let there = pushed_union c.args.drafts.now.nodes.items c.push.new.self.nodes.items c.new.result c.in_ok-push.ensures c.new.ensures.items in
-    let room : length c.args.drafts.now.nodes.items < most_nodes = omega arith in
+    let room : length c.args.drafts.now.nodes.items < MOST_NODES = omega arith in
     let bad = rw c.deref.ensures.value at (sym c.if-not-branch.true ∙ c.in_ok-are_apart.ensures) in
     λ _. union-bad _ (arc_str_bytes c.args.enclosing.now.text) c.args.drafts.now.nodes.items room _ _ (rw there at c.in_ok-members.ensures) bad
 
@@ -177,7 +178,7 @@ walk_union-set-requires t c =
 pub walk_union-returns : goal.walk_union-returns
 walk_union-returns t c =
     let there = pushed_union c.args.drafts.now.nodes.items c.push.new.self.nodes.items c.new.result c.in_ok-push.ensures c.new.ensures.items in
-    let room : length c.args.drafts.now.nodes.items < most_nodes = omega arith in
+    let room : length c.args.drafts.now.nodes.items < MOST_NODES = omega arith in
     let good = rw c.deref.ensures.value at (sym c.if-not-branch.false ∙ c.in_ok-are_apart.ensures) in
     let n : c.len-node.result ≡ length c.args.drafts.now.nodes.items = search rules in
     rw (c.set.ensures, n, drafts_of-set c.walk_members.new.drafts.nodes.items (length c.args.drafts.now.nodes.items) _)
@@ -215,7 +216,7 @@ walk_record-returns-then-node-ge-MOST_NODES t c = λ _. run-no_room _ (arc_str_b
 pub walk_record-returns-in_err-new : goal.walk_record-returns-in_err-new
 walk_record-returns-in_err-new t c =
     let p = err_from_is_err_and c.from_residual.result c.from_residual.ensures.1 in
-    let room : length c.args.drafts.now.nodes.items < most_nodes = omega arith in
+    let room : length c.args.drafts.now.nodes.items < MOST_NODES = omega arith in
     rw (p.1, p.2) (λ known. run-record _ _ _ (arc_str_bytes c.args.enclosing.now.text) c.args.drafts.now.nodes.items room ∙ rw (← c.get.ensures, ← c.get-2.ensures, c.in_err-new.ensures.name known) refl)
 
 pub walk_record-walk_fields-requires : goal.walk_record-walk_fields-requires
@@ -227,10 +228,10 @@ pub walk_record-returns-in_err-fields : goal.walk_record-returns-in_err-fields
 walk_record-returns-in_err-fields t c =
     let p = err_from_is_err_and c.from_residual-in_err-fields.result c.from_residual-in_err-fields.ensures.1 in
     let there = pushed-record c.args.drafts.now.nodes.items c.define.new.self.nodes.items c.in_ok-new.new.name c.in_ok-copy.field-0 c.new.result c.in_ok-number.ensures.nodes c.in_ok-copy.ensures c.new.ensures.items in
-    let room : length c.args.drafts.now.nodes.items < most_nodes = omega arith in
+    let room : length c.args.drafts.now.nodes.items < MOST_NODES = omega arith in
     let named = rw (c.get.ensures, c.get-2.ensures) at c.in_ok-new.ensures.name in
     rw (p.1, p.2, ← c.get-3.ensures)
-    (λ known. record-failed _ _ _ (arc_str_bytes c.args.enclosing.now.text) c.args.drafts.now.nodes.items room (full_of c.in_ok-new.new.name) named _ (rw (c.in_ok-own.ensures.text, there) at (c.in_err-fields.ensures known)))
+    (λ known. record-failed _ _ _ (arc_str_bytes c.args.enclosing.now.text) c.args.drafts.now.nodes.items room c.in_ok-new.new.name named _ (rw (c.in_ok-own.ensures.text, there) at (c.in_err-fields.ensures known)))
 
 pub walk_record-define-requires : goal.walk_record-define-requires
 walk_record-define-requires t c = record {
@@ -243,16 +244,16 @@ pub walk_record-set-requires : goal.walk_record-set-requires
 walk_record-set-requires t c =
     let there = pushed-record c.args.drafts.now.nodes.items c.define.new.self.nodes.items c.in_ok-new.new.name c.in_ok-copy.field-0 c.new.result c.in_ok-number.ensures.nodes c.in_ok-copy.ensures c.new.ensures.items in
     let n : c.len-node.result ≡ length c.args.drafts.now.nodes.items = search rules in
-    rw n (run-keeps _ _ c.args.drafts.now.nodes.items (RecordDraft (full_of c.in_ok-new.new.name) []) _ _ (rw (c.in_ok-own.ensures.text, there) at c.in_ok-fields.ensures))
+    rw n (run-keeps _ _ c.args.drafts.now.nodes.items (RecordDraft c.in_ok-new.new.name []) _ _ (rw (c.in_ok-own.ensures.text, there) at c.in_ok-fields.ensures))
 
 pub walk_record-returns : goal.walk_record-returns
 walk_record-returns t c =
     let there = pushed-record c.args.drafts.now.nodes.items c.define.new.self.nodes.items c.in_ok-new.new.name c.in_ok-copy.field-0 c.new.result c.in_ok-number.ensures.nodes c.in_ok-copy.ensures c.new.ensures.items in
-    let room : length c.args.drafts.now.nodes.items < most_nodes = omega arith in
+    let room : length c.args.drafts.now.nodes.items < MOST_NODES = omega arith in
     let named = rw (c.get.ensures, c.get-2.ensures) at c.in_ok-new.ensures.name in
     let n : c.len-node.result ≡ length c.args.drafts.now.nodes.items = search rules in
     rw (c.set.ensures, n, drafts_of-set c.walk_fields.new.drafts.nodes.items (length c.args.drafts.now.nodes.items) _, ← c.get-3.ensures)
-    (record-done _ _ _ (arc_str_bytes c.args.enclosing.now.text) c.args.drafts.now.nodes.items room (full_of c.in_ok-new.new.name) named _ _ (rw (c.in_ok-own.ensures.text, there) at c.in_ok-fields.ensures))
+    (record-done _ _ _ (arc_str_bytes c.args.enclosing.now.text) c.args.drafts.now.nodes.items room c.in_ok-new.new.name named _ _ (rw (c.in_ok-own.ensures.text, there) at c.in_ok-fields.ensures))
 
 -- ---- its fields
 
@@ -298,12 +299,12 @@ pub walk_field-returns-then-not-is_object : goal.walk_field-returns-then-not-is_
 walk_field-returns-then-not-is_object t c = λ _. rw (field-other (view c.args.value.now) (names_of c.args.before.now.fields.items) c.if-not-is_object.ensures) (run-fault _ _ _)
 
 pub walk_field-returns-then-len-ge-MOST_FIELDS : goal.walk_field-returns-then-len-ge-MOST_FIELDS
-walk_field-returns-then-len-ge-MOST_FIELDS t c = λ _. run-many (view c.args.value.now) c.args.before.now.fields.items (arc_str_bytes c.args.enclosing.now.text) _ c.if-not-is_object.ensures (let many : most_fields ≤ length c.args.before.now.fields.items = omega arith in many)
+walk_field-returns-then-len-ge-MOST_FIELDS t c = λ _. run-many (view c.args.value.now) c.args.before.now.fields.items (arc_str_bytes c.args.enclosing.now.text) _ c.if-not-is_object.ensures (let many : MOST_FIELDS ≤ length c.args.before.now.fields.items = omega arith in many)
 
 pub walk_field-returns-in_err-name : goal.walk_field-returns-in_err-name
 walk_field-returns-in_err-name t c =
     let p = err_from_is_err_and c.from_residual.result c.from_residual.ensures.1 in
-    let room : length c.args.before.now.fields.items < most_fields = omega arith in
+    let room : length c.args.before.now.fields.items < MOST_FIELDS = omega arith in
     rw (p.1, p.2) (λ known. run-field (view c.args.value.now) c.args.before.now.fields.items (arc_str_bytes c.args.enclosing.now.text) _ c.if-not-is_object.ensures room ∙ rw (← c.get.ensures, c.in_err-name.ensures known) refl)
 
 pub walk_field-walk_at-requires : goal.walk_field-walk_at-requires
@@ -314,11 +315,11 @@ walk_field-walk_at-requires t c =
 pub walk_field-returns-in_err-node : goal.walk_field-returns-in_err-node
 walk_field-returns-in_err-node t c =
     let p = err_from_is_err_and c.from_residual-in_err-node.result c.from_residual-in_err-node.ensures.1 in
-    let room : length c.args.before.now.fields.items < most_fields = omega arith in
+    let room : length c.args.before.now.fields.items < MOST_FIELDS = omega arith in
     rw (p.1, p.2) (λ known. run-field (view c.args.value.now) c.args.before.now.fields.items (arc_str_bytes c.args.enclosing.now.text) _ c.if-not-is_object.ensures room ∙ rw (← c.get.ensures, c.in_ok-name.ensures, ← c.get-2.ensures, c.in_err-node.ensures known) refl)
 
 pub walk_field-returns : goal.walk_field-returns
 walk_field-returns t c =
-    let room : length c.args.before.now.fields.items < most_fields = omega arith in
+    let room : length c.args.before.now.fields.items < MOST_FIELDS = omega arith in
     run-field (view c.args.value.now) c.args.before.now.fields.items (arc_str_bytes c.args.enclosing.now.text) _ c.if-not-is_object.ensures room
     ∙ rw (← c.get.ensures, c.in_ok-name.ensures, ← c.get-2.ensures, c.in_ok-node.ensures, ← c.get-3.ensures) refl

@@ -1,7 +1,7 @@
 use Rattle.std.proofs.Common.{arith, rules, ◌∙◌, ◌≡◌, ◌<◌, length, refl}
 use Rattle.std.specs.Arc.{arc_str_bytes}
 use Rattle.std.proofs.lemmas.Result.{err_from_is_err_and}
-use Rattle.avro_schema.specs.Walk.{most_nodes}
+use Rattle.avro_types.specs.declared.limits.TheConstants.{MOST_NODES}
 use Rattle.avro_schema.proofs.Records.{run-enum}
 use Rattle.avro_schema.proofs.Runs.{run-no_room, run-one, pushed}
 use Rattle.avro_schema.proofs.walk.walk_enum.Goals as goal
@@ -12,24 +12,24 @@ returns-then-node-ge-MOST_NODES c = λ _. run-no_room _ (arc_str_bytes c.args.en
 pub returns-in_err-new : goal.returns-in_err-new
 returns-in_err-new c =
     let p = err_from_is_err_and c.from_residual.result c.from_residual.ensures.1 in
-    let room : length c.args.drafts.now.nodes.items < most_nodes = omega arith in
+    let room : length c.args.drafts.now.nodes.items < MOST_NODES = omega arith in
     rw (p.1, p.2) (λ known. run-enum _ _ (arc_str_bytes c.args.enclosing.now.text) c.args.drafts.now.nodes.items room _ _ ∙ rw (← c.get.ensures, ← c.get-2.ensures, c.in_err-new.ensures.name known) refl)
 
 pub returns-in_err-symbols : goal.returns-in_err-symbols
 returns-in_err-symbols c =
     let p = err_from_is_err_and c.from_residual-in_err-symbols.result c.from_residual-in_err-symbols.ensures.1 in
-    let room : length c.args.drafts.now.nodes.items < most_nodes = omega arith in
+    let room : length c.args.drafts.now.nodes.items < MOST_NODES = omega arith in
     rw (p.1, p.2) (λ known. run-enum _ _ (arc_str_bytes c.args.enclosing.now.text) c.args.drafts.now.nodes.items room _ _ ∙ rw (← c.get.ensures, ← c.get-2.ensures, c.in_ok-new.ensures.name, ← c.get-3.ensures, c.in_err-symbols.ensures.symbols known) refl)
 
 pub returns-in_err-default : goal.returns-in_err-default
 returns-in_err-default c =
     let p = err_from_is_err_and c.from_residual-in_err-default.result c.from_residual-in_err-default.ensures.1 in
-    let room : length c.args.drafts.now.nodes.items < most_nodes = omega arith in
+    let room : length c.args.drafts.now.nodes.items < MOST_NODES = omega arith in
     rw (p.1, p.2) (λ known. run-enum _ _ (arc_str_bytes c.args.enclosing.now.text) c.args.drafts.now.nodes.items room _ _ ∙ rw (← c.get.ensures, ← c.get-2.ensures, c.in_ok-new.ensures.name, ← c.get-3.ensures, c.in_ok-symbols.ensures.symbols, ← c.get-4.ensures, c.in_err-default.ensures known) refl)
 
 pub returns : goal.returns
 returns c =
-    let room : length c.args.drafts.now.nodes.items < most_nodes = omega arith in
+    let room : length c.args.drafts.now.nodes.items < MOST_NODES = omega arith in
     let n : c.len-node.result ≡ length c.args.drafts.now.nodes.items = search rules in
     rw (n, pushed c.args.drafts.now.nodes.items _ _ c.in_ok-define.ensures.nodes, c.in_ok-copy.ensures)
     (run-enum _ _ (arc_str_bytes c.args.enclosing.now.text) c.args.drafts.now.nodes.items room _ _ ∙ rw (← c.get.ensures, ← c.get-2.ensures, c.in_ok-new.ensures.name, ← c.get-3.ensures, c.in_ok-symbols.ensures.symbols, ← c.get-4.ensures, c.in_ok-default.ensures) (run-one _ (arc_str_bytes c.args.enclosing.now.text) c.args.drafts.now.nodes.items))

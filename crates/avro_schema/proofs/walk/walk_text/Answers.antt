@@ -1,7 +1,7 @@
 use Rattle.std.proofs.Common.{◌∙◌, ap, sym, option_map, refl}
 use Rattle.std.specs.Arc.{arc_str_bytes}
 use Rattle.avro_schema.specs.Contract.{run}
-use Rattle.avro_schema.specs.Node.{node_of}
+use Rattle.avro_types.specs.Node.{node_of}
 use Rattle.avro_schema.specs.Walk.{named}
 use Rattle.avro_schema.proofs.walk.walk_text.Goals as goal
 

@@ -5,7 +5,7 @@ use Rattle.avrogate.specs.Lines.{lines}
 use Rattle.avrogate.proofs.transcode.answers.Given as goal
 
 abbrev pub invariant-loop-line : goal.invariant-loop-line
-invariant-loop-line l = Continues l.writer.nodes l.reader.nodes (lines l.payloads) (lines l.rest) (string_bytes l.output)
+invariant-loop-line l = Continues l.writer l.reader (lines l.payloads) (lines l.rest) (string_bytes l.output)
 
 abbrev pub decreases-loop-line : goal.decreases-loop-line
 decreases-loop-line l = length l.rest

@@ -1,6 +1,6 @@
 -- A slot more is filled, and behind the last all is done.
 use Rattle.std.proofs.Common.{rules, inl, inr, ap, sym, ◌∙◌, option_map}
-use Rattle.avro_schema.specs.Datum.{datum_of}
+use Rattle.avro_types.specs.Datum.{datum_of}
 use Rattle.resolver.proofs.Filled.{filled_end, filled_on}
 use Rattle.resolver.proofs.fields.fill.Goals as goal
 

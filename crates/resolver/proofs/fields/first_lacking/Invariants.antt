@@ -1,6 +1,6 @@
 -- The fields so far have partners, so what lacks is what lacks among the rest.
 use Rattle.std.proofs.Common.{◌≡◌, drop}
-use Rattle.avro_schema.specs.Node.{fields_of}
+use Rattle.avro_types.specs.Node.{fields_of}
 use Rattle.resolver.specs.Resolution.{lacking}
 use Rattle.resolver.proofs.fields.first_lacking.Given as goal
 

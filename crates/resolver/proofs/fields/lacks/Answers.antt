@@ -1,6 +1,6 @@
 -- A field with a partner does not lack one.
 use Rattle.std.proofs.Common.{rules, ◌≡◌, Bool, true, false, ◌&&◌, not, is_none, is_some, ℕ, Option, Some, None, refl, sym, ap, ◌∙◌}
-use Rattle.avro_schema.specs.Node.{field_of}
+use Rattle.avro_types.specs.Node.{field_of}
 use Rattle.resolver.proofs.Named.{none_named}
 use Rattle.resolver.proofs.fields.lacks.Goals as goal
 

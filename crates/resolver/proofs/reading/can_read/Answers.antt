@@ -18,7 +18,7 @@ add_all-requires c = rw (c.deref.ensures.value, c.loop-place.invariant.writers, 
 pub loop-place-preserved : goal.loop-place-preserved
 loop-place-preserved c =
     let lt : c.loop-place.place < length c.loop-place.pairs.pairs = omega (arith, c.loop-place-test.true, c.len-in-loop-place.ensures.len) in
-    let added : AddsAll (next_pairs c.args.w.now.nodes c.args.r.now.nodes (c.get-wn.result.0, c.get-wn.result.1)) c.loop-place.pairs c.add_all.new.pairs = rw (c.deref.ensures.value, c.in_ok-next.ensures.pairs) at c.in_ok-add_all.ensures in
+    let added : AddsAll (next_pairs c.args.w.now c.args.r.now (c.get-wn.result.0, c.get-wn.result.1)) c.loop-place.pairs c.add_all.new.pairs = rw (c.deref.ensures.value, c.in_ok-next.ensures.pairs) at c.in_ok-add_all.ensures in
     record {
       writers = c.in_ok-add_all.ensures.writers ∙ c.loop-place.invariant.writers;
       readers = c.in_ok-add_all.ensures.readers ∙ c.loop-place.invariant.readers;

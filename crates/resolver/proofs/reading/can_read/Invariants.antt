@@ -5,10 +5,10 @@ use Rattle.resolver.proofs.reading.can_read.Given as goal
 
 abbrev pub invariant-loop-place : goal.invariant-loop-place
 invariant-loop-place l = record {
-  writers : l.pairs.writers ≡ length l.w.nodes;
-  readers : l.pairs.readers ≡ length l.r.nodes;
-  kept : Kept l.w.nodes l.r.nodes l.place l.pairs.pairs;
+  writers : l.pairs.writers ≡ length l.w;
+  readers : l.pairs.readers ≡ length l.r;
+  kept : Kept l.w l.r l.place l.pairs.pairs;
 }
 
 abbrev pub decreases-loop-place : goal.decreases-loop-place
-decreases-loop-place l = length l.w.nodes * length l.r.nodes - l.place
+decreases-loop-place l = length l.w * length l.r - l.place

@@ -1,5 +1,5 @@
 -- Fields name nodes of their schema.
-use Rattle.avro_schema.specs.Node.{fields_of}
+use Rattle.avro_types.specs.Node.{fields_of}
 use Rattle.resolver.proofs.Within.{partners_within, result_within}
 use Rattle.resolver.proofs.reading.part_pairs.Goals as goal
 

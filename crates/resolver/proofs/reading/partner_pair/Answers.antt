@@ -1,6 +1,6 @@
 -- A field is found where its place is.
 use Rattle.std.proofs.Common.{option_map, string_bytes, sym, ap}
-use Rattle.avro_schema.specs.Node.{FieldNode}
+use Rattle.avro_types.specs.Node.{FieldNode}
 use Rattle.resolver.proofs.Named.{named_none, named_some}
 use Rattle.resolver.proofs.reading.partner_pair.Goals as goal
 

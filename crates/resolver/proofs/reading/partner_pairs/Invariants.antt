@@ -1,6 +1,6 @@
 -- The pairs so far, before those of the fields that are left.
 use Rattle.std.proofs.Common.{◌≡◌, ◌++◌, drop}
-use Rattle.avro_schema.specs.Node.{fields_of}
+use Rattle.avro_types.specs.Node.{fields_of}
 use Rattle.resolver.specs.Safety.{partner_pairs}
 use Rattle.resolver.proofs.reading.partner_pairs.Given as goal
 

@@ -1,7 +1,7 @@
 -- Each step of resolution makes what the definition makes there.
 use Rattle.std.proofs.Common.{rules, inl, inr, sym, ◌∙◌}
 use Rattle.std.proofs.lemmas.Result.{err_from_is_err_and}
-use Rattle.avro_schema.specs.Datum.{datum_of}
+use Rattle.avro_types.specs.Datum.{datum_of}
 use Rattle.resolver.proofs.Steps.{into_place, array_made, map_made, array_result, map_result, record_made, record_result, field_below, field_err, field_ok, field_none}
 use Rattle.resolver.proofs.Deeper.{at_first, falls, one_on}
 use Rattle.resolver.proofs.Items.{pairs_begin, item_on, item_wrong, items_end, pair_on, pair_wrong, pairs_end, no_length}

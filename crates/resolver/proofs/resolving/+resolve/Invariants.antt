@@ -2,12 +2,12 @@
 use Rattle.std.proofs.Common.{◌≡◌, length}
 use Rattle.std.specs.Slice.Iter.{iter_rest}
 use Rattle.std.specs.Vec.Iter.{into_iter_items, into_iter_len}
-use Rattle.avro_schema.specs.Node.{fields_of}
-use Rattle.avro_schema.specs.Datum.{data_of, pairs_of}
+use Rattle.avro_types.specs.Node.{fields_of}
+use Rattle.avro_types.specs.Datum.{data_of, pairs_of}
 use Rattle.resolver.specs.Steps.{into_slots}
 use Rattle.resolver.specs.Resolution.{resolved_fields, resolved_items, resolved_values}
 use denote.Param.Weighed.{most}
-use Rattle.avro_schema.proofs.datum.Datum.TheLaws.{the_size}
+use Rattle.avro_types.proofs.datum.Datum.TheLaws.{the_size}
 use Rattle.std.proofs.Common.{◌+◌, ◌*◌, max}
 use Rattle.resolver.proofs.Deeper.{IsLeft}
 use Rattle.resolver.proofs.Items.{Rest, RestPairs}
@@ -16,7 +16,7 @@ use Rattle.resolver.proofs.resolving.+resolve.Given as goal
 
 abbrev pub invariant-resolve_fields-loop-field : goal.invariant-resolve_fields-loop-field
 invariant-resolve_fields-loop-field l = record {
-  goes : Goes l.w.nodes l.r.nodes l.rs (iter_rest l.field-iterator.a) l.slots.items (into_iter_items l.field-iterator.b) (into_slots (fields_of l.rs) (resolved_fields l.w.nodes l.r.nodes (fields_of l.ws) (fields_of l.rs) (data_of l.fn.fields.items)));
+  goes : Goes l.w l.r l.rs (iter_rest l.field-iterator.a) l.slots.items (into_iter_items l.field-iterator.b) (into_slots (fields_of l.rs) (resolved_fields l.w l.r (fields_of l.ws) (fields_of l.rs) (data_of l.fn.fields.items)));
   len : into_iter_len l.field-iterator.b ≡ length (into_iter_items l.field-iterator.b);
 }
 
@@ -25,7 +25,7 @@ invariant-resolve_items-loop-item l = record {
   can : (goal.iterator-resolve_items-loop-item).can_next l.item-iterator;
   finite : (goal.iterator-resolve_items-loop-item).is_finite l.item-iterator;
   len : into_iter_len l.item-iterator ≡ length (into_iter_items l.item-iterator);
-  so_far : Rest l.w.nodes l.r.nodes l.wn l.rn l.all.items (into_iter_items l.item-iterator) (resolved_items l.w.nodes l.r.nodes l.wn l.rn (data_of l.fn.items.items));
+  so_far : Rest l.w l.r l.wn l.rn l.all.items (into_iter_items l.item-iterator) (resolved_items l.w l.r l.wn l.rn (data_of l.fn.items.items));
 }
 
 abbrev pub invariant-resolve_values-loop-pair : goal.invariant-resolve_values-loop-pair
@@ -34,7 +34,7 @@ invariant-resolve_values-loop-pair l = record {
   finite : (goal.iterator-resolve_values-loop-pair).is_finite l.pair-iterator;
   len : into_iter_len l.pair-iterator ≡ length (into_iter_items l.pair-iterator);
   left : IsLeft (into_iter_items l.pair-iterator) l.fn.pairs.items;
-  so_far : RestPairs l.w.nodes l.r.nodes l.wn l.rn l.all.items (into_iter_items l.pair-iterator) (resolved_values l.w.nodes l.r.nodes l.wn l.rn (pairs_of l.fn.pairs.items));
+  so_far : RestPairs l.w l.r l.wn l.rn l.all.items (into_iter_items l.pair-iterator) (resolved_values l.w l.r l.wn l.rn (pairs_of l.fn.pairs.items));
 }
 
 -- The depth of the datum, and the calls that pass it on unchanged.

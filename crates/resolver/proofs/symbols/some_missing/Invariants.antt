@@ -1,10 +1,9 @@
 -- No symbol so far is missing.
 use Rattle.std.proofs.Common.{◌≡◌, drop, map, string_bytes}
-use Rattle.avro_schema.specs.Node.{symbols_in}
 use Rattle.resolver.specs.Safety.{some_missing}
 use Rattle.resolver.proofs.symbols.some_missing.Given as goal
 
 abbrev pub invariant-loop-symbol : goal.invariant-loop-symbol
 invariant-loop-symbol l =
-    let theirs = symbols_in l.theirs in
+    let theirs = l.theirs in
     some_missing theirs l.default (map string_bytes (drop l.symbol-index l.symbols)) ≡ some_missing theirs l.default (map string_bytes l.symbols)

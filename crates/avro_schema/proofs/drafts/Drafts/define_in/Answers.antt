@@ -1,14 +1,15 @@
 use Rattle.std.proofs.Common.{◌≡◌, ◌∷◌, [], length, rules, Some, string_bytes, sym, ap, subst, refl, ◌∙◌}
-use Rattle.std.specs.Arc.{arc_str_bytes}
 use Rattle.std.specs.BTreeMap.{UpdatesBy}
 use Rattle.std.specs.Ordering.{nat_cmp}
 use Rattle.std.specs.Cmp.Lexicographic.{slice_cmp}
 use Rattle.std.specs.String.{string_cmp}
 use Rattle.std.proofs.Math.Seq.{take-append_seam}
 use Rattle.std.proofs.lemmas.Option.{slice_get-get_or}
-use Rattle.avro_schema.proofs.Dots.{namespace-inside, unqualified-inside}
+use Rattle.avro_types.specs.FullNames.{namespace_of, unqualified}
+use Rattle.avro_schema.specs.Draft.{drafts_of}
+use Rattle.avro_schema.specs.Head.{Named, defined_at, heads_of}
 use Rattle.avro_schema.proofs.Index.{number-below}
-use Rattle.avro_schema.proofs.NameParts.{name-undotted, parts-ruled}
+use Rattle.avro_types.specs.Laws.NameParts.{name-undotted, parts-ruled}
 use Rattle.avro_schema.proofs.NewIndex.{index-named, index-put}
 use Rattle.avro_schema.proofs.drafts.Drafts.define_in.Goals as goal
 
@@ -16,14 +17,15 @@ pub invariant_of-self-in-Ok : goal.invariant_of-self-in-Ok
 invariant_of-self-in-Ok c =
     let d = c.args.self.now in
     let name = c.args.name.now in
-    let namespace = arc_str_bytes name.namespace in
-    let last = string_bytes name.last in
-    let none = name-undotted last name.parts.last_is in
-    let there = c.requires.numbered ∙ ap Some (namespace-inside namespace last none) in
+    let namespace = namespace_of name in
+    let last = unqualified name in
+    let parts = c.has_two_parts.ensures.parts in
+    let none = name-undotted last parts.last_is in
+    let there = c.requires.numbered in
     let old = c.index_mut.result.now in
-    let key : string_bytes c.in_ok-last.last ≡ last = c.in_ok-last.ensures.ok ∙ c.last.ensures ∙ unqualified-inside namespace last none in
+    let key : string_bytes c.in_ok-last.last ≡ last = c.in_ok-last.ensures.ok ∙ c.last.ensures in
     record {
-      known = index-named namespace last none (parts-ruled namespace last name.parts) d.nodes.items c.push.new.self.items c.args.draft c.requires.named c.requires.new c.in_ok-push.ensures.items d.numbers d.scopes.items d.known c.args.number c.len-node.result old c.insert.new.self there
+      known = index-named namespace last none (parts-ruled namespace last parts) d.nodes.items c.push.new.self.items c.args.draft (c.requires.named ∙ ap Named (sym c.has_two_parts.ensures.joined)) (ap (λ full. defined_at full (heads_of (drafts_of d.nodes.items))) c.has_two_parts.ensures.joined ∙ c.requires.new) c.in_ok-push.ensures.items d.numbers d.scopes.items d.known c.args.number c.len-node.result old c.insert.new.self there
           (slice_get-get_or d.scopes.items c.args.number old (number-below d.numbers d.scopes.items d.nodes.items d.known c.args.number namespace there) ∙ ap Some (sym c.index_mut.ensures.value))
           (let n : c.len-node.result ≡ length d.nodes.items = search rules in n) (subst (λ l. UpdatesBy string_cmp (λ k. slice_cmp nat_cmp l (string_bytes k)) old c.insert.new.self (Some c.len-node.result)) key c.in-Ok.ensures.updates);
     }

@@ -1,10 +1,10 @@
 use Rattle.std.proofs.Common.{◌≡◌, length, rules, sym, ◌∙◌}
 use Rattle.std.specs.Vec.{vec_len}
+use Rattle.avro_types.specs.Laws.Placed.{place-some}
 use Rattle.avro_schema.specs.Draft.{drafts_of}
 use Rattle.avro_schema.specs.Head.{heads_of}
 use Rattle.avro_schema.specs.Index.{namespaces_of}
 use Rattle.avro_schema.proofs.Index.{found-nowhere, found-under, number-below}
-use Rattle.avro_schema.proofs.Namespaces.{number-some}
 use Rattle.avro_schema.proofs.drafts.Drafts.defined_by.Goals as goal
 
 pub index-requires : goal.index-requires
@@ -13,14 +13,14 @@ index-requires c =
     let n : vec_len d.scopes ≡ length d.scopes.items = search rules in
     rw n
     (number-below d.numbers d.scopes.items d.nodes.items d.known c.in-Some.number c.args.namespace.now
-    (number-some c.args.namespace.now (namespaces_of (heads_of (drafts_of d.nodes.items))) c.in-Some.number (sym c.number_of.ensures ∙ c.in-Some.is)))
+    (place-some c.args.namespace.now (namespaces_of (heads_of (drafts_of d.nodes.items))) c.in-Some.number (sym c.number_of.ensures ∙ c.in-Some.is)))
 
 pub returns-in-Some : goal.returns-in-Some
 returns-in-Some c =
     let d = c.args.self.now in
     c.copied.ensures ∙ c.get.ensures.value
     ∙ found-under d.numbers d.scopes.items d.nodes.items d.known c.in-Some.number c.args.namespace.now c.args.last.now c.index.result.now
-    (number-some c.args.namespace.now (namespaces_of (heads_of (drafts_of d.nodes.items))) c.in-Some.number (sym c.number_of.ensures ∙ c.in-Some.is)) c.index.ensures c.requires.undotted
+    (place-some c.args.namespace.now (namespaces_of (heads_of (drafts_of d.nodes.items))) c.in-Some.number (sym c.number_of.ensures ∙ c.in-Some.is)) c.index.ensures c.requires.undotted
 
 pub returns-in-None : goal.returns-in-None
 returns-in-None c =

@@ -1,11 +1,12 @@
-use Rattle.std.proofs.Common.{◌≡◌, ◌∙◌, sym, arith, Some, string_bytes}
+use Rattle.std.proofs.Common.{◌≡◌, ◌∙◌, sym, ap, arith, Some, Ok, string_bytes}
 use Rattle.std.proofs.lemmas.Result.{err_from_is_err_and}
 use Rattle.serde_json.specs.Read.{read}
 use Rattle.serde_json.specs.View.{view}
-use Rattle.avro_schema.specs.Schema.{most_text}
+use Rattle.avro_types.specs.declared.limits.TheConstants.{MOST_TEXT}
 use Rattle.avro_schema.proofs.Declared.{too-large, small, no-json, some-json, a-float, walked}
 use Rattle.avro_schema.proofs.DeclaredSizes.{declared-within}
 use Rattle.avro_schema.proofs.ReadSizes.{read-within}
+use Rattle.avro_schema.proofs.WholeNodes.{declared-well_formed}
 use Rattle.avro_schema.proofs.schema.Schema.parse.Goals as goal
 
 pub returns-then-text-gt-MOST_TEXT : goal.returns-then-text-gt-MOST_TEXT
@@ -21,27 +22,31 @@ returns-then-has_float c =
     let is = some-json (read c.args.text.now) (view c.in_ok-value.value) c.in_ok-value.ensures.value in
     λ _. small c.args.text.now (omega arith) ∙ a-float c.args.text.now (view c.in_ok-value.value) is c.if-has_float.ensures
 
-pub returns-in_err-nodes : goal.returns-in_err-nodes
-returns-in_err-nodes c =
-    let p = err_from_is_err_and c.from_residual-in_err-nodes.result c.from_residual-in_err-nodes.ensures.1 in
+pub returns-in_err-kinds : goal.returns-in_err-kinds
+returns-in_err-kinds c =
+    let p = err_from_is_err_and c.from_residual-in_err-kinds.result c.from_residual-in_err-kinds.ensures.1 in
     let is = some-json (read c.args.text.now) (view c.in_ok-value.value) c.in_ok-value.ensures.value in
-    rw (p.1, p.2) (λ known. small c.args.text.now (omega arith) ∙ walked c.args.text.now (view c.in_ok-value.value) is c.if-has_float.ensures ∙ c.in_err-nodes.ensures.declared known)
+    rw (p.1, p.2) (λ known. small c.args.text.now (omega arith) ∙ walked c.args.text.now (view c.in_ok-value.value) is c.if-has_float.ensures ∙ c.in_err-kinds.ensures.declared known)
 
 pub invariant_of-result : goal.invariant_of-result
 invariant_of-result c =
     let back : read (string_bytes c.in_ok-text.text) ≡ Some (view c.in_ok-value.value) = c.in_ok-text.ensures.reads_back c.in_ok-value.ensures.nests in
+    walked (string_bytes c.in_ok-text.text) (view c.in_ok-value.value) back c.if-has_float.ensures ∙ c.in_ok-kinds.ensures.declared ∙ ap Ok (sym c.new.ensures)
+
+pub new-requires : goal.new-requires
+new-requires c =
     let is = some-json (read c.args.text.now) (view c.in_ok-value.value) c.in_ok-value.ensures.value in
-    let short = read-within most_text c.args.text.now (view c.in_ok-value.value) is (omega arith) in
+    let short = read-within MOST_TEXT c.args.text.now (view c.in_ok-value.value) is (omega arith) in
     record {
-      nodes_are = walked (string_bytes c.in_ok-text.text) (view c.in_ok-value.value) back c.if-has_float.ensures ∙ c.in_ok-nodes.ensures.declared;
-      defaults_conform = c.in_ok-nodes.ensures.defaults;
-      defaults_are_short = declared-within most_text (view c.in_ok-value.value) _ c.in_ok-nodes.ensures.declared short;
+      well_formed = declared-well_formed c.args.text.now _ (walked c.args.text.now (view c.in_ok-value.value) is c.if-has_float.ensures ∙ c.in_ok-kinds.ensures.declared);
+      defaults_conform = c.in_ok-kinds.ensures.defaults;
+      defaults_are_short = declared-within MOST_TEXT (view c.in_ok-value.value) _ c.in_ok-kinds.ensures.declared short;
     }
 
 pub returns : goal.returns
 returns c =
     let is = some-json (read c.args.text.now) (view c.in_ok-value.value) c.in_ok-value.ensures.value in (
-      small c.args.text.now (omega arith) ∙ walked c.args.text.now (view c.in_ok-value.value) is c.if-has_float.ensures ∙ c.in_ok-nodes.ensures.declared,
+      small c.args.text.now (omega arith) ∙ walked c.args.text.now (view c.in_ok-value.value) is c.if-has_float.ensures ∙ c.in_ok-kinds.ensures.declared ∙ ap Ok (sym c.new.ensures),
       view c.in_ok-value.value,
       is,
       c.in_ok-text.ensures.text (sym c.if-has_float.ensures),

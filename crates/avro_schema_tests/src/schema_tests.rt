@@ -1,0 +1,587 @@
+//! What texts declare, and each of their faults.
+
+use avro_schema::{Datum, Kind, Schema, SchemaError, parsed_schema_is_declared};
+use std::alloc::{AllocError, Global};
+
+/// The word or the full name of a kind.
+fn kind_text(alloc: Global, kind: &Kind) -> Result<String, AllocError> {
+    let word = match kind {
+        Kind::Null => "null",
+        Kind::Boolean => "boolean",
+        Kind::Int => "int",
+        Kind::Long => "long",
+        Kind::Bytes => "bytes",
+        Kind::Text => "string",
+        Kind::Array(_) => "array",
+        Kind::Map(_) => "map",
+        Kind::Union(_) => "union",
+        Kind::Record { name, .. } | Kind::Enum { name, .. } | Kind::Fixed { name, .. } => {
+            let mut full = String::from_str(alloc, name.namespace())?;
+            if !name.namespace().is_empty() {
+                full.push_str(".")?;
+            }
+            full.push_str(name.last())?;
+            return Ok(full);
+        }
+    };
+    String::from_str(alloc, word)
+}
+
+/// Whether the nodes of a schema are of the kinds that these words and full names tell.
+fn are_nodes(alloc: Global, schema: &Schema, kinds: &[&str]) -> Result<bool, AllocError> {
+    if schema.len() != kinds.len() {
+        return Ok(false);
+    }
+    for node in 0..kinds.len() {
+        if kind_text(alloc, schema.kind(node))?.as_str() != kinds[node] {
+            return Ok(false);
+        }
+    }
+    Ok(true)
+}
+
+/// What a text is parsed to, asked again where memory ran out the first time.
+fn parsed(alloc: Global, text: &str) -> Result<Schema, SchemaError> {
+    match Schema::parse(alloc, text) {
+        Err(SchemaError::NoMemory) => Schema::parse(alloc, text),
+        answer => answer,
+    }
+}
+
+fn fault_of(alloc: Global, text: &str) -> Option<SchemaError> {
+    parsed(alloc, text).err()
+}
+
+/// A record with so many fields of type `int`.
+fn record_text(alloc: Global, fields: u32) -> Result<String, SchemaError> {
+    let mut text = String::from_str(alloc, r#"{"type":"record","name":"T","fields":["#)?;
+    for number in 0..fields {
+        if number > 0 {
+            text.push_str(",")?;
+        }
+        let field = format!(in alloc; "{{\"name\":\"f{number}\",\"type\":\"int\"}}")?;
+        text.push_str(field.as_str())?;
+    }
+    text.push_str("]}")?;
+    Ok(text)
+}
+
+#[test]
+fn reads_primitives(rt: HostRuntime) {
+    let cases = [
+        (r#""null""#, "null", r#""null""#),
+        (r#""boolean""#, "boolean", r#""boolean""#),
+        (r#""int""#, "int", r#""int""#),
+        (" \"long\"\n", "long", r#""long""#),
+        (r#""bytes""#, "bytes", r#""bytes""#),
+        (r#""str\u0069ng""#, "string", r#""string""#),
+        (
+            r#"{"type":{"type":"int"},"logicalType":"date"}"#,
+            "int",
+            r#"{"logicalType":"date","type":{"type":"int"}}"#,
+        ),
+    ];
+    for (text, kind, compact) in cases {
+        let schema = parsed(rt.alloc(), text).expect(&rt, "a schema");
+        assert!(rt; are_nodes(rt.alloc(), &schema, &[kind]).expect(&rt, "no memory"));
+        assert!(rt; schema.text() == compact);
+    }
+}
+
+#[test]
+fn reads_a_record(rt: HostRuntime) {
+    parsed_schema_is_declared();
+    let text = r#"{ "type": "record", "name": "T", "doc": 7, "aliases": ["U"],
+        "fields": [ {"name": "a", "type": "long", "order": "ignore"}, {"name": "int", "type": "string"} ] }"#;
+    let schema = parsed(rt.alloc(), text).expect(&rt, "a schema");
+    schema.is_declared();
+    assert!(rt; schema.len() == 3);
+    assert!(rt; are_nodes(rt.alloc(), &schema, &["T", "long", "string"]).expect(&rt, "no memory"));
+    if let Kind::Record { fields, .. } = schema.kind(0) {
+        assert!(rt; fields.len() == 2);
+        assert!(rt; fields[0].name.as_str() == "a" && fields[0].node == 1);
+        assert!(rt; fields[1].name.as_str() == "int" && fields[1].node == 2);
+    }
+    let compact =
+        r#"{"aliases":["U"],"doc":7,"fields":[{"name":"a","order":"ignore","type":"long"},{"name":"int","type":"string"}],"name":"T","type":"record"}"#;
+    assert!(rt; schema.text() == compact);
+}
+
+#[test]
+fn keeps_the_last_of_a_repeated_key(rt: HostRuntime) {
+    let text = r#"{"type":"int","name":"1","type":"record","name":"_1","fields":[]}"#;
+    let schema = parsed(rt.alloc(), text).expect(&rt, "a schema");
+    assert!(rt; schema.len() == 1);
+    assert!(rt; schema.text() == r#"{"fields":[],"name":"_1","type":"record"}"#);
+}
+
+#[test]
+fn tells_the_first_fault(rt: HostRuntime) {
+    let cases = [
+        ("", SchemaError::NotJson),
+        ("\"int\" \"int\"", SchemaError::NotJson),
+        (r#"{"type":"float","x":1.0}"#, SchemaError::BadNumber),
+        (r#"18446744073709551616"#, SchemaError::BadNumber),
+        (r#"null"#, SchemaError::Unknown),
+        (r#"3"#, SchemaError::Unknown),
+        (r#"{}"#, SchemaError::Unknown),
+        (r#"{"type":3}"#, SchemaError::Unknown),
+        (r#"{"type":null}"#, SchemaError::Unknown),
+        (r#""C""#, SchemaError::Unknown),
+        (r#""record""#, SchemaError::Unknown),
+        (r#""error""#, SchemaError::Unknown),
+        (r#"".C""#, SchemaError::Unknown),
+        (r#"{"type":"record"}"#, SchemaError::Unknown),
+        (r#"{"type":"record","name":"T"}"#, SchemaError::Unknown),
+        (
+            r#"{"type":"record","name":"T","fields":[3]}"#,
+            SchemaError::Unknown,
+        ),
+        (
+            r#"{"type":"record","name":"T","fields":[{"name":"a"}]}"#,
+            SchemaError::Unknown,
+        ),
+        (
+            r#"{"type":"record","name":"T","fields":[{"type":"int"}]}"#,
+            SchemaError::Unknown,
+        ),
+        (
+            r#"{"type":"record","name":"T","namespace":null,"fields":[]}"#,
+            SchemaError::Unknown,
+        ),
+        (
+            r#"{"type":"record","name":"a.B","fields":[{"name":"c","type":"C"}]}"#,
+            SchemaError::Unknown,
+        ),
+        (
+            r#"["D",{"type":"fixed","name":"D","size":1}]"#,
+            SchemaError::Unknown,
+        ),
+        (r#"{"type":"enum","name":"E"}"#, SchemaError::Unknown),
+        (
+            r#"{"type":"enum","name":"E","symbols":["A",1]}"#,
+            SchemaError::Unknown,
+        ),
+        (
+            r#"{"type":"enum","name":"E","symbols":["1",1]}"#,
+            SchemaError::Unknown,
+        ),
+        (
+            r#"{"type":"enum","name":"E","symbols":["A"],"default":null}"#,
+            SchemaError::Unknown,
+        ),
+        (r#"{"type":"fixed","name":"F"}"#, SchemaError::Unknown),
+        (r#"{"type":"array"}"#, SchemaError::Unknown),
+        (r#"{"type":"map","items":"int"}"#, SchemaError::Unknown),
+        (r#""float""#, SchemaError::OutOfProfile),
+        (r#"{"type":"double"}"#, SchemaError::OutOfProfile),
+        (
+            r#"{"type":"error","name":"E","fields":[]}"#,
+            SchemaError::OutOfProfile,
+        ),
+        (r#"["int","double","float"]"#, SchemaError::OutOfProfile),
+        (
+            r#"{"type":"record","name":"","fields":[]}"#,
+            SchemaError::BadName,
+        ),
+        (r#"{"type":"record","name":"1"}"#, SchemaError::BadName),
+        (
+            r#"{"type":"record","name":"int","fields":[]}"#,
+            SchemaError::BadName,
+        ),
+        (
+            r#"{"type":"record","name":"a.double","fields":[]}"#,
+            SchemaError::BadName,
+        ),
+        (
+            r#"{"type":"fixed","name":".A","size":1}"#,
+            SchemaError::BadName,
+        ),
+        (
+            r#"{"type":"fixed","name":"A","namespace":"a..b","size":1}"#,
+            SchemaError::BadName,
+        ),
+        (
+            r#"{"type":"record","name":"T","fields":[{"name":"a.b","type":"int"}]}"#,
+            SchemaError::BadName,
+        ),
+        (
+            r#"{"type":"record","name":"T","fields":[{"name":"1","type":"float"}]}"#,
+            SchemaError::BadName,
+        ),
+        (
+            r#"{"type":"record","name":"T","fields":[{"name":"a","type":"int"},{"name":"a"}]}"#,
+            SchemaError::BadName,
+        ),
+        (
+            r#"["null",{"type":"fixed","name":"F","size":1},{"type":"fixed","name":"F","size":1}]"#,
+            SchemaError::Redefined,
+        ),
+        (
+            r#"{"type":"record","name":"n.T","fields":[{"name":"a","type":{"type":"enum","name":"T","symbols":[]}}]}"#,
+            SchemaError::Redefined,
+        ),
+        (r#"["int","int"]"#, SchemaError::BadUnion),
+        (r#"["null",["int"]]"#, SchemaError::BadUnion),
+        (r#"["null",{"type":["int"]}]"#, SchemaError::BadUnion),
+        (
+            r#"[{"type":"array","items":"int"},{"type":"array","items":"long"}]"#,
+            SchemaError::BadUnion,
+        ),
+        (
+            r#"[{"type":"fixed","name":"F","size":1},"F"]"#,
+            SchemaError::BadUnion,
+        ),
+        (
+            r#"{"type":"enum","name":"E","symbols":["A","A"]}"#,
+            SchemaError::BadSymbols,
+        ),
+        (
+            r#"{"type":"enum","name":"E","symbols":["A","1"]}"#,
+            SchemaError::BadSymbols,
+        ),
+        (
+            r#"{"type":"enum","name":"E","symbols":["A"],"default":"B"}"#,
+            SchemaError::BadSymbols,
+        ),
+        (
+            r#"{"type":"fixed","name":"F","size":-1}"#,
+            SchemaError::BadNumber,
+        ),
+        (
+            r#"{"type":"fixed","name":"F","size":"1"}"#,
+            SchemaError::BadNumber,
+        ),
+        (
+            r#"{"type":"fixed","name":"F","size":null}"#,
+            SchemaError::BadNumber,
+        ),
+        (
+            r#"{"type":"fixed","name":"F","size":1048577}"#,
+            SchemaError::TooLarge,
+        ),
+    ];
+    for (text, fault) in cases {
+        assert!(rt; fault_of(rt.alloc(), text) == Some(fault));
+    }
+}
+
+/// The text of a record whose one field has this type and default.
+fn with_default(alloc: Global, type_: &str, default: &str) -> Result<String, SchemaError> {
+    let text = format!(in alloc;
+        "{{\"type\":\"record\",\"name\":\"T\",\"fields\":[{{\"name\":\"f\",\"type\":{type_},\"default\":{default}}}]}}"
+    )?;
+    Ok(text)
+}
+
+#[test]
+fn refuses_defaults_of_other_types(rt: HostRuntime) {
+    let cases = [
+        (r#""int""#, r#"2147483648"#),
+        (r#""int""#, r#""1""#),
+        (r#""long""#, r#"9223372036854775808"#),
+        (r#""null""#, r#"0"#),
+        (r#""boolean""#, r#"0"#),
+        (r#""string""#, r#"null"#),
+        (r#""bytes""#, r#""\u0100""#),
+        (r#"{"type":"fixed","name":"F","size":2}"#, r#""a""#),
+        (r#"{"type":"enum","name":"E","symbols":["A"]}"#, r#""B""#),
+        (r#"["int","null"]"#, r#"null"#),
+        (r#"[]"#, r#"null"#),
+        (r#"{"type":"array","items":"int"}"#, r#"[1,null]"#),
+        (r#"{"type":"map","values":"int"}"#, r#"{"a":null}"#),
+        (
+            r#"{"type":"record","name":"R","fields":[{"name":"a","type":"int"}]}"#,
+            r#"{"b":1}"#,
+        ),
+        (r#"{"type":"array","items":"int"}"#, r#"{}"#),
+    ];
+    for (type_, default) in cases {
+        let text = with_default(rt.alloc(), type_, default).expect(&rt, "no memory");
+        assert!(rt; fault_of(rt.alloc(), text.as_str()) == Some(SchemaError::BadDefault));
+    }
+}
+
+/// The default of the one field of a schema's root.
+fn first_default(schema: &Schema) -> Option<&Datum> {
+    schema.nodes().is_well_formed();
+    match schema.kind(0) {
+        Kind::Record { fields, .. } => fields.first()?.default.as_ref(),
+        _ => None,
+    }
+}
+
+#[test]
+fn reads_defaults_by_type(rt: HostRuntime) {
+    let alloc = rt.alloc();
+    let two = vec![in alloc; 97u8, 255u8].expect(&rt, "no memory");
+    let again = two.clone().expect(&rt, "no memory");
+    let text = String::from_str(alloc, "\u{e9}").expect(&rt, "no memory");
+    let first = Box::new(alloc, Datum::Null).expect(&rt, "no memory");
+    let items = vec![in alloc; Datum::Int(-1), Datum::Int(2)].expect(&rt, "no memory");
+    let key = String::from_str(alloc, "a").expect(&rt, "no memory");
+    let other = String::from_str(alloc, "b").expect(&rt, "no memory");
+    let pairs = vec![in alloc; (key, Datum::Long(1)), (other, Datum::Long(2))].expect(
+        &rt,
+        "no memory",
+    );
+    let fields = vec![in alloc; Datum::Boolean(false)].expect(&rt, "no memory");
+    let cases = [
+        (r#""null""#, "null", Datum::Null),
+        (r#""boolean""#, "true", Datum::Boolean(true)),
+        (r#""int""#, "-2147483648", Datum::Int(-2147483648)),
+        (
+            r#""long""#,
+            "9223372036854775807",
+            Datum::Long(9223372036854775807),
+        ),
+        (r#""bytes""#, r#""a\u00ff""#, Datum::Bytes(two)),
+        (
+            r#"{"type":"fixed","name":"F","size":2}"#,
+            r#""a\u00ff""#,
+            Datum::Fixed(again),
+        ),
+        (r#""string""#, r#""\u00e9""#, Datum::Text(text)),
+        (
+            r#"{"type":"enum","name":"E","symbols":["A","B"]}"#,
+            r#""B""#,
+            Datum::Enum(1),
+        ),
+        (r#"["null","int"]"#, "null", Datum::Union(0, first)),
+        (
+            r#"{"type":"array","items":"int"}"#,
+            "[-1,2]",
+            Datum::Array(items),
+        ),
+        (
+            r#"{"type":"map","values":"long"}"#,
+            r#"{"b":2,"a":1}"#,
+            Datum::Map(pairs),
+        ),
+        (
+            r#"{"type":"record","name":"R","fields":[{"name":"a","type":"boolean"}]}"#,
+            r#"{"x":[],"a":false}"#,
+            Datum::Record(fields),
+        ),
+    ];
+    for (type_, default, datum) in cases {
+        let text = with_default(alloc, type_, default).expect(&rt, "no memory");
+        let schema = parsed(alloc, text.as_str()).expect(&rt, "a schema");
+        assert!(rt; first_default(&schema) == Some(&datum));
+    }
+}
+
+#[test]
+fn numbers_nodes_in_order_of_appearance(rt: HostRuntime) {
+    let list =
+        r#"{"type":"record","name":"LongList","fields":[{"name":"value","type":"long"},{"name":"next","type":["null","LongList"]}]}"#;
+    let schema = parsed(rt.alloc(), list).expect(&rt, "a schema");
+    assert!(rt; schema.len() == 4);
+    let members = match schema.kind(2) {
+        Kind::Union(members) => members.as_slice(),
+        _ => &[],
+    };
+    assert!(rt; members == [3, 0].as_slice());
+}
+
+#[test]
+fn names_stand_in_their_namespaces(rt: HostRuntime) {
+    let nested =
+        r#"{"type":"record","name":"a.B","fields":[{"name":"c","type":{"type":"record","name":"C","fields":[
+        {"name":"d","type":{"type":"record","name":"D","namespace":"","fields":[{"name":"e","type":"D"}]}},
+        {"name":"f","type":{"type":"enum","name":"E","symbols":["A","B"],"default":"B"}},
+        {"name":"g","type":{"type":"map","values":{"type":"array","items":"a.E"}}},
+        {"name":"h","type":{"type":"fixed","name":"b.c.F","namespace":3,"size":1048576}},
+        {"name":"i","type":"C"}]}}]}"#;
+    let schema = parsed(rt.alloc(), nested).expect(&rt, "a schema");
+    let names = ["a.B", "a.C", "D", "a.E", "map", "array", "b.c.F"];
+    assert!(rt; schema.len() == names.len());
+    assert!(rt; are_nodes(rt.alloc(), &schema, &names).expect(&rt, "no memory"));
+    if let Kind::Enum {
+        symbols,
+        default,
+        ..
+    } = schema.kind(3)
+    {
+        assert!(rt; symbols.len() == 2 && *default == Some(1));
+    }
+    if let Kind::Array(items) = schema.kind(5) {
+        assert!(rt; *items == 3);
+    }
+    if let Kind::Fixed { size, .. } = schema.kind(6) {
+        assert!(rt; *size == 1_048_576);
+    }
+    if let Kind::Record { fields, .. } = schema.kind(1) {
+        assert!(rt; fields.last().is_some_and(|field| field.node == 1));
+    }
+}
+
+/// A record `a.R` that defines the fixed `a.F`, and has a field of a further type.
+fn record_with(alloc: Global, further: &str) -> Result<String, AllocError> {
+    format!(in alloc;
+        "{{\"type\":\"record\",\"name\":\"a.R\",\"fields\":[{{\"name\":\"x\",\"type\":{{\"type\":\"fixed\",\"name\":\"F\",\"size\":1}}}},{{\"name\":\"y\",\"type\":{further}}}]}}"
+    )
+}
+
+#[test]
+fn a_name_is_one_however_it_is_told(rt: HostRuntime) {
+    let faults = [
+        (
+            r#"{"type":"fixed","name":"F","size":2}"#,
+            SchemaError::Redefined,
+        ),
+        (
+            r#"{"type":"fixed","name":"a.F","size":2}"#,
+            SchemaError::Redefined,
+        ),
+        (
+            r#"{"type":"fixed","name":"F","namespace":"a","size":2}"#,
+            SchemaError::Redefined,
+        ),
+        (
+            r#"{"type":"record","name":"Q","namespace":"b","fields":[{"name":"f","type":{"type":"fixed","name":"F","namespace":"a","size":1}}]}"#,
+            SchemaError::Redefined,
+        ),
+        (r#"["F","a.F"]"#, SchemaError::BadUnion),
+        (r#"["a.F","null","F"]"#, SchemaError::BadUnion),
+        (r#"["R","F","a.R"]"#, SchemaError::BadUnion),
+        (r#"".F""#, SchemaError::Unknown),
+        (r#""b.F""#, SchemaError::Unknown),
+        (r#""a.b.F""#, SchemaError::Unknown),
+        (
+            r#"{"type":"fixed","name":".F","size":2}"#,
+            SchemaError::BadName,
+        ),
+        (
+            r#"{"type":"fixed","name":"F","namespace":"a.","size":2}"#,
+            SchemaError::BadName,
+        ),
+        (
+            r#"{"type":"fixed","name":"F","namespace":".a","size":2}"#,
+            SchemaError::BadName,
+        ),
+        (
+            r#"{"type":"record","name":"Q","namespace":"","fields":[{"name":"f","type":"F"}]}"#,
+            SchemaError::Unknown,
+        ),
+    ];
+    for (further, fault) in faults {
+        let text = record_with(rt.alloc(), further).expect(&rt, "no memory");
+        assert!(rt; fault_of(rt.alloc(), text.as_str()) == Some(fault));
+    }
+}
+
+#[test]
+fn names_of_other_namespaces_are_others(rt: HostRuntime) {
+    let cases = [
+        (
+            r#"{"type":"fixed","name":"F","namespace":"","size":2}"#,
+            ["a.R", "a.F", "F"],
+        ),
+        (
+            r#"{"type":"fixed","name":"F","namespace":"a.b","size":2}"#,
+            ["a.R", "a.F", "a.b.F"],
+        ),
+        (
+            r#"{"type":"fixed","name":"b.F","size":2}"#,
+            ["a.R", "a.F", "b.F"],
+        ),
+        (
+            r#"{"type":"record","name":"Q","namespace":"b","fields":[{"name":"f","type":"a.F"},{"name":"q","type":"Q"}]}"#,
+            ["a.R", "a.F", "b.Q"],
+        ),
+        (r#"["F","R"]"#, ["a.R", "a.F", "union"]),
+    ];
+    for (further, names) in cases {
+        let text = record_with(rt.alloc(), further).expect(&rt, "no memory");
+        let schema = parsed(rt.alloc(), text.as_str()).expect(&rt, "a schema");
+        assert!(rt; are_nodes(rt.alloc(), &schema, &names).expect(&rt, "no memory"));
+    }
+}
+
+/// An enum with so many symbols.
+fn enum_text(alloc: Global, symbols: u32) -> Result<String, SchemaError> {
+    let mut text = String::from_str(alloc, r#"{"type":"enum","name":"E","symbols":["#)?;
+    for number in 0..symbols {
+        if number > 0 {
+            text.push_str(",")?;
+        }
+        let symbol = format!(in alloc; "\"S{number}\"")?;
+        text.push_str(symbol.as_str())?;
+    }
+    text.push_str("]}")?;
+    Ok(text)
+}
+
+#[test]
+fn bounds_symbols(rt: HostRuntime) {
+    let most = enum_text(rt.alloc(), 4096).expect(&rt, "no memory");
+    assert!(rt; parsed(rt.alloc(), most.as_str()).is_ok());
+    let more = enum_text(rt.alloc(), 4097).expect(&rt, "no memory");
+    assert!(rt; fault_of(rt.alloc(), more.as_str()) == Some(SchemaError::TooLarge));
+}
+
+/// A record whose fields, so many, are all of the first one's type.
+fn many_fields(alloc: Global, fields: u32) -> Result<String, SchemaError> {
+    let mut text = String::from_str(
+        alloc,
+        r#"{"type":"record","name":"T","fields":[{"name":"f0","type":{"type":"fixed","name":"F","size":0}}"#,
+    )?;
+    for number in 1..fields {
+        let field = format!(in alloc; ",{{\"name\":\"f{number}\",\"type\":\"F\"}}")?;
+        text.push_str(field.as_str())?;
+    }
+    text.push_str("]}")?;
+    Ok(text)
+}
+
+#[test]
+fn bounds_fields(rt: HostRuntime) {
+    let most = many_fields(rt.alloc(), 1024).expect(&rt, "no memory");
+    let schema = parsed(rt.alloc(), most.as_str()).expect(&rt, "a schema");
+    assert!(rt; schema.len() == 2);
+    let more = many_fields(rt.alloc(), 1025).expect(&rt, "no memory");
+    assert!(rt; fault_of(rt.alloc(), more.as_str()) == Some(SchemaError::TooLarge));
+}
+
+/// A schema of an int inside so many arrays.
+fn nested_arrays(alloc: Global, levels: u32) -> Result<String, SchemaError> {
+    let mut text = String::from_str(alloc, "")?;
+    for _ in 0..levels {
+        text.push_str(r#"{"type":"array","items":"#)?;
+    }
+    text.push_str(r#""int""#)?;
+    for _ in 0..levels {
+        text.push_str("}")?;
+    }
+    Ok(text)
+}
+
+#[test]
+fn bounds_nesting(rt: HostRuntime) {
+    let most = nested_arrays(rt.alloc(), 127).expect(&rt, "no memory");
+    let schema = parsed(rt.alloc(), most.as_str()).expect(&rt, "a schema");
+    assert!(rt; schema.len() == 128);
+    let more = nested_arrays(rt.alloc(), 128).expect(&rt, "no memory");
+    assert!(rt; fault_of(rt.alloc(), more.as_str()) == Some(SchemaError::NotJson));
+}
+
+#[test]
+fn bounds_nodes(rt: HostRuntime) {
+    let most = record_text(rt.alloc(), 1023).expect(&rt, "no memory");
+    let schema = parsed(rt.alloc(), most.as_str()).expect(&rt, "a schema");
+    assert!(rt; schema.len() == 1024);
+    let more = record_text(rt.alloc(), 1024).expect(&rt, "no memory");
+    assert!(rt; fault_of(rt.alloc(), more.as_str()) == Some(SchemaError::TooLarge));
+}
+
+#[test]
+fn bounds_text(rt: HostRuntime) {
+    let mut text = String::from_str(rt.alloc(), "\"int\"").expect(&rt, "no memory");
+    for _ in text.len()..262_144 {
+        text.push_str(" ").expect(&rt, "no memory");
+    }
+    assert!(rt; Schema::parse(rt.alloc(), text.as_str()).is_ok());
+    text.push_str(" ").expect(&rt, "no memory");
+    assert!(rt; fault_of(rt.alloc(), text.as_str()) == Some(SchemaError::TooLarge));
+}

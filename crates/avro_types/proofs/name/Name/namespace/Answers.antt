@@ -1,0 +1,13 @@
+use Rattle.std.proofs.Common.{◌∙◌, sym, ap, string_bytes}
+use Rattle.std.specs.Arc.{arc_str_bytes}
+use Rattle.avro_types.specs.FullNames.{namespace_of}
+use Rattle.avro_types.specs.Laws.Dots.{namespace-inside}
+use Rattle.avro_types.specs.Laws.NameParts.{name-undotted}
+use Rattle.avro_types.proofs.name.Name.namespace.Goals as goal
+
+pub returns : goal.returns
+returns c =
+    let parts = c.self.inside in
+    c.as_str.ensures.value
+    ∙ sym (namespace-inside (arc_str_bytes parts.namespace) (string_bytes parts.last) (name-undotted (string_bytes parts.last) c.self.invariant.last_is))
+    ∙ ap namespace_of c.self.view_is

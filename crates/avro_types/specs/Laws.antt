@@ -1,0 +1,7 @@
+pub mod Booleans
+pub mod DatumOf
+pub mod Dots
+pub mod LargerSizes
+pub mod NameParts
+pub mod Positions
+pub mod Placed

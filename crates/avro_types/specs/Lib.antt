@@ -1,0 +1,9 @@
+pub mod Conforming
+pub mod Datum
+pub mod DatumCode
+pub mod FullNames
+pub mod Laws
+pub mod Node
+pub mod Sizes
+pub mod Symbols
+pub mod Valid

@@ -1,0 +1,24 @@
+-- Texts in a row, as the symbols of an enum (Avro 1.11, "Enums"): where each stands, and whether one comes twice.
+use Rattle.std.specs.Prelude.{◌≡◌, ℕ, ◌&&◌, List, [], ◌∷◌, ◌++◌, map, Bool, true, not, Option, String, string_bytes}
+use Rattle.std.specs.BTreeMap.{BTreeMap, get_by_text}
+use Rattle.std.specs.List.{list_any, position_from}
+use Rattle.std.specs.Str.{bytes_eq}
+
+abbrev pub is_used : List ℕ → List (List ℕ) → Bool
+is_used text texts = list_any (λ other. bytes_eq other text) texts
+
+-- none of the texts comes again, nor is one of those before
+abbrev pub are_new : List (List ℕ) → List (List ℕ) → Bool
+are_new before [] = true
+are_new before (s ∷ ss) = not (is_used s before) && are_new (before ++ s ∷ []) ss
+
+abbrev pub are_distinct : List (List ℕ) → Bool
+are_distinct texts = are_new [] texts
+
+-- where a text first stands, from 0
+abbrev pub place_of : List ℕ → List (List ℕ) → Option ℕ
+place_of text texts = position_from (λ other. bytes_eq other text) 0 texts
+
+-- under each text stands the position where it comes first
+abbrev pub ArePositionsOf : {A : Type 0} → BTreeMap (String A) ℕ → List (String A) → Type 0
+ArePositionsOf positions texts = (text : List ℕ) → get_by_text positions text ≡ place_of text (map string_bytes texts)

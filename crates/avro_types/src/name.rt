@@ -1,0 +1,77 @@
+ghost use Rattle.std.specs.Prelude.{◌≡◌, IfOk, string_bytes, true};
+ghost use Rattle.std.specs.Arc.{arc_str_bytes};
+ghost use Rattle.avro_types.specs.FullNames.{AreParts, inside, is_namespace, namespace_of, unqualified};
+
+use std::alloc::AllocError;
+use std::marker::Model;
+use std::sync::ArcStr;
+
+/// The full name of a record, an enum or a fixed (Avro 1.11, "Names"). Callers see it as its text.
+///
+/// Names in one namespace share its text, so that a name costs no more than its last part.
+#[derive(Debug, Drop)]
+pub struct Name {
+    namespace: ArcStr,
+    last: String,
+}
+
+impl Model for Name {
+    ghost use Rattle.std.specs.Prelude.{ℕ, List, string_bytes};
+    ghost use Rattle.std.specs.Arc.{arc_str_bytes};
+    ghost use Rattle.avro_types.specs.FullNames.{AreParts, inside};
+
+    ghost Value = { List ℕ };
+
+    ghost view = { λ n. inside (arc_str_bytes n.namespace) (string_bytes n.last) };
+
+    ghost invariant = { λ n. AreParts (arc_str_bytes n.namespace) (string_bytes n.last) };
+}
+
+impl Name {
+    /// The name of a last part in a namespace.
+    pub fn new(namespace: ArcStr, last: String) -> Name
+        requires { AreParts (arc_str_bytes namespace) (string_bytes last) }
+        ensures { result ≡ inside (arc_str_bytes namespace) (string_bytes last) }
+    {
+        Name { namespace, last }
+    }
+
+    /// The same name, of the same namespace.
+    pub fn copy(&self) -> Result<Name, AllocError>
+        ensures { IfOk result (λ name. name ≡ self.now) }
+    {
+        let namespace = self.namespace.clone()?;
+        let last = self.last.clone()?;
+        Ok(Name { namespace, last })
+    }
+
+    /// Its namespace, shared with it.
+    pub fn shared_namespace(&self) -> Result<ArcStr, AllocError>
+        ensures text { IfOk result (λ namespace. arc_str_bytes namespace ≡ namespace_of self.now) }
+        ensures by_rule { IfOk result (λ namespace. is_namespace (arc_str_bytes namespace) ≡ true) }
+    {
+        Ok(self.namespace.clone()?)
+    }
+
+    /// The law that it is a namespace and a last part, each by its rule.
+    pub fn has_two_parts(&self)
+        ensures parts { AreParts (namespace_of self.now) (unqualified self.now) }
+        ensures joined { inside (namespace_of self.now) (unqualified self.now) ≡ self.now }
+    {
+        let _opened = &self.last;
+    }
+
+    /// What stands before the last dot; the null namespace is the empty text.
+    pub fn namespace(&self) -> &str
+        ensures { result.now ≡ namespace_of self.now }
+    {
+        self.namespace.as_str()
+    }
+
+    /// What stands after the last dot: the unqualified name.
+    pub fn last(&self) -> &str
+        ensures { result.now ≡ unqualified self.now }
+    {
+        self.last.as_str()
+    }
+}

@@ -1,0 +1,80 @@
+ghost use Rattle.std.specs.Prelude.{◌≡◌, ◌<◌, length, Some, slice_get};
+ghost use Rattle.avro_types.specs.Conforming.{DefaultsConform};
+ghost use Rattle.avro_types.specs.Node.{IsWellFormed, NodeIsWellFormed, node_of, nodes_of};
+ghost use Rattle.avro_types.specs.Sizes.{DefaultsHaveSizesWithin};
+ghost use Rattle.avro_types.specs.Valid.{AreValid};
+
+use crate::kind::Kind;
+use crate::limits::MOST_TEXT;
+use std::marker::Model;
+
+/// The nodes of a schema (Avro 1.11, "Schema Declaration"), which name each other by their numbers, from 0. Callers see
+/// them as a list of `Node`s.
+#[derive(Debug, Drop)]
+pub struct Nodes {
+    kinds: Vec<Kind>,
+}
+
+impl Model for Nodes {
+    ghost use Rattle.std.specs.Prelude.{List};
+    ghost use Rattle.std.specs.Coded.{codes};
+    ghost use Rattle.avro_types.specs.DatumCode.{datum_coded};
+    ghost use Rattle.avro_types.specs.Node.{Node, nodes_of};
+    ghost use Rattle.avro_types.specs.Valid.{AreValid};
+
+    ghost Value = { List Node };
+
+    ghost coded = { Prim.hlevel (codes, datum_coded) };
+
+    ghost view = { λ n. nodes_of n.kinds.items };
+
+    ghost invariant = { λ n. AreValid (nodes_of n.kinds.items) };
+}
+
+impl Nodes {
+    /// The nodes of these kinds, each under its position.
+    pub fn new(kinds: Vec<Kind>) -> Nodes
+        requires { AreValid (nodes_of kinds.items) }
+        ensures { result ≡ nodes_of kinds.items }
+    {
+        Nodes { kinds }
+    }
+
+    /// How many nodes there are.
+    pub fn len(&self) -> usize
+        ensures { result ≡ length self.now }
+    {
+        self.kinds.len()
+    }
+
+    /// What a node is.
+    pub fn kind(&self, node: usize) -> &Kind
+        requires { node < length self.now }
+        ensures kind { slice_get self.now node ≡ Some (node_of result.now) }
+        ensures well_formed { NodeIsWellFormed self.now node (node_of result.now) }
+    {
+        &self.kinds[node]
+    }
+
+    /// The law that nodes name nodes of the same schema, the root is one, and the fields of a record have distinct names.
+    pub fn is_well_formed(&self)
+        ensures { IsWellFormed self.now }
+    {
+        let _opened = &self.kinds;
+    }
+
+    /// The law that each default of a field is of the field's type.
+    pub fn defaults_conform(&self)
+        ensures { DefaultsConform self.now }
+    {
+        let _opened = &self.kinds;
+    }
+
+    /// The law that no text, byte string or key in a default is longer, and no array or map in it of more items, than the
+    /// text of a schema may have bytes.
+    pub fn defaults_are_short(&self)
+        ensures { DefaultsHaveSizesWithin MOST_TEXT MOST_TEXT self.now }
+    {
+        let _opened = &self.kinds;
+    }
+}

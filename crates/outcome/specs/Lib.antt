@@ -1,0 +1,2 @@
+pub mod MismatchKind
+pub mod Outcome

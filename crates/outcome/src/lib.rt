@@ -1,0 +1,10 @@
+//! What becomes of a payload: the types that every way of transcoding answers with, and their limits.
+#![tactic(auto)]
+
+mod limits;
+mod mismatch;
+mod payload;
+
+pub use limits::{MOST_OUTPUT, MOST_PAYLOAD, limits_are_these};
+pub use mismatch::{Mismatch, MismatchKind};
+pub use payload::Outcome;

@@ -1,0 +1,56 @@
+//! Calls that are made again where memory ran out the first time.
+
+use avro_bytes::Fault;
+use avro_datum::{WriteError, read_all, write};
+use avro_schema::{Datum, Nodes, Schema, SchemaError};
+use resolver::{NoMemory, Outcome, TranscodeError, can_read, transcode_tree};
+use std::alloc::Global;
+use std::process::Abort;
+use std::test::Fail;
+
+/// A schema, parsed again where memory ran out the first time.
+pub(crate) fn parsed(alloc: Global, text: &str) -> Result<Schema, SchemaError> {
+    match Schema::parse(alloc, text) {
+        Err(SchemaError::NoMemory) => Schema::parse(alloc, text),
+        answer => answer,
+    }
+}
+
+/// A payload's datum, read again where memory ran out the first time.
+pub(crate) fn read_again(alloc: Global, nodes: &Nodes, payload: &[u8]) -> Result<Datum, Fault> {
+    match read_all(alloc, nodes, payload) {
+        Err(Fault::NoMemory) => read_all(alloc, nodes, payload),
+        answer => answer,
+    }
+}
+
+/// A datum behind a byte that was there, written again where memory ran out the first time.
+pub(crate) fn written(rt: &(impl Abort + AllocGlobal), datum: &Datum) -> Result<Vec<u8>, Fail> {
+    let mut out = vec![in rt.alloc(); 9u8]?;
+    if write(datum, &mut out) == Err(WriteError::NoMemory) {
+        assert_eq!(rt; out.as_slice(), [9].as_slice());
+        write(datum, &mut out)?;
+    }
+    Ok(out)
+}
+
+/// Whether a reader is safe with a writer, asked again where memory ran out the first time.
+pub(crate) fn readable(alloc: Global, w: &Schema, r: &Schema) -> Result<bool, NoMemory> {
+    match can_read(alloc, w.nodes(), r.nodes()) {
+        Err(NoMemory) => can_read(alloc, w.nodes(), r.nodes()),
+        answer => answer,
+    }
+}
+
+/// An outcome, asked again where memory ran out the first time.
+pub(crate) fn outcome(
+    alloc: Global,
+    w: &Schema,
+    r: &Schema,
+    payload: &[u8],
+) -> Result<Outcome, TranscodeError> {
+    match transcode_tree(alloc, w.nodes(), r.nodes(), payload) {
+        Err(TranscodeError::NoMemory) => transcode_tree(alloc, w.nodes(), r.nodes(), payload),
+        answer => answer,
+    }
+}

@@ -1,0 +1,13 @@
+//! Tests of `avro_datum` and `resolver`, in a crate of their own, so that the libraries are proved once.
+#![tactic(auto)]
+
+#[cfg(test)]
+mod again;
+#[cfg(test)]
+mod datum_kinds_tests;
+#[cfg(test)]
+mod datum_tests;
+#[cfg(test)]
+mod resolving_kinds_tests;
+#[cfg(test)]
+mod resolving_tests;
