@@ -2,32 +2,19 @@
 #![tactic(auto)]
 
 ghost use Rattle.std.specs.Prelude.{◌≡◌, ◌≢◌, IfErr, IfOk};
+ghost use Rattle.commands.specs.Status.{code_of};
+ghost use Rattle.commands.specs.declared.status.Status.TheVariants.{BadTraffic, NoMemory};
 
-mod answer;
-mod command;
-mod input;
-mod lines;
-mod output;
-mod payload;
 #[cfg(test)]
 mod tests;
-mod transcode;
 
 use clap::error::ErrorKind;
 use clap::{ArgMatches, Command};
-use command::{RunError, Verb, run};
+use commands::{RunError, Status, Verb, run};
 use std::alloc::{AllocError, Global};
+use std::io;
 use std::process::ExitCode;
 use std::rt::Env;
-
-/// The status where the words are no command.
-const BAD_WORDS: u8 = 2;
-
-/// The status where input or output failed.
-const BAD_TRAFFIC: u8 = 3;
-
-/// The status where memory ran out.
-const NO_MEMORY: u8 = 4;
 
 /// The command line.
 fn command_line<'a>(alloc: Global) -> Result<Command<'a>, AllocError> {
@@ -48,54 +35,76 @@ fn verb_of(matches: &ArgMatches<'_>) -> Option<Verb> {
     }
 }
 
-/// The status that a run ends with.
-fn status_of(done: Result<u8, RunError>) -> u8
-    ensures ended { IfOk done (λ status. result ≡ status) }
-    ensures memory { done ≡ Err RunError.NoMemory → result ≡ NO_MEMORY }
-    ensures traffic { IfErr done (λ e. e ≢ RunError.NoMemory → result ≡ BAD_TRAFFIC) }
+/// The number that a run ends with.
+fn code_of(done: Result<u8, RunError>) -> u8
+    ensures ended { IfOk done (λ code. result ≡ code) }
+    ensures memory { done ≡ Err RunError.NoMemory → result ≡ code_of NoMemory }
+    ensures traffic { IfErr done (λ e. e ≢ RunError.NoMemory → result ≡ code_of BadTraffic) }
 {
     match done {
-        Ok(status) => status,
-        Err(RunError::Read) | Err(RunError::Write) => BAD_TRAFFIC,
-        Err(RunError::NoMemory) => NO_MEMORY,
+        Ok(code) => code,
+        Err(RunError::Read) | Err(RunError::Write) => Status::BadTraffic.code(),
+        Err(RunError::NoMemory) => Status::NoMemory.code(),
     }
 }
 
-/// Does what the words ask for, and says the status.
+/// Does what the words ask for, and says the number to end with.
 fn obey(rt: &(impl Input + Print + AllocGlobal), verb: &Verb) -> u8 {
     let mut reader = rt.reader();
     let mut writer = std::io::writer(rt);
-    status_of(run(rt.alloc(), verb, &mut reader, &mut writer))
+    code_of(run(rt.alloc(), verb, &mut reader, &mut writer))
 }
 
-/// Tells what is wrong with the words, or the help that they ask for, and says the status.
-fn explain(rt: &(impl Print + Eprint), error: &clap::Error) -> u8 {
+/// Tells what is wrong with the words, or the help that they ask for.
+fn explain(rt: &(impl Print + Eprint), error: &clap::Error) -> Status {
     if error.kind() == ErrorKind::OutOfMemory {
-        return NO_MEMORY;
+        return Status::NoMemory;
     }
     let _ = error.print(rt);
-    if error.exit_code() == 0 { 0 } else { BAD_WORDS }
+    if error.exit_code() == 0 {
+        Status::Answered
+    } else {
+        Status::BadWords
+    }
+}
+
+/// Tells why the words cannot be read.
+fn refuse(rt: &impl Eprint, error: &io::Error) -> Status {
+    if error.kind() == io::ErrorKind::InvalidData {
+        let _ = eprintln!(rt; "error: a word of the command line is no UTF-8");
+        return Status::BadWords;
+    }
+    Status::NoMemory
+}
+
+/// Does what the words ask for, or tells what is wrong with them, and says the number to end with.
+fn answer(
+    rt: &(impl Input + Print + Eprint + AllocGlobal),
+    words: &[String],
+) -> Result<u8, AllocError> {
+    match command_line(rt.alloc())?.try_get_matches_from(words) {
+        Ok(matches) => match verb_of(&matches) {
+            Some(verb) => Ok(obey(rt, &verb)),
+            None => Ok(Status::BadWords.code()),
+        },
+        Err(error) => Ok(explain(rt, &error).code()),
+    }
 }
 
 /// The words of the command line.
-fn words_of(rt: &(impl Env + AllocGlobal)) -> Option<Vec<String>> {
-    let words = std::env::args(rt).ok()?;
-    words.collect(rt.alloc()).ok()
+fn words_of(rt: &(impl Env + AllocGlobal)) -> io::Result<Vec<String>> {
+    let words = std::env::args(rt)?;
+    Ok(words.collect(rt.alloc())?)
 }
 
 fn main(rt: HostRuntime) -> ExitCode {
-    let Some(words) = words_of(&rt) else {
-        return ExitCode::from(NO_MEMORY);
+    let words = match words_of(&rt) {
+        Ok(words) => words,
+        Err(error) => return ExitCode::from(refuse(&rt, &error).code()),
     };
-    let Ok(command) = command_line(rt.alloc()) else {
-        return ExitCode::from(NO_MEMORY);
+    let code = match answer(&rt, words.as_slice()) {
+        Ok(code) => code,
+        Err(_) => Status::NoMemory.code(),
     };
-    let status = match command.try_get_matches_from(words.as_slice()) {
-        Ok(matches) => match verb_of(&matches) {
-            Some(verb) => obey(&rt, &verb),
-            None => BAD_WORDS,
-        },
-        Err(error) => explain(&rt, &error),
-    };
-    ExitCode::from(status)
+    ExitCode::from(code)
 }

@@ -1,4 +1,0 @@
-pub mod Answers
-pub mod Schemas
-pub mod Split
-pub mod Traffic

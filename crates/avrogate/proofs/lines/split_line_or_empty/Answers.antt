@@ -1,6 +1,0 @@
--- No line is left behind the last.
-use Rattle.avrogate.proofs.Split.{lines_none}
-use Rattle.avrogate.proofs.lines.split_line_or_empty.Goals as goal
-
-pub returns-in-None-clause-rest : goal.returns-in-None-clause-rest
-returns-in-None-clause-rest c = rw c.in-None.ensures lines_none

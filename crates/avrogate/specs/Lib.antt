@@ -1,5 +1,0 @@
-pub mod Answer
-pub mod Lines
-pub mod Output
-pub mod Payload
-pub mod Traffic

@@ -1,0 +1,80 @@
+ghost use Rattle.std.specs.Prelude.{◌≡◌, IfOk, string_bytes};
+ghost use Rattle.std.specs.Io.KnownBytes.{Keeps};
+ghost use Rattle.commands.specs.Output.{IsOutput};
+ghost use Rattle.commands.specs.Traffic.{Answers, BeginsToAnswer};
+
+use crate::input::read_all;
+use crate::output::write_whole;
+use crate::status::Status;
+use crate::transcode::transcode;
+use std::alloc::{AllocError, AllocFailed, Global};
+use std::io::{Read, Write};
+use thiserror::Error;
+
+/// What to do with the input.
+#[derive(Clone, Copy, Debug, PartialEq, Eq)]
+pub enum Verb {
+    /// Answers each payload with what the reader makes of it.
+    Transcode,
+}
+
+/// Why a run was broken off.
+#[derive(Clone, Copy, Debug, PartialEq, Eq, Error)]
+pub enum RunError {
+    #[error("the input cannot be read to its end")]
+    Read,
+    #[error("the output cannot be written")]
+    Write,
+    #[error("out of memory")]
+    NoMemory,
+}
+
+impl From<AllocError> for RunError {
+    ghost use Rattle.commands.specs.declared.command.RunError.TheVariants.{NoMemory};
+
+    ghost from_gives = { λ _ e. e ≡ NoMemory };
+
+    fn from(_error: AllocError) -> RunError {
+        RunError::NoMemory
+    }
+}
+
+impl<T: Drop> From<AllocFailed<T>> for RunError {
+    ghost use Rattle.commands.specs.declared.command.RunError.TheVariants.{NoMemory};
+
+    ghost from_gives = { λ _ e. e ≡ NoMemory };
+
+    fn from(_error: AllocFailed<T>) -> RunError {
+        RunError::NoMemory
+    }
+}
+
+/// The output for an input, and the status.
+fn output_of(alloc: Global, verb: &Verb, input: &[u8]) -> Result<(String, Status), AllocError>
+    ensures { IfOk result (λ r. IsOutput verb.now input.now (string_bytes r.0) r.1) }
+{
+    match verb {
+        Verb::Transcode => transcode(alloc, input),
+    }
+}
+
+/// Reads the whole input, makes the whole output, and then writes it. Answers the number of the status.
+///
+/// After `Read` or `NoMemory` nothing is written, after `Write` a beginning of the output.
+pub fn run<R: Read, W: Write>(
+    alloc: Global,
+    verb: &Verb,
+    reader: &mut R,
+    writer: &mut W,
+) -> Result<u8, RunError>
+    ensures ok { IfOk result (Answers verb.now (R.remaining reader.old) (W.contents writer.old) (W.contents writer.new)) }
+    ensures read { result ≡ Err RunError.Read → Keeps (W.contents writer.old) (W.contents writer.new) }
+    ensures memory { result ≡ Err RunError.NoMemory → Keeps (W.contents writer.old) (W.contents writer.new) }
+    ensures write { result ≡ Err RunError.Write →
+        BeginsToAnswer verb.now (R.remaining reader.old) (W.contents writer.old) (W.contents writer.new) }
+{
+    let input = read_all(alloc, reader)?;
+    let (output, status) = output_of(alloc, verb, &input)?;
+    write_whole(writer, output.as_bytes())?;
+    Ok(status.code())
+}

@@ -1,0 +1,9 @@
+ghost use Rattle.commands.specs.Output.{HasOneOutput, HasOutput};
+
+/// The law that for each input there is just one output, with one status.
+pub fn input_has_one_output()
+    ensures some { HasOutput }
+    ensures one { HasOneOutput }
+{
+    resolver::payload_has_one_outcome();
+}

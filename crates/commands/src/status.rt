@@ -1,0 +1,31 @@
+ghost use Rattle.std.specs.Prelude.{◌≡◌};
+ghost use Rattle.commands.specs.Status.{code_of};
+
+/// How the program ends.
+#[derive(Clone, Copy, Debug, PartialEq, Eq)]
+pub enum Status {
+    /// The input was answered, or help was asked for.
+    Answered,
+    /// The one line that was written says why nothing was answered.
+    Refused,
+    /// The words are no command.
+    BadWords,
+    /// A read, a write or a bind failed.
+    BadTraffic,
+    NoMemory,
+}
+
+impl Status {
+    /// Its number, as a program exits with it.
+    pub fn code(self) -> u8
+        ensures { result ≡ code_of self }
+    {
+        match self {
+            Status::Answered => 0,
+            Status::Refused => 1,
+            Status::BadWords => 2,
+            Status::BadTraffic => 3,
+            Status::NoMemory => 4,
+        }
+    }
+}

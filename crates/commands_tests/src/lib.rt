@@ -1,0 +1,7 @@
+//! Tests of `commands`, in a crate of their own, so that the library is proved once.
+#![tactic(auto)]
+
+#[cfg(test)]
+mod rows;
+#[cfg(test)]
+mod run_tests;
