@@ -3,7 +3,7 @@
 # The program, on its stored input: status 4 and nothing written, or the whole answer where a buffer could stay as it
 # was. The tests that ask again for what was refused: they pass, or end because what they build themselves was refused
 # (an output that is a vector refuses a write then); an answer that changed fails its assertion.
-# Usage, after `rt run` in crates/avrogate and `rt test` in each crate: tests/allocations.sh
+# Usage, after `rt run` in crates/avrogate and `rt test` in each crate of tests: tests/allocations.sh
 set -uo pipefail
 cd "$(dirname "$0")/.."
 folder=$(mktemp -d)
@@ -66,7 +66,9 @@ echo "avrogate: $((n - 1)) allocations refused in turn"
 ask_again() {
   local tests=crates/$1/out/$1_tests runs=0 test n
   shift
+  [ -x "$tests" ] || { count bad "$tests is missing: run \`rt test\` there"; return; }
   for test in "$@"; do
+    "$tests" "$test" >"$folder/out" 2>&1 && grep -q 'result: ok' "$folder/out" || { count bad "$tests has no test $test, or it fails"; continue; }
     for ((n = 1; ; n++)); do
       refused $n "$tests" "$test" || break
       runs=$((runs + 1))
@@ -76,16 +78,16 @@ ask_again() {
         count bad "$tests $test, allocation $n: $(cat "$folder/err" "$folder/out" | head -c 300)"
       fi
     done
+    [ $n -gt 1 ] || count bad "$tests $test: no allocation was refused"
   done
-  [ $runs -gt 0 ] || count bad "$tests: no allocation was refused"
   echo "$(basename "$tests"): $runs allocations refused in turn"
 }
-ask_again avro_bytes tests::{texts,faults_of_texts,bytes_behind_their_length,so_many_bytes}
-ask_again avro_schema tests::{reads_primitives,reads_a_record,keeps_the_last_of_a_repeated_key,tells_the_first_fault}
-ask_again avro_schema tests::{numbers_nodes_in_order_of_appearance,names_stand_in_their_namespaces,reads_defaults_by_type,refuses_defaults_of_other_types}
-ask_again avro_schema tests::{a_name_is_one_however_it_is_told,names_of_other_namespaces_are_others}
-ask_again avro_datum tests::{payloads_are_read_and_written,faults_of_payloads} kinds_tests::{payloads_of_every_kind,faults_of_every_kind}
-ask_again resolver tests::{fields_go_by_name,mismatches,outcomes} kinds_tests::{written_by_the_reader,mismatched,malformed,readers_that_are_safe}
-ask_again avrogate tests::{answers_schemas,answers_payloads,answers_what_is_no_text,resolves_every_kind}
+ask_again avro_bytes_tests values::{texts,faults_of_texts,bytes_after_their_length,so_many_bytes}
+ask_again avro_schema_tests schema_tests::{reads_primitives,reads_a_record,keeps_the_last_of_a_repeated_key,tells_the_first_fault}
+ask_again avro_schema_tests schema_tests::{numbers_nodes_in_order_of_appearance,names_stand_in_their_namespaces,reads_defaults_by_type,refuses_defaults_of_other_types}
+ask_again avro_schema_tests schema_tests::{a_name_is_one_however_it_is_told,names_of_other_namespaces_are_others}
+ask_again resolver_tests datum_tests::{payloads_are_read_and_written,faults_of_payloads} datum_kinds_tests::{payloads_of_every_kind,faults_of_every_kind}
+ask_again resolver_tests resolving_tests::{fields_go_by_name,mismatches,outcomes} resolving_kinds_tests::{written_by_the_reader,mismatched,malformed,readers_that_are_safe}
+ask_again commands_tests run_tests::{answers_schemas,answers_lines_that_are_no_payloads,answers_what_is_no_text,answers_worked_rows}
 echo "$passed passed, $failed failed"
 [ $failed = 0 ]
