@@ -1,6 +1,6 @@
 #!/usr/bin/env bash
 # Whether time is linear: the program on payloads of nested arrays of records, and on schemas of many symbols, of many long names that
-# differ at their ends, of many defaults, members, and names in one long namespace, each of one size and of twice that size, in one
+# differ at their ends, of many defaults, members, aliases, and names in one long namespace, each of one size and of twice that size, in one
 # run. Not part of the gate. Usage: bench/doubling.sh PROGRAM
 set -euo pipefail
 program=$(realpath "$1")
@@ -73,6 +73,15 @@ def references(size):
         return '{"name":"r%d","type":{"type":"record","name":"R%d","fields":[%s]}}' % (i, i, fields)
     return whole([small(0, "N")] + [referring(i) for i in range(size // 5200)], ',"namespace":"%s"' % ("n" * (size // 2)))
 
+def aliases(size):
+    """A writer's fields, each the last alias of a reader's of another name, in a record that is an alias too; and one record to resolve."""
+    count, others = min(size // 250, 1000), ",".join('"o%05d"' % i for i in range(size // 25))
+    written = ",".join('{"name":"w%04d","type":"int"}' % i for i in range(count))
+    read = ",".join('{"name":"r%04d","type":"long","aliases":[%s,"w%04d"]}' % (i, ",".join('"n%04d%02d"' % (i, j) for j in range(8)), i) for i in range(count))
+    writer = '{"type":"record","name":"W","fields":[%s]}' % written
+    reader = '{"type":"record","name":"R","aliases":[%s,"W"],"fields":[%s]}' % (others, read)
+    return writer + "\n" + reader + "\n" + "02" * count + "\n"
+
 def seconds(data):
     begin = time.perf_counter()
     done = subprocess.run([program, "transcode"], input=data, capture_output=True)
@@ -85,7 +94,8 @@ holds = True
 start = min(seconds(b'"int"\n"int"\n') for _ in range(40))
 for name, make, size, turns in [("payload", points, 1 << 21, 10), ("schema of enums", enums, 100_000, 30), ("schema of names", names, 100_000, 30),
                                 ("schema of defaults of one enum", defaults, 50_000, 30), ("schema of one union", members, 100_000, 30),
-                                ("schema of one long namespace", namespace, 100_000, 30), ("schema of references in one long namespace", references, 100_000, 30)]:
+                                ("schema of one long namespace", namespace, 100_000, 30), ("schema of references in one long namespace", references, 100_000, 30),
+                                ("schema of many aliases", aliases, 100_000, 30)]:
     inputs = [make(size * k).encode() for k in (1, 2)]
     once, twice = (min(took) - start for took in zip(*([seconds(data) for data in inputs] for _ in range(turns))))
     holds = holds and twice / once <= 2.3

@@ -1,12 +1,22 @@
-"""What Java makes of aliases: the reader's rename the writer's types and fields before the two are resolved."""
+"""Whose aliases count, and how. Ours add matches and replace no name; Java renames the writer's types and fields by the reader's aliases before the
+two are resolved; Python ignores them."""
 from schemas import Refused
 
 
-def apply(writer_nodes, reader_nodes, take):
-    """Renames the writer's types and fields, where the reader has aliases at all."""
-    names, fields = names_of(reader_nodes), fields_of(reader_nodes)
-    if not (names or fields) or not take("aliases-applied"):
-        return
+def add_matches(writer_nodes, reader_nodes, take):
+    """Whether aliases add matches. Else they are ignored, or the writer's types and fields have been renamed by them."""
+    gathered = Gathered(reader_nodes[0])
+    if not (gathered.names or gathered.fields):
+        return True
+    if take("aliases-ignored"):
+        return False
+    if not take("aliases-rename"):
+        return True
+    rename(writer_nodes, gathered.names, gathered.fields)
+    return False
+
+
+def rename(writer_nodes, names, fields):
     for node in writer_nodes:
         if node.full in names:
             node.full, node.short = names[node.full], names[node.full].rsplit(".", 1)[-1]
@@ -19,15 +29,22 @@ def apply(writer_nodes, reader_nodes, take):
             raise Refused("a name twice")
 
 
-def names_of(nodes):
-    return {alias: node.full for node in nodes for alias in node.aliases}
+class Gathered:
+    """Java's two tables of a schema's aliases, filled in its order: later entries replace earlier ones, and records whose aliases are names of others share tables."""
 
+    def __init__(self, root):
+        self.names, self.fields, self.seen = {}, {}, set()
+        self.visit(root)
 
-def fields_of(nodes):
-    """By a record's name, and its aliases, what its fields are called by their aliases."""
-    fields = {}
-    for node in nodes:
-        renamed = {alias: field.name for field in node.fields for alias in field.aliases}
-        if renamed:
-            fields.update({name: renamed for name in [node.full, *node.aliases]})
-    return fields
+    def visit(self, node):
+        self.names.update({alias: node.full for alias in node.aliases})
+        if node.kind == "record" and node not in self.seen:
+            self.seen.add(node)
+            for field in node.fields:
+                for alias in field.aliases:
+                    self.fields.setdefault(node.full, {})[alias] = field.name
+                self.visit(field.node)
+            if node.full in self.fields:
+                self.fields.update({alias: self.fields[node.full] for alias in node.aliases})
+        for part in [node.items] if node.items else node.members:
+            self.visit(part)

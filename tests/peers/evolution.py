@@ -22,6 +22,8 @@ class Evolution:
             self.flatten()
             if holds_itself(self.holder) and self.random.random() < 0.9:
                 self.holder = before
+        if self.random.random() < 0.9:
+            self.give_aliases()
         for node in nodes(self.holder):
             for field in node.get("fields", []):
                 if "default" in field:
@@ -66,6 +68,19 @@ class Evolution:
             if self.random.random() < 0.7:
                 self.maker.give_default(field)
             fields.insert(self.random.randrange(len(fields) + 1), field)
+
+    def give_aliases(self):
+        """Aliases that may be names of the writer's, of whatever type or field."""
+        for node in nodes(self.holder):
+            if node["kind"] in NAMED and self.random.random() < 0.5:
+                node["aliases"] = [self.type_alias() for _ in range(self.random.choice((1, 1, 2)))]
+            for field in node.get("fields", []):
+                if self.random.random() < 0.4:
+                    field["aliases"] = [self.random.choice(FIELDS) for _ in range(self.random.choice((1, 1, 2)))]
+
+    def type_alias(self):
+        space, name = self.random.choice(SPACES + [""]), self.random.choice(NAMES)
+        return space + "." + name if space and self.random.random() < 0.7 else name
 
     def rename(self):
         node = self.some(*NAMED)

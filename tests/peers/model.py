@@ -22,8 +22,8 @@ class Model:
             root, self.written_nodes = written.parse(writer), written.nodes
             line, self.parser = 2, Parser(self.switches)
             self.reader = self.parser.parse(reader)
-            aliases.apply(written.nodes, self.parser.nodes, self.switches.take)
-            self.plan = Planner(self.switches, default_datum).plan(root, self.reader)
+            by_alias = aliases.add_matches(written.nodes, self.parser.nodes, self.switches.take)
+            self.plan = Planner(self.switches, default_datum, by_alias).plan(root, self.reader)
             if "endless-record" in names and is_endless(self.plan) and self.switches.take("endless-record"):
                 raise Refused("a record in itself")
         except BadSchema as fault:

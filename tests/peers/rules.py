@@ -26,7 +26,8 @@ RULES = [
     Rule("schema-limits", BOTH, "A schema may be larger than our limits."),
     # Resolution
     Rule("no-enum-default", BOTH, "A symbol that the reader lacks is refused, although the reader's enum has a default."),
-    Rule("aliases-applied", JAVA, "The reader's aliases rename the writer's types and fields."),
+    Rule("aliases-ignored", PYTHON, "Aliases are ignored."),
+    Rule("aliases-rename", JAVA, "The reader's aliases rename the writer's types and fields, and so take the place of names."),
     Rule("full-names", BOTH, "Types match by their full names (in Java enums and fixed; records by no name)."),
     Rule("record-names-unchecked", JAVA, "Records match whatever their names."),
     Rule("no-string-bytes", PYTHON, "String and bytes are not promoted to each other."),

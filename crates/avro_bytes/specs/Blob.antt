@@ -1,17 +1,10 @@
--- Bytes (Avro 1.11, "Binary Encoding", bytes and fixed): behind their length, or as many as the schema says.
+-- Bytes (Avro 1.11, "Binary Encoding", bytes and fixed): after their length, or as many as the schema says.
 use Rattle.std.specs.Prelude.{◌≡◌, ◌≤◌, ◌<◌, ℕ, ◌+◌, ◌-◌, List, ◌++◌, length, take, drop, nat_lt, if◌then◌else◌, pos}
+use Rattle.avro_bytes.specs.declared.limits.TheConstants.{MOST_CONTENT}
 use Rattle.avro_bytes.specs.declared.meter.Meter.{Meter}
-use Rattle.avro_bytes.specs.declared.text.TheConstants.{LONGEST}
-use Rattle.avro_bytes.specs.Decoding.{Decoding, Complete, Incomplete}
-use Rattle.avro_bytes.specs.Fault.{Defect, Broken, CutShort}
+use Rattle.avro_bytes.specs.Decoding.{Complete, Decoding, Defect, Failed, Malformed, Need, ◌>>=◌}
+use Rattle.avro_bytes.specs.Length.{length_at}
 use Rattle.avro_bytes.specs.Number.{IsNumber64}
-
--- the bytes spell the value, behind its length
-pub record IsBlob (value bytes : List ℕ) : Type 0 where
-  pub len : List ℕ
-  pub parts : bytes ≡ len ++ value
-  pub number : IsNumber64 (pos (length value)) len
-  pub short : length value ≤ LONGEST
 
 -- ---- fixed: so many bytes are themselves
 
@@ -20,11 +13,25 @@ pub record IsFixed (size : ℕ) (value bytes : List ℕ) : Type 0 where
   pub whole : length value ≡ size
 
 abbrev pub FaultyFixed : ℕ → List ℕ → Defect → Type 0
-FaultyFixed size bytes (Broken kind offset) = ⊥
-FaultyFixed size bytes CutShort = length bytes < size
+FaultyFixed size bytes (Malformed kind offset) = ⊥
+FaultyFixed size bytes Need = length bytes < size
 
 -- the bytes of a fixed at a place
 unfoldable pub fixed_at : ℕ → List ℕ → ℕ → Meter → Decoding (List ℕ)
 fixed_at size bytes at m =
-    if nat_lt (length bytes - at) size then Incomplete
+    if nat_lt (length bytes - at) size then Failed Need
     else Complete (take size (drop at bytes)) (at + size) m
+
+-- ---- bytes after their length
+
+-- the bytes spell the value, after its length
+-- This project's own rule: no content is longer than so much.
+pub record IsBlob (value bytes : List ℕ) : Type 0 where
+  pub len : List ℕ
+  pub parts : bytes ≡ len ++ value
+  pub number : IsNumber64 (pos (length value)) len
+  pub short : length value ≤ MOST_CONTENT
+
+-- the content after the length at a place: a fixed of that size
+unfoldable pub content_at : List ℕ → ℕ → Meter → Decoding (List ℕ)
+content_at bytes at m = length_at bytes at m >>= λ n to after. fixed_at n bytes to after

@@ -1,25 +1,18 @@
--- The first fault where a block or the end of the blocks should begin.
-use Rattle.std.specs.Prelude.{◌≡◌, ◌⊎◌, ℕ, suc, List, ◌++◌, length, ℤ, pos, negsuc}
+-- The first fault where a block or the end of the blocks should begin (Avro 1.11, "Binary Encoding", arrays and maps).
+-- This project's own rule: which of several faults is told first.
+use Rattle.std.specs.Prelude.{◌≡◌, ◌⊎◌, ℕ, suc, List, ◌++◌, length, Option, ℤ, negsuc}
 use Rattle.avro_bytes.specs.declared.meter.Meter.{Meter}
-use Rattle.avro_bytes.specs.Fault.{Defect, FaultyNumber, shifted}
+use Rattle.avro_bytes.specs.Blocks.{IsHead}
+use Rattle.avro_bytes.specs.Decoding.{Defect}
+use Rattle.avro_bytes.specs.Fault.{FaultyNumber, shifted}
 use Rattle.avro_bytes.specs.Meter.{RefusesItem}
 use Rattle.avro_bytes.specs.Number.{IsNumber64, long_limit}
 
--- a count below 0, and a size whatever it says
-pub record SaysSize (head : List ℕ) : Type 0 where
-  pub count : List ℕ
-  pub size : List ℕ
-  pub n : ℕ
-  pub len : ℤ
-  pub parts : head ≡ count ++ size
-  pub number : IsNumber64 (negsuc n) count
-  pub said : IsNumber64 len size
-
--- the bytes before the first item of a block
+-- the bytes before the first item of a block, whatever size they say
 abbrev pub BeginsBlock : List ℕ → Type 0
-BeginsBlock head = ((n : ℕ) × IsNumber64 (pos (suc n)) head) ⊎ SaysSize head
+BeginsBlock head = (n : ℕ) × (said : Option ℤ) × IsHead (suc n) said head
 
--- a size that is no number, behind a count below 0
+-- a size that is no number, after a count below 0
 pub record IsFaultySize (bytes : List ℕ) (d : Defect) : Type 0 where
   pub count : List ℕ
   pub rest : List ℕ

@@ -2,8 +2,7 @@
 use Rattle.std.specs.Prelude.{◌≡◌, ◌<◌, ℕ, ◌+◌, List, [], ◌∷◌, drop, ◌==◌, if◌then◌else◌, Bool, true, false}
 use Rattle.avro_bytes.specs.declared.meter.Meter.{Meter}
 use Rattle.avro_bytes.specs.declared.fault.MalformedKind.TheVariants.{BadBoolean}
-use Rattle.avro_bytes.specs.Decoding.{Decoding, Complete, Invalid, Incomplete}
-use Rattle.avro_bytes.specs.Fault.{Defect, Broken, CutShort}
+use Rattle.avro_bytes.specs.Decoding.{Complete, Decoding, Defect, Failed, Malformed, Need}
 
 abbrev pub boolean_byte : Bool → ℕ
 boolean_byte false = 0
@@ -21,16 +20,16 @@ pub record IsAboveOne (bytes : List ℕ) : Type 0 where
   pub above : 1 < byte
 
 abbrev pub FaultyBoolean : List ℕ → Defect → Type 0
-FaultyBoolean bytes (Broken kind offset) = IsAboveOne bytes × (kind ≡ BadBoolean) × (offset ≡ 0)
-FaultyBoolean bytes CutShort = bytes ≡ []
+FaultyBoolean bytes (Malformed kind offset) = IsAboveOne bytes × (kind ≡ BadBoolean) × (offset ≡ 0)
+FaultyBoolean bytes Need = bytes ≡ []
 
 -- the boolean that begins a list, which stands at a place
 abbrev pub boolean_of : ℕ → Meter → List ℕ → Decoding Bool
-boolean_of at m [] = Incomplete
+boolean_of at m [] = Failed Need
 boolean_of at m (byte ∷ rest) =
     if byte == 0 then Complete false (at + 1) m
     else if byte == 1 then Complete true (at + 1) m
-    else Invalid BadBoolean at
+    else Failed (Malformed BadBoolean at)
 
 -- the boolean at a place
 unfoldable pub boolean_at : List ℕ → ℕ → Meter → Decoding Bool

@@ -2,32 +2,49 @@
 use Rattle.std.specs.Prelude.{◌≡◌, ℕ, Result, Ok, Err}
 use Rattle.avro_bytes.specs.declared.meter.Meter.{Meter}
 use Rattle.avro_bytes.specs.declared.fault.Fault.{Fault}
-use Rattle.avro_bytes.specs.declared.fault.Fault.TheVariants.{Need, Malformed, NoMemory}
-use Rattle.avro_bytes.specs.Decoding.{Decoding, Complete, Invalid, Incomplete}
+use Rattle.avro_bytes.specs.declared.fault.Fault.TheVariants as fault
+use Rattle.avro_bytes.specs.Decoding.{Complete, Decoding, Defect, Failed, IsComplete, Malformed, Need}
 
--- what reading answers, its value seen by view, unless memory ran out
-abbrev pub Reads : {X V : Type 0} → (X → V) → Result (X × ℕ × Meter) Fault → Decoding V → Type 0
-Reads view (Ok r) decoding = decoding ≡ Complete (view r.0) r.1 r.2
-Reads view (Err Need) decoding = decoding ≡ Incomplete
-Reads view (Err (Malformed kind at)) decoding = decoding ≡ Invalid kind at
-Reads view (Err NoMemory) decoding = Unit {0}
+-- what reading answers, its value seen by view; and what decoding is like where memory ran out
+abbrev pub Reads : {X V : Type 0} → (X → V) → (Decoding V → Type 0) → Result (X × ℕ × Meter) Fault → Decoding V → Type 0
+Reads view Lacks (Ok r) decoding = decoding ≡ Complete (view r.0) r.1 r.2
+Reads view Lacks (Err fault.Need) decoding = decoding ≡ Failed Need
+Reads view Lacks (Err (fault.Malformed kind at)) decoding = decoding ≡ Failed (Malformed kind at)
+Reads view Lacks (Err fault.NoMemory) decoding = Lacks decoding
+
+-- where reading takes no memory, it never runs out
+abbrev pub Never : {V : Type 0} → Decoding V → Type 0
+Never decoding = ⊥
 
 -- what reading answers where it takes no memory
 abbrev pub Finds : {X V : Type 0} → (X → V) → Result (X × ℕ × Meter) Fault → Decoding V → Type 0
-Finds view (Ok r) decoding = decoding ≡ Complete (view r.0) r.1 r.2
-Finds view (Err Need) decoding = decoding ≡ Incomplete
-Finds view (Err (Malformed kind at)) decoding = decoding ≡ Invalid kind at
-Finds view (Err NoMemory) decoding = ⊥
+Finds view = Reads view Never
+
+-- what reading answers where it takes memory only for a value that is there
+abbrev pub Copies : {X V : Type 0} → (X → V) → Result (X × ℕ × Meter) Fault → Decoding V → Type 0
+Copies view = Reads view IsComplete
+
+-- where reading takes memory as it goes, it may run out of it wherever it is
+abbrev pub Anywhere : {V : Type 0} → Decoding V → Type 0
+Anywhere decoding = Unit {0}
+
+-- what reading answers where it takes memory as it goes
+abbrev pub Gathers : {X V : Type 0} → (X → V) → Result (X × ℕ × Meter) Fault → Decoding V → Type 0
+Gathers view = Reads view Anywhere
+
+-- a defect as a call tells it
+abbrev pub fault_of : Defect → Fault
+fault_of (Malformed kind at) = fault.Malformed kind at
+fault_of Need = fault.Need
 
 -- what skipping answers: all of it but the value
 abbrev pub skipped : {V : Type 0} → Decoding V → Result (ℕ × Meter) Fault
 skipped (Complete v to m) = Ok (to, m)
-skipped (Invalid kind at) = Err (Malformed kind at)
-skipped Incomplete = Err Need
+skipped (Failed d) = Err (fault_of d)
 
 -- skipping answers what reading answers, less the value, unless memory ran out
 abbrev pub AnswersAlike : {X : Type 0} → Result (X × ℕ × Meter) Fault → Result (ℕ × Meter) Fault → Type 0
 AnswersAlike (Ok r) skip = skip ≡ Ok (r.1, r.2)
-AnswersAlike (Err Need) skip = skip ≡ Err Need
-AnswersAlike (Err (Malformed kind at)) skip = skip ≡ Err (Malformed kind at)
-AnswersAlike (Err NoMemory) skip = Unit {0}
+AnswersAlike (Err fault.Need) skip = skip ≡ Err fault.Need
+AnswersAlike (Err (fault.Malformed kind at)) skip = skip ≡ Err (fault.Malformed kind at)
+AnswersAlike (Err fault.NoMemory) skip = Unit {0}

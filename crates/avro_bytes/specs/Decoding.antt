@@ -1,34 +1,47 @@
 -- What decoding the bytes at a place gives (Avro 1.11, "Binary Encoding").
+-- This project's own rule: why it gives no value.
 use Rattle.std.specs.Prelude.{◌≡◌, ℕ, ◌+◌, List, ◌++◌, length, drop, Result, Ok, Err}
 use Rattle.avro_bytes.specs.declared.meter.Meter.{Meter}
 use Rattle.avro_bytes.specs.declared.fault.MalformedKind.{MalformedKind}
 use Rattle.avro_bytes.specs.declared.fault.Fault.{Fault}
-use Rattle.avro_bytes.specs.declared.fault.Fault.TheVariants.{Need, Malformed, NoMemory}
+use Rattle.avro_bytes.specs.declared.fault.Fault.TheVariants as fault
 
--- a value, with the place behind its spelling and the meter there; or the first fault and its place; or the bytes end inside
+-- a fault, so many bytes from where offsets are counted; or the bytes end inside a part that none of them has made
+-- faulty
+pub data Defect : Type 0 where
+  Malformed : MalformedKind → ℕ → Defect
+  Need : Defect
+
+-- a value, with the place after its spelling and the meter there; or why there is none, whose place is counted from the
+-- first byte
 pub data Decoding (V : Type 0) : Type 0 where
   Complete : V → ℕ → Meter → Decoding V
-  Invalid : MalformedKind → ℕ → Decoding V
-  Incomplete : Decoding V
+  Failed : Defect → Decoding V
 
--- one part behind another
+abbrev pub IsComplete : {V : Type 0} → Decoding V → Type 0
+IsComplete (Complete v to m) = Unit {0}
+IsComplete (Failed d) = ⊥
+
+-- one part after another
 infixl 10 ◌>>=◌
 abbrev pub ◌>>=◌ : {A B : Type 0} → Decoding A → (A → ℕ → Meter → Decoding B) → Decoding B
 (Complete v to m) >>= f = f v to m
-(Invalid kind at) >>= f = Invalid kind at
-Incomplete >>= f = Incomplete
+(Failed d) >>= f = Failed d
 
 abbrev pub map_decoding : {A B : Type 0} → (A → B) → Decoding A → Decoding B
 map_decoding f (Complete v to m) = Complete (f v) to m
-map_decoding f (Invalid kind at) = Invalid kind at
-map_decoding f Incomplete = Incomplete
+map_decoding f (Failed d) = Failed d
+
+-- the defect of a fault; where memory ran out there is none, and nothing is said
+abbrev pub defect_of : Fault → Defect
+defect_of (fault.Malformed kind at) = Malformed kind at
+defect_of fault.Need = Need
+defect_of fault.NoMemory = Need
 
 -- inside what was opened, or why it was not
 abbrev pub inside : {V : Type 0} → Result Meter Fault → (Meter → Decoding V) → Decoding V
 inside (Ok m) f = f m
-inside (Err (Malformed kind at)) f = Invalid kind at
-inside (Err Need) f = Incomplete
-inside (Err NoMemory) f = Incomplete
+inside (Err e) f = Failed (defect_of e)
 
 -- the bytes from a place up to another are such
 pub record Stands (P : List ℕ → Type 0) (all : List ℕ) (at to : ℕ) : Type 0 where

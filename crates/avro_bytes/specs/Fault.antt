@@ -1,35 +1,30 @@
--- The first fault of bytes that begin no spelling: all parts before one are spelled, and that part is faulty.
+-- The first fault of bytes that begin no spelling: all parts before one are spelled, and that part is faulty. Which
+-- bytes are no spelling is the standard's rule (Avro 1.11, "Binary Encoding").
+-- This project's own rules: the kinds of faults, their places, and the longest length.
 use Rattle.std.specs.Prelude.{◌≡◌, ◌≤◌, ◌<◌, ℕ, suc, ◌+◌, List, ◌∷◌, ◌++◌, length, ◌⊎◌, ℤ, pos, negsuc}
 use Rattle.std.specs.List.{AllByRecursion}
 use Rattle.std.specs.Str.{IsUtf8}
-use Rattle.avro_bytes.specs.declared.fault.MalformedKind.{MalformedKind}
 use Rattle.avro_bytes.specs.declared.fault.MalformedKind.TheVariants.{BadNumber, BadLength, BadText}
-use Rattle.avro_bytes.specs.declared.text.TheConstants.{LONGEST}
-use Rattle.avro_bytes.specs.Decoding.{Decoding, Complete, Invalid, Incomplete}
-use Rattle.avro_bytes.specs.Number.{Limit, long_limit, IsNumber64}
+use Rattle.avro_bytes.specs.declared.limits.TheConstants.{MOST_CONTENT}
+use Rattle.avro_bytes.specs.Decoding.{Complete, Decoding, Defect, Failed, Malformed, Need}
+use Rattle.avro_bytes.specs.Number.{IsNumber64, Limit, long_limit}
 
--- a fault so many bytes in, or the bytes end inside a part that none of them has made faulty
-pub data Defect : Type 0 where
-  Broken : MalformedKind → ℕ → Defect
-  CutShort : Defect
-
--- the same, behind so many bytes more
+-- the same, after so many bytes more
 abbrev pub shifted : ℕ → Defect → Defect
-shifted len (Broken kind offset) = Broken kind (len + offset)
-shifted len CutShort = CutShort
+shifted len (Malformed kind offset) = Malformed kind (len + offset)
+shifted len Need = Need
 
 -- what decoding gives at a defect of the bytes from a place on
 abbrev pub failing : {V : Type 0} → ℕ → Defect → Decoding V
-failing at (Broken kind offset) = Invalid kind (at + offset)
-failing at CutShort = Incomplete
+failing at d = Failed (shifted at d)
 
 -- where decoding gives no value, the bytes from the place on have such a defect
 abbrev pub HasDefect : {V : Type 0} → Decoding V → ℕ → (Defect → Type 0) → Type 0
 HasDefect (Complete v to m) at P = Unit {0}
-HasDefect (Invalid kind place) at P = (offset : ℕ) × (place ≡ at + offset) × P (Broken kind offset)
-HasDefect Incomplete at P = P CutShort
+HasDefect (Failed (Malformed kind place)) at P = (offset : ℕ) × (place ≡ at + offset) × P (Malformed kind offset)
+HasDefect (Failed Need) at P = P Need
 
--- ---- numbers
+-- ---- numbers ("Primitive Types", int and long)
 
 abbrev pub AllHigh : List ℕ → Type 0
 AllHigh bytes = AllByRecursion (λ b. 128 ≤ b) bytes
@@ -45,18 +40,18 @@ pub record IsTooGreat (limit : Limit) (bytes : List ℕ) : Type 0 where
   pub great : limit.top < last
 
 -- fewer bytes than that, all with the high bit
-pub record IsCutNumber (limit : Limit) (bytes : List ℕ) : Type 0 where
+pub record NumberNeedsMore (limit : Limit) (bytes : List ℕ) : Type 0 where
   pub high : AllHigh bytes
   pub few : length bytes < limit.most
 
 abbrev pub FaultyNumber : Limit → List ℕ → Defect → Type 0
-FaultyNumber limit bytes (Broken kind offset) = IsTooGreat limit bytes × (kind ≡ BadNumber) × (offset ≡ 0)
-FaultyNumber limit bytes CutShort = IsCutNumber limit bytes
+FaultyNumber limit bytes (Malformed kind offset) = IsTooGreat limit bytes × (kind ≡ BadNumber) × (offset ≡ 0)
+FaultyNumber limit bytes Need = NumberNeedsMore limit bytes
 
--- ---- contents behind their length, and texts
+-- ---- contents after their length ("Primitive Types", bytes), and texts (string)
 
 abbrev pub IsLength : ℤ → Type 0
-IsLength (pos n) = n ≤ LONGEST
+IsLength (pos n) = n ≤ MOST_CONTENT
 IsLength (negsuc n) = ⊥
 
 -- a number that is no length
@@ -68,15 +63,24 @@ pub record IsBadLength (bytes : List ℕ) : Type 0 where
   pub number : IsNumber64 n len
   pub bad : ¬ (IsLength n)
 
+abbrev pub FaultyLength : List ℕ → Defect → Type 0
+FaultyLength bytes (Malformed kind offset) =
+    FaultyNumber long_limit bytes (Malformed kind offset) ⊎ (IsBadLength bytes × (kind ≡ BadLength) × (offset ≡ 0))
+FaultyLength bytes Need = FaultyNumber long_limit bytes Need
+
 -- a length, and fewer bytes than it says
-pub record IsCutContent (bytes : List ℕ) : Type 0 where
+pub record ContentNeedsMore (bytes : List ℕ) : Type 0 where
   pub len : List ℕ
   pub content : List ℕ
   pub n : ℕ
   pub parts : bytes ≡ len ++ content
   pub number : IsNumber64 (pos n) len
-  pub short : n ≤ LONGEST
+  pub short : n ≤ MOST_CONTENT
   pub few : length content < n
+
+abbrev pub FaultyContent : List ℕ → Defect → Type 0
+FaultyContent bytes (Malformed kind offset) = FaultyLength bytes (Malformed kind offset)
+FaultyContent bytes Need = FaultyLength bytes Need ⊎ ContentNeedsMore bytes
 
 -- a whole content that is no UTF-8, and how many bytes stand before it
 pub record IsBadText (bytes : List ℕ) (before : ℕ) : Type 0 where
@@ -85,14 +89,11 @@ pub record IsBadText (bytes : List ℕ) (before : ℕ) : Type 0 where
   pub rest : List ℕ
   pub parts : bytes ≡ len ++ (content ++ rest)
   pub number : IsNumber64 (pos (length content)) len
-  pub short : length content ≤ LONGEST
+  pub short : length content ≤ MOST_CONTENT
   pub bad : ¬ (IsUtf8 content)
   pub place : before ≡ length len
 
-abbrev pub FaultyContent : List ℕ → Defect → Type 0
-FaultyContent bytes (Broken kind offset) = FaultyNumber long_limit bytes (Broken kind offset) ⊎ (IsBadLength bytes × (kind ≡ BadLength) × (offset ≡ 0))
-FaultyContent bytes CutShort = FaultyNumber long_limit bytes CutShort ⊎ IsCutContent bytes
-
 abbrev pub FaultyText : List ℕ → Defect → Type 0
-FaultyText bytes (Broken kind offset) = FaultyContent bytes (Broken kind offset) ⊎ (IsBadText bytes offset × (kind ≡ BadText))
-FaultyText bytes CutShort = FaultyContent bytes CutShort
+FaultyText bytes (Malformed kind offset) =
+    FaultyContent bytes (Malformed kind offset) ⊎ (IsBadText bytes offset × (kind ≡ BadText))
+FaultyText bytes Need = FaultyContent bytes Need

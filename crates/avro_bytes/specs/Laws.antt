@@ -1,4 +1,5 @@
 pub mod Binds
+pub mod BlobDefects
 pub mod Blobs
 pub mod BlockDefects
 pub mod BlockEnds
@@ -9,9 +10,12 @@ pub mod Booleans
 pub mod Defects
 pub mod Fixeds
 pub mod Groups
+pub mod Lengths
 pub mod Meters
 pub mod Numbers
+pub mod Positions
 pub mod Shortests
 pub mod TextDefects
 pub mod Texts
+pub mod Tights
 pub mod Walks

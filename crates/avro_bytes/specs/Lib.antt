@@ -7,9 +7,14 @@ pub mod Contract
 pub mod Decoding
 pub mod Fault
 pub mod Laws
+pub mod Length
 pub mod MalformedKind
 pub mod Meter
 pub mod Number
 pub mod NumberDecoding
+pub mod Position
 pub mod Shortest
 pub mod Text
+pub mod Walk
+pub mod Walking
+pub mod Written

@@ -1,11 +1,12 @@
--- The limits of a message: how deep it nests, and how many units it has.
+-- How deep a message nests, and how many units it has.
+-- This project's own rules: the standard has no such limits.
 use Rattle.std.specs.Prelude.{◌≡◌, ◌≤◌, ◌<◌, ◌⊎◌, ℕ, ◌+◌, ◌-◌, nat_le, if◌then◌else◌, Result, Ok, Err}
 use Rattle.avro_bytes.specs.declared.meter.Meter.{Meter}
-use Rattle.avro_bytes.specs.declared.meter.TheConstants.{MOST_DEPTH, MOST_UNITS}
+use Rattle.avro_bytes.specs.declared.limits.TheConstants.{MOST_DEPTH, MOST_UNITS}
 use Rattle.avro_bytes.specs.declared.fault.Fault.{Fault}
-use Rattle.avro_bytes.specs.declared.fault.Fault.TheVariants.{Malformed}
+use Rattle.avro_bytes.specs.declared.fault.Fault.TheVariants as fault
 use Rattle.avro_bytes.specs.declared.fault.MalformedKind.TheVariants.{TooDeep, TooMany}
-use Rattle.avro_bytes.specs.Fault.{Defect, Broken}
+use Rattle.avro_bytes.specs.Decoding.{Defect, Malformed}
 
 -- before a message
 abbrev pub start : Meter
@@ -14,27 +15,27 @@ start = record { depth = 0; units = 0 }
 -- inside a record that begins at a place: one deeper, and one unit more
 abbrev pub opened_record : ℕ → Meter → Result Meter Fault
 opened_record at m =
-    if nat_le MOST_DEPTH m.depth then Err (Malformed TooDeep at)
-    else if nat_le MOST_UNITS m.units then Err (Malformed TooMany at)
+    if nat_le MOST_DEPTH m.depth then Err (fault.Malformed TooDeep at)
+    else if nat_le MOST_UNITS m.units then Err (fault.Malformed TooMany at)
     else Ok (record { depth = m.depth + 1; units = m.units + 1 })
 
 -- at an array item or a map pair that begins at a place: one unit more
 abbrev pub opened_item : ℕ → Meter → Result Meter Fault
 opened_item at m =
-    if nat_le MOST_UNITS m.units then Err (Malformed TooMany at)
+    if nat_le MOST_UNITS m.units then Err (fault.Malformed TooMany at)
     else Ok (record { depth = m.depth; units = m.units + 1 })
 
 -- inside an array or a map that begins at a place: one deeper
 abbrev pub opened_blocks : ℕ → Meter → Result Meter Fault
 opened_blocks at m =
-    if nat_le MOST_DEPTH m.depth then Err (Malformed TooDeep at)
+    if nat_le MOST_DEPTH m.depth then Err (fault.Malformed TooDeep at)
     else Ok (record { depth = m.depth + 1; units = m.units })
 
--- behind an array or a map
+-- after an array or a map
 abbrev pub closed_blocks : Meter → Meter
 closed_blocks m = record { depth = m.depth - 1; units = m.units }
 
--- So many levels and units more stay within the limits behind a meter, and the meter behind them.
+-- So many levels and units more stay within the limits after a meter, and the meter after them.
 pub record Counts (depth units : ℕ) (m after : Meter) : Type 0 where
   pub deep : depth ≤ MOST_DEPTH - m.depth
   pub many : units ≤ MOST_UNITS - m.units
@@ -52,7 +53,9 @@ pub record OpensRecord (m within : Meter) : Type 0 where
 
 -- the record would be too deep; or it would not, and be one too many
 abbrev pub RefusesRecord : Meter → Defect → Type 0
-RefusesRecord m d = ((MOST_DEPTH ≤ m.depth) × (d ≡ Broken TooDeep 0)) ⊎ ((m.depth < MOST_DEPTH) × (MOST_UNITS ≤ m.units) × (d ≡ Broken TooMany 0))
+RefusesRecord m d =
+    ((MOST_DEPTH ≤ m.depth) × (d ≡ Malformed TooDeep 0))
+    ⊎ ((m.depth < MOST_DEPTH) × (MOST_UNITS ≤ m.units) × (d ≡ Malformed TooMany 0))
 
 -- an item or a pair begins, and the meter at it
 pub record OpensItem (m within : Meter) : Type 0 where
@@ -61,7 +64,7 @@ pub record OpensItem (m within : Meter) : Type 0 where
   pub counted : within.units ≡ m.units + 1
 
 abbrev pub RefusesItem : Meter → Defect → Type 0
-RefusesItem m d = (MOST_UNITS ≤ m.units) × (d ≡ Broken TooMany 0)
+RefusesItem m d = (MOST_UNITS ≤ m.units) × (d ≡ Malformed TooMany 0)
 
 -- an array or a map begins, and the meter inside it
 pub record OpensBlocks (m within : Meter) : Type 0 where
@@ -70,4 +73,4 @@ pub record OpensBlocks (m within : Meter) : Type 0 where
   pub same_units : within.units ≡ m.units
 
 abbrev pub RefusesBlocks : Meter → Defect → Type 0
-RefusesBlocks m d = (MOST_DEPTH ≤ m.depth) × (d ≡ Broken TooDeep 0)
+RefusesBlocks m d = (MOST_DEPTH ≤ m.depth) × (d ≡ Malformed TooDeep 0)

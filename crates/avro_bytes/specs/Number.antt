@@ -1,4 +1,5 @@
 -- Numbers (Avro 1.11, "Binary Encoding", int and long): zig-zag, then seven bits a byte, the least first.
+use Rattle.avro_bytes.specs.declared.limits.TheConstants.{INT_BYTES, INT_LAST, LONG_BYTES, LONG_LAST}
 use Rattle.std.specs.Prelude.{◌≡◌, ◌≤◌, ◌<◌, ℕ, ◌+◌, ◌-◌, ◌*◌, ◌%◌, List, [], ◌∷◌, length, slice_index, ℤ, pos, negsuc}
 
 -- the low seven bits of each byte, times 1, 128, 128 * 128 ..
@@ -23,12 +24,13 @@ pub record Limit : Type 0 where
   pub top : ℕ
 
 abbrev pub long_limit : Limit
-long_limit = record { most = 10; top = 1 }
+long_limit = record { most = LONG_BYTES; top = LONG_LAST }
 
 abbrev pub int_limit : Limit
-int_limit = record { most = 5; top = 15 }
+int_limit = record { most = INT_BYTES; top = INT_LAST }
 
 -- the bytes spell the number, not always as shortly as they could
+-- This project's own rule: no spelling has more bytes than the number's width needs.
 pub record IsNumber (limit : Limit) (n : ℤ) (bytes : List ℕ) : Type 0 where
   pub chained : IsChained bytes
   pub short : length bytes ≤ limit.most

@@ -1,11 +1,12 @@
--- Decoding a number: its bytes are those up to the first without the high bit.
+-- Decoding a number (Avro 1.11, "Binary Encoding", int and long): its bytes are those up to the first without the high
+-- bit.
 use Rattle.std.specs.Prelude.{◌≡◌, ℕ, zero, suc, ◌+◌, ◌/◌, ◌%◌, List, [], ◌∷◌, length, drop, nat_lt, ◌==◌, if◌then◌else◌, ℤ, pos, negsuc, Result, Ok, Err}
 use Rattle.avro_bytes.specs.declared.meter.Meter.{Meter}
 use Rattle.avro_bytes.specs.declared.fault.MalformedKind.TheVariants.{BadNumber}
 use Rattle.avro_bytes.specs.declared.fault.Fault.{Fault}
-use Rattle.avro_bytes.specs.declared.fault.Fault.TheVariants.{Need, Malformed, NoMemory}
-use Rattle.avro_bytes.specs.Decoding.{Decoding, Complete, Invalid, Incomplete}
+use Rattle.avro_bytes.specs.declared.fault.Fault.TheVariants as fault
 use Rattle.avro_bytes.specs.Number.{Limit, groups_sum}
+use Rattle.avro_bytes.specs.Decoding.{Complete, Decoding, Failed, Malformed, Need}
 
 -- 0, 1, 2, 3, 4 .. as 0, -1, 1, -2, 2 ..
 abbrev pub from_zigzag : ℕ → ℤ
@@ -27,20 +28,22 @@ unfoldable pub number_front : ℕ → ℕ → List ℕ → Front
 number_front zero top bytes = TooGreat
 number_front (suc left) top [] = Open
 number_front (suc zero) top (b ∷ bytes) = if nat_lt top b then TooGreat else Ends (b ∷ [])
-number_front (suc (suc left)) top (b ∷ bytes) = if nat_lt b 128 then Ends (b ∷ []) else longer b (number_front (suc left) top bytes)
+number_front (suc (suc left)) top (b ∷ bytes) =
+    if nat_lt b 128 then Ends (b ∷ []) else longer b (number_front (suc left) top bytes)
 
 abbrev pub number_of : ℕ → Meter → Front → Decoding ℤ
 number_of at m (Ends bytes) = Complete (from_zigzag (groups_sum bytes)) (at + length bytes) m
-number_of at m TooGreat = Invalid BadNumber at
-number_of at m Open = Incomplete
+number_of at m TooGreat = Failed (Malformed BadNumber at)
+number_of at m Open = Failed Need
 
 -- the number at a place
 unfoldable pub number_at : Limit → List ℕ → ℕ → Meter → Decoding ℤ
 number_at limit bytes at m = number_of at m (number_front limit.most limit.top (drop at bytes))
 
--- for a private clause: the groups of a number put together, and the place behind its bytes
+-- for a private clause: the groups of a number put together, and the place after its bytes
 abbrev pub GivesGroups : Result (ℕ × ℕ) Fault → ℕ → Front → Type 0
-GivesGroups (Ok r) at front = (bytes : List ℕ) × (front ≡ Ends bytes) × (r.0 ≡ groups_sum bytes) × (r.1 ≡ at + length bytes)
-GivesGroups (Err (Malformed kind place)) at front = (front ≡ TooGreat) × (kind ≡ BadNumber) × (place ≡ at)
-GivesGroups (Err Need) at front = front ≡ Open
-GivesGroups (Err NoMemory) at front = ⊥
+GivesGroups (Ok r) at front =
+    (bytes : List ℕ) × (front ≡ Ends bytes) × (r.0 ≡ groups_sum bytes) × (r.1 ≡ at + length bytes)
+GivesGroups (Err (fault.Malformed kind place)) at front = (front ≡ TooGreat) × (kind ≡ BadNumber) × (place ≡ at)
+GivesGroups (Err fault.Need) at front = front ≡ Open
+GivesGroups (Err fault.NoMemory) at front = ⊥

@@ -1,19 +1,49 @@
 ghost use Rattle.std.specs.Prelude.{◌≡◌, ◌≤◌, ℕ, List, length, IfOk};
-ghost use Rattle.avro_bytes.specs.Blob.{FaultyFixed, IsBlob, IsFixed, fixed_at};
+ghost use Rattle.avro_bytes.specs.Blob.{FaultyFixed, IsBlob, IsFixed, content_at, fixed_at};
 ghost use Rattle.avro_bytes.specs.Contract.{Finds};
+ghost use Rattle.avro_bytes.specs.Decoding.{IsComplete};
 ghost use Rattle.avro_bytes.specs.Fault.{FaultyContent};
-ghost use Rattle.avro_bytes.specs.Text.{content_at};
-ghost use Rattle.avro_bytes.specs.Laws.Blobs.{blob_complete, blob_one_form, blob_sound, blob_steady};
+ghost use Rattle.avro_bytes.specs.Laws.Blobs.{blob_complete, blob_one_form, blob_sound, content_steady};
 ghost use Rattle.avro_bytes.specs.Laws.Fixeds.{fixed_complete, fixed_defect, fixed_one_form, fixed_sound, fixed_steady, fixed_told};
-ghost use Rattle.avro_bytes.specs.Laws.TextDefects.{content_defect, content_told};
+ghost use Rattle.avro_bytes.specs.Laws.BlobDefects.{content_defect, content_told};
 
 use crate::fault::Fault;
 use crate::form::WireForm;
+use crate::length::read_length;
 use crate::meter::Meter;
-use crate::text::content;
 use std::alloc::Global;
 
-/// Bytes behind their length.
+/// So many bytes at a place.
+#[tactic(auto, unfolding(crate::specs::Blob::fixed_at))]
+fn fixed(bytes: &[u8], size: usize, at: usize, m: Meter) -> Result<(&[u8], usize, Meter), Fault>
+    requires { at ≤ length bytes.now }
+    ensures finds { Finds (λ content. content.now) result (fixed_at size bytes.now at m) }
+    ensures before { IfOk result (λ r. length r.0.now ≤ r.1) }
+    ensures within { IfOk result (λ r. r.1 ≤ length bytes.now) }
+    ensures depth { IfOk result (λ r. r.2.depth ≡ m.depth) }
+    ensures units { IfOk result (λ r. m.units ≤ r.2.units) }
+{
+    if bytes.len() - at < size {
+        return Err(Fault::Need);
+    }
+    Ok((&bytes[at..at + size], at + size, m))
+}
+
+/// The content after the length at a place.
+#[tactic(auto, unfolding(crate::specs::Blob::content_at))]
+pub(crate) fn content(bytes: &[u8], at: usize, m: Meter) -> Result<(&[u8], usize, Meter), Fault>
+    requires { at ≤ length bytes.now }
+    ensures finds { Finds (λ content. content.now) result (content_at bytes.now at m) }
+    ensures before { IfOk result (λ r. length r.0.now ≤ r.1) }
+    ensures within { IfOk result (λ r. r.1 ≤ length bytes.now) }
+    ensures depth { IfOk result (λ r. r.2.depth ≡ m.depth) }
+    ensures units { IfOk result (λ r. m.units ≤ r.2.units) }
+{
+    let (len, to, m) = read_length(bytes, at, m)?;
+    fixed(bytes, len, to, m)
+}
+
+/// Bytes after their length.
 #[derive(Clone, Copy, Debug)]
 pub struct Blob {
     pub alloc: Global,
@@ -32,15 +62,18 @@ impl WireForm for Blob {
 
     ghost counts = { λ _ m after. m ≡ after };
 
+    ghost lacks = { λ _. IsComplete };
+
     ghost decoding = { λ _ bytes at m. content_at bytes at m };
 
     ghost sound = { λ _ bytes at m value to after e. blob_sound bytes at m value to after e };
 
-    ghost complete = { λ _ before spelling rest m value after s e. blob_complete before spelling rest value m after s e };
+    ghost complete = { λ _ before spelling rest m value after s e.
+        blob_complete before spelling rest value m after s e };
 
     ghost one_form = { λ _ a b x y v w s t e. blob_one_form a b x y v w s t e };
 
-    ghost steady = { λ _ bytes more at m le c. blob_steady bytes more at m le c };
+    ghost steady = { λ _ bytes more at m le c. content_steady bytes more at m le c };
 
     ghost defect = { λ _ bytes at m le. content_defect bytes at m };
 
@@ -64,21 +97,6 @@ pub struct FixedBytes {
     pub size: usize,
 }
 
-/// So many bytes at a place.
-#[tactic(auto, unfolding(crate::specs::Blob::fixed_at))]
-fn fixed(bytes: &[u8], size: usize, at: usize, m: Meter) -> Result<(&[u8], usize, Meter), Fault>
-    requires { at ≤ length bytes.now }
-    ensures finds { Finds (λ content. content.now) result (fixed_at size bytes.now at m) }
-    ensures within { IfOk result (λ r. r.1 ≤ length bytes.now) }
-    ensures depth { IfOk result (λ r. r.2.depth ≡ m.depth) }
-    ensures units { IfOk result (λ r. m.units ≤ r.2.units) }
-{
-    if bytes.len() - at < size {
-        return Err(Fault::Need);
-    }
-    Ok((&bytes[at..at + size], at + size, m))
-}
-
 impl WireForm for FixedBytes {
     type Value = Vec<u8>;
 
@@ -92,11 +110,14 @@ impl WireForm for FixedBytes {
 
     ghost counts = { λ _ m after. m ≡ after };
 
+    ghost lacks = { λ _. IsComplete };
+
     ghost decoding = { λ form bytes at m. fixed_at form.size bytes at m };
 
     ghost sound = { λ form bytes at m value to after e. fixed_sound form.size bytes at m value to after e };
 
-    ghost complete = { λ form before spelling rest m value after s e. fixed_complete form.size before spelling rest value m after s e };
+    ghost complete = { λ form before spelling rest m value after s e.
+        fixed_complete form.size before spelling rest value m after s e };
 
     ghost one_form = { λ form a b x y v w s t e. fixed_one_form form.size a b x y v w s t e };
 

@@ -1,62 +1,100 @@
-ghost use Rattle.std.specs.Prelude.{◌≡◌, ◌≤◌, ◌<◌, ◌+◌, length, IfOk, IsTrue, false};
+ghost use Rattle.std.specs.Prelude.{◌≡◌, ◌≤◌, ◌<◌, ◌+◌, length, suc, IfOk, IsTrue, false};
 
 use crate::fault::{Fault, MalformedKind};
-use crate::meter::{MOST_UNITS, Meter};
+use crate::limits::MOST_UNITS;
+use crate::meter::Meter;
 use crate::number::read_long;
-
-/// What a block says of its size.
-#[derive(Clone, Copy, Debug)]
-pub struct BlockSize {
-    /// Where the block's count stands.
-    count_at: usize,
-    /// Where its items begin.
-    items_at: usize,
-    size: i64,
-}
-
-impl BlockSize {
-    ghost use Rattle.avro_bytes.specs.BlockDecoding.{is_met};
-
-    /// Whether the items that end at a place have the size.
-    fn is_met(self, at: usize) -> bool
-        ensures { result ≡ is_met self at }
-    {
-        self.size >= 0 && at.saturating_sub(self.items_at) as u64 == self.size as u64
-    }
-}
+use std::marker::Model;
 
 /// A walk over the blocks of an array or a map, from one item to the next.
 #[derive(Clone, Copy, Debug)]
 pub struct BlockWalk {
     /// How many items of the block are still to come.
     left: u64,
-    sized: Option<BlockSize>,
+    /// Where the block's count stands.
+    count_at: usize,
+    /// Where its items begin.
+    items_at: usize,
+    /// How many bytes the block says that its items have, where it says so.
+    size: Option<i64>,
+}
+
+impl Model for BlockWalk {
+    ghost use Rattle.avro_bytes.specs.Walk.{Walk};
+
+    ghost Value = { Walk };
+
+    ghost view = { λ w. record { left = w.left; count_at = w.count_at; items_at = w.items_at; size = w.size } };
+
+    ghost inverse = { λ w. record { left = w.left; count_at = w.count_at; items_at = w.items_at; size = w.size } };
 }
 
 impl BlockWalk {
-    ghost use Rattle.avro_bytes.specs.BlockDecoding.{Begins, Walks, item_at, next_block, next_item, sized_block};
+    ghost use Rattle.avro_bytes.specs.BlockDecoding.{Begins, Walks, is_met, item_at, next_block, next_item, sized_block};
     ghost use Rattle.avro_bytes.specs.Contract.{Finds};
     ghost use Rattle.avro_bytes.specs.Meter.{opened_blocks};
 
     /// A walk over the blocks at a place, and the meter inside them.
     pub fn begin(at: usize, m: Meter) -> Result<(BlockWalk, Meter), Fault>
-        ensures { Begins result (opened_blocks at m) }
+        ensures { Begins at result (opened_blocks at m) }
     {
-        let walk = BlockWalk {
-            left: 0,
-            sized: None,
-        };
+        let walk = BlockWalk::walk_of(0, at, at, None);
         Ok((walk, m.enter_blocks(at)?))
     }
 
-    /// Whether there is a further item, and where it begins, or else the place behind the blocks.
-    #[tactic(auto, using(crate::specs::Laws::Walks::item_meter, crate::specs::Laws::Walks::end_meter))]
+    /// The walk of these parts.
+    pub fn walk_of(left: u64, count_at: usize, items_at: usize, size: Option<i64>) -> BlockWalk
+        ensures { result ≡ record { left = left; count_at = count_at; items_at = items_at; size = size } }
+    {
+        BlockWalk {
+            left,
+            count_at,
+            items_at,
+            size,
+        }
+    }
+
+    /// How many items of the block are still to come.
+    pub fn left(self) -> u64
+        ensures { result ≡ self.left }
+    {
+        self.left
+    }
+
+    /// Where the block's count stands.
+    pub fn count_at(self) -> usize
+        ensures { result ≡ self.count_at }
+    {
+        self.count_at
+    }
+
+    /// Where its items begin.
+    pub fn items_at(self) -> usize
+        ensures { result ≡ self.items_at }
+    {
+        self.items_at
+    }
+
+    /// How many bytes the block says that its items have, where it says so.
+    pub fn size(self) -> Option<i64>
+        ensures { result ≡ self.size }
+    {
+        self.size
+    }
+
+    /// Whether there is a further item, and where it begins, or else the place after the blocks.
+    #[tactic(auto, using(crate::specs::Laws::Walks::item_meter, crate::specs::Laws::Walks::end_meter, crate::specs::Laws::Walks::head_places, crate::specs::Laws::Walks::inside_keeps, crate::specs::Laws::Walks::end_takes))]
     pub fn next(&mut self, bytes: &[u8], at: usize, m: Meter) -> Result<(bool, usize, Meter), Fault>
         requires in_bounds { at ≤ length bytes.now }
         requires deep { 0 < m.depth }
         ensures walks { Walks result self.old self.new (next_item self.old bytes.now at m) }
+        ensures head { IfOk result (λ r. IsTrue r.0 → self.old.left ≡ 0 →
+            (self.new.count_at ≡ at) × (self.new.items_at ≡ r.1)) }
+        ensures inside { IfOk result (λ r. 0 < self.old.left →
+            (self.old ≡ record self.new { left = suc self.new.left }) × (r.1 ≡ at)) }
         ensures within { IfOk result (λ r. r.1 ≤ length bytes.now) }
-        ensures item { IfOk result (λ r. IsTrue r.0 → (r.2.depth ≡ m.depth) × (r.2.units ≡ m.units + 1) × (m.units < MOST_UNITS)) }
+        ensures item { IfOk result (λ r. IsTrue r.0 →
+            (r.2.depth ≡ m.depth) × (r.2.units ≡ m.units + 1) × (m.units < MOST_UNITS)) }
         ensures end { IfOk result (λ r. r.0 ≡ false → (r.2.depth + 1 ≡ m.depth) × (r.2.units ≡ m.units)) }
     {
         match self.step(bytes, at, m)? {
@@ -68,7 +106,7 @@ impl BlockWalk {
         }
     }
 
-    /// The walk at the next item, or none behind the blocks.
+    /// The walk at the next item, or none after the blocks.
     #[tactic(auto, unfolding(crate::specs::BlockDecoding::next_item))]
     fn step(
         self,
@@ -82,23 +120,29 @@ impl BlockWalk {
         ensures within { IfOk result (λ r. r.1 ≤ length bytes.now) }
     {
         if self.left > 0 {
-            return BlockWalk::item(self.left - 1, self.sized, at, m);
+            let walk = BlockWalk::walk_of(self.left - 1, self.count_at, self.items_at, self.size);
+            return walk.item(at, m);
         }
-        match self.sized {
-            None => BlockWalk::next_block(bytes, at, m),
-            Some(said) => {
-                if !said.is_met(at) {
-                    return Err(Fault::Malformed {
-                        kind: MalformedKind::BadBlock,
-                        at: said.count_at,
-                    });
-                }
-                BlockWalk::next_block(bytes, at, m)
-            }
+        if !self.is_met(at) {
+            return Err(Fault::Malformed {
+                kind: MalformedKind::BadBlock,
+                at: self.count_at,
+            });
+        }
+        BlockWalk::next_block(bytes, at, m)
+    }
+
+    /// Whether the items that end at a place have the block's size.
+    fn is_met(self, at: usize) -> bool
+        ensures { result ≡ is_met self at }
+    {
+        match self.size {
+            None => true,
+            Some(size) => size >= 0 && at.saturating_sub(self.items_at) as u64 == size as u64,
         }
     }
 
-    /// The walk inside the block at a place, or none behind the blocks.
+    /// The walk inside the block at a place, or none after the blocks.
     #[tactic(auto, unfolding(crate::specs::BlockDecoding::next_block))]
     fn next_block(
         bytes: &[u8],
@@ -119,7 +163,7 @@ impl BlockWalk {
             return Ok((None, to, outside));
         }
         if count > 0 {
-            return BlockWalk::item(count as u64 - 1, None, to, m);
+            return BlockWalk::walk_of(count as u64 - 1, at, to, None).item(to, m);
         }
         BlockWalk::sized_block(bytes, at, -(count + 1) as u64, to, m)
     }
@@ -138,25 +182,15 @@ impl BlockWalk {
         ensures within { IfOk result (λ r. r.1 ≤ length bytes.now) }
     {
         let (size, items_at, m) = read_long(bytes, at, m)?;
-        let said = BlockSize {
-            count_at,
-            items_at,
-            size,
-        };
-        BlockWalk::item(left, Some(said), items_at, m)
+        BlockWalk::walk_of(left, count_at, items_at, Some(size)).item(items_at, m)
     }
 
-    /// The walk at an item, behind which so many are left in its block.
-    fn item(
-        left: u64,
-        sized: Option<BlockSize>,
-        at: usize,
-        m: Meter,
-    ) -> Result<(Option<BlockWalk>, usize, Meter), Fault>
-        ensures finds { Finds (λ walk. walk) result (item_at (record { left = left; sized = sized }) at m) }
+    /// The walk itself, at an item.
+    fn item(self, at: usize, m: Meter) -> Result<(Option<BlockWalk>, usize, Meter), Fault>
+        ensures finds { Finds (λ walk. walk) result (item_at self at m) }
         ensures within { IfOk result (λ r. r.1 ≡ at) }
     {
         let inside = m.enter_item(at)?;
-        Ok((Some(BlockWalk { left, sized }), at, inside))
+        Ok((Some(self), at, inside))
     }
 }

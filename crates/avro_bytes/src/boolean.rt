@@ -1,6 +1,6 @@
 ghost use Rattle.std.specs.Prelude.{◌≡◌, ◌≤◌, length, IfOk, Bool as Truth};
 ghost use Rattle.avro_bytes.specs.Boolean.{FaultyBoolean, IsBoolean, boolean_at};
-ghost use Rattle.avro_bytes.specs.Contract.{Finds};
+ghost use Rattle.avro_bytes.specs.Contract.{Finds, Never};
 ghost use Rattle.avro_bytes.specs.Laws.Booleans.{boolean_complete, boolean_defect, boolean_one_form, boolean_sound, boolean_steady, boolean_told};
 
 use crate::fault::{Fault, MalformedKind};
@@ -11,9 +11,9 @@ use crate::meter::Meter;
 #[derive(Clone, Copy, Debug)]
 pub struct Bool;
 
-/// The boolean at a place.
+/// The boolean at a place. It takes no memory.
 #[tactic(auto, using(crate::specs::Laws::Booleans::boolean_past, crate::specs::Laws::Booleans::boolean_there))]
-fn read_boolean(bytes: &[u8], at: usize, m: Meter) -> Result<(bool, usize, Meter), Fault>
+pub fn read_boolean(bytes: &[u8], at: usize, m: Meter) -> Result<(bool, usize, Meter), Fault>
     requires { at ≤ length bytes.now }
     ensures finds { Finds (λ value. value) result (boolean_at bytes.now at m) }
     ensures within { IfOk result (λ r. r.1 ≤ length bytes.now) }
@@ -49,11 +49,14 @@ impl WireForm for Bool {
 
     ghost counts = { λ _ m after. m ≡ after };
 
+    ghost lacks = { λ _. Never };
+
     ghost decoding = { λ _ bytes at m. boolean_at bytes at m };
 
     ghost sound = { λ _ bytes at m value to after e. boolean_sound bytes at m value to after e };
 
-    ghost complete = { λ _ before spelling rest m value after s e. boolean_complete before spelling rest value m after s e };
+    ghost complete = { λ _ before spelling rest m value after s e.
+        boolean_complete before spelling rest value m after s e };
 
     ghost one_form = { λ _ a b x y v w s t e. boolean_one_form a b x y v w s t e };
 

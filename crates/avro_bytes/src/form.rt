@@ -1,8 +1,8 @@
 ghost use Rattle.std.specs.Prelude.{◌≡◌, ◌≢◌, ◌≤◌, ◌+◌, ◌++◌, ℕ, List, length, drop, IfOk};
 ghost use Rattle.avro_bytes.specs.declared.meter.Meter.{Meter};
 ghost use Rattle.avro_bytes.specs.Contract.{AnswersAlike, Reads, skipped};
-ghost use Rattle.avro_bytes.specs.Decoding.{Complete, Decoding, Incomplete, Stands};
-ghost use Rattle.avro_bytes.specs.Fault.{Defect, HasDefect, failing};
+ghost use Rattle.avro_bytes.specs.Decoding.{Complete, Decoding, Defect, Failed, Need, Stands};
+ghost use Rattle.avro_bytes.specs.Fault.{HasDefect, failing};
 
 use crate::fault::Fault;
 use crate::meter::Meter;
@@ -22,16 +22,19 @@ pub trait WireForm {
     /// Which bytes, from a place with a meter on, begin no spelling, and what is the first fault of them.
     ghost faulty: { Self → List ℕ → Meter → Defect → Type 0 };
 
-    /// That a value stays within the limits behind a meter, and the meter behind it.
+    /// That a value stays within the limits after a meter, and the meter after it.
     ghost counts: { Meaning → Meter → Meter → Type 0 };
 
     /// What decoding gives at a place of the bytes.
     ghost decoding: { Self → List ℕ → ℕ → Meter → Decoding Meaning };
 
-    /// The value at a place, the place behind its spelling, and the meter there; else the first fault.
+    /// How decoding may come out where reading runs out of memory; in no way, where reading takes none.
+    ghost lacks: { Self → Decoding Meaning → Type 0 };
+
+    /// The value at a place, the place after its spelling, and the meter there; else the first fault.
     fn read(&self, bytes: &[u8], at: usize, m: Meter) -> Result<(Self::Value, usize, Meter), Fault>
         requires { at ≤ length bytes.now }
-        ensures reads { Reads meaning result (decoding self.now bytes.now at m) }
+        ensures reads { Reads meaning (lacks self.now) result (decoding self.now bytes.now at m) }
         ensures within { IfOk result (λ r. r.1 ≤ length bytes.now) }
         ensures depth { IfOk result (λ r. r.2.depth ≡ m.depth) }
         ensures units { IfOk result (λ r. m.units ≤ r.2.units) };
@@ -48,10 +51,11 @@ pub trait WireForm {
     ghost sound: { (form : Self) (bytes : List ℕ) (at : ℕ) (m : Meter) (v : Meaning) (to : ℕ) (after : Meter) →
         decoding form bytes at m ≡ Complete v to after → Stands (spells form v) bytes at to × counts v m after };
 
-    /// What is spelled so within the limits is decoded, whatever stands before and behind it.
+    /// What is spelled so within the limits is decoded, whatever stands before and after it.
     ghost complete: { (form : Self) (before spelling rest : List ℕ) (m : Meter) (v : Meaning) (after : Meter) →
         spells form v spelling → counts v m after →
-        decoding form (before ++ (spelling ++ rest)) (length before) m ≡ Complete v (length before + length spelling) after };
+        decoding form (before ++ (spelling ++ rest)) (length before) m
+        ≡ Complete v (length before + length spelling) after };
 
     /// No spelling begins another, and each spells one value.
     ghost one_form: { (form : Self) (a b x y : List ℕ) (v w : Meaning) →
@@ -59,7 +63,8 @@ pub trait WireForm {
 
     /// What is decided stays so when more bytes come.
     ghost steady: { (form : Self) (bytes more : List ℕ) (at : ℕ) (m : Meter) →
-        at ≤ length bytes → decoding form bytes at m ≢ Incomplete → decoding form (bytes ++ more) at m ≡ decoding form bytes at m };
+        at ≤ length bytes → decoding form bytes at m ≢ Failed Need →
+        decoding form (bytes ++ more) at m ≡ decoding form bytes at m };
 
     /// A fault that is told is the first one.
     ghost defect: { (form : Self) (bytes : List ℕ) (at : ℕ) (m : Meter) →
@@ -81,7 +86,8 @@ pub fn read_and_skip<F: WireForm>(
     Result<(usize, Meter), Fault>,
 )
     requires { at ≤ length bytes.now }
-    ensures reads { Reads F.meaning result.0 (F.decoding form.now bytes.now at m) }
+    ensures reads { Reads F.meaning (F.lacks form.now) result.0 (F.decoding form.now bytes.now at m) }
+    ensures skips { result.1 ≡ skipped (F.decoding form.now bytes.now at m) }
     ensures alike { AnswersAlike result.0 result.1 }
 {
     let read = form.read(bytes, at, m);

@@ -8,20 +8,30 @@ mod boolean;
 mod fault;
 mod form;
 mod laws;
+mod length;
+mod limits;
 mod meter;
 mod number;
+mod position;
 mod put;
-#[cfg(test)]
-mod tests;
 mod text;
 
 pub use blob::{Blob, FixedBytes};
 pub use blocks::BlockWalk;
-pub use boolean::Bool;
+pub use boolean::{Bool, read_boolean};
 pub use fault::{Fault, MalformedKind};
 pub use form::{WireForm, read_and_skip};
-pub use laws::{shortest_spelling_is_shortest, walks_pass_the_items, walks_tell_the_first_fault};
-pub use meter::{MOST_DEPTH, MOST_UNITS, Meter};
-pub use number::{Int, Long, read_int};
+pub use laws::{
+    content_is_a_length_and_a_fixed, limits_are_these, shortest_spelling_is_shortest,
+    tight_spelling_is_the_shortest, walks_pass_the_items, walks_stand_at_their_blocks,
+    walks_tell_the_first_fault,
+};
+pub use length::read_length;
+pub use limits::{
+    INT_BYTES, INT_LAST, LONG_BYTES, LONG_LAST, MOST_CONTENT, MOST_DEPTH, MOST_UNITS,
+};
+pub use meter::Meter;
+pub use number::{Int, Long, read_int, read_long};
+pub use position::{Position, read_position};
 pub use put::{long_len, put_long};
-pub use text::{LONGEST, Text};
+pub use text::Text;

@@ -1,12 +1,7 @@
 ghost use Rattle.std.specs.Prelude.{◌≡◌};
 
 use crate::fault::{Fault, MalformedKind};
-
-/// How many records, arrays and maps may lie inside each other.
-pub const MOST_DEPTH: u32 = 1_000;
-
-/// How many records, array items and map pairs a message may have.
-pub const MOST_UNITS: u32 = 1_048_576;
+use crate::limits::{MOST_DEPTH, MOST_UNITS};
 
 /// How much of a message was read: the records, arrays and maps that are open, and the units so far, which are
 /// records, array items and map pairs.

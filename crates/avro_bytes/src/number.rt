@@ -1,6 +1,6 @@
 ghost use Rattle.std.specs.Prelude.{◌≡◌, ◌≤◌, ◌<◌, ◌+◌, ◌-◌, ◌*◌, ◌^◌, ℤ, length, drop, IfOk};
 ghost use Rattle.std.proofs.Common.{lit<};
-ghost use Rattle.avro_bytes.specs.Contract.{Finds};
+ghost use Rattle.avro_bytes.specs.Contract.{Finds, Never, Reads};
 ghost use Rattle.avro_bytes.specs.Fault.{FaultyNumber};
 ghost use Rattle.avro_bytes.specs.Number.{IsNumber32, IsNumber64, int_limit, long_limit};
 ghost use Rattle.avro_bytes.specs.NumberDecoding.{GivesGroups, from_zigzag, number_at, number_front};
@@ -9,6 +9,7 @@ ghost use Rattle.avro_bytes.specs.Laws.Numbers.{number_complete, number_one_form
 
 use crate::fault::{Fault, MalformedKind};
 use crate::form::WireForm;
+use crate::limits::{INT_BYTES, INT_LAST, LONG_BYTES, LONG_LAST};
 use crate::meter::Meter;
 
 /// A number of 32 bits: an int, or a position.
@@ -19,7 +20,7 @@ pub struct Int;
 #[derive(Clone, Copy, Debug)]
 pub struct Long;
 
-/// The groups of seven bits of the number at a place, put together, and the place behind it.
+/// The groups of seven bits of the number at a place, put together, and the place after it.
 fn read_groups(bytes: &[u8], at: usize, most: usize, top: u8) -> Result<(u64, usize), Fault>
     requires in_bounds { at ≤ length bytes.now }
     requires some { 0 < most }
@@ -71,14 +72,14 @@ fn signed_32(groups: u64) -> i32
 
 /// The number of 64 bits at a place. It takes no memory.
 #[tactic(auto, unfolding(crate::specs::NumberDecoding::number_at))]
-pub(crate) fn read_long(bytes: &[u8], at: usize, m: Meter) -> Result<(i64, usize, Meter), Fault>
+pub fn read_long(bytes: &[u8], at: usize, m: Meter) -> Result<(i64, usize, Meter), Fault>
     requires { at ≤ length bytes.now }
     ensures finds { Finds (λ n. n) result (number_at long_limit bytes.now at m) }
     ensures within { IfOk result (λ r. r.1 ≤ length bytes.now) }
     ensures depth { IfOk result (λ r. r.2.depth ≡ m.depth) }
     ensures units { IfOk result (λ r. m.units ≤ r.2.units) }
 {
-    let (groups, to) = read_groups(bytes, at, 10, 1)?;
+    let (groups, to) = read_groups(bytes, at, LONG_BYTES, LONG_LAST)?;
     Ok((signed(groups), to, m))
 }
 
@@ -91,7 +92,7 @@ pub fn read_int(bytes: &[u8], at: usize, m: Meter) -> Result<(i32, usize, Meter)
     ensures depth { IfOk result (λ r. r.2.depth ≡ m.depth) }
     ensures units { IfOk result (λ r. m.units ≤ r.2.units) }
 {
-    let (groups, to) = read_groups(bytes, at, 5, 15)?;
+    let (groups, to) = read_groups(bytes, at, INT_BYTES, INT_LAST)?;
     Ok((signed_32(groups), to, m))
 }
 
@@ -108,17 +109,20 @@ impl WireForm for Long {
 
     ghost counts = { λ _ m after. m ≡ after };
 
+    ghost lacks = { λ _. Never };
+
     ghost decoding = { λ _ bytes at m. number_at long_limit bytes at m };
 
     ghost sound = { λ _ bytes at m n to after e. number_sound long_limit bytes at m n to after (lit< tt) e };
 
-    ghost complete = { λ _ before spelling rest m n after s e. number_complete long_limit before spelling rest n m after s e };
+    ghost complete = { λ _ before spelling rest m n after s e.
+        number_complete long_limit before spelling rest n m after s e };
 
     ghost one_form = { λ _ a b x y m n s t e. number_one_form long_limit a b x y m n s t e };
 
     ghost steady = { λ _ bytes more at m le c. number_steady long_limit bytes more at m le c };
 
-    ghost defect = { λ _ bytes at m le. number_defect 9 1 bytes at m };
+    ghost defect = { λ _ bytes at m le. number_defect long_limit bytes at m (lit< tt) };
 
     ghost told = { λ _ before bytes m d f. number_told long_limit before bytes m d f };
 
@@ -128,7 +132,7 @@ impl WireForm for Long {
 
     #[tactic(auto, unfolding(crate::specs::NumberDecoding::number_at))]
     fn skip(&self, bytes: &[u8], at: usize, m: Meter) -> Result<(usize, Meter), Fault> {
-        let (_, to) = read_groups(bytes, at, 10, 1)?;
+        let (_, to) = read_groups(bytes, at, LONG_BYTES, LONG_LAST)?;
         Ok((to, m))
     }
 }
@@ -146,17 +150,20 @@ impl WireForm for Int {
 
     ghost counts = { λ _ m after. m ≡ after };
 
+    ghost lacks = { λ _. Never };
+
     ghost decoding = { λ _ bytes at m. number_at int_limit bytes at m };
 
     ghost sound = { λ _ bytes at m n to after e. number_sound int_limit bytes at m n to after (lit< tt) e };
 
-    ghost complete = { λ _ before spelling rest m n after s e. number_complete int_limit before spelling rest n m after s e };
+    ghost complete = { λ _ before spelling rest m n after s e.
+        number_complete int_limit before spelling rest n m after s e };
 
     ghost one_form = { λ _ a b x y m n s t e. number_one_form int_limit a b x y m n s t e };
 
     ghost steady = { λ _ bytes more at m le c. number_steady int_limit bytes more at m le c };
 
-    ghost defect = { λ _ bytes at m le. number_defect 4 15 bytes at m };
+    ghost defect = { λ _ bytes at m le. number_defect int_limit bytes at m (lit< tt) };
 
     ghost told = { λ _ before bytes m d f. number_told int_limit before bytes m d f };
 
@@ -166,7 +173,7 @@ impl WireForm for Int {
 
     #[tactic(auto, unfolding(crate::specs::NumberDecoding::number_at))]
     fn skip(&self, bytes: &[u8], at: usize, m: Meter) -> Result<(usize, Meter), Fault> {
-        let (_, to) = read_groups(bytes, at, 5, 15)?;
+        let (_, to) = read_groups(bytes, at, INT_BYTES, INT_LAST)?;
         Ok((to, m))
     }
 }

@@ -2,6 +2,7 @@ ghost use Rattle.std.specs.Prelude.{◌≡◌, ◌≤◌, ◌++◌, length, OnOk
 ghost use Rattle.avro_bytes.specs.Number.{zigzag};
 ghost use Rattle.avro_bytes.specs.Shortest.{Extends, shortest, shortest_groups};
 
+use crate::limits::LONG_BYTES;
 use std::alloc::AllocError;
 
 /// 0, -1, 1, -2, 2 .. as 0, 1, 2, 3, 4 ..
@@ -17,7 +18,7 @@ fn zigzag_of(n: i64) -> u64
 
 /// Writes seven bits a byte, the least first. An `Err` leaves a beginning of them.
 fn put_groups(out: &mut Vec<u8>, n: u64) -> Result<(), AllocError>
-    ensures ok { OnOk result (out.new.items ≡ out.old.items ++ shortest_groups 10 n) }
+    ensures ok { OnOk result (out.new.items ≡ out.old.items ++ shortest_groups LONG_BYTES n) }
     ensures err { OnErr result (Extends out.old.items out.new.items) }
 {
     let mut rest = n;
@@ -31,8 +32,8 @@ fn put_groups(out: &mut Vec<u8>, n: u64) -> Result<(), AllocError>
 
 /// How many bytes the groups of a number take.
 fn groups_len(n: u64) -> usize
-    ensures len { result ≡ length (shortest_groups 10 n) }
-    ensures most { result ≤ 10 }
+    ensures len { result ≡ length (shortest_groups LONG_BYTES n) }
+    ensures most { result ≤ LONG_BYTES }
 {
     let mut rest = n;
     let mut len = 1;
@@ -47,7 +48,7 @@ fn groups_len(n: u64) -> usize
 #[tactic(auto, unfolding(crate::specs::Shortest::shortest))]
 pub fn long_len(n: i64) -> usize
     ensures len { result ≡ length (shortest n) }
-    ensures most { result ≤ 10 }
+    ensures most { result ≤ LONG_BYTES }
 {
     groups_len(zigzag_of(n))
 }

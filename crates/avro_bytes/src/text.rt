@@ -1,47 +1,21 @@
 ghost use Rattle.std.specs.Prelude.{◌≡◌, ◌≤◌, ◌<◌, ℕ, List, length, string_bytes, IfOk};
 ghost use Rattle.avro_bytes.specs.Contract.{Finds};
+ghost use Rattle.avro_bytes.specs.Decoding.{IsComplete};
 ghost use Rattle.avro_bytes.specs.Fault.{FaultyText};
-ghost use Rattle.avro_bytes.specs.Text.{IsText, content_at, text_at};
+ghost use Rattle.avro_bytes.specs.Text.{IsText, text_at};
 ghost use Rattle.avro_bytes.specs.Laws.Texts.{text_complete, text_one_form, text_sound, text_steady};
 ghost use Rattle.avro_bytes.specs.Laws.TextDefects.{text_defect, text_told};
 
+use crate::blob::content;
 use crate::fault::{Fault, MalformedKind};
 use crate::form::WireForm;
 use crate::meter::Meter;
-use crate::number::read_long;
 use std::alloc::Global;
 
-/// How many bytes the content of a text may have.
-pub const LONGEST: usize = 16_777_216;
-
-/// UTF-8 behind its length.
+/// UTF-8 after its length.
 #[derive(Clone, Copy, Debug)]
 pub struct Text {
     pub alloc: Global,
-}
-
-/// The content behind the length at a place.
-#[tactic(auto, unfolding(crate::specs::Text::content_at))]
-pub(crate) fn content(bytes: &[u8], at: usize, m: Meter) -> Result<(&[u8], usize, Meter), Fault>
-    requires { at ≤ length bytes.now }
-    ensures finds { Finds (λ content. content.now) result (content_at bytes.now at m) }
-    ensures before { IfOk result (λ r. length r.0.now ≤ r.1) }
-    ensures within { IfOk result (λ r. r.1 ≤ length bytes.now) }
-    ensures depth { IfOk result (λ r. r.2.depth ≡ m.depth) }
-    ensures units { IfOk result (λ r. m.units ≤ r.2.units) }
-{
-    let (len, to, m) = read_long(bytes, at, m)?;
-    if len < 0 || len > LONGEST as i64 {
-        return Err(Fault::Malformed {
-            kind: MalformedKind::BadLength,
-            at,
-        });
-    }
-    let len = len as usize;
-    if bytes.len() - to < len {
-        return Err(Fault::Need);
-    }
-    Ok((&bytes[to..to + len], to + len, m))
 }
 
 /// The text at a place, in the bytes themselves.
@@ -75,6 +49,8 @@ impl WireForm for Text {
     ghost faulty = { λ _ bytes m d. FaultyText bytes d };
 
     ghost counts = { λ _ m after. m ≡ after };
+
+    ghost lacks = { λ _. IsComplete };
 
     ghost decoding = { λ _ bytes at m. text_at bytes at m };
 

@@ -1,12 +1,13 @@
 -- How long counts are: that of all items is no longer than those of their blocks.
-use Rattle.std.proofs.Common.{◌≡◌, ℕ, zero, suc, ◌+◌, ◌*◌, ◌/◌, ◌<◌, ◌≤◌, List, [], ◌∷◌, ◌++◌, length, ℤ, pos, negsuc, refl, sym, ap, ◌∙◌, append_assoc, arith, inl, inr}
+use Rattle.std.proofs.Common.{Option, Some, None, ◌≡◌, ℕ, zero, suc, ◌+◌, ◌*◌, ◌/◌, ◌<◌, ◌≤◌, List, [], ◌∷◌, ◌++◌, length, ℤ, pos, negsuc, refl, sym, ap, ◌∙◌, append_assoc, arith, inl, inr}
 use Rattle.std.proofs.lemmas.Bool.{cases_lt, le-ltb, lt-ltb}
 use Rattle.std.proofs.lemmas.List.{length-append}
+use Rattle.avro_bytes.specs.declared.limits.TheConstants.{LONG_BYTES}
 use Rattle.avro_bytes.specs.Blocks.{IsBlocks, IsHead, IsItems, joined}
 use Rattle.avro_bytes.specs.Number.{long_limit, zigzag}
 use Rattle.avro_bytes.specs.Shortest.{shortest, shortest_groups}
 use Rattle.avro_bytes.specs.Laws.Shortests.{shortest_is_shortest}
-use Rattle.avro_datum.specs.Writing.{block_count}
+use Rattle.avro_bytes.specs.Written.{block_count}
 
 abbrev groups_len : ℕ → ℕ → ℕ
 groups_len left n = length (shortest_groups left n)
@@ -106,24 +107,24 @@ counts_together (suc a) zero = let e : suc a + zero ≡ suc a = omega arith in r
 counts_together (suc a) (suc b) =
     let e : suc a + suc b ≡ suc (a + suc b) = omega arith in
     let sum : 2 * suc (a + suc b) ≡ 2 * suc a + 2 * suc b = omega arith in
-    rw (e, sum) (together 10 (2 * suc a) (2 * suc b))
+    rw (e, sum) (together LONG_BYTES (2 * suc a) (2 * suc b))
 
 zero_long : length (shortest (pos 0)) ≡ 1
 unfolding shortest
 zero_long = one_group 9 0 (omega arith)
 
--- a count below 0 is shorter by one byte at most, and a size stands behind it
+-- a count below 0 is shorter by one byte at most, and a size stands after it
 sized_shorter : (n : ℕ) → length (shortest (pos (suc n))) ≤ length (shortest (negsuc n)) + 1
 unfolding shortest
-sized_shorter n = let e : 2 * suc n ≡ (2 * n + 1) + 1 = omega arith in rw e (one_longer 10 (2 * n + 1))
+sized_shorter n = let e : 2 * suc n ≡ (2 * n + 1) + 1 = omega arith in rw e (one_longer LONG_BYTES (2 * n + 1))
 
-head_longer : (count len : ℕ) (head : List ℕ) → 0 < count → IsHead count len head → length (block_count count) ≤ length head
-head_longer zero len head some h = absurd (omega (arith, some))
-head_longer (suc n) len head some (inl h) = shortest_is_shortest long_limit (pos (suc n)) head h
-head_longer (suc n) len head some (inr s) =
+head_longer : (count : ℕ) (said : Option ℤ) (head : List ℕ) → 0 < count → IsHead count said head → length (block_count count) ≤ length head
+head_longer zero said head some h = absurd (omega (arith, some))
+head_longer (suc n) None head some h = shortest_is_shortest long_limit (pos (suc n)) head h
+head_longer (suc n) (Some len) head some s =
     let count = shortest_is_shortest long_limit (negsuc n) s.count_bytes s.number in
-    let size = shortest_is_shortest long_limit (pos len) s.size_bytes s.size in
-    omega (arith, sized_shorter n, count, size, long_enough (pos len), ap length s.parts, length-append s.count_bytes s.size_bytes)
+    let size = shortest_is_shortest long_limit len s.size_bytes s.said in
+    omega (arith, sized_shorter n, count, size, long_enough len, ap length s.parts, length-append s.count_bytes s.size_bytes)
 
 joined-append : (is js : List (List ℕ)) → joined (is ++ js) ≡ joined is ++ joined js
 joined-append [] js = refl
@@ -133,7 +134,8 @@ joined-append (i ∷ is) js = ap (λ (b : List ℕ). i ++ b) (joined-append is j
 blocks_longer : (blocks : List (List (List ℕ))) (bytes : List ℕ) → IsBlocks blocks bytes → length (block_count (length (joined blocks))) + (length (joined (joined blocks)) + 1) ≤ length bytes
 blocks_longer [] bytes s = let one = shortest_is_shortest long_limit (pos 0) bytes s in omega (arith, one, zero_long)
 blocks_longer (items ∷ blocks) bytes s =
-    let head = head_longer (length items) (length (joined items)) s.0 s.3 s.4 in
+    let said = s.4 in
+    let head = head_longer (length items) said.0 s.0 s.3 said.1 in
     let others = blocks_longer blocks s.1 s.5 in
     let counts = counts_together (length items) (length (joined blocks)) in
     let many : length (items ++ joined blocks) ≡ length items + length (joined blocks) = length-append items (joined blocks) in

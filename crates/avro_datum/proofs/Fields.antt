@@ -1,18 +1,19 @@
--- Reading the fields of a record, one behind another.
+-- Reading the fields of a record, one after another.
 use Rattle.std.proofs.Common.{◌≡◌, ℕ, zero, suc, ◌+◌, ◌<◌, ◌≤◌, List, [], ◌∷◌, ◌++◌, length, drop, get_or, refl, sym, ap, subst, ◌∙◌, arith, add-one, Err}
 use Rattle.std.proofs.Math.Seq.{drop-cons}
 use Rattle.std.proofs.Math.ListN.{drop_of_length-le}
 use Rattle.std.specs.Global.{Vec}
+use Rattle.avro_types.specs.declared.datum.Datum as rust
 use Rattle.avro_bytes.specs.declared.meter.Meter.{Meter}
 use Rattle.avro_bytes.specs.declared.fault.Fault.{Fault}
-use Rattle.avro_bytes.specs.declared.fault.Fault.TheVariants.{Need, Malformed, NoMemory}
-use Rattle.avro_bytes.specs.Contract.{Reads}
-use Rattle.avro_bytes.specs.Decoding.{Decoding, Complete, Invalid, Incomplete, ◌>>=◌, map_decoding}
-use Rattle.avro_types.specs.declared.datum.Datum as rust
+use Rattle.avro_bytes.specs.declared.fault.Fault.TheVariants as fault
+use Rattle.avro_bytes.specs.Contract.{Gathers}
 use Rattle.avro_types.specs.declared.kind.Field.{Field}
 use Rattle.avro_types.specs.Datum.{Datum, Data, no_more, more, datum_of, data_of}
-use Rattle.avro_types.specs.Node.{FieldNode, FieldsBelow, field_of, fields_of}
+use Rattle.avro_types.specs.Node.{FieldNode, field_of, fields_of}
+use Rattle.avro_types.specs.WellFormed.{FieldsBelow}
 use Rattle.avro_datum.specs.Decoding.{Decoder, fields_at}
+use Rattle.avro_bytes.specs.Decoding.{Complete, Decoding, Failed, Malformed, Need, map_decoding, ◌>>=◌}
 
 -- ---- a field of a list of them
 
@@ -45,26 +46,24 @@ data_of-push : (ds : List rust.Datum) (d : rust.Datum) → data_of (ds ++ d ∷ 
 data_of-push [] d = refl
 data_of-push (x ∷ ds) d = ap (more (datum_of x)) (data_of-push ds d)
 
-abbrev pub behind : List rust.Datum → Decoding Data → Decoding Data
-behind front decoding = map_decoding (data_before (data_of front)) decoding
+abbrev pub preceded : List rust.Datum → Decoding Data → Decoding Data
+preceded front decoding = map_decoding (data_before (data_of front)) decoding
 
-behind-nothing : (x : Decoding Data) → behind [] x ≡ x
-behind-nothing (Complete ds to m) = refl
-behind-nothing (Invalid kind at) = refl
-behind-nothing Incomplete = refl
+preceded-nothing : (x : Decoding Data) → preceded [] x ≡ x
+preceded-nothing (Complete ds to m) = refl
+preceded-nothing (Failed defect) = refl
 
-behind-push : (front : List rust.Datum) (d : rust.Datum) (x : Decoding Data) → behind (front ++ d ∷ []) x ≡ behind front (x >>= λ ds end last. Complete (more (datum_of d) ds) end last)
-behind-push front d (Complete ds to m) = ap (λ (t : Data). Complete t to m) (ap (λ (t : Data). data_before t ds) (data_of-push front d) ∙ data_before-assoc (data_of front) (more (datum_of d) no_more) ds)
-behind-push front d (Invalid kind at) = refl
-behind-push front d Incomplete = refl
+preceded-push : (front : List rust.Datum) (d : rust.Datum) (x : Decoding Data) → preceded (front ++ d ∷ []) x ≡ preceded front (x >>= λ ds end last. Complete (more (datum_of d) ds) end last)
+preceded-push front d (Complete ds to m) = ap (λ (t : Data). Complete t to m) (ap (λ (t : Data). data_before t ds) (data_of-push front d) ∙ data_before-assoc (data_of front) (more (datum_of d) no_more) ds)
+preceded-push front d (Failed defect) = refl
 
 -- ---- where the first so many fields have been read
 
 pub record SoFar (decoder : Decoder) (fs : List Field) (all : Decoding Data) (i : ℕ) (front : List rust.Datum) (to : ℕ) (m : Meter) : Type 0 where
-  pub decoding : behind front (fields_at decoder (fields_of (drop i fs)) to m) ≡ all
+  pub decoding : preceded front (fields_at decoder (fields_of (drop i fs)) to m) ≡ all
 
 pub starts : (decoder : Decoder) (fs : List Field) (at : ℕ) (m : Meter) → SoFar decoder fs (fields_at decoder (fields_of fs) at m) 0 [] at m
-starts decoder fs at m = record { decoding = behind-nothing (fields_at decoder (fields_of fs) at m) }
+starts decoder fs at m = record { decoding = preceded-nothing (fields_at decoder (fields_of fs) at m) }
 
 module _ (decoder : Decoder) (fs : List Field) (all : Decoding Data) (i : ℕ) (front : List rust.Datum) (to : ℕ) (m : Meter) (s : SoFar decoder fs all i front to m) where
   module _ (f : Field) (lt : i < length fs) (is : f ≡ get_or fs i f) where
@@ -72,19 +71,19 @@ module _ (decoder : Decoder) (fs : List Field) (all : Decoding Data) (i : ℕ) (
     unfolding fields_at
     here = ap (λ (ns : List FieldNode). fields_at decoder ns to m) (fields_from fs i f lt is)
 
-    at_field : (x : Decoding Datum) → decoder f.node to m ≡ x → behind front (x >>= λ d next after. fields_at decoder (fields_of (drop (suc i) fs)) next after >>= λ ds end last. Complete (more d ds) end last) ≡ all
-    at_field x e = sym (ap (λ (y : Decoding Data). behind front y) (here ∙ ap (λ (y : Decoding Datum). y >>= λ d next after. fields_at decoder (fields_of (drop (suc i) fs)) next after >>= λ ds end last. Complete (more d ds) end last) e)) ∙ s.decoding
+    at_field : (x : Decoding Datum) → decoder f.node to m ≡ x → preceded front (x >>= λ d next after. fields_at decoder (fields_of (drop (suc i) fs)) next after >>= λ ds end last. Complete (more d ds) end last) ≡ all
+    at_field x e = sym (ap (λ (y : Decoding Data). preceded front y) (here ∙ ap (λ (y : Decoding Datum). y >>= λ d next after. fields_at decoder (fields_of (drop (suc i) fs)) next after >>= λ ds end last. Complete (more d ds) end last) e)) ∙ s.decoding
 
     pub goes_on : (d : rust.Datum) (next : ℕ) (after : Meter) → decoder f.node to m ≡ Complete (datum_of d) next after → SoFar decoder fs all (i + 1) (front ++ d ∷ []) next after
     goes_on d next after e = record {
-      decoding = rw add-one (behind-push front d (fields_at decoder (fields_of (drop (suc i) fs)) next after) ∙ at_field (Complete (datum_of d) next after) e);
+      decoding = rw add-one (preceded-push front d (fields_at decoder (fields_of (drop (suc i) fs)) next after) ∙ at_field (Complete (datum_of d) next after) e);
     }
 
-    pub fails : (e : Fault) → Reads datum_of (Err e) (decoder f.node to m) → Reads (λ (v : Vec rust.Datum). data_of v.items) (Err e) all
-    fails Need e = sym (at_field Incomplete e)
-    fails (Malformed kind at) e = sym (at_field (Invalid kind at) e)
-    fails NoMemory e = tt
+    pub fails : (e : Fault) → Gathers datum_of (Err e) (decoder f.node to m) → Gathers (λ (v : Vec rust.Datum). data_of v.items) (Err e) all
+    fails fault.Need e = sym (at_field (Failed Need) e)
+    fails (fault.Malformed kind at) e = sym (at_field (Failed (Malformed kind at)) e)
+    fails fault.NoMemory e = tt
 
   pub ends : length fs ≤ i → all ≡ Complete (data_of front) to m
   unfolding fields_at
-  ends le = sym s.decoding ∙ ap (λ (ns : List FieldNode). behind front (fields_at decoder ns to m)) (no_fields fs i le) ∙ ap (λ (t : Data). Complete t to m) (data_before-none (data_of front))
+  ends le = sym s.decoding ∙ ap (λ (ns : List FieldNode). preceded front (fields_at decoder ns to m)) (no_fields fs i le) ∙ ap (λ (t : Data). Complete t to m) (data_before-none (data_of front))

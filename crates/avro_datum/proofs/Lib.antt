@@ -2,6 +2,7 @@ pub mod ByKind
 pub mod Counts
 pub mod Fields
 pub mod Items
+pub mod Lacking
 pub mod LessValue
 pub mod OfType
 pub mod OnePayload

@@ -5,7 +5,7 @@ use Rattle.avro_bytes.specs.Laws.Numbers.{number_below}
 use Rattle.avro_types.specs.Conforming.{Conforms, ConformAll, ConformPairs, ConformsEach, HasBits}
 use Rattle.avro_types.specs.Node.{Node, FieldNode, FixedNode}
 use Rattle.avro_types.specs.Datum.{Datum, Data, Pairs, NullDatum, BooleanDatum, IntDatum, LongDatum, BytesDatum, TextDatum, FixedDatum, EnumDatum, ArrayDatum, MapDatum, UnionDatum, RecordDatum, no_more, more, no_pairs, pair, how_many, how_many_pairs}
-use Rattle.avro_bytes.specs.declared.text.TheConstants.{LONGEST}
+use Rattle.avro_bytes.specs.declared.limits.TheConstants.{MOST_CONTENT}
 use Rattle.avro_types.specs.Sizes.{HasSizesWithin, HaveSizesWithin, HavePairsWithin}
 use Rattle.avro_datum.specs.Conforming.{IsWritable, most_items}
 use Rattle.avro_datum.specs.Spelling.{Spells, SpellsFields, SpellsItems, SpellsPairs, units_of, units_of_data, units_of_items, units_of_pairs}
@@ -24,7 +24,7 @@ few_pairs (pair key d ps) = let others = few_pairs ps in omega (arith, others)
 
 module _ (most : ℕ) where
   mutual
-    spelled_conforms : (nodes : List Node) (node : ℕ) (d : Datum) (bytes : List ℕ) → Spells nodes node d bytes → units_of d ≤ most → Conforms nodes node d × HasSizesWithin LONGEST most d
+    spelled_conforms : (nodes : List Node) (node : ℕ) (d : Datum) (bytes : List ℕ) → Spells nodes node d bytes → units_of d ≤ most → Conforms nodes node d × HasSizesWithin MOST_CONTENT most d
     spelled_conforms nodes node NullDatum bytes s u = (s.0, tt)
     spelled_conforms nodes node (BooleanDatum b) bytes s u = (s.0, tt)
     spelled_conforms nodes node (IntDatum n) bytes s u = ((s.0, bits_of n 31 (number_below int_limit n bytes (lit< tt) (lit< tt) s.1)), tt)
@@ -40,7 +40,7 @@ module _ (most : ℕ) where
         let each = spelled_conforms_each nodes s.1 ds bytes s.3 (omega (arith, u)) in
         ((s.0, s.1, s.2, each.0), each.1)
 
-    items_conform : (nodes : List Node) (inner : ℕ) (ds : Data) (items : List (List ℕ)) → SpellsItems nodes inner ds items → units_of_items ds ≤ most → ConformAll nodes inner ds × HaveSizesWithin LONGEST most ds
+    items_conform : (nodes : List Node) (inner : ℕ) (ds : Data) (items : List (List ℕ)) → SpellsItems nodes inner ds items → units_of_items ds ≤ most → ConformAll nodes inner ds × HaveSizesWithin MOST_CONTENT most ds
     items_conform nodes inner no_more [] s u = (tt, tt)
     items_conform nodes inner (more d ds) (i ∷ items) s u =
         let one = spelled_conforms nodes inner d i s.0 (omega (arith, u)) in
@@ -49,7 +49,7 @@ module _ (most : ℕ) where
     items_conform nodes inner no_more (i ∷ items) s u = absurd s
     items_conform nodes inner (more d ds) [] s u = absurd s
 
-    pairs_conform : (nodes : List Node) (inner : ℕ) (ps : Pairs) (items : List (List ℕ)) → SpellsPairs nodes inner ps items → units_of_pairs ps ≤ most → ConformPairs nodes inner ps × HavePairsWithin LONGEST most ps
+    pairs_conform : (nodes : List Node) (inner : ℕ) (ps : Pairs) (items : List (List ℕ)) → SpellsPairs nodes inner ps items → units_of_pairs ps ≤ most → ConformPairs nodes inner ps × HavePairsWithin MOST_CONTENT most ps
     pairs_conform nodes inner no_pairs [] s u = (tt, tt)
     pairs_conform nodes inner (pair key d ps) (i ∷ items) s u =
         let one = spelled_conforms nodes inner d s.0.1 s.0.4 (omega (arith, u)) in
@@ -58,7 +58,7 @@ module _ (most : ℕ) where
     pairs_conform nodes inner no_pairs (i ∷ items) s u = absurd s
     pairs_conform nodes inner (pair key d ps) [] s u = absurd s
 
-    spelled_conforms_each : (nodes : List Node) (fields : List FieldNode) (ds : Data) (bytes : List ℕ) → SpellsFields nodes fields ds bytes → units_of_data ds ≤ most → ConformsEach nodes fields ds × HaveSizesWithin LONGEST most ds
+    spelled_conforms_each : (nodes : List Node) (fields : List FieldNode) (ds : Data) (bytes : List ℕ) → SpellsFields nodes fields ds bytes → units_of_data ds ≤ most → ConformsEach nodes fields ds × HaveSizesWithin MOST_CONTENT most ds
     spelled_conforms_each nodes [] no_more bytes s u = (tt, tt)
     spelled_conforms_each nodes (f ∷ fs) (more d ds) bytes s u =
         let one = spelled_conforms nodes f.node d s.0 s.3 (omega (arith, u)) in

@@ -4,8 +4,6 @@ use Rattle.std.proofs.lemmas.List.{append-nil, length-append}
 use Rattle.avro_bytes.specs.declared.meter.Meter.{Meter}
 use Rattle.avro_bytes.specs.declared.fault.MalformedKind.{MalformedKind}
 use Rattle.avro_bytes.specs.declared.fault.MalformedKind.TheVariants.{Truncated, Trailing}
-use Rattle.avro_bytes.specs.Decoding.{Decoding, Complete, Invalid, Incomplete}
-use Rattle.avro_bytes.specs.Fault.{Broken, HasDefect}
 use Rattle.avro_bytes.specs.Meter.{start, Counts}
 use Rattle.avro_types.specs.Node.{Node}
 use Rattle.avro_types.specs.Datum.{Datum}
@@ -15,19 +13,21 @@ use Rattle.avro_datum.specs.Payload.{IsPayload}
 use Rattle.avro_datum.specs.Spelling.{Spells, Fits, depth_of, units_of}
 use Rattle.avro_datum.specs.Laws.Defects.{datum_defect}
 use Rattle.avro_datum.specs.Laws.Sound.{datum_sound}
+use Rattle.avro_bytes.specs.Decoding.{Complete, Decoding, Failed, Malformed, Need}
+use Rattle.avro_bytes.specs.Fault.{HasDefect}
 
 counted_fits : (d : Datum) (after : Meter) → Counts (depth_of d) (units_of d) start after → Fits d
 counted_fits d after c = (c.deep, c.many)
 
-nothing_behind : (bytes rest : List ℕ) → length (bytes ++ rest) ≡ length bytes → rest ≡ []
-nothing_behind bytes [] e = refl
-nothing_behind bytes (b ∷ rest) e = absurd (omega (arith, length-append bytes (b ∷ rest)))
+nothing_after : (bytes rest : List ℕ) → length (bytes ++ rest) ≡ length bytes → rest ≡ []
+nothing_after bytes [] e = refl
+nothing_after bytes (b ∷ rest) e = absurd (omega (arith, length-append bytes (b ∷ rest)))
 
 module _ (nodes : List Node) (payload : List ℕ) where
   pub is_whole : (d : Datum) (to : ℕ) (after : Meter) → datum_at nodes payload 0 0 start ≡ Complete d to after → to ≡ length payload → IsPayload nodes d payload
   is_whole d to after e end =
       let s = datum_sound nodes payload 0 0 start d to after e in
-      let none : s.0.rest ≡ [] = nothing_behind s.0.bytes s.0.rest (ap length (sym s.0.parts) ∙ sym end ∙ s.0.end ∙ omega arith) in
+      let none : s.0.rest ≡ [] = nothing_after s.0.bytes s.0.rest (ap length (sym s.0.parts) ∙ sym end ∙ s.0.end ∙ omega arith) in
       let same : s.0.bytes ≡ payload = sym (s.0.parts ∙ ap (λ (x : List ℕ). s.0.bytes ++ x) none ∙ append-nil s.0.bytes) in
       record { spelled = subst (Spells nodes 0 d) same s.0.spelled; fits = counted_fits d after s.1 }
 
@@ -43,11 +43,11 @@ module _ (nodes : List Node) (payload : List ℕ) where
   defect_at : (x : Decoding Datum) → datum_at nodes payload 0 0 start ≡ x → HasDefect x 0 (FaultyDatum nodes 0 payload start)
   defect_at x e = subst (λ (y : Decoding Datum). HasDefect y 0 (FaultyDatum nodes 0 payload start)) e (datum_defect nodes payload 0 0 start)
 
-  pub is_truncated : datum_at nodes payload 0 0 start ≡ Incomplete → FirstFault nodes payload Truncated (length payload)
-  is_truncated e = truncated (defect_at Incomplete e) refl refl
+  pub is_truncated : datum_at nodes payload 0 0 start ≡ Failed Need → FirstFault nodes payload Truncated (length payload)
+  is_truncated e = truncated (defect_at (Failed Need) e) refl refl
 
-  pub is_malformed : (kind : MalformedKind) (at : ℕ) → datum_at nodes payload 0 0 start ≡ Invalid kind at → FirstFault nodes payload kind at
+  pub is_malformed : (kind : MalformedKind) (at : ℕ) → datum_at nodes payload 0 0 start ≡ Failed (Malformed kind at) → FirstFault nodes payload kind at
   is_malformed kind at e =
-      let d = defect_at (Invalid kind at) e in
+      let d = defect_at (Failed (Malformed kind at)) e in
       let place : d.0 ≡ at = omega (arith, d.1) in
-      malformed (subst (λ (k : ℕ). FaultyDatum nodes 0 payload start (Broken kind k)) place d.2)
+      malformed (subst (λ (k : ℕ). FaultyDatum nodes 0 payload start (Malformed kind k)) place d.2)

@@ -1,41 +1,45 @@
 -- The written form is a spelling, none is shorter, and what is spelled is of its node's type.
-use Rattle.std.proofs.Common.{◌≡◌, ℕ, zero, suc, ◌+◌, ◌*◌, ◌^◌, ◌<◌, ◌≤◌, List, [], ◌∷◌, ◌++◌, length, refl, sym, ap, subst, ◌∙◌, append_assoc, arith, ℤ, pos, negsuc, inl, lit<, lit≤}
+use Rattle.std.proofs.Common.{None, ◌≡◌, ℕ, zero, suc, ◌+◌, ◌<◌, ◌≤◌, List, [], ◌∷◌, ◌++◌, length, refl, sym, ap, subst, ◌∙◌, append_assoc, arith, ℤ, pos, negsuc, lit<, lit≤}
 use Rattle.std.proofs.lemmas.List.{append-nil, length-append}
 use Rattle.std.proofs.lemmas.Option.{slice_get_within}
 use Rattle.std.specs.Str.{IsUtf8}
 use Rattle.avro_bytes.specs.Blob.{IsBlob}
 use Rattle.avro_bytes.specs.Blocks.{IsItems, joined}
-use Rattle.avro_bytes.specs.Number.{IsNumber64, int_limit, long_limit, zigzag}
-use Rattle.avro_bytes.specs.Shortest.{shortest}
+use Rattle.avro_bytes.specs.Number.{IsNumber64, int_limit, long_limit}
+use Rattle.avro_bytes.specs.Shortest.{shortest, FitsLimit}
 use Rattle.avro_bytes.specs.Text.{IsText}
 use Rattle.avro_bytes.specs.Laws.Shortests.{shortest_is_number, shortest_is_shortest}
+use Rattle.avro_types.specs.declared.limits.TheConstants.{MOST_SYMBOLS}
 use Rattle.avro_types.specs.Conforming.{Conforms, ConformAll, ConformPairs, ConformsEach, HasBits}
-use Rattle.avro_types.specs.Node.{IsWellFormed, Node, FieldNode, EnumNode, UnionNode}
+use Rattle.avro_types.specs.Node.{Node, FieldNode, EnumNode, UnionNode}
+use Rattle.avro_types.specs.WellFormed.{IsWellFormed}
 use Rattle.avro_types.specs.Datum.{Datum, Data, Pairs, NullDatum, BooleanDatum, IntDatum, LongDatum, BytesDatum, TextDatum, FixedDatum, EnumDatum, ArrayDatum, MapDatum, UnionDatum, RecordDatum, no_more, more, no_pairs, pair, how_many, how_many_pairs}
 use Rattle.avro_datum.specs.Conforming.{IsWritable, AreWritable, AreWritablePairs, most_items}
 use Rattle.avro_datum.specs.Spelling.{Spells, SpellsFields, SpellsItems, SpellsPairs}
-use Rattle.avro_datum.specs.Writing.{behind_length, in_block, written, written_data, written_pairs}
+use Rattle.avro_bytes.specs.Written.{after_length, in_block}
+use Rattle.avro_datum.specs.Writing.{written, written_data, written_pairs}
 use Rattle.avro_datum.proofs.ByKind.{member_of}
 use Rattle.avro_datum.proofs.Counts.{block_len, items_longer}
+use Rattle.avro_bytes.specs.declared.limits.TheConstants.{MOST_CONTENT}
 
 -- ---- the width of a number, and its zig-zag
 
-int_bits : (n : ℤ) → HasBits 31 n → zigzag n < (15 + 1) * 2 ^ (7 * 4)
+int_bits : (n : ℤ) → HasBits 31 n → FitsLimit int_limit n
 int_bits (pos n) h = omega arith
 int_bits (negsuc n) h = omega arith
 
-long_bits : (n : ℤ) → HasBits 63 n → zigzag n < (1 + 1) * 2 ^ (7 * 9)
+long_bits : (n : ℤ) → HasBits 63 n → FitsLimit long_limit n
 long_bits (pos n) h = omega arith
 long_bits (negsuc n) h = omega arith
 
-position_bits : (n many : ℕ) → n < many → many ≤ 4096 → zigzag (pos n) < (15 + 1) * 2 ^ (7 * 4)
+position_bits : (n many : ℕ) → n < many → many ≤ MOST_SYMBOLS → FitsLimit int_limit (pos n)
 position_bits n many lt le = omega arith
 
-length_number : (n : ℕ) → n ≤ 16777216 → IsNumber64 (pos n) (shortest (pos n))
-length_number n h = shortest_is_number 9 1 (pos n) (lit< tt) (lit≤ tt) (long_bits (pos n) (omega arith))
+length_number : (n : ℕ) → n ≤ MOST_CONTENT → IsNumber64 (pos n) (shortest (pos n))
+length_number n h = shortest_is_number long_limit (pos n) (lit< tt) (lit< tt) (lit≤ tt) (long_bits (pos n) (omega arith))
 
 count_number : (n : ℕ) → n ≤ most_items → IsNumber64 (pos n) (shortest (pos n))
-count_number n h = shortest_is_number 9 1 (pos n) (lit< tt) (lit≤ tt) (long_bits (pos n) (omega arith))
+count_number n h = shortest_is_number long_limit (pos n) (lit< tt) (lit< tt) (lit≤ tt) (long_bits (pos n) (omega arith))
 
 -- ---- the written form is a spelling
 
@@ -46,7 +50,7 @@ one_block (suc n) items bytes m j few = record {
   blocks = items ∷ [];
   all = append-nil items;
   spelled =
-      (shortest (pos (suc n)), shortest (pos 0), ap (λ (b : List ℕ). shortest (pos (suc n)) ++ (b ++ shortest (pos 0))) (sym j), omega (arith, m), inl (subst (λ (k : ℕ). IsNumber64 (pos k) (shortest (pos (suc n)))) m (count_number (suc n) few)), count_number 0 (lit≤ tt));
+      (shortest (pos (suc n)), shortest (pos 0), ap (λ (b : List ℕ). shortest (pos (suc n)) ++ (b ++ shortest (pos 0))) (sym j), omega (arith, m), (None, subst (λ (k : ℕ). IsNumber64 (pos k) (shortest (pos (suc n)))) m (count_number (suc n) few), tt), count_number 0 (lit≤ tt));
 }
 
 -- the written items, one by one
@@ -56,7 +60,7 @@ record Items (P : List (List ℕ) → Type 0) (many : ℕ) (bytes : List ℕ) : 
   flat : joined items ≡ bytes
   spelled : P items
 
-text_written : (key : List ℕ) → length key ≤ 16777216 → IsUtf8 key → IsText key (behind_length key)
+text_written : (key : List ℕ) → length key ≤ MOST_CONTENT → IsUtf8 key → IsText key (after_length key)
 text_written key short utf8 = record { len = shortest (pos (length key)); parts = refl; number = length_number (length key) short; short = short; utf8 = utf8 }
 
 module _ (nodes : List Node) (wf : IsWellFormed nodes) where
@@ -66,14 +70,14 @@ module _ (nodes : List Node) (wf : IsWellFormed nodes) where
     written_spelled_at : (node : ℕ) (d : Datum) → Conforms nodes node d → IsWritable d → Spells nodes node d (written d)
     written_spelled_at node NullDatum c s = (c, refl)
     written_spelled_at node (BooleanDatum b) c s = (c, refl)
-    written_spelled_at node (IntDatum n) c s = (c.0, shortest_is_number 4 15 n (lit< tt) (lit≤ tt) (int_bits n c.1))
-    written_spelled_at node (LongDatum n) c s = (c.0, shortest_is_number 9 1 n (lit< tt) (lit≤ tt) (long_bits n c.1))
+    written_spelled_at node (IntDatum n) c s = (c.0, shortest_is_number int_limit n (lit< tt) (lit< tt) (lit≤ tt) (int_bits n c.1))
+    written_spelled_at node (LongDatum n) c s = (c.0, shortest_is_number long_limit n (lit< tt) (lit< tt) (lit≤ tt) (long_bits n c.1))
     written_spelled_at node (BytesDatum value) c s = (c, record { len = shortest (pos (length value)); parts = refl; number = length_number (length value) s; short = s })
     written_spelled_at node (TextDatum text) c s = (c.0, text_written text s c.1)
     written_spelled_at node (FixedDatum value) c s = (c.0, length value, c.1, record { same = refl; whole = refl })
     written_spelled_at node (EnumDatum n) c s =
         let few = wf.each node (EnumNode c.0 c.1 c.2) c.3 in
-        (c.0, c.1, c.2, c.3, (c.4, shortest_is_number 4 15 (pos n) (lit< tt) (lit≤ tt) (position_bits n (length c.1) c.4 few.1)))
+        (c.0, c.1, c.2, c.3, (c.4, shortest_is_number int_limit (pos n) (lit< tt) (lit< tt) (lit≤ tt) (position_bits n (length c.1) c.4 few.1)))
     written_spelled_at node (ArrayDatum ds) c s =
         let i = written_items c.0 ds c.2 s.1 in
         (c.0, c.1, i.items, one_block (how_many ds) i.items (written_data ds) i.count i.flat s.0, i.spelled)
@@ -83,7 +87,7 @@ module _ (nodes : List Node) (wf : IsWellFormed nodes) where
     written_spelled_at node (UnionDatum n d) c s =
         let w = wf.each node (UnionNode c.0) c.1 in
         let below = slice_get_within c.0 n c.2 c.3 in
-        (c.0, c.1, c.2, c.3, (member_of nodes c.0 n c.2 w.0 c.3).no_union, shortest (pos n), written d, refl, (below, shortest_is_number 4 15 (pos n) (lit< tt) (lit≤ tt) (position_bits n (length c.0) below (omega (arith, w.1)))), written_spelled_at c.2 d c.4 s)
+        (c.0, c.1, c.2, c.3, (member_of nodes node c.0 n c.2 w.0 c.3).no_union, shortest (pos n), written d, refl, (below, shortest_is_number int_limit (pos n) (lit< tt) (lit< tt) (lit≤ tt) (position_bits n (length c.0) below (omega (arith, w.1)))), written_spelled_at c.2 d c.4 s)
     written_spelled_at node (RecordDatum ds) c s = (c.0, c.1, c.2, written_spelled_each c.1 ds c.3 s)
 
     written_items : (inner : ℕ) (ds : Data) → ConformAll nodes inner ds → AreWritable ds → Items (SpellsItems nodes inner ds) (how_many ds) (written_data ds)
@@ -97,10 +101,10 @@ module _ (nodes : List Node) (wf : IsWellFormed nodes) where
     written_pair_items inner (pair key d ps) c s =
         let others = written_pair_items inner ps c.2 s.2 in
         record {
-          items = (behind_length key ++ written d) ∷ others.items;
+          items = (after_length key ++ written d) ∷ others.items;
           count = ap suc others.count;
-          flat = append_assoc (behind_length key) (written d) (joined others.items) ∙ ap (λ (b : List ℕ). behind_length key ++ (written d ++ b)) others.flat;
-          spelled = ((behind_length key, written d, refl, text_written key s.0 c.0, written_spelled_at inner d c.1 s.1), others.spelled);
+          flat = append_assoc (after_length key) (written d) (joined others.items) ∙ ap (λ (b : List ℕ). after_length key ++ (written d ++ b)) others.flat;
+          spelled = ((after_length key, written d, refl, text_written key s.0 c.0, written_spelled_at inner d c.1 s.1), others.spelled);
         }
 
     written_spelled_each : (fields : List FieldNode) (ds : Data) → ConformsEach nodes fields ds → AreWritable ds → SpellsFields nodes fields ds (written_data ds)
@@ -114,14 +118,14 @@ written_spelled nodes node d wf c s = written_spelled_at nodes wf node d c s
 
 -- ---- none is shorter
 
-behind_length_len : (value : List ℕ) → length (behind_length value) ≡ length (shortest (pos (length value))) + length value
-behind_length_len value = length-append (shortest (pos (length value))) value
+after_length_len : (value : List ℕ) → length (after_length value) ≡ length (shortest (pos (length value))) + length value
+after_length_len value = length-append (shortest (pos (length value))) value
 
-blob_shortest : (value bytes : List ℕ) → IsBlob value bytes → length (behind_length value) ≤ length bytes
-blob_shortest value bytes s = omega (arith, behind_length_len value, ap length s.parts, length-append s.len value, shortest_is_shortest long_limit (pos (length value)) s.len s.number)
+blob_shortest : (value bytes : List ℕ) → IsBlob value bytes → length (after_length value) ≤ length bytes
+blob_shortest value bytes s = omega (arith, after_length_len value, ap length s.parts, length-append s.len value, shortest_is_shortest long_limit (pos (length value)) s.len s.number)
 
-text_shortest : (text bytes : List ℕ) → IsText text bytes → length (behind_length text) ≤ length bytes
-text_shortest text bytes s = omega (arith, behind_length_len text, ap length s.parts, length-append s.len text, shortest_is_shortest long_limit (pos (length text)) s.len s.number)
+text_shortest : (text bytes : List ℕ) → IsText text bytes → length (after_length text) ≤ length bytes
+text_shortest text bytes s = omega (arith, after_length_len text, ap length s.parts, length-append s.len text, shortest_is_shortest long_limit (pos (length text)) s.len s.number)
 
 block_shortest : (many : ℕ) (written_bytes : List ℕ) (items : List (List ℕ)) (bytes : List ℕ) → IsItems items bytes → many ≡ length items → length written_bytes ≤ length (joined items) → length (in_block many written_bytes) ≤ length bytes
 block_shortest many written_bytes items bytes s m le = let one = items_longer items bytes s in rw m (omega (arith, block_len (length items) written_bytes, one, le))
@@ -162,7 +166,7 @@ mutual
       let first = text_shortest key s.0.0 s.0.3 in
       let one = none_shorter nodes inner d s.0.1 s.0.4 in
       let others = pairs_shorter nodes inner ps items s.1 in
-      (ap suc others.0, omega (arith, first, one, others.1, ap length s.0.2, length-append s.0.0 s.0.1, length-append i (joined items), length-append (behind_length key) (written d ++ written_pairs ps), length-append (written d) (written_pairs ps)))
+      (ap suc others.0, omega (arith, first, one, others.1, ap length s.0.2, length-append s.0.0 s.0.1, length-append i (joined items), length-append (after_length key) (written d ++ written_pairs ps), length-append (written d) (written_pairs ps)))
   pairs_shorter nodes inner no_pairs (i ∷ items) s = absurd s
   pairs_shorter nodes inner (pair key d ps) [] s = absurd s
 

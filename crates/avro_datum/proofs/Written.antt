@@ -1,15 +1,16 @@
--- Writing data one behind another, and counting their bytes.
+-- Writing data one after another, and counting their bytes.
 use Rattle.std.proofs.Common.{◌≡◌, ℕ, zero, suc, ◌+◌, ◌<◌, arith, List, [], ◌∷◌, ◌++◌, length, drop, get_or, refl, sym, ap, ◌∙◌, append_assoc, pos, Result, Ok, Err, String, Global, string_bytes}
 use Rattle.std.proofs.Math.Seq.{drop-cons}
 use Rattle.std.proofs.lemmas.List.{length-append}
 use Rattle.std.specs.Global.{Vec}
 use Rattle.avro_types.specs.declared.datum.Datum as rust
+use Rattle.std.specs.Prelude.{OnErr}
 use Rattle.avro_types.specs.Datum.{datum_of, data_of, pairs_of, how_many, how_many_pairs}
 use Rattle.avro_types.specs.Laws.DatumOf.{datum_of-Array, datum_of-Map, datum_of-Record}
-use Rattle.std.specs.Prelude.{OnErr}
 use Rattle.avro_bytes.specs.Shortest.{Extends, shortest}
 use Rattle.avro_datum.proofs.Counts.{block_len}
-use Rattle.avro_datum.specs.Writing.{behind_length, block_count, in_block, written, written_data, written_pairs}
+use Rattle.avro_bytes.specs.Written.{after_length, block_count, in_block}
+use Rattle.avro_datum.specs.Writing.{written, written_data, written_pairs}
 
 pub record_written : (v : Vec rust.Datum) → written (datum_of (rust.Record v)) ≡ written_data (data_of v.items)
 unfolding written
@@ -35,9 +36,9 @@ pub written_from : (ds : List rust.Datum) (i : ℕ) (d : rust.Datum) → i < len
 unfolding written
 written_from ds i d lt e = ap (λ (x : List rust.Datum). written_data (data_of x)) (drop-cons ds i d lt) ∙ ap (λ (x : rust.Datum). written (datum_of x) ++ written_data (data_of (drop (suc i) ds))) (sym e)
 
-pub pairs_from : (ps : List (String Global × rust.Datum)) (i : ℕ) (p : String Global × rust.Datum) → i < length ps → p ≡ get_or ps i p → written_pairs (pairs_of (drop i ps)) ≡ behind_length (string_bytes p.0) ++ (written (datum_of p.1) ++ written_pairs (pairs_of (drop (suc i) ps)))
+pub pairs_from : (ps : List (String Global × rust.Datum)) (i : ℕ) (p : String Global × rust.Datum) → i < length ps → p ≡ get_or ps i p → written_pairs (pairs_of (drop i ps)) ≡ after_length (string_bytes p.0) ++ (written (datum_of p.1) ++ written_pairs (pairs_of (drop (suc i) ps)))
 unfolding written
-pairs_from ps i p lt e = ap (λ (x : List (String Global × rust.Datum)). written_pairs (pairs_of x)) (drop-cons ps i p lt) ∙ ap (λ (x : String Global × rust.Datum). behind_length (string_bytes x.0) ++ (written (datum_of x.1) ++ written_pairs (pairs_of (drop (suc i) ps)))) (sym e)
+pairs_from ps i p lt e = ap (λ (x : List (String Global × rust.Datum)). written_pairs (pairs_of x)) (drop-cons ps i p lt) ∙ ap (λ (x : String Global × rust.Datum). after_length (string_bytes x.0) ++ (written (datum_of x.1) ++ written_pairs (pairs_of (drop (suc i) ps)))) (sym e)
 
 pub empty_block : (many : ℕ) → length (in_block many []) ≡ length (block_count many) + 1
 empty_block many = block_len many []
@@ -55,11 +56,11 @@ array_len v = ap length (array_written v) ∙ omega (arith, block_len (length v.
 pub map_len : (v : Vec (String Global × rust.Datum)) → length (written (datum_of (rust.Map v))) ≡ length (in_block (length v.items) []) + length (written_pairs (pairs_of v.items))
 map_len v = ap length (map_written v) ∙ omega (arith, block_len (length v.items) (written_pairs (pairs_of v.items)), empty_block (length v.items))
 
-pub pairs_len_from : (ps : List (String Global × rust.Datum)) (i : ℕ) (p : String Global × rust.Datum) → i < length ps → p ≡ get_or ps i p → length (written_pairs (pairs_of (drop i ps))) ≡ length (behind_length (string_bytes p.0)) + (length (written (datum_of p.1)) + length (written_pairs (pairs_of (drop (suc i) ps))))
+pub pairs_len_from : (ps : List (String Global × rust.Datum)) (i : ℕ) (p : String Global × rust.Datum) → i < length ps → p ≡ get_or ps i p → length (written_pairs (pairs_of (drop i ps))) ≡ length (after_length (string_bytes p.0)) + (length (written (datum_of p.1)) + length (written_pairs (pairs_of (drop (suc i) ps))))
 pairs_len_from ps i p lt e =
-    ap length (pairs_from ps i p lt e) ∙ omega (arith, length-append (behind_length (string_bytes p.0)) (written (datum_of p.1) ++ written_pairs (pairs_of (drop (suc i) ps))), length-append (written (datum_of p.1)) (written_pairs (pairs_of (drop (suc i) ps))))
+    ap length (pairs_from ps i p lt e) ∙ omega (arith, length-append (after_length (string_bytes p.0)) (written (datum_of p.1) ++ written_pairs (pairs_of (drop (suc i) ps))), length-append (written (datum_of p.1)) (written_pairs (pairs_of (drop (suc i) ps))))
 
--- ---- what is put behind what was put
+-- ---- what is put after what was put
 
 pub extends_on : (a b c : List ℕ) → Extends a b → Extends b c → Extends a c
 extends_on a b c e f = (e.0 ++ f.0, f.1 ∙ ap (λ (x : List ℕ). x ++ f.0) e.1 ∙ append_assoc a e.0 f.0)

@@ -1,6 +1,6 @@
 -- Which data can be written (Avro 1.11, "Binary Encoding": bytes and string; arrays and maps).
 use Rattle.std.specs.Prelude.{ℕ}
-use Rattle.avro_bytes.specs.declared.text.TheConstants.{LONGEST}
+use Rattle.avro_bytes.specs.declared.limits.TheConstants.{MOST_CONTENT}
 use Rattle.avro_types.specs.Datum.{Datum, Data, Pairs}
 use Rattle.avro_types.specs.Sizes.{HasSizesWithin, HaveSizesWithin, HavePairsWithin}
 
@@ -10,10 +10,10 @@ most_items = 9223372036854775807
 
 -- no text, byte string or key is longer than a length may be, and a long can count the items of each array and map
 abbrev pub IsWritable : Datum → Type 0
-IsWritable d = HasSizesWithin LONGEST most_items d
+IsWritable d = HasSizesWithin MOST_CONTENT most_items d
 
 abbrev pub AreWritable : Data → Type 0
-AreWritable ds = HaveSizesWithin LONGEST most_items ds
+AreWritable ds = HaveSizesWithin MOST_CONTENT most_items ds
 
 abbrev pub AreWritablePairs : Pairs → Type 0
-AreWritablePairs ps = HavePairsWithin LONGEST most_items ps
+AreWritablePairs ps = HavePairsWithin MOST_CONTENT most_items ps

@@ -1,25 +1,28 @@
 -- Decoding the items of an array or the pairs of a map, one by one (Avro 1.11, "Binary Encoding", arrays and maps).
 use Rattle.std.specs.Prelude.{ℕ, zero, suc, ◌-◌, List, [], ◌∷◌, Option, Some, None}
-use Rattle.avro_bytes.specs.declared.blocks.BlockWalk.{BlockWalk}
+use Rattle.avro_bytes.specs.Walk.{Walk, first_walk}
 use Rattle.avro_bytes.specs.declared.meter.Meter.{Meter}
-use Rattle.avro_bytes.specs.declared.meter.TheConstants.{MOST_UNITS}
-use Rattle.avro_bytes.specs.BlockDecoding.{first_walk, next_item}
-use Rattle.avro_bytes.specs.Decoding.{Decoding, Complete, Incomplete, ◌>>=◌, map_decoding, inside}
+use Rattle.avro_bytes.specs.declared.limits.TheConstants.{MOST_UNITS}
+use Rattle.avro_bytes.specs.BlockDecoding.{next_item}
 use Rattle.avro_bytes.specs.Meter.{opened_blocks}
+use Rattle.avro_bytes.specs.Decoding.{Complete, Decoding, Failed, Need, inside, map_decoding, ◌>>=◌}
 
 -- what decodes an item at a place
 abbrev pub Reader : Type 0 → Type 0
 Reader A = ℕ → Meter → Decoding A
 
--- an item, and those behind it; or the end
-abbrev pub items_from : {A : Type 0} → Reader A → (BlockWalk → ℕ → Meter → Decoding (List A)) → Option BlockWalk → ℕ → Meter → Decoding (List A)
+-- an item, and those after it; or the end
+abbrev pub items_from : {A : Type 0} → Reader A → (Walk → ℕ → Meter → Decoding (List A)) → Option Walk → ℕ → Meter
+    → Decoding (List A)
 items_from reader others None at m = Complete [] at m
-items_from reader others (Some walk) at m = reader at m >>= λ v to after. map_decoding (λ vs. v ∷ vs) (others walk to after)
+items_from reader others (Some walk) at m =
+    reader at m >>= λ v to after. map_decoding (λ vs. v ∷ vs) (others walk to after)
 
 -- the items that a walk comes to, and the end, in at most so many steps
-unfoldable pub items_at : {A : Type 0} → ℕ → Reader A → List ℕ → BlockWalk → ℕ → Meter → Decoding (List A)
-items_at zero reader bytes walk at m = Incomplete
-items_at (suc left) reader bytes walk at m = next_item walk bytes at m >>= items_from reader (items_at left reader bytes)
+unfoldable pub items_at : {A : Type 0} → ℕ → Reader A → List ℕ → Walk → ℕ → Meter → Decoding (List A)
+items_at zero reader bytes walk at m = Failed Need
+items_at (suc left) reader bytes walk at m =
+    next_item walk bytes at m >>= items_from reader (items_at left reader bytes)
 
 -- as many steps as there may be units more, and one for the end
 abbrev pub steps_left : Meter → ℕ
@@ -27,4 +30,5 @@ steps_left m = suc (MOST_UNITS - m.units)
 
 -- the items of the blocks at a place, which open one level
 abbrev pub blocks_at : {A : Type 0} → Reader A → List ℕ → ℕ → Meter → Decoding (List A)
-blocks_at reader bytes at m = inside (opened_blocks at m) (λ within. items_at (steps_left within) reader bytes first_walk at within)
+blocks_at reader bytes at m =
+    inside (opened_blocks at m) (λ within. items_at (steps_left within) reader bytes (first_walk at) at within)

@@ -1,33 +1,14 @@
--- The first fault of the items of an array or the pairs of a map (Avro 1.11, "Binary Encoding", arrays and maps). Offsets count from
--- the first byte of the array or the map.
-use Rattle.std.specs.Prelude.{◌≡◌, ◌<◌, ◌⊎◌, ℕ, suc, ◌+◌, max, List, [], ◌∷◌, ◌++◌, length, Option, Some, None, ℤ, pos, neg_ℤ}
+-- The first fault of the items of an array or the pairs of a map (Avro 1.11, "Binary Encoding", arrays and maps).
+-- Offsets count from the first byte of the array or the map.
+-- This project's own rule: which of several faults is told first.
+use Rattle.std.specs.Prelude.{◌≡◌, ◌<◌, ◌⊎◌, ℕ, suc, ◌+◌, max, List, [], ◌∷◌, ◌++◌, length, Option, ℤ, pos}
 use Rattle.avro_bytes.specs.declared.fault.MalformedKind.TheVariants.{BadBlock}
 use Rattle.avro_bytes.specs.declared.meter.Meter.{Meter}
 use Rattle.avro_bytes.specs.BlockFault.{FaultyHead}
-use Rattle.avro_bytes.specs.Blocks.{joined, IsHead}
-use Rattle.avro_bytes.specs.Fault.{Defect, Broken, shifted}
+use Rattle.avro_bytes.specs.Blocks.{AreBlocks, IsHead, IsSizedHead, joined}
 use Rattle.avro_bytes.specs.Meter.{Counts, OpensItem, RefusesItem}
-use Rattle.avro_bytes.specs.Number.{IsNumber64}
-
--- blocks of one item at least, and no end behind them yet
-abbrev pub AreBlocks : List (List (List ℕ)) → List ℕ → Type 0
-AreBlocks [] bytes = bytes ≡ []
-AreBlocks (items ∷ blocks) bytes =
-    (head : List ℕ) × (rest : List ℕ) × (bytes ≡ head ++ (joined items ++ rest)) × (0 < length items)
-    × IsHead (length items) (length (joined items)) head × AreBlocks blocks rest
-
--- a count below 0, and a size, whatever it says
-pub record SaysSize (count : ℕ) (size : ℤ) (head : List ℕ) : Type 0 where
-  pub count_bytes : List ℕ
-  pub size_bytes : List ℕ
-  pub parts : head ≡ count_bytes ++ size_bytes
-  pub number : IsNumber64 (neg_ℤ (pos count)) count_bytes
-  pub said : IsNumber64 size size_bytes
-
--- what stands before so many items, where a size is said or none
-abbrev pub SaysCount : ℕ → Option ℤ → List ℕ → Type 0
-SaysCount count None head = IsNumber64 (pos count) head
-SaysCount count (Some size) head = SaysSize count size head
+use Rattle.avro_bytes.specs.Decoding.{Defect, Malformed}
+use Rattle.avro_bytes.specs.Fault.{shifted}
 
 -- each list of bytes spells one of the values
 abbrev pub SpellEach : {A : Type 0} → (A → List ℕ → Type 0) → List A → List (List ℕ) → Type 0
@@ -46,14 +27,14 @@ units_all units [] = 0
 units_all units (v ∷ vs) = (units v + 1) + units_all units vs
 
 module _ {A : Type 0} (Spelled : A → List ℕ → Type 0) (deep units : A → ℕ) where
-  -- some items are spelled, and stay within the limits behind a meter
+  -- some items are spelled, and stay within the limits after a meter
   pub record AreSpelled (items : List (List ℕ)) (m after : Meter) : Type 0 where
     pub values : List A
     pub each : SpellEach Spelled values items
     pub counts : Counts (deepest deep values) (units_all units values) m after
 
-  -- a place behind whole blocks, where another or the end should begin
-  pub record BehindBlocks (bytes : List ℕ) (m : Meter) (front rest : List ℕ) (after : Meter) : Type 0 where
+  -- a place after whole blocks, where another or the end should begin
+  pub record AfterBlocks (bytes : List ℕ) (m : Meter) (front rest : List ℕ) (after : Meter) : Type 0 where
     pub blocks : List (List (List ℕ))
     pub parts : bytes ≡ front ++ rest
     pub whole : AreBlocks blocks front
@@ -70,16 +51,16 @@ module _ {A : Type 0} (Spelled : A → List ℕ → Type 0) (deep units : A → 
     pub parts : bytes ≡ front ++ rest
     pub place : front ≡ before ++ (head ++ joined now)
     pub whole : AreBlocks blocks before
-    pub begins : SaysCount (length now + suc left) said head
+    pub begins : IsHead (length now + suc left) said head
     pub spelled : AreSpelled (joined blocks ++ now) m after
 
-  -- behind whole blocks, no other begins and they do not end
+  -- after whole blocks, no other begins and they do not end
   pub record IsFaultyHead (bytes : List ℕ) (m : Meter) (d : Defect) : Type 0 where
     pub front : List ℕ
     pub rest : List ℕ
     pub after : Meter
     pub inner : Defect
-    pub behind : BehindBlocks bytes m front rest after
+    pub stands : AfterBlocks bytes m front rest after
     pub faulty : FaultyHead rest after inner
     pub where_it_is : d ≡ shifted (length front) inner
 
@@ -104,11 +85,11 @@ module _ {A : Type 0} (Spelled : A → List ℕ → Type 0) (deep units : A → 
     pub after : Meter
     pub parts : bytes ≡ before ++ (head ++ (joined now ++ rest))
     pub whole : AreBlocks blocks before
-    pub begins : SaysSize (length now) size head
+    pub begins : IsSizedHead (length now) size head
     pub some : 0 < length now
     pub spelled : AreSpelled (joined blocks ++ now) m after
     pub wrong : ¬ (size ≡ pos (length (joined now)))
-    pub where_it_is : d ≡ Broken BadBlock (length before)
+    pub where_it_is : d ≡ Malformed BadBlock (length before)
 
   -- no item is at fault, but what stands around them
   abbrev pub FaultyBlocks : List ℕ → Meter → Defect → Type 0

@@ -16,7 +16,6 @@ pub mod Leaves
 pub mod Maps
 pub mod OneForm
 pub mod Parts
-pub mod Positions
 pub mod RecordDefects
 pub mod Records
 pub mod Sound

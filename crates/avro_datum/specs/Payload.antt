@@ -1,10 +1,13 @@
--- What a whole payload is.
+-- What a whole payload is (Avro 1.11, "Binary Encoding"), and what reading one answers.
 use Rattle.std.specs.Prelude.{ℕ, List, Result, Ok, Err}
-use Rattle.avro_bytes.specs.declared.fault.Fault.{Fault}
-use Rattle.avro_bytes.specs.declared.fault.Fault.TheVariants.{Need, Malformed, NoMemory}
+use Rattle.avro_types.specs.declared.datum.Datum as rust
 use Rattle.avro_types.specs.Node.{Node}
 use Rattle.avro_types.specs.Datum.{Datum, datum_of}
-use Rattle.avro_types.specs.declared.datum.Datum as rust
+use Rattle.avro_datum.specs.declared.payload.PayloadError.{PayloadError}
+use Rattle.avro_datum.specs.declared.payload.PayloadError.TheVariants.{Malformed, NoMemory}
+use Rattle.avro_bytes.specs.Meter.{start}
+use Rattle.avro_datum.specs.Decoding.{datum_at}
+use Rattle.avro_datum.specs.Memory.{Lacks}
 use Rattle.avro_datum.specs.Spelling.{Spells, Fits}
 use Rattle.avro_datum.specs.Fault.{FirstFault}
 
@@ -13,9 +16,8 @@ pub record IsPayload (nodes : List Node) (d : Datum) (payload : List ℕ) : Type
   pub spelled : Spells nodes 0 d payload
   pub fits : Fits d
 
--- what reading a whole payload answers: the datum that it spells, or its first fault, unless memory ran out
-abbrev pub ReadsAll : List Node → List ℕ → Result rust.Datum Fault → Type 0
+-- what reading a whole payload answers: the datum that it spells, or its first fault; or memory ran out
+abbrev pub ReadsAll : List Node → List ℕ → Result rust.Datum PayloadError → Type 0
 ReadsAll nodes payload (Ok d) = IsPayload nodes (datum_of d) payload
 ReadsAll nodes payload (Err (Malformed kind at)) = FirstFault nodes payload kind at
-ReadsAll nodes payload (Err Need) = ⊥
-ReadsAll nodes payload (Err NoMemory) = Unit {0}
+ReadsAll nodes payload (Err NoMemory) = Lacks nodes 0 (datum_at nodes payload 0 0 start)

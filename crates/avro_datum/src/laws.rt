@@ -1,7 +1,8 @@
 ghost use Rattle.std.specs.Prelude.{◌≡◌, ◌≤◌, ◌⊎◌, ℕ, List, length};
 ghost use Rattle.avro_bytes.specs.declared.fault.MalformedKind.{MalformedKind};
 ghost use Rattle.avro_types.specs.Conforming.{Conforms};
-ghost use Rattle.avro_types.specs.Node.{IsWellFormed, Node};
+ghost use Rattle.avro_types.specs.Node.{Node};
+ghost use Rattle.avro_types.specs.WellFormed.{IsWellFormed};
 ghost use Rattle.avro_types.specs.Datum as datum;
 ghost use Rattle.avro_datum.specs.Conforming.{IsWritable, most_items};
 ghost use Rattle.avro_datum.specs.Fault.{FirstFault};
@@ -12,7 +13,8 @@ ghost use Rattle.avro_datum.specs.Writing.{written};
 /// The law that a payload spells one datum or has one first fault, and never both.
 pub fn payload_is_spelled_or_faulty()
     ensures either { (nodes : List Node) (payload : List ℕ) →
-        ((d : datum.Datum) × IsPayload nodes d payload) ⊎ ((kind : MalformedKind) × (at : ℕ) × FirstFault nodes payload kind at) }
+        ((d : datum.Datum) × IsPayload nodes d payload)
+        ⊎ ((kind : MalformedKind) × (at : ℕ) × FirstFault nodes payload kind at) }
     ensures one_datum { (nodes : List Node) (payload : List ℕ) (d e : datum.Datum) →
         IsPayload nodes d payload → IsPayload nodes e payload → d ≡ e }
     ensures one_fault { (nodes : List Node) (payload : List ℕ) (kind other : MalformedKind) (at place : ℕ) →
@@ -30,7 +32,8 @@ pub fn written_form_is_the_shortest_spelling()
         Spells nodes node d bytes → length (written d) ≤ length bytes }
 {}
 
-/// The law that a datum that is spelled is of its node's type, and can be written again, where a long can count its units.
+/// The law that a datum that is spelled is of its node's type, and can be written again, where a long can count its
+/// units.
 pub fn spelled_datum_conforms()
     ensures conforms { (nodes : List Node) (node : ℕ) (d : datum.Datum) (bytes : List ℕ) →
         Spells nodes node d bytes → Conforms nodes node d }

@@ -3,9 +3,11 @@ ghost use Rattle.avro_bytes.specs.Contract.{Reads, skipped};
 ghost use Rattle.avro_types.specs.Datum.{datum_of};
 ghost use Rattle.avro_types.specs.Node.{node_of};
 ghost use Rattle.avro_datum.specs.Decoding.{IsLeaf, leaf_at};
+ghost use Rattle.avro_datum.specs.Memory.{LeafLacks};
 
-use crate::position::read_position;
-use avro_bytes::{Blob, Bool, Fault, FixedBytes, Int, Long, MalformedKind, Meter, Text, WireForm};
+use avro_bytes::{
+    Blob, Bool, Fault, FixedBytes, Int, Long, MalformedKind, Meter, Text, WireForm, read_position,
+};
 use avro_types::{Datum, Kind};
 use std::alloc::Global;
 
@@ -19,7 +21,7 @@ pub(crate) fn read_leaf(
 ) -> Result<(Datum, usize, Meter), Fault>
     requires leaf { IsLeaf (node_of kind.now) }
     requires in_bounds { at ≤ length bytes.now }
-    ensures reads { Reads datum_of result (leaf_at bytes.now (node_of kind.now) at m) }
+    ensures reads { Reads datum_of (LeafLacks (node_of kind.now)) result (leaf_at bytes.now (node_of kind.now) at m) }
     ensures within { IfOk result (λ r. r.1 ≤ length bytes.now) }
     ensures depth { IfOk result (λ r. r.2.depth ≡ m.depth) }
     ensures units { IfOk result (λ r. m.units ≤ r.2.units) }
@@ -59,7 +61,7 @@ pub(crate) fn read_leaf(
     }
 }
 
-/// The place behind the datum of a kind that holds no others. It takes no memory.
+/// The place after the datum of a kind that holds no others. It takes no memory.
 pub(crate) fn skip_leaf(
     alloc: Global,
     kind: &Kind,

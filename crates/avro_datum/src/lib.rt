@@ -5,7 +5,6 @@ mod form;
 mod laws;
 mod leaf;
 mod payload;
-mod position;
 mod reading;
 mod skipping;
 mod writing;
@@ -14,5 +13,5 @@ pub use form::NodeForm;
 pub use laws::{
     payload_is_spelled_or_faulty, spelled_datum_conforms, written_form_is_the_shortest_spelling,
 };
-pub use payload::read_all;
+pub use payload::{PayloadError, read_all};
 pub use writing::{WriteError, write};

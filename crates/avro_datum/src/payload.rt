@@ -4,27 +4,38 @@ use crate::reading::read_node;
 use avro_bytes::{Fault, MalformedKind, Meter};
 use avro_types::{Datum, Nodes};
 use std::alloc::Global;
+use thiserror::Error;
 
-/// The datum of the root that a whole payload spells, else its first fault, which is never `Need`.
-pub fn read_all(alloc: Global, nodes: &Nodes, payload: &[u8]) -> Result<Datum, Fault>
+/// Why a whole payload was not read; of a malformed one the first fault, and its offset. One that ends inside a datum
+/// is malformed too.
+#[derive(Clone, Copy, Debug, PartialEq, Eq, Error)]
+pub enum PayloadError {
+    #[error("malformed {} at {at}", .kind.name())]
+    Malformed { kind: MalformedKind, at: usize },
+    #[error("out of memory")]
+    NoMemory,
+}
+
+/// The datum of the root that a whole payload spells, else its first fault.
+pub fn read_all(alloc: Global, nodes: &Nodes, payload: &[u8]) -> Result<Datum, PayloadError>
     ensures { ReadsAll nodes.now payload.now result }
 {
     nodes.is_well_formed();
     match read_node(alloc, nodes, 0, payload, 0, Meter::START) {
         Ok((datum, to, _)) => {
             if to != payload.len() {
-                return Err(Fault::Malformed {
+                return Err(PayloadError::Malformed {
                     kind: MalformedKind::Trailing,
                     at: to,
                 });
             }
             Ok(datum)
         }
-        Err(Fault::Need) => Err(Fault::Malformed {
+        Err(Fault::Need) => Err(PayloadError::Malformed {
             kind: MalformedKind::Truncated,
             at: payload.len(),
         }),
-        Err(Fault::Malformed { kind, at }) => Err(Fault::Malformed { kind, at }),
-        Err(Fault::NoMemory) => Err(Fault::NoMemory),
+        Err(Fault::Malformed { kind, at }) => Err(PayloadError::Malformed { kind, at }),
+        Err(Fault::NoMemory) => Err(PayloadError::NoMemory),
     }
 }

@@ -1,14 +1,17 @@
 ghost use Rattle.std.specs.Prelude.{◌≡◌, ◌<◌, ◌≤◌, ◌-◌, ◌+◌, length, slice_get, string_bytes, false, IfOk};
-ghost use Rattle.avro_bytes.specs.Contract.{Reads};
+ghost use Rattle.avro_bytes.specs.Contract.{Gathers, Reads};
 ghost use Rattle.avro_types.specs.Datum.{data_of, datum_of};
-ghost use Rattle.avro_types.specs.Node.{FieldsBelow, fields_of, is_union};
+ghost use Rattle.avro_types.specs.Node.{fields_of};
+ghost use Rattle.avro_types.specs.WellFormed.{FieldsBelow, is_union};
 ghost use Rattle.avro_datum.specs.Decoding.{datum_at, fields_at, node_at, pair_at};
 ghost use Rattle.avro_datum.specs.ItemDecoding.{items_at, steps_left};
+ghost use Rattle.avro_datum.specs.Memory.{Lacks};
 ghost use Rattle.avro_datum.specs.View.{each_datum, each_pair, pair_of};
 
 use crate::leaf::read_leaf;
-use crate::position::read_position;
-use avro_bytes::{BlockWalk, Fault, MOST_DEPTH, MalformedKind, Meter, Text, WireForm};
+use avro_bytes::{
+    BlockWalk, Fault, MOST_DEPTH, MalformedKind, Meter, Text, WireForm, read_position,
+};
 use avro_types::{Datum, Field, Kind, Nodes};
 use std::alloc::Global;
 
@@ -24,7 +27,7 @@ pub(crate) fn read_node(
 ) -> Result<(Datum, usize, Meter), Fault>
     requires node { node < length nodes.now }
     requires in_bounds { at ≤ length bytes.now }
-    ensures reads { Reads datum_of result (datum_at nodes.now bytes.now node at m) }
+    ensures reads { Reads datum_of (Lacks nodes.now node) result (datum_at nodes.now bytes.now node at m) }
     ensures within { IfOk result (λ r. r.1 ≤ length bytes.now) }
     ensures depth { IfOk result (λ r. r.2.depth ≡ m.depth) }
     ensures units { IfOk result (λ r. m.units ≤ r.2.units) }
@@ -52,7 +55,7 @@ fn read_plain(
     requires node { node < length nodes.now }
     requires no_union { is_union (slice_get nodes.now node) ≡ false }
     requires in_bounds { at ≤ length bytes.now }
-    ensures reads { Reads datum_of result (datum_at nodes.now bytes.now node at m) }
+    ensures reads { Reads datum_of (Lacks nodes.now node) result (datum_at nodes.now bytes.now node at m) }
     ensures within { IfOk result (λ r. r.1 ≤ length bytes.now) }
     ensures depth { IfOk result (λ r. r.2.depth ≡ m.depth) }
     ensures units { IfOk result (λ r. m.units ≤ r.2.units) }
@@ -83,7 +86,7 @@ fn read_plain(
     }
 }
 
-/// The data of fields, one behind another.
+/// The data of fields, one after another.
 #[cycle(read)]
 fn read_fields(
     alloc: Global,
@@ -95,7 +98,8 @@ fn read_fields(
 ) -> Result<(Vec<Datum>, usize, Meter), Fault>
     requires fields { FieldsBelow (length nodes.now) (fields_of fields.now) }
     requires in_bounds { at ≤ length bytes.now }
-    ensures reads { Reads (λ v. data_of v.items) result (fields_at (node_at (MOST_DEPTH - m.depth) nodes.now bytes.now) (fields_of fields.now) at m) }
+    ensures reads { Gathers (λ v. data_of v.items) result
+        (fields_at (node_at (MOST_DEPTH - m.depth) nodes.now bytes.now) (fields_of fields.now) at m) }
     ensures within { IfOk result (λ r. r.1 ≤ length bytes.now) }
     ensures depth { IfOk result (λ r. r.2.depth ≡ m.depth) }
     ensures units { IfOk result (λ r. m.units ≤ r.2.units) }
@@ -126,7 +130,8 @@ fn read_items(
     requires inner { inner < length nodes.now }
     requires in_bounds { at ≤ length bytes.now }
     requires deep { 0 < m.depth }
-    ensures reads { Reads (λ v. each_datum v.items) result (items_at (steps_left m) (node_at (MOST_DEPTH - m.depth) nodes.now bytes.now inner) bytes.now walk at m) }
+    ensures reads { Gathers (λ v. each_datum v.items) result
+        (items_at (steps_left m) (node_at (MOST_DEPTH - m.depth) nodes.now bytes.now inner) bytes.now walk at m) }
     ensures within { IfOk result (λ r. r.1 ≤ length bytes.now) }
     ensures depth { IfOk result (λ r. r.2.depth + 1 ≡ m.depth) }
     ensures units { IfOk result (λ r. m.units ≤ r.2.units) }
@@ -161,7 +166,9 @@ fn read_pairs(
     requires inner { inner < length nodes.now }
     requires in_bounds { at ≤ length bytes.now }
     requires deep { 0 < m.depth }
-    ensures reads { Reads (λ v. each_pair v.items) result (items_at (steps_left m) (pair_at (node_at (MOST_DEPTH - m.depth) nodes.now bytes.now) bytes.now inner) bytes.now walk at m) }
+    ensures reads { Gathers (λ v. each_pair v.items) result
+        (items_at (steps_left m)
+        (pair_at (node_at (MOST_DEPTH - m.depth) nodes.now bytes.now) bytes.now inner) bytes.now walk at m) }
     ensures within { IfOk result (λ r. r.1 ≤ length bytes.now) }
     ensures depth { IfOk result (λ r. r.2.depth + 1 ≡ m.depth) }
     ensures units { IfOk result (λ r. m.units ≤ r.2.units) }
@@ -182,7 +189,7 @@ fn read_pairs(
     }
 }
 
-/// A key, and the datum of a node behind it.
+/// A key, and the datum of a node after it.
 #[cycle(read)]
 fn read_pair(
     alloc: Global,
@@ -194,7 +201,8 @@ fn read_pair(
 ) -> Result<((String, Datum), usize, Meter), Fault>
     requires inner { inner < length nodes.now }
     requires in_bounds { at ≤ length bytes.now }
-    ensures reads { Reads pair_of result (pair_at (node_at (MOST_DEPTH - m.depth) nodes.now bytes.now) bytes.now inner at m) }
+    ensures reads { Gathers pair_of result
+        (pair_at (node_at (MOST_DEPTH - m.depth) nodes.now bytes.now) bytes.now inner at m) }
     ensures within { IfOk result (λ r. r.1 ≤ length bytes.now) }
     ensures depth { IfOk result (λ r. r.2.depth ≡ m.depth) }
     ensures units { IfOk result (λ r. m.units ≤ r.2.units) }

@@ -1,16 +1,18 @@
 ghost use Rattle.std.specs.Prelude.{◌≡◌, ◌<◌, ◌≤◌, ◌-◌, ◌+◌, length, slice_get, false, IfOk};
 ghost use Rattle.avro_bytes.specs.Contract.{skipped};
-ghost use Rattle.avro_types.specs.Node.{FieldsBelow, fields_of, is_union};
+ghost use Rattle.avro_types.specs.Node.{fields_of};
+ghost use Rattle.avro_types.specs.WellFormed.{FieldsBelow, is_union};
 ghost use Rattle.avro_datum.specs.Decoding.{datum_at, fields_at, node_at, pair_at};
 ghost use Rattle.avro_datum.specs.ItemDecoding.{items_at, steps_left};
 
 use crate::leaf::skip_leaf;
-use crate::position::read_position;
-use avro_bytes::{BlockWalk, Fault, MOST_DEPTH, MalformedKind, Meter, Text, WireForm};
+use avro_bytes::{
+    BlockWalk, Fault, MOST_DEPTH, MalformedKind, Meter, Text, WireForm, read_position,
+};
 use avro_types::{Field, Kind, Nodes};
 use std::alloc::Global;
 
-/// The place behind the datum of a node.
+/// The place after the datum of a node.
 #[cycle(skip)]
 pub(crate) fn skip_node(
     alloc: Global,
@@ -34,7 +36,7 @@ pub(crate) fn skip_node(
     skip_plain(alloc, nodes, members[n as usize], bytes, to, after)
 }
 
-/// The place behind the datum of a node that is no union.
+/// The place after the datum of a node that is no union.
 #[cycle(skip)]
 fn skip_plain(
     alloc: Global,
@@ -76,7 +78,7 @@ fn skip_plain(
     }
 }
 
-/// The place behind the data of fields.
+/// The place after the data of fields.
 #[cycle(skip)]
 fn skip_fields(
     alloc: Global,
@@ -88,7 +90,8 @@ fn skip_fields(
 ) -> Result<(usize, Meter), Fault>
     requires fields { FieldsBelow (length nodes.now) (fields_of fields.now) }
     requires in_bounds { at ≤ length bytes.now }
-    ensures skips { result ≡ skipped (fields_at (node_at (MOST_DEPTH - m.depth) nodes.now bytes.now) (fields_of fields.now) at m) }
+    ensures skips { result ≡ skipped
+        (fields_at (node_at (MOST_DEPTH - m.depth) nodes.now bytes.now) (fields_of fields.now) at m) }
     ensures within { IfOk result (λ r. r.0 ≤ length bytes.now) }
     ensures depth { IfOk result (λ r. r.1.depth ≡ m.depth) }
     ensures units { IfOk result (λ r. m.units ≤ r.1.units) }
@@ -103,7 +106,7 @@ fn skip_fields(
     Ok((to, so_far))
 }
 
-/// The place behind the items that a walk over blocks comes to, before any of which it is.
+/// The place after the items that a walk over blocks comes to, before any of which it is.
 #[cycle(skip)]
 fn skip_items(
     alloc: Global,
@@ -117,7 +120,8 @@ fn skip_items(
     requires inner { inner < length nodes.now }
     requires in_bounds { at ≤ length bytes.now }
     requires deep { 0 < m.depth }
-    ensures skips { result ≡ skipped (items_at (steps_left m) (node_at (MOST_DEPTH - m.depth) nodes.now bytes.now inner) bytes.now walk at m) }
+    ensures skips { result ≡ skipped
+        (items_at (steps_left m) (node_at (MOST_DEPTH - m.depth) nodes.now bytes.now inner) bytes.now walk at m) }
     ensures within { IfOk result (λ r. r.0 ≤ length bytes.now) }
     ensures depth { IfOk result (λ r. r.1.depth + 1 ≡ m.depth) }
     ensures units { IfOk result (λ r. m.units ≤ r.1.units) }
@@ -136,7 +140,7 @@ fn skip_items(
     }
 }
 
-/// The place behind the pairs that a walk over blocks comes to, before any of which it is.
+/// The place after the pairs that a walk over blocks comes to, before any of which it is.
 #[cycle(skip)]
 fn skip_pairs(
     alloc: Global,
@@ -150,7 +154,9 @@ fn skip_pairs(
     requires inner { inner < length nodes.now }
     requires in_bounds { at ≤ length bytes.now }
     requires deep { 0 < m.depth }
-    ensures skips { result ≡ skipped (items_at (steps_left m) (pair_at (node_at (MOST_DEPTH - m.depth) nodes.now bytes.now) bytes.now inner) bytes.now walk at m) }
+    ensures skips { result ≡ skipped
+        (items_at (steps_left m)
+        (pair_at (node_at (MOST_DEPTH - m.depth) nodes.now bytes.now) bytes.now inner) bytes.now walk at m) }
     ensures within { IfOk result (λ r. r.0 ≤ length bytes.now) }
     ensures depth { IfOk result (λ r. r.1.depth + 1 ≡ m.depth) }
     ensures units { IfOk result (λ r. m.units ≤ r.1.units) }
@@ -169,7 +175,7 @@ fn skip_pairs(
     }
 }
 
-/// The place behind a key and the datum of a node.
+/// The place after a key and the datum of a node.
 #[cycle(skip)]
 fn skip_pair(
     alloc: Global,
@@ -181,7 +187,8 @@ fn skip_pair(
 ) -> Result<(usize, Meter), Fault>
     requires inner { inner < length nodes.now }
     requires in_bounds { at ≤ length bytes.now }
-    ensures skips { result ≡ skipped (pair_at (node_at (MOST_DEPTH - m.depth) nodes.now bytes.now) bytes.now inner at m) }
+    ensures skips { result ≡ skipped
+        (pair_at (node_at (MOST_DEPTH - m.depth) nodes.now bytes.now) bytes.now inner at m) }
     ensures within { IfOk result (λ r. r.0 ≤ length bytes.now) }
     ensures depth { IfOk result (λ r. r.1.depth ≡ m.depth) }
     ensures units { IfOk result (λ r. m.units ≤ r.1.units) }

@@ -1,7 +1,8 @@
 ghost use Rattle.std.specs.Prelude.{◌≡◌, ◌++◌, ◌+◌, ◌<◌, ◌^◌, [], length, MatchOption, OnOk, OnErr};
 ghost use Rattle.avro_bytes.specs.Shortest.{Extends};
 ghost use Rattle.avro_types.specs.Datum.{data_of, datum_of, pairs_of};
-ghost use Rattle.avro_datum.specs.Writing.{Writes, behind_length, block_count, in_block, written, written_data, written_pairs};
+ghost use Rattle.avro_bytes.specs.Written.{after_length, block_count, in_block};
+ghost use Rattle.avro_datum.specs.Writing.{LeavesRoom, Writes, written, written_data, written_pairs};
 
 use avro_bytes::{long_len, put_long};
 use avro_types::Datum;
@@ -18,61 +19,61 @@ pub enum WriteError {
     NoMemory,
 }
 
-/// What is left of some room behind so many bytes, if they have room there.
-fn behind(room: usize, len: usize) -> Option<usize>
-    ensures { MatchOption result (room < len) (λ left. left + len ≡ room) }
+/// What is left of some room after so many bytes, if they have room there.
+fn left_after(room: usize, len: usize) -> Option<usize>
+    ensures { LeavesRoom result room len }
 {
     room.checked_sub(len)
 }
 
-/// What is left of some room behind bytes and their length, if they have room there.
+/// What is left of some room after bytes and their length, if they have room there.
 fn measure_bytes(bytes: &[u8], room: usize) -> Option<usize>
-    ensures { MatchOption result (room < length (behind_length bytes.now)) (λ left. left + length (behind_length bytes.now) ≡ room) }
+    ensures { LeavesRoom result room (length (after_length bytes.now)) }
 {
-    let left = behind(room, long_len(bytes.len() as i64))?;
-    behind(left, bytes.len())
+    let left = left_after(room, long_len(bytes.len() as i64))?;
+    left_after(left, bytes.len())
 }
 
-/// What is left of some room behind the count of a block and its end, if they have room there.
+/// What is left of some room after the count of a block and its end, if they have room there.
 #[tactic(auto, using(crate::proofs::Written::empty_block, crate::proofs::Written::some_count, crate::proofs::Written::no_count))]
 fn measure_block(many: usize, room: usize) -> Option<usize>
     requires { many < 2 ^ 63 }
-    ensures { MatchOption result (room < length (in_block many [])) (λ left. left + length (in_block many []) ≡ room) }
+    ensures { LeavesRoom result room (length (in_block many [])) }
 {
-    let left = behind(room, 1)?;
+    let left = left_after(room, 1)?;
     if many == 0 {
         return Some(left);
     }
-    behind(left, long_len(many as i64))
+    left_after(left, long_len(many as i64))
 }
 
-/// What is left of some room behind a datum, if it has room there.
+/// What is left of some room after a datum, if it has room there.
 #[cycle(measure)]
 #[tactic(auto, using(crate::proofs::Written::record_written, crate::proofs::Written::array_len, crate::proofs::Written::map_len, crate::proofs::Written::written_from, crate::proofs::Written::pairs_len_from), unfolding(crate::specs::Writing::written))]
 fn measure(datum: &Datum, room: usize) -> Option<usize>
-    ensures { MatchOption result (room < length (written (datum_of datum.now))) (λ left. left + length (written (datum_of datum.now)) ≡ room) }
+    ensures { LeavesRoom result room (length (written (datum_of datum.now))) }
 {
     match datum {
         Datum::Null => Some(room),
-        Datum::Boolean(_) => behind(room, 1),
-        Datum::Int(n) => behind(room, long_len(i64::from(*n))),
-        Datum::Long(n) => behind(room, long_len(*n)),
+        Datum::Boolean(_) => left_after(room, 1),
+        Datum::Int(n) => left_after(room, long_len(i64::from(*n))),
+        Datum::Long(n) => left_after(room, long_len(*n)),
         Datum::Bytes(value) => measure_bytes(value.as_slice(), room),
         Datum::Text(text) => measure_bytes(text.as_bytes(), room),
-        Datum::Fixed(value) => behind(room, value.len()),
-        Datum::Enum(n) => behind(room, long_len(i64::from(*n))),
+        Datum::Fixed(value) => left_after(room, value.len()),
+        Datum::Enum(n) => left_after(room, long_len(i64::from(*n))),
         Datum::Array(items) => measure_each(items, measure_block(items.len(), room)?),
         Datum::Map(pairs) => measure_pairs(pairs, measure_block(pairs.len(), room)?),
-        Datum::Union(n, datum) => measure(datum, behind(room, long_len(i64::from(*n)))?),
+        Datum::Union(n, datum) => measure(datum, left_after(room, long_len(i64::from(*n)))?),
         Datum::Record(fields) => measure_each(fields, room),
     }
 }
 
-/// What is left of some room behind data.
+/// What is left of some room after data.
 #[cycle(measure)]
 #[tactic(auto, using(crate::proofs::Written::record_written, crate::proofs::Written::array_len, crate::proofs::Written::map_len, crate::proofs::Written::written_from, crate::proofs::Written::pairs_len_from), unfolding(crate::specs::Writing::written))]
 fn measure_each(each: &[Datum], room: usize) -> Option<usize>
-    ensures { MatchOption result (room < length (written_data (data_of each.now))) (λ left. left + length (written_data (data_of each.now)) ≡ room) }
+    ensures { LeavesRoom result room (length (written_data (data_of each.now))) }
 {
     let mut left = room;
     for datum in each {
@@ -81,11 +82,11 @@ fn measure_each(each: &[Datum], room: usize) -> Option<usize>
     Some(left)
 }
 
-/// What is left of some room behind pairs.
+/// What is left of some room after pairs.
 #[cycle(measure)]
 #[tactic(auto, using(crate::proofs::Written::record_written, crate::proofs::Written::array_len, crate::proofs::Written::map_len, crate::proofs::Written::written_from, crate::proofs::Written::pairs_len_from), unfolding(crate::specs::Writing::written))]
 fn measure_pairs(pairs: &[(String, Datum)], room: usize) -> Option<usize>
-    ensures { MatchOption result (room < length (written_pairs (pairs_of pairs.now))) (λ left. left + length (written_pairs (pairs_of pairs.now)) ≡ room) }
+    ensures { LeavesRoom result room (length (written_pairs (pairs_of pairs.now))) }
 {
     let mut left = room;
     for pair in pairs {
@@ -95,9 +96,9 @@ fn measure_pairs(pairs: &[(String, Datum)], room: usize) -> Option<usize>
     Some(left)
 }
 
-/// Writes bytes behind their length at the end. An `Err` leaves a beginning of them.
+/// Writes bytes after their length at the end. An `Err` leaves a beginning of them.
 fn put_bytes(out: &mut Vec<u8>, bytes: &[u8]) -> Result<(), AllocError>
-    ensures ok { OnOk result (out.new.items ≡ out.old.items ++ behind_length bytes.now) }
+    ensures ok { OnOk result (out.new.items ≡ out.old.items ++ after_length bytes.now) }
     ensures err { OnErr result (Extends out.old.items out.new.items) }
 {
     put_long(out, bytes.len() as i64)?;
@@ -145,10 +146,11 @@ fn put_datum(out: &mut Vec<u8>, datum: &Datum) -> Result<(), AllocError>
     }
 }
 
-/// Writes items at the end, in one block, and the count 0 behind it. An `Err` leaves a beginning of them.
+/// Writes items at the end, in one block, and the count 0 after it. An `Err` leaves a beginning of them.
 #[cycle(put)]
 fn put_items(out: &mut Vec<u8>, items: &[Datum]) -> Result<(), AllocError>
-    ensures ok { OnOk result (out.new.items ≡ out.old.items ++ in_block (length items.now) (written_data (data_of items.now))) }
+    ensures ok { OnOk result (out.new.items
+        ≡ out.old.items ++ in_block (length items.now) (written_data (data_of items.now))) }
     ensures err { OnErr result (Extends out.old.items out.new.items) }
 {
     put_count(out, items.len())?;
@@ -156,10 +158,11 @@ fn put_items(out: &mut Vec<u8>, items: &[Datum]) -> Result<(), AllocError>
     put_long(out, 0)
 }
 
-/// Writes the pairs of a map at the end, in one block, and the count 0 behind it. An `Err` leaves a beginning of them.
+/// Writes the pairs of a map at the end, in one block, and the count 0 after it. An `Err` leaves a beginning of them.
 #[cycle(put)]
 fn put_map(out: &mut Vec<u8>, pairs: &[(String, Datum)]) -> Result<(), AllocError>
-    ensures ok { OnOk result (out.new.items ≡ out.old.items ++ in_block (length pairs.now) (written_pairs (pairs_of pairs.now))) }
+    ensures ok { OnOk result (out.new.items
+        ≡ out.old.items ++ in_block (length pairs.now) (written_pairs (pairs_of pairs.now))) }
     ensures err { OnErr result (Extends out.old.items out.new.items) }
 {
     put_count(out, pairs.len())?;
@@ -167,7 +170,7 @@ fn put_map(out: &mut Vec<u8>, pairs: &[(String, Datum)]) -> Result<(), AllocErro
     put_long(out, 0)
 }
 
-/// Writes data at the end, one behind another. An `Err` leaves a beginning of them.
+/// Writes data at the end, one after another. An `Err` leaves a beginning of them.
 #[cycle(put)]
 #[tactic(auto, using(crate::proofs::Written::record_written, crate::proofs::Written::array_written, crate::proofs::Written::map_written, crate::proofs::Written::written_from, crate::proofs::Written::pairs_from), unfolding(crate::specs::Writing::written))]
 fn put_each(out: &mut Vec<u8>, each: &[Datum]) -> Result<(), AllocError>
@@ -180,7 +183,7 @@ fn put_each(out: &mut Vec<u8>, each: &[Datum]) -> Result<(), AllocError>
     Ok(())
 }
 
-/// Writes pairs at the end, one behind another. An `Err` leaves a beginning of them.
+/// Writes pairs at the end, one after another. An `Err` leaves a beginning of them.
 #[cycle(put)]
 #[tactic(auto, using(crate::proofs::Written::record_written, crate::proofs::Written::array_written, crate::proofs::Written::map_written, crate::proofs::Written::written_from, crate::proofs::Written::pairs_from), unfolding(crate::specs::Writing::written))]
 fn put_pairs(out: &mut Vec<u8>, pairs: &[(String, Datum)]) -> Result<(), AllocError>

@@ -6,23 +6,24 @@ use Rattle.serde_json.specs.Data.{Data}
 use Rattle.serde_json.specs.Read.{read}
 use Rattle.serde_json.specs.Written.{has_float}
 use Rattle.avro_types.specs.declared.limits.TheConstants.{MOST_TEXT}
-use Rattle.avro_schema.specs.declared.error.SchemaError.{SchemaError}
-use Rattle.avro_schema.specs.declared.error.SchemaError.TheVariants.{TooLarge, NotJson, BadNumber, BadDefault}
-use Rattle.avro_schema.specs.Contract.{run}
-use Rattle.avro_schema.specs.Fault.{◌>>=◌}
+use Rattle.schema_drafts.specs.declared.error.SchemaError.{SchemaError}
+use Rattle.schema_drafts.specs.declared.error.SchemaError.TheVariants.{TooLarge, NotJson, BadNumber, BadDefault}
+use Rattle.schema_walk.specs.Contract.{run}
+use Rattle.schema_drafts.specs.Fault.{◌>>=◌}
 use Rattle.avro_types.specs.Datum.{Datum}
-use Rattle.avro_schema.specs.Defaults.{all_defaults, finished, nodes_with}
-use Rattle.avro_schema.specs.Draft.{Draft}
+use Rattle.schema_defaults.specs.Defaults.{all_defaults, finished, nodes_with}
+use Rattle.schema_drafts.specs.Draft.{Draft}
 use Rattle.avro_schema.specs.Schema.{schema_of, nodes_in_read, declared}
-use Rattle.avro_schema.specs.Walk.{walk, added, null_namespace}
+use Rattle.schema_drafts.specs.Names.{null_namespace}
+use Rattle.schema_walk.specs.Walk.{walk, added}
 
 pub too-large : (text : List ℕ) → MOST_TEXT < length text → schema_of text ≡ Err TooLarge
 unfolding schema_of
-too-large text lt = rw (lt-leb (length text) 262144 lt) refl
+too-large text lt = rw (lt-leb (length text) MOST_TEXT lt) refl
 
 pub small : (text : List ℕ) → length text ≤ MOST_TEXT → schema_of text ≡ nodes_in_read (read text)
 unfolding schema_of
-small text le = rw (le-leb (length text) 262144 le) refl
+small text le = rw (le-leb (length text) MOST_TEXT le) refl
 
 pub no-json : (o : Option Data) (e : SchemaError) → ok_or o NotJson ≡ Err e → nodes_in_read o ≡ Err e
 no-json None e h = let same : NotJson ≡ e = cc in ap Err same

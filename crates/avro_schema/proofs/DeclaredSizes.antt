@@ -1,22 +1,23 @@
 -- The defaults of the nodes that a value declares have no longer texts than the value.
-use Rattle.std.proofs.Common.{◌≡◌, ℕ, zero, suc, ◌+◌, List, [], ◌∷◌, Option, Some, None, IfSome, Result, Ok, Err, slice_get, refl, sym, subst}
+use Rattle.std.proofs.Common.{◌≡◌, ℕ, zero, suc, ◌+◌, List, [], ◌∷◌, Option, Some, None, IfSome, Ok, slice_get, refl, sym, subst}
 use Rattle.std.specs.List.{AllByRecursion}
 use Rattle.serde_json.specs.Data as json
-use Rattle.avro_schema.specs.declared.error.SchemaError.{SchemaError}
 use Rattle.avro_types.specs.Datum.{Datum}
-use Rattle.avro_schema.specs.Defaults.{all_defaults, default_of, field_default, field_defaults, fields_with, node_defaults, node_with, nodes_with}
-use Rattle.avro_schema.specs.Draft.{Draft, Whole, RecordDraft, DraftField}
-use Rattle.avro_schema.specs.Head.{heads_of}
-use Rattle.avro_types.specs.Node.{Node, FieldNode, RecordNode}
+use Rattle.schema_defaults.specs.Defaults.{all_defaults, default_of, field_default, field_defaults, fields_with, node_defaults, node_with, nodes_with}
+use Rattle.schema_drafts.specs.Draft.{Draft, Whole, RecordDraft, DraftField}
+use Rattle.schema_drafts.specs.Head.{heads_of}
+use Rattle.avro_types.specs.Node.{Node, FieldNode, Names, RecordNode}
 use Rattle.avro_schema.specs.Schema.{declared}
 use Rattle.avro_types.specs.Sizes.{HasSizesWithin, DefaultsHaveSizesWithin}
-use Rattle.avro_schema.specs.Walk.{walk, null_namespace}
+use Rattle.schema_drafts.specs.Names.{null_namespace}
+use Rattle.schema_walk.specs.Walk.{walk}
 use Rattle.avro_schema.proofs.DefaultSizes.{default-within}
-use Rattle.avro_schema.proofs.DefaultsConform.{map-inv}
-use Rattle.avro_schema.proofs.FinishedNodes.{in-row, node-finished}
+use Rattle.schema_defaults.proofs.DefaultsRead.{map-inv}
+use Rattle.schema_defaults.proofs.FinishedNodes.{in-row, node-finished}
 use Rattle.avro_schema.proofs.Fits.{DraftFits, AllFrom}
 use Rattle.avro_schema.proofs.ReadSizes.{HasDataWithin}
-use Rattle.avro_schema.proofs.WalkSizes.{Adds, AnyNode, DefaultWithin, DraftWithin, walk-within}
+use Rattle.avro_schema.proofs.WalkSizes.{DefaultWithin, DraftWithin, within}
+use Rattle.schema_walk.proofs.DeclaringBothWays.{declares}
 use Rattle.avro_schema.proofs.WholeNodes.{declared_at, each_from, finished-with, walk_fits}
 
 -- what holds of each holds of the one at a place
@@ -41,27 +42,23 @@ module _ (most : ℕ) where
         let r = in-row (field_default drafts f.node f.default) (field_defaults drafts fs) defaults e in
         rw r.all_are (field-within f.node f.default r.head h.0 r.first_is, fields-within fs r.tail r.rest_is h.1)
 
-    node-within : (own : ℕ) (d : Draft) (defaults : List (Option Datum)) (name : List ℕ) (fields : List FieldNode) → DraftFits (heads_of drafts) own d → DraftWithin most d → node_defaults drafts d ≡ Some defaults
-        → RecordNode name fields ≡ node_with d defaults → AllByRecursion (λ f. IfSome f.default (HasSizesWithin most most)) fields
+    node-within : (own : ℕ) (d : Draft) (defaults : List (Option Datum)) (names : Names) (fields : List FieldNode) → DraftFits (heads_of drafts) own d → DraftWithin most d → node_defaults drafts d ≡ Some defaults
+        → RecordNode names fields ≡ node_with d defaults → AllByRecursion (λ f. IfSome f.default (HasSizesWithin most most)) fields
     node-within own (Whole n) defaults name fields fits h e is = absurd (subst (λ k. DraftFits (heads_of drafts) own (Whole k)) (sym is) fits)
     node-within own (RecordDraft name fs) defaults full fields fits h e is =
         let same : fields_with fs defaults ≡ fields = cc in
         subst (AllByRecursion (λ f. IfSome f.default (HasSizesWithin most most))) same (fields-within fs defaults e h)
 
     nodes-within : (all : List (List (Option Datum))) → all_defaults drafts drafts ≡ Some all → AllFrom (DraftFits (heads_of drafts)) 0 drafts → AllByRecursion (DraftWithin most) drafts → DefaultsHaveSizesWithin most most (nodes_with drafts all)
-    nodes-within all read fits h node name fields at =
-        let f = node-finished drafts drafts all read node (RecordNode name fields) at in
-        node-within (0 + node) f.draft f.defaults name fields (each_from (DraftFits (heads_of drafts)) 0 drafts fits node f.draft f.placed) (at_place (DraftWithin most) drafts h node f.draft f.placed) f.read f.whole
+    nodes-within all read fits h node names fields at =
+        let f = node-finished drafts drafts all read node (RecordNode names fields) at in
+        node-within (0 + node) f.draft f.defaults names fields (each_from (DraftFits (heads_of drafts)) 0 drafts fits node f.draft f.placed) (at_place (DraftWithin most) drafts h node f.draft f.placed) f.read f.whole
 
   -- ---- the nodes of a value
-
-  drafts-within : (r : Result (ℕ × List Draft) SchemaError) (n : ℕ) (drafts : List Draft) → Adds most (AnyNode most) r → r ≡ Ok (n, drafts) → AllByRecursion (DraftWithin most) drafts
-  drafts-within (Ok p) n drafts h e = subst (AllByRecursion (DraftWithin most)) (let same : p.1 ≡ drafts = cc in same) h.1
-  drafts-within (Err x) n drafts h e = absurd (let no : ⊥ = cc in no)
 
   pub declared-within : (d : json.Data) (nodes : List Node) → declared d ≡ Ok nodes → HasDataWithin most d → DefaultsHaveSizesWithin most most nodes
   declared-within d nodes e h =
       let f = declared_at d nodes (walk d null_namespace []) refl e in
       let w = finished-with f.drafts nodes f.finish in
       subst (DefaultsHaveSizesWithin most most) w.2
-      (nodes-within f.drafts w.0 w.1 (walk_fits d f.root f.drafts f.walked).1 (drafts-within (walk d null_namespace []) f.root f.drafts (walk-within most d h null_namespace []) f.walked))
+      (nodes-within f.drafts w.0 w.1 (walk_fits d f.root f.drafts f.walked).1 (within most (declares d null_namespace [] f.root f.drafts f.walked) h))

@@ -2,19 +2,21 @@
 use Rattle.std.proofs.Common.{◌≡◌, ◌∙◌, ℕ, zero, suc, ◌+◌, List, [], ◌∷◌, map, Option, Some, None, Ok, IfSome, slice_get, sym, subst}
 use Rattle.std.specs.List.{AllByRecursion}
 use Rattle.serde_json.specs.Data as json
-use Rattle.avro_schema.specs.declared.draft.Draft as rust
-use Rattle.avro_schema.specs.declared.draft.Draft.TheVariants as drafts
-use Rattle.avro_schema.specs.declared.draft.DraftField as rust_field
+use Rattle.schema_drafts.specs.declared.draft.Draft as rust
+use Rattle.schema_drafts.specs.declared.draft.Draft.TheVariants as drafts
+use Rattle.schema_drafts.specs.declared.draft.DraftField as rust_field
 use Rattle.avro_types.specs.Conforming.{Conforms, DefaultsConform}
-use Rattle.avro_schema.specs.Contract.{run}
+use Rattle.schema_walk.specs.Contract.{run}
 use Rattle.avro_types.specs.Datum.{Datum}
-use Rattle.avro_schema.specs.Defaults.{all_defaults, default_of, field_default, field_defaults, fields_with, node_defaults, node_with, nodes_with}
-use Rattle.avro_schema.specs.Draft.{Draft, Whole, RecordDraft, DraftField, data_at, draft_field_of, draft_of, drafts_of}
-use Rattle.avro_schema.specs.Head.{heads_of}
-use Rattle.avro_types.specs.Node.{FieldNode, RecordNode}
-use Rattle.avro_schema.specs.Walk.{walk, null_namespace}
-use Rattle.avro_schema.proofs.DefaultsConform.{default-conforms, map-inv}
-use Rattle.avro_schema.proofs.FinishedNodes.{in-row, node-finished}
+use Rattle.schema_defaults.specs.Defaults.{all_defaults, default_of, field_default, field_defaults, fields_with, node_defaults, node_with, nodes_with}
+use Rattle.schema_drafts.specs.Draft.{Draft, Whole, RecordDraft, DraftField, data_at, draft_field_of, draft_of, drafts_of}
+use Rattle.schema_drafts.specs.Head.{heads_of}
+use Rattle.avro_types.specs.Node.{FieldNode, Names, RecordNode}
+use Rattle.schema_drafts.specs.Names.{null_namespace}
+use Rattle.schema_walk.specs.Walk.{walk}
+use Rattle.avro_schema.proofs.DefaultsConform.{default-conforms}
+use Rattle.schema_defaults.proofs.DefaultsRead.{map-inv}
+use Rattle.schema_defaults.proofs.FinishedNodes.{in-row, node-finished}
 use Rattle.avro_schema.proofs.Fits.{DraftFits, AllFrom}
 use Rattle.avro_schema.proofs.ValueTexts.{HasUtf8, view-has-utf8}
 use Rattle.avro_schema.proofs.WholeNodes.{each_from, walk_fits, from_nothing}
@@ -38,7 +40,7 @@ fields-utf8 (f ∷ fs) = (here f.default, fields-utf8 fs)
 
 draft-utf8 : (d : rust.Draft) → HaveUtf8Defaults (draft_of d)
 draft-utf8 (drafts.Whole kind) = tt
-draft-utf8 (drafts.Record name fields) = fields-utf8 fields.items
+draft-utf8 (drafts.Record name aliases fields) = fields-utf8 fields.items
 
 drafts-utf8 : (ds : List rust.Draft) (n : ℕ) (d : Draft) → slice_get (drafts_of ds) n ≡ Some d → HaveUtf8Defaults d
 drafts-utf8 [] n d at = absurd (let no : ⊥ = cc in no)
@@ -61,17 +63,17 @@ module _ (drafts : List Draft) (all : List (List (Option Datum))) (read : all_de
       let r = in-row (field_default drafts f.node f.default) (field_defaults drafts fs) defaults e in
       rw r.all_are (field-conforms f f.default r.head utf8.0 r.first_is, fields-conform fs r.tail r.rest_is utf8.1)
 
-  node-conforms : (own : ℕ) (d : Draft) (defaults : List (Option Datum)) (name : List ℕ) (fields : List FieldNode) → DraftFits (heads_of drafts) own d → HaveUtf8Defaults d → node_defaults drafts d ≡ Some defaults
-      → RecordNode name fields ≡ node_with d defaults → AllByRecursion (λ f. IfSome f.default (Conforms (nodes_with drafts all) f.node)) fields
+  node-conforms : (own : ℕ) (d : Draft) (defaults : List (Option Datum)) (names : Names) (fields : List FieldNode) → DraftFits (heads_of drafts) own d → HaveUtf8Defaults d → node_defaults drafts d ≡ Some defaults
+      → RecordNode names fields ≡ node_with d defaults → AllByRecursion (λ f. IfSome f.default (Conforms (nodes_with drafts all) f.node)) fields
   node-conforms own (Whole n) defaults name fields fits utf8 e is = absurd (subst (λ k. DraftFits (heads_of drafts) own (Whole k)) (sym is) fits)
   node-conforms own (RecordDraft name fs) defaults full fields fits utf8 e is =
       let same : fields_with fs defaults ≡ fields = cc in
       subst (AllByRecursion (λ f. IfSome f.default (Conforms (nodes_with drafts all) f.node))) same (fields-conform fs defaults e utf8)
 
   nodes-conform : AllFrom (DraftFits (heads_of drafts)) 0 drafts → ((n : ℕ) (d : Draft) → slice_get drafts n ≡ Some d → HaveUtf8Defaults d) → DefaultsConform (nodes_with drafts all)
-  nodes-conform fits utf8 node name fields at =
-      let f = node-finished drafts drafts all read node (RecordNode name fields) at in
-      node-conforms (0 + node) f.draft f.defaults name fields (each_from (DraftFits (heads_of drafts)) 0 drafts fits node f.draft f.placed) (utf8 node f.draft f.placed) f.read f.whole
+  nodes-conform fits utf8 node names fields at =
+      let f = node-finished drafts drafts all read node (RecordNode names fields) at in
+      node-conforms (0 + node) f.draft f.defaults names fields (each_from (DraftFits (heads_of drafts)) 0 drafts fits node f.draft f.placed) (utf8 node f.draft f.placed) f.read f.whole
 
 -- the defaults of the nodes that a walk over a value gives
 pub walked-conform : (d : json.Data) (n : ℕ) (ds : List rust.Draft) (all : List (List (Option Datum))) → run (walk d) null_namespace [] ≡ Ok (n, drafts_of ds) → all_defaults (drafts_of ds) (drafts_of ds) ≡ Some all

@@ -1,13 +1,2 @@
-pub mod Attributes
-pub mod Contract
-pub mod Declaring
-pub mod Defaults
-pub mod Draft
-pub mod Fault
-pub mod Head
-pub mod Index
-pub mod Names
 pub mod Schema
-pub mod SchemaError
-pub mod Walk
-pub mod Word
+pub mod SchemaLaw

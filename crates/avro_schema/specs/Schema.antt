@@ -4,12 +4,13 @@ use Rattle.serde_json.specs.Data.{Data}
 use Rattle.serde_json.specs.Read.{read}
 use Rattle.serde_json.specs.Written.{has_float, compact_text}
 use Rattle.avro_types.specs.declared.limits.TheConstants.{MOST_TEXT}
-use Rattle.avro_schema.specs.declared.error.SchemaError.{SchemaError}
-use Rattle.avro_schema.specs.declared.error.SchemaError.TheVariants.{TooLarge, NotJson, BadNumber, NoMemory}
-use Rattle.avro_schema.specs.Defaults.{finished}
-use Rattle.avro_schema.specs.Fault.{◌>>=◌}
+use Rattle.schema_drafts.specs.declared.error.SchemaError.{SchemaError}
+use Rattle.schema_drafts.specs.declared.error.SchemaError.TheVariants.{TooLarge, NotJson, BadNumber, NoMemory}
+use Rattle.schema_defaults.specs.Defaults.{finished}
+use Rattle.schema_drafts.specs.Fault.{◌>>=◌}
 use Rattle.avro_types.specs.Node.{Node}
-use Rattle.avro_schema.specs.Walk.{walk, null_namespace}
+use Rattle.schema_drafts.specs.Names.{null_namespace}
+use Rattle.schema_walk.specs.Walk.{walk}
 
 -- a schema as callers see it: its compact text, and its nodes
 pub record Declaration : Type 0 where
@@ -32,10 +33,11 @@ unfoldable pub schema_of : List ℕ → Result (List Node) SchemaError
 schema_of text = if nat_le (length text) MOST_TEXT then nodes_in_read (read text) else Err TooLarge
 
 -- the nodes are those of the value that the text reads as
-abbrev pub Declares : List ℕ → List Node → Type 0
-Declares text nodes = nodes_in_read (read text) ≡ Ok nodes
+abbrev pub TextGives : List ℕ → List Node → Type 0
+TextGives text nodes = nodes_in_read (read text) ≡ Ok nodes
 
--- The answer is what the text declares, unless memory ran out. Its own text is the compact one of the value that was read.
+-- The answer is what the text declares, unless memory ran out. Its own text is the compact one of the value that was
+-- read.
 abbrev pub Parses : Result Declaration SchemaError → List ℕ → Type 0
 Parses (Ok s) text = (schema_of text ≡ Ok s.nodes) × (d : Data) × (read text ≡ Some d) × (s.text ≡ compact_text d)
 Parses (Err e) text = e ≢ NoMemory → schema_of text ≡ Err e

@@ -1,22 +1,20 @@
 ghost use Rattle.std.specs.Prelude.{◌≡◌, ◌<◌, ◌≤◌, length, Some, slice_get, IfOk};
 ghost use Rattle.std.specs.Option.{ok_or};
 ghost use Rattle.serde_json.specs.Data.{Data, depth};
-ghost use Rattle.serde_json.specs.Read.{read, max_depth};
+ghost use Rattle.serde_json.specs.Read.{max_depth, read};
 ghost use Rattle.serde_json.specs.View.{view};
 ghost use Rattle.avro_types.specs.Conforming.{DefaultsConform};
-ghost use Rattle.avro_types.specs.Node.{NodeIsWellFormed, node_of, nodes_of};
-ghost use Rattle.avro_schema.specs.Declaring.{DeclaresNode};
-ghost use Rattle.avro_schema.specs.Fault.{Tells};
+ghost use Rattle.avro_types.specs.Node.{node_of, nodes_of};
+ghost use Rattle.avro_types.specs.WellFormed.{NodeIsWellFormed};
+ghost use Rattle.schema_drafts.specs.Fault.{Tells};
 ghost use Rattle.avro_schema.specs.Schema.{Parses, declared};
-ghost use Rattle.avro_schema.specs.Walk.{null_namespace};
+ghost use Rattle.avro_schema.specs.SchemaLaw.{ReadsAsSchema};
 
-use crate::drafts::Drafts;
-use crate::error::SchemaError;
-use crate::finishing::{all_defaults, nodes_with};
-use crate::namespace::Namespace;
 use crate::numbers::has_float;
-use crate::walk::walk;
 use avro_types::{Kind, MOST_TEXT, Nodes};
+use schema_defaults::{all_defaults, nodes_with};
+use schema_drafts::{Drafts, Namespace, SchemaError};
+use schema_walk::walk;
 use serde_json::Value;
 use std::alloc::Global;
 use std::marker::Model;
@@ -34,7 +32,7 @@ pub struct Schema {
 impl Model for Schema {
     ghost use Rattle.std.specs.Prelude.{string_bytes};
     ghost use Rattle.avro_types.specs.DatumCode.{datum_coded};
-    ghost use Rattle.avro_schema.specs.Schema.{Declaration, Declares};
+    ghost use Rattle.avro_schema.specs.Schema.{Declaration, TextGives};
     ghost use Rattle.std.specs.Coded.{codes};
 
     ghost Value = { Declaration };
@@ -43,7 +41,7 @@ impl Model for Schema {
 
     ghost view = { λ s. record { text = string_bytes s.text; nodes = s.nodes } };
 
-    ghost invariant = { λ s. Declares (string_bytes s.text) s.nodes };
+    ghost invariant = { λ s. TextGives (string_bytes s.text) s.nodes };
 }
 
 impl Schema {
@@ -96,9 +94,9 @@ impl Schema {
         &self.nodes
     }
 
-    /// The law that the root is what the JSON value of its text declares.
+    /// The law that its nodes are those that the JSON value of its text declares.
     pub fn is_declared(&self)
-        ensures { (d : Data) × (read self.now.text ≡ Some d) × DeclaresNode d null_namespace self.now.nodes 0 }
+        ensures { ReadsAsSchema self.now.text self.now.nodes }
     {
         let _opened = &self.nodes;
     }

@@ -585,3 +585,74 @@ fn bounds_text(rt: HostRuntime) {
     text.push_str(" ").expect(&rt, "no memory");
     assert!(rt; fault_of(rt.alloc(), text.as_str()) == Some(SchemaError::TooLarge));
 }
+
+/// Lines of a fault's name and a text.
+const ALIAS_FAULTS: &str = r#"Unknown {"type":"record","name":"Q","fields":[],"aliases":"A"}
+Unknown {"type":"record","name":"Q","fields":[],"aliases":null}
+Unknown {"type":"fixed","name":"Q","size":1,"aliases":["A",1]}
+Unknown {"type":"enum","name":"Q","symbols":[],"aliases":{"A":"B"}}
+Unknown {"type":"fixed","name":"Q","size":-1,"aliases":3}
+BadName {"type":"record","name":"Q","fields":[],"aliases":["1"]}
+BadName {"type":"record","name":"Q","fields":3,"aliases":["1"]}
+BadName {"type":"record","name":"Q","fields":[],"aliases":[""]}
+BadName {"type":"enum","name":"Q","symbols":["1"],"aliases":["a."]}
+BadName {"type":"fixed","name":"Q","size":-1,"aliases":[".a"]}
+BadName {"type":"fixed","name":"Q","size":1,"aliases":["a..b"]}
+BadName {"type":"fixed","name":"1","size":1,"aliases":3}
+Redefined {"type":"record","name":"T","fields":[{"name":"f","type":{"type":"fixed","name":"T","size":1,"aliases":3}}]}
+Unknown {"type":"record","name":"T","fields":[{"name":"f","type":"int","aliases":"a"}]}
+Unknown {"type":"record","name":"T","fields":[{"name":"f","type":"int","aliases":null}]}
+Unknown {"type":"record","name":"T","fields":[{"name":"f","type":"float","aliases":[null]}]}
+BadName {"type":"record","name":"T","fields":[{"name":"f","type":"int","aliases":["a.b"]}]}
+BadName {"type":"record","name":"T","fields":[{"name":"f","type":"float","aliases":["1"]}]}
+BadName {"type":"record","name":"T","fields":[{"name":"1","type":"int","aliases":3}]}"#;
+
+#[test]
+fn tells_faults_of_aliases(rt: HostRuntime) {
+    for line in ALIAS_FAULTS.lines() {
+        let (name, text) = line.split_once(' ').expect(&rt, "a fault and a text");
+        let fault = fault_of(rt.alloc(), text).expect(&rt, "a fault");
+        assert_eq!(rt; fault.name(), name);
+    }
+}
+
+/// Whether a list of texts is these.
+fn are_texts(texts: &[String], others: &[&str]) -> bool {
+    if texts.len() != others.len() {
+        return false;
+    }
+    for at in 0..others.len() {
+        if texts[at].as_str() != others[at] {
+            return false;
+        }
+    }
+    true
+}
+
+#[test]
+fn aliases_stand_in_the_namespace_of_their_type(rt: HostRuntime) {
+    let text = r#"{"type":"record","name":"a.b","aliases":["c","x.y","c"],"fields":[
+        {"name":"d","aliases":["e","e","int"],"type":{"type":"fixed","name":"F","namespace":"","size":1,"aliases":["int","n.long"]}},
+        {"name":"g","type":{"type":"enum","name":"m.E","symbols":[],"aliases":["F"]}},
+        {"name":"h","type":{"type":"array","items":{"type":"string","aliases":3},"aliases":3}}]}"#;
+    let schema = parsed(rt.alloc(), text).expect(&rt, "a schema");
+    assert!(rt; schema.len() == 5);
+    let Kind::Record {
+        aliases,
+        fields,
+        ..
+    } = schema.kind(0)
+    else {
+        panic!(&rt; "no record");
+    };
+    assert!(rt; are_texts(aliases, &["a.c", "x.y", "a.c"]) && fields.len() == 3);
+    assert!(rt; are_texts(&fields[0].aliases, &["e", "e", "int"]) && fields[1].aliases.is_empty());
+    let Kind::Fixed { aliases, .. } = schema.kind(1) else {
+        panic!(&rt; "no fixed");
+    };
+    assert!(rt; are_texts(aliases, &["int", "n.long"]));
+    let Kind::Enum { aliases, .. } = schema.kind(2) else {
+        panic!(&rt; "no enum");
+    };
+    assert!(rt; are_texts(aliases, &["m.F"]));
+}

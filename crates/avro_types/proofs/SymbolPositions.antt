@@ -9,11 +9,10 @@ use Rattle.std.proofs.Math.Seq.{drop-cons}
 use Rattle.std.proofs.Math.ListN.{drop_of_length-le}
 use Rattle.std.proofs.lemmas.List.{length-map, length-take}
 use Rattle.std.proofs.lemmas.Map.Text.{btree_map_updates_text}
-use Rattle.std.proofs.lemmas.Option.{slice_get_within}
 use Rattle.std.proofs.lemmas.Slice.Eq.{bytes_eq-Decides}
 use Rattle.avro_types.specs.Symbols.{are_new, is_used, place_of}
 use Rattle.avro_types.specs.Laws.Booleans.{is_nowhere}
-use Rattle.avro_types.specs.Laws.Placed.{named-last, none-used, place-behind, place-some, used-at, place-within}
+use Rattle.avro_types.specs.Laws.Placed.{named-last, none-used, place-behind, used-at, place-within}
 
 -- ---- texts one after another
 

@@ -4,6 +4,7 @@ pub mod DatumCode
 pub mod FullNames
 pub mod Laws
 pub mod Node
+pub mod WellFormed
 pub mod Sizes
 pub mod Symbols
 pub mod Valid

@@ -2,7 +2,7 @@
 use Rattle.std.specs.Prelude.{◌≡◌, ◌≤◌, ℕ, List, length, Some, IfSome, slice_get}
 use Rattle.std.specs.List.{AllByRecursion}
 use Rattle.avro_types.specs.Datum.{Datum, Data, Pairs, NullDatum, BooleanDatum, IntDatum, LongDatum, BytesDatum, TextDatum, FixedDatum, EnumDatum, ArrayDatum, MapDatum, UnionDatum, RecordDatum, no_more, more, no_pairs, pair, how_many, how_many_pairs}
-use Rattle.avro_types.specs.Node.{Node, FieldNode, RecordNode}
+use Rattle.avro_types.specs.Node.{Node, Names, FieldNode, RecordNode}
 
 -- No text, byte string or key is longer than `text` (a fixed has no length that is written), and no array or map has more than `items` items.
 abbrev mutual
@@ -30,4 +30,4 @@ abbrev mutual
 
 -- so in the default of each record's field
 abbrev pub DefaultsHaveSizesWithin : (text items : ℕ) → List Node → Type 0
-DefaultsHaveSizesWithin text items nodes = (node : ℕ) (name : List ℕ) (fields : List FieldNode) → slice_get nodes node ≡ Some (RecordNode name fields) → AllByRecursion (λ f. IfSome f.default (HasSizesWithin text items)) fields
+DefaultsHaveSizesWithin text items nodes = (node : ℕ) (names : Names) (fields : List FieldNode) → slice_get nodes node ≡ Some (RecordNode names fields) → AllByRecursion (λ f. IfSome f.default (HasSizesWithin text items)) fields

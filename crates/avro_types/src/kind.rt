@@ -11,14 +11,17 @@ pub enum Kind {
     Long,
     Bytes,
     Text,
-    /// A fixed under its full name, of so many bytes.
+    /// A fixed under its full name, with its aliases as full names, of so many bytes.
     Fixed {
         name: Name,
+        aliases: Vec<String>,
         size: usize,
     },
-    /// An enum under its full name, with its symbols, and the position of the one that stands for unknown ones.
+    /// An enum under its full name, with its aliases as full names, its symbols, and the position of the one that stands
+    /// for unknown ones.
     Enum {
         name: Name,
+        aliases: Vec<String>,
         symbols: Symbols,
         default: Option<u32>,
     },
@@ -28,9 +31,10 @@ pub enum Kind {
     Map(usize),
     /// The numbers of the members' nodes.
     Union(Vec<usize>),
-    /// A record under its full name, with its fields in the order of their declaration.
+    /// A record under its full name, with its aliases as full names, and its fields in the order of their declaration.
     Record {
         name: Name,
+        aliases: Vec<String>,
         fields: Vec<Field>,
     },
 }
@@ -39,6 +43,8 @@ pub enum Kind {
 #[derive(Debug, Drop)]
 pub struct Field {
     pub name: String,
+    /// Names of writers' fields that go with it where none has its own.
+    pub aliases: Vec<String>,
     /// The number of the node that is its type.
     pub node: usize,
     /// What a reader takes where the writer has no such field.

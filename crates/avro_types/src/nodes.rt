@@ -1,8 +1,9 @@
 ghost use Rattle.std.specs.Prelude.{◌≡◌, ◌<◌, length, Some, slice_get};
 ghost use Rattle.avro_types.specs.Conforming.{DefaultsConform};
-ghost use Rattle.avro_types.specs.Node.{IsWellFormed, NodeIsWellFormed, node_of, nodes_of};
+ghost use Rattle.avro_types.specs.Node.{node_of, nodes_of};
 ghost use Rattle.avro_types.specs.Sizes.{DefaultsHaveSizesWithin};
 ghost use Rattle.avro_types.specs.Valid.{AreValid};
+ghost use Rattle.avro_types.specs.WellFormed.{IsWellFormed, NodeIsWellFormed};
 
 use crate::kind::Kind;
 use crate::limits::MOST_TEXT;
@@ -56,7 +57,8 @@ impl Nodes {
         &self.kinds[node]
     }
 
-    /// The law that nodes name nodes of the same schema, the root is one, and the fields of a record have distinct names.
+    /// The law that nodes name nodes of the same schema, the root is one, names are defined once, and the fields of a
+    /// record, the symbols of an enum and the members of a union are apart.
     pub fn is_well_formed(&self)
         ensures { IsWellFormed self.now }
     {

@@ -1,7 +1,7 @@
 -- Each input has just one output: line by line, since each payload has just one outcome.
 use Rattle.std.proofs.Common.{◌≡◌, ℕ, Bool, true, false, List, [], ◌∷◌, ◌++◌, length, Option, Some, None, Result, Ok, Err, MatchBool, MatchOption, nat_lt, drop, codes, refl, sym, ap, ◌∙◌}
 use Rattle.avro_types.specs.Node.{Node}
-use Rattle.avro_schema.specs.declared.error.SchemaError.{SchemaError}
+use Rattle.schema_drafts.specs.declared.error.SchemaError.{SchemaError}
 use Rattle.outcome.specs.Outcome.{Outcome}
 use Rattle.outcome.specs.declared.limits.TheConstants.{MOST_PAYLOAD}
 use Rattle.resolver.specs.Outcome.{IsOutcome}

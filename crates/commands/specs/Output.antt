@@ -4,9 +4,9 @@ use Rattle.std.specs.Fmt.{decimal}
 use Rattle.std.specs.Str.{is_utf8}
 use Rattle.avro_types.specs.Node.{Node}
 use Rattle.avro_schema.specs.Schema.{schema_of}
-use Rattle.avro_schema.specs.SchemaError.{name_of}
-use Rattle.avro_schema.specs.declared.error.SchemaError.{SchemaError}
-use Rattle.avro_schema.specs.declared.error.SchemaError.TheVariants.{NotJson}
+use Rattle.schema_drafts.specs.SchemaError.{name_of}
+use Rattle.schema_drafts.specs.declared.error.SchemaError.{SchemaError}
+use Rattle.schema_drafts.specs.declared.error.SchemaError.TheVariants.{NotJson}
 use Rattle.commands.specs.Answer.{IsAnswers}
 use Rattle.commands.specs.Lines.{lines}
 use Rattle.commands.specs.declared.command.Verb.{Verb}

@@ -1,5 +1,5 @@
 ghost use Rattle.std.specs.Prelude.{◌≡◌, ◌≢◌, false, string_bytes, Err, Ok, IfOk, IfErr};
-ghost use Rattle.avro_schema.specs.declared.error.SchemaError.TheVariants.{NoMemory};
+ghost use Rattle.schema_drafts.specs.declared.error.SchemaError.TheVariants.{NoMemory};
 ghost use Rattle.commands.specs.Answer.{IsAnswers};
 ghost use Rattle.commands.specs.Lines.{lines};
 ghost use Rattle.commands.specs.Output.{IsOutput, bad_schema, schema_of_line};

@@ -1,9 +1,10 @@
 -- An answer is written as what is resolved, and that conforms and can be written.
 use Rattle.std.proofs.Common.{◌≤◌, ℕ, List, lit≤, sym, subst, arith}
-use Rattle.avro_bytes.specs.declared.text.TheConstants.{LONGEST}
+use Rattle.avro_bytes.specs.declared.limits.TheConstants.{MOST_CONTENT}
 use Rattle.avro_types.specs.Conforming.{Conforms}
 use Rattle.avro_types.specs.Datum.{Datum}
-use Rattle.avro_types.specs.Node.{Node, IsWellFormed}
+use Rattle.avro_types.specs.Node.{Node}
+use Rattle.avro_types.specs.WellFormed.{IsWellFormed}
 use Rattle.avro_types.specs.declared.limits.TheConstants.{MOST_TEXT}
 use Rattle.avro_types.specs.Sizes.{DefaultsHaveSizesWithin}
 use Rattle.avro_types.specs.Laws.LargerSizes.{defaults-within}
@@ -26,5 +27,5 @@ pub answers_spelled : (W R : List Node) → IsWellFormed R → DefaultsHaveSizes
 answers_spelled W R formed within whole of_type writable spells payload bytes o =
     let e = whole 0 0 o.0 o.1 (of_type W 0 o.0 payload o.2.spelled) o.3 in
     let d = writable W 0 o.0 payload o.2.spelled (omega (arith, o.2.fits.1)) in
-    let defaults = defaults-within MOST_TEXT MOST_TEXT LONGEST most_items (lit≤ tt) (lit≤ tt) R within in
+    let defaults = defaults-within MOST_TEXT MOST_TEXT MOST_CONTENT most_items (lit≤ tt) (lit≤ tt) R within in
     (o.0, o.1, o.2, o.3, e, subst (Spells R 0 o.1) (sym o.4) (spells R 0 o.1 formed e (datum_writable W R defaults o.0 0 0 o.1 d o.3)))

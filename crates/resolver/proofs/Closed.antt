@@ -1,11 +1,13 @@
 -- A closed list of good pairs with the root shows safety.
-use Rattle.std.proofs.Common.{◌≡◌, ℕ, zero, suc, ◌+◌, ◌<◌, ◌≤◌, false, List, [], ◌∷◌, ◌++◌, length, take, get_or, refl, sym, ap, subst, ◌∙◌, inl, inr, arith, append_assoc}
+use Rattle.std.proofs.Common.{◌≡◌, ℕ, zero, suc, ◌+◌, ◌<◌, ◌≤◌, true, false, List, [], ◌∷◌, ◌++◌, length, take, get_or, refl, sym, ap, subst, ◌∙◌, inl, inr, arith, append_assoc}
 use Rattle.std.proofs.lemmas.List.{take-append-le, take_more, length-append}
 use Rattle.std.proofs.Math.Seq.{take-length}
 use Rattle.resolver.specs.Pairs.{Listed, Adds, AddsAll}
 use Rattle.std.specs.List.{AllByRecursion}
 use Rattle.avro_types.specs.Node.{Node}
-use Rattle.resolver.specs.Safety.{Pair, Among, Reached, root, step, IsSafe, next_pairs, is_bad}
+use Rattle.resolver.proofs.Leading.{among_leads, bad_told, leads_among}
+use Rattle.resolver.specs.NextPairs.{Among, next_pairs, is_bad}
+use Rattle.resolver.specs.Safety.{Pair, Reached, root, step, IsSafe}
 
 -- good, and all that comes next is there
 abbrev pub IsFine : List Node → List Node → List Pair → Pair → Type 0
@@ -24,14 +26,10 @@ among_one all (x ∷ ps) f q (inr a) = among_one all ps f.1 q a
 -- each reached pair is among them
 closed_among : (W R : List Node) (all : List Pair) → Among (0, 0) all → AllByRecursion (IsFine W R all) all → (p : Pair) → Reached W R p → Among p all
 closed_among W R all top fine p root = top
-closed_among W R all top fine p (step o q r a) = among_one all (next_pairs W R o) (fine_one W R all all fine o (closed_among W R all top fine o r)).1 p a
+closed_among W R all top fine p (step o q r a) = among_one all (next_pairs W R o) (fine_one W R all all fine o (closed_among W R all top fine o r)).1 p (leads_among W R o p a)
 
 pub safe_if_closed : (W R : List Node) (all : List Pair) → Among (0, 0) all → AllByRecursion (IsFine W R all) all → IsSafe W R
-safe_if_closed W R all top fine p r = (fine_one W R all all fine p (closed_among W R all top fine p r)).0
-
-pub reached_next : (W R : List Node) (p : Pair) (qs : List Pair) → Reached W R p → ((q : Pair) → Among q qs → Among q (next_pairs W R p)) → AllByRecursion (Reached W R) qs
-reached_next W R p [] r sub = tt
-reached_next W R p (q ∷ qs) r sub = (step p q r (sub q (inl refl)), reached_next W R p qs r (λ x a. sub x (inr a)))
+safe_if_closed W R all top fine p r bad = (let clash : true ≡ false = sym (bad_told W R p bad) ∙ (fine_one W R all all fine p (closed_among W R all top fine p r)).0 in cc)
 
 pub among_more : (q : Pair) (ps more : List Pair) → Among q ps → Among q (ps ++ more)
 among_more q [] more a = absurd a
@@ -50,18 +48,18 @@ pub fine_more : (W R : List Node) (qs ps more : List Pair) → AllByRecursion (I
 fine_more W R [] ps more a = tt
 fine_more W R (q ∷ qs) ps more a = ((a.0.0, all_among_more (next_pairs W R q) ps more a.0.1), fine_more W R qs ps more a.1)
 
-pub all_behind : (P : Pair → Type 0) (ps more : List Pair) → AllByRecursion P ps → AllByRecursion P more → AllByRecursion P (ps ++ more)
-all_behind P [] more a b = b
-all_behind P (p ∷ ps) more a b = (a.0, all_behind P ps more a.1 b)
+pub all_after : (P : Pair → Type 0) (ps more : List Pair) → AllByRecursion P ps → AllByRecursion P more → AllByRecursion P (ps ++ more)
+all_after P [] more a b = b
+all_after P (p ∷ ps) more a b = (a.0, all_after P ps more a.1 b)
 
 pub all_at : (P : Pair → Type 0) (ps : List Pair) (i : ℕ) (p : Pair) → AllByRecursion P ps → i < length ps → p ≡ get_or ps i p → P p
 all_at P [] i p a lt e = absurd (omega arith)
 all_at P (x ∷ ps) zero p a lt e = subst P (sym e) a.0
 all_at P (x ∷ ps) (suc i) p a lt e = all_at P ps i p a.1 (omega arith) e
 
-all_of_behind : (P : Pair → Type 0) (ps more : List Pair) → AllByRecursion P (ps ++ more) → AllByRecursion P ps
-all_of_behind P [] more a = tt
-all_of_behind P (p ∷ ps) more a = (a.0, all_of_behind P ps more a.1)
+all_in_front : (P : Pair → Type 0) (ps more : List Pair) → AllByRecursion P (ps ++ more) → AllByRecursion P ps
+all_in_front P [] more a = tt
+all_in_front P (p ∷ ps) more a = (a.0, all_in_front P ps more a.1)
 
 among_front : (q : Pair) (extra ps more : List Pair) → AllByRecursion (λ q. Among q ps) extra → AllByRecursion (λ q. Among q (ps ++ more)) extra
 among_front q extra ps more a = all_among_more extra ps more a
@@ -73,7 +71,7 @@ adds_more qs q old mid new a b = elim b.added as (λ _. AddsAll (qs ++ q ∷ [])
     readers = b.readers ∙ a.readers;
     extra = a.extra;
     pairs = s.0 ∙ a.pairs;
-    all = rw s.0 (all_behind (λ q. Among q mid.pairs) qs (q ∷ []) a.all (s.1, tt));
+    all = rw s.0 (all_after (λ q. Among q mid.pairs) qs (q ∷ []) a.all (s.1, tt));
     only = all_among_more a.extra qs (q ∷ []) a.only;
   }
   | inr s ↦ record {
@@ -81,8 +79,8 @@ adds_more qs q old mid new a b = elim b.added as (λ _. AddsAll (qs ++ q ∷ [])
     readers = b.readers ∙ a.readers;
     extra = a.extra ++ q ∷ [];
     pairs = s ∙ ap (λ (x : List Pair). x ++ q ∷ []) a.pairs ∙ append_assoc old.pairs a.extra (q ∷ []);
-    all = rw s (all_behind (λ y. Among y (mid.pairs ++ q ∷ [])) qs (q ∷ []) (all_among_more qs mid.pairs (q ∷ []) a.all) (among_last q mid.pairs, tt));
-    only = all_behind (λ y. Among y (qs ++ q ∷ [])) a.extra (q ∷ []) (all_among_more a.extra qs (q ∷ []) a.only) (among_last q qs, tt);
+    all = rw s (all_after (λ y. Among y (mid.pairs ++ q ∷ [])) qs (q ∷ []) (all_among_more qs mid.pairs (q ∷ []) a.all) (among_last q mid.pairs, tt));
+    only = all_after (λ y. Among y (qs ++ q ∷ [])) a.extra (q ∷ []) (all_among_more a.extra qs (q ∷ []) a.only) (among_last q qs, tt);
   }
 ]
 
@@ -95,7 +93,7 @@ pub record Kept (W R : List Node) (i : ℕ) (ps : List Pair) : Type 0 where
 
 only_next : (W R : List Node) (p : Pair) (extra : List Pair) → Reached W R p → AllByRecursion (λ q. Among q (next_pairs W R p)) extra → AllByRecursion (Reached W R) extra
 only_next W R p [] r a = tt
-only_next W R p (q ∷ qs) r a = (step p q r a.0, only_next W R p qs r a.1)
+only_next W R p (q ∷ qs) r a = (step p q r (among_leads W R p q a.0), only_next W R p qs r a.1)
 
 take_front : (ps more : List Pair) (i : ℕ) → i ≤ length ps → take i (ps ++ more) ≡ take i ps
 take_front ps more i le = take-append-le i ps more le
@@ -108,8 +106,8 @@ kept_on W R i p old new k lt is good a =
     record {
       bound = omega arith;
       top = rw a.pairs (among_more (0, 0) old.pairs a.extra k.top);
-      reached = rw a.pairs (all_behind (Reached W R) old.pairs a.extra k.reached (only_next W R p a.extra here a.only));
-      fine = rw front (all_behind (IsFine W R new.pairs) (take i old.pairs) (p ∷ []) (rw a.pairs (fine_more W R (take i old.pairs) old.pairs a.extra k.fine)) ((good, a.all), tt));
+      reached = rw a.pairs (all_after (Reached W R) old.pairs a.extra k.reached (only_next W R p a.extra here a.only));
+      fine = rw front (all_after (IsFine W R new.pairs) (take i old.pairs) (p ∷ []) (rw a.pairs (fine_more W R (take i old.pairs) old.pairs a.extra k.fine)) ((good, a.all), tt));
     }
 
 pub kept_end : (W R : List Node) (i : ℕ) (ps : List Pair) → Kept W R i ps → length ps ≤ i → IsSafe W R

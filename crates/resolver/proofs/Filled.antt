@@ -4,9 +4,9 @@ use Rattle.avro_types.specs.declared.datum.Datum as rust
 use Rattle.avro_types.specs.declared.kind.Field.{Field}
 use Rattle.avro_types.specs.Node.{FieldNode, field_of, fields_of}
 use Rattle.avro_types.specs.Datum.{Datum, Data, no_more, more, datum_of, data_of}
-use Rattle.resolver.specs.Matching.{given}
-use Rattle.resolver.specs.Resolution.{or_else}
-use Rattle.resolver.specs.Steps.{filled, slots_of}
+use Rattle.matching.specs.Options.{given, or_else}
+use Rattle.resolver.specs.Resolution.{filled}
+use Rattle.resolver.specs.Steps.{slots_of}
 use Rattle.resolver.proofs.Items.{joined, joined_end, joined_push, no_length}
 
 module _ (front : List rust.Datum) (fields : List Field) (slots : List (Option rust.Datum)) (whole : Data) (so_far : joined (data_of front) (filled (fields_of fields) (slots_of slots)) ≡ whole) where

@@ -8,7 +8,7 @@ use Rattle.resolver.specs.declared.mismatch.ResolveError.{ResolveError}
 use Rattle.resolver.specs.declared.mismatch.ResolveError.TheVariants as errors
 use Rattle.resolver.specs.Resolution.{Resolved, ◌>>=◌, Resolves, resolved, resolved_items, resolved_values}
 
--- data behind data
+-- data after data
 abbrev pub joined : Data → Data → Data
 joined no_more es = es
 joined (more d ds) es = more d (joined ds es)
@@ -41,7 +41,7 @@ no_length [] e = refl
 no_length (x ∷ xs) e = absurd (omega arith)
 
 module _ (W R : List Node) (w r : ℕ) where
-  -- the items that are left, behind those that are done
+  -- the items that are left, after those that are done
   abbrev pub Rest : List rust.Datum → List rust.Datum → Resolved Data → Type 0
   Rest front left whole = resolved_items W R w r (data_of left) >>= (λ es. Ok (joined (data_of front) es)) ≡ whole
 

@@ -1,58 +1,85 @@
 -- The loop over the writer's fields, on the program's own values.
-use Rattle.std.proofs.Common.{◌≡◌, ℕ, zero, suc, ◌⊎◌, inl, inr, List, [], ◌∷◌, length, map, slice_set, position, option_map, Option, Some, None, IfSome, Ok, Err, refl, ap, arith}
+use Rattle.std.proofs.Common.{◌≡◌, ℕ, zero, suc, ◌⊎◌, inl, inr, ◌<◌, List, [], ◌∷◌, length, slice_set, option_map, Option, Some, None, IfSome, Ok, Err, refl, sym, ap, ◌∙◌, arith}
+use Rattle.std.proofs.lemmas.List.{length-set}
 use Rattle.std.specs.Global.{Vec}
 use Rattle.avro_types.specs.declared.datum.Datum as rust
-use Rattle.avro_types.specs.declared.kind.Field.{Field}
-use Rattle.avro_types.specs.Node.{Node, HaveDistinctNames, field_of, fields_of}
-use Rattle.avro_types.specs.Datum.{Datum, more, datum_of, data_of}
+use Rattle.avro_types.specs.Node.{Node}
+use Rattle.avro_types.specs.Datum.{Datum, Data, no_more, more, datum_of, data_of}
 use Rattle.resolver.specs.declared.mismatch.ResolveError.{ResolveError}
 use Rattle.resolver.specs.declared.mismatch.ResolveError.TheVariants as errors
-use Rattle.resolver.specs.Resolution.{Resolved, Resolves, resolved_fields}
-use Rattle.resolver.specs.Steps.{AreFields, is_named, slots_from, slots_of, into_slots, kept, one_field, value_of}
-use Rattle.resolver.proofs.Slots.{at_position}
-use Rattle.resolver.proofs.Ongoing.{Ongoing, start, step, fails, ends}
+use Rattle.matching.specs.declared.pairing.Partner.{Partner}
+use Rattle.matching.specs.declared.pairing.Route.{Route}
+use Rattle.matching.specs.Options.{given}
+use Rattle.matching.specs.Partners.{AreRoutes}
+use Rattle.resolver.specs.Resolution.{Resolved, ◌>>=◌, Resolves, Slots, resolved, resolved_fields}
+use Rattle.resolver.specs.Laws.Fields.{fields_on}
+use Rattle.resolver.specs.Steps.{slots_of, kept, one_field, placed_value}
+use Rattle.resolver.proofs.Items.{no_length}
 
-nothing_yet : (rs : List Field) → slots_of (map (λ _. None) rs) ≡ slots_from (fields_of rs) []
-nothing_yet [] = refl
-nothing_yet (g ∷ rs) = ap (λ (l : List (Option Datum)). None ∷ l) (nothing_yet rs)
-
-put_seen : (slots : List (Option rust.Datum)) (j : ℕ) (d : rust.Datum) → slots_of (slice_set slots j (Some d)) ≡ slice_set (slots_of slots) j (Some (datum_of d))
+pub put_seen : (slots : List (Option rust.Datum)) (j : ℕ) (d : rust.Datum) → slots_of (slice_set slots j (Some d)) ≡ slice_set (slots_of slots) j (Some (datum_of d))
 put_seen [] j d = refl
 put_seen (s ∷ slots) zero d = refl
-put_seen (s ∷ slots) (suc j) d = ap (λ (l : List (Option Datum)). option_map datum_of s ∷ l) (put_seen slots j d)
+put_seen (s ∷ slots) (suc j) d = ap (λ (l : Slots). option_map datum_of s ∷ l) (put_seen slots j d)
 
-pub length-fields_of : (fs : List Field) → length (fields_of fs) ≡ length fs
-length-fields_of [] = refl
-length-fields_of (f ∷ fs) = ap suc (length-fields_of fs)
+kept_seen : (o : Option (ℕ × rust.Datum)) (slots : List (Option rust.Datum)) → slots_of (kept o slots) ≡ kept (option_map placed_value o) (slots_of slots)
+kept_seen None slots = refl
+kept_seen (Some p) slots = put_seen slots p.0 p.1
 
-pub length-slots_of : (slots : List (Option rust.Datum)) → length (slots_of slots) ≡ length slots
-length-slots_of [] = refl
-length-slots_of (s ∷ slots) = ap suc (length-slots_of slots)
+length_kept : (o : Option (ℕ × rust.Datum)) (slots : List (Option rust.Datum)) → length (kept o slots) ≡ length slots
+length_kept None slots = refl
+length_kept (Some p) slots = length-set slots p.0 (Some p.1)
 
-module _ (W R : List Node) (rs : List Field) where
-  -- the fields that are left, the slots so far and the data that are left
-  abbrev pub Goes : List Field → List (Option rust.Datum) → List rust.Datum → Resolved (List (Option Datum)) → Type 0
-  Goes ws slots ds whole = Ongoing W R (fields_of rs) (fields_of ws) (slots_of slots) (data_of ds) whole
+module _ (W R : List Node) where
+  -- the routes and data that are left lead from the slots so far to the whole
+  pub record Goes (places : ℕ) (routes : List Route) (slots : List (Option rust.Datum)) (ds : List rust.Datum) (whole : Resolved Slots) : Type 0 where
+    pub within : AreRoutes (length W) (length R) places routes
+    pub ready : length slots ≡ places
+    pub so_far : resolved_fields W R (slots_of slots) routes (data_of ds) ≡ whole
 
-  pub begins : (ws rest : List Field) (slots : List (Option rust.Datum)) (ds items : List rust.Datum) → AreFields (length W) (fields_of ws) → rest ≡ ws → items ≡ ds → slots ≡ map (λ _. None) rs → Goes rest slots items (into_slots (fields_of rs) (resolved_fields W R (fields_of ws) (fields_of rs) (data_of ds)))
-  begins ws rest slots ds items writer left all empty = rw (left, all, empty, nothing_yet rs) (start W R (fields_of rs) (fields_of ws) (data_of ds) writer)
+  module _ (places : ℕ) (left : List Route) (r : Route) (routes : List Route) (slots : List (Option rust.Datum)) (items : List rust.Datum) (d : rust.Datum) (ds : List rust.Datum) (whole : Resolved Slots) (now : Goes places left slots items whole) (field : left ≡ r ∷ routes) (datum : items ≡ d ∷ ds) where
+    next : AreRoutes (length W) (length R) places (r ∷ routes)
+    next = rw field at now.within
 
-  module _ (left : List Field) (f : Field) (ws : List Field) (slots : List (Option rust.Datum)) (items : List rust.Datum) (d : rust.Datum) (ds : List rust.Datum) (whole : Resolved (List (Option Datum))) (now : Goes left slots items whole) (field : left ≡ f ∷ ws) (datum : items ≡ d ∷ ds) where
-    here : Ongoing W R (fields_of rs) (field_of f ∷ fields_of ws) (slots_of slots) (more (datum_of d) (data_of ds)) whole
-    here = let now' = rw field at now in rw datum at now'
+    pub its_node : (r.node < length W) × IfSome r.partner (λ p. p.node < length R)
+    its_node = (next.0.node, by_partner r.partner next.0.partner) where
+      by_partner : (o : Option Partner) → IfSome o (λ p. (p.position < places) × (p.node < length R)) → IfSome o (λ p. p.node < length R)
+      by_partner None h = tt
+      by_partner (Some p) h = h.1
 
-    pub goes_wrong : (e : ResolveError) → Resolves (option_map value_of) (Err e) (one_field W R (field_of f) (fields_of rs) (datum_of d)) → Resolves (λ (v : Vec (Option rust.Datum)). slots_of v.items) (Err e) whole
-    goes_wrong (errors.Mismatch m) h = fails W R (fields_of rs) (field_of f) (fields_of ws) (slots_of slots) (datum_of d) (data_of ds) whole here m h
+    pub its_place : (o : Option (ℕ × rust.Datum)) → Resolves (option_map placed_value) (Ok o) (one_field W R r (datum_of d)) → IfSome o (λ v. IfSome r.partner (λ p. v.0 ≡ p.position)) → IfSome o (λ v. v.0 < length slots)
+    its_place o made at = by_partner r.partner next.0.partner o made at where
+      by_partner : (q : Option Partner) → IfSome q (λ p. (p.position < places) × (p.node < length R)) → (o : Option (ℕ × rust.Datum)) → given q (Ok None) (λ p. resolved W R r.node p.node (datum_of d) >>= λ e. Ok (Some (p.position, e))) ≡ Ok (option_map placed_value o) → IfSome o (λ v. IfSome q (λ p. v.0 ≡ p.position)) → IfSome o (λ v. v.0 < length slots)
+      by_partner q h None made at = tt
+      by_partner None h (Some v) made at = absurd cc
+      by_partner (Some p) h (Some v) made at = omega (arith, at, h.0, now.ready)
+
+    here : (one_field W R r (datum_of d) >>= λ o. resolved_fields W R (kept o (slots_of slots)) routes (data_of ds)) ≡ whole
+    here =
+        let now' : resolved_fields W R (slots_of slots) (r ∷ routes) (more (datum_of d) (data_of ds)) ≡ whole = ap (λ (l : List Route). resolved_fields W R (slots_of slots) l (data_of (d ∷ ds))) (sym field) ∙ ap (λ (l : List rust.Datum). resolved_fields W R (slots_of slots) left (data_of l)) (sym datum) ∙ now.so_far in
+        sym (fields_on W R (slots_of slots) r routes (datum_of d) (data_of ds)) ∙ now'
+
+    pub goes_wrong : (e : ResolveError) → Resolves (option_map placed_value) (Err e) (one_field W R r (datum_of d)) → Resolves (λ (v : Vec (Option rust.Datum)). slots_of v.items) (Err e) whole
+    goes_wrong (errors.Mismatch m) h = sym here ∙ ap (λ (x : Resolved (Option (ℕ × Datum))). x >>= λ o. resolved_fields W R (kept o (slots_of slots)) routes (data_of ds)) h
     goes_wrong errors.NoMemory h = tt
 
-    pub goes_on : HaveDistinctNames (fields_of rs) → (v : Option (ℕ × rust.Datum)) (after : List (Option rust.Datum)) → one_field W R (field_of f) (fields_of rs) (datum_of d) ≡ Ok (option_map value_of v) → IfSome v (λ p. position (is_named (field_of f).name) rs ≡ Some p.0) → after ≡ kept v slots → Goes ws after ds whole
-    goes_on distinct None after e at k = rw k (step W R (fields_of rs) (field_of f) (fields_of ws) (slots_of slots) (datum_of d) (data_of ds) whole here distinct None tt e)
-    goes_on distinct (Some p) after e at k = rw (k, put_seen slots p.0 p.1) (step W R (fields_of rs) (field_of f) (fields_of ws) (slots_of slots) (datum_of d) (data_of ds) whole here distinct (Some (p.0, datum_of p.1)) (at_position (field_of f).name rs p.0 f at) e)
+    pub goes_on : (v : Option (ℕ × rust.Datum)) (after : List (Option rust.Datum)) → one_field W R r (datum_of d) ≡ Ok (option_map placed_value v) → after ≡ kept v slots → Goes places routes after ds whole
+    goes_on v after e k = record {
+      within = next.1;
+      ready = ap length k ∙ length_kept v slots ∙ now.ready;
+      so_far = ap (λ (l : List (Option rust.Datum)). resolved_fields W R (slots_of l) routes (data_of ds)) k ∙ ap (λ (l : Slots). resolved_fields W R l routes (data_of ds)) (kept_seen v slots)
+          ∙ sym (ap (λ (x : Resolved (Option (ℕ × Datum))). x >>= λ o. resolved_fields W R (kept o (slots_of slots)) routes (data_of ds)) e) ∙ here;
+    }
 
-  no_length : {X : Type 0} (xs : List X) → length xs ≡ 0 → xs ≡ []
-  no_length [] e = refl
-  no_length (x ∷ xs) e = absurd (omega arith)
+  no_routes : (slots : Slots) (ds : Data) → resolved_fields W R slots [] ds ≡ Ok slots
+  unfolding resolved
+  no_routes slots no_more = refl
+  no_routes slots (more d ds) = refl
 
-  pub goes_out : (ws : List Field) (slots : List (Option rust.Datum)) (ds : List rust.Datum) (whole : Resolved (List (Option Datum))) → Goes ws slots ds whole → (length ws ≡ 0) ⊎ (length ds ≡ 0) → whole ≡ Ok (slots_of slots)
-  goes_out ws slots ds whole now (inl e) = ends W R (fields_of rs) (fields_of ws) (slots_of slots) (data_of ds) whole now (inl (ap fields_of (no_length ws e)))
-  goes_out ws slots ds whole now (inr e) = ends W R (fields_of rs) (fields_of ws) (slots_of slots) (data_of ds) whole now (inr (ap data_of (no_length ds e)))
+  no_data : (slots : Slots) (routes : List Route) → resolved_fields W R slots routes no_more ≡ Ok slots
+  unfolding resolved
+  no_data slots [] = refl
+  no_data slots (r ∷ routes) = refl
+
+  pub goes_out : (places : ℕ) (routes : List Route) (slots : List (Option rust.Datum)) (ds : List rust.Datum) (whole : Resolved Slots) → Goes places routes slots ds whole → (length routes ≡ 0) ⊎ (length ds ≡ 0) → whole ≡ Ok (slots_of slots)
+  goes_out places routes slots ds whole now (inl e) = sym now.so_far ∙ ap (λ (l : List Route). resolved_fields W R (slots_of slots) l (data_of ds)) (no_length routes e) ∙ no_routes (slots_of slots) (data_of ds)
+  goes_out places routes slots ds whole now (inr e) = sym now.so_far ∙ ap (λ (l : List rust.Datum). resolved_fields W R (slots_of slots) routes (data_of l)) (no_length ds e) ∙ no_data (slots_of slots) routes

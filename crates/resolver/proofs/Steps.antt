@@ -1,52 +1,53 @@
 -- What one step of resolution makes of a datum.
-use Rattle.std.proofs.Common.{◌≡◌, ℕ, zero, suc, ◌<◌, List, [], ◌∷◌, length, get_or, slice_get, position, option_map, Option, Some, None, Result, Ok, Err, refl, sym, ap, ◌∙◌, arith, String, Global, Box}
+use Rattle.std.proofs.Common.{◌≡◌, ℕ, false, List, slice_get, option_map, Option, Some, None, Result, Ok, Err, refl, sym, ap, ◌∙◌, String, Global, Box}
 use Rattle.std.specs.Global.{Vec}
 use Rattle.avro_types.specs.declared.datum.Datum as rust
-use Rattle.avro_types.specs.declared.kind.Field.{Field}
-use Rattle.avro_types.specs.Node.{Node, FieldNode, FieldsBelow, field_of, fields_of}
-use Rattle.avro_types.specs.Datum.{Datum, Data, Pairs, ArrayDatum, MapDatum, RecordDatum, datum_of, data_of, pairs_of}
+use Rattle.avro_types.specs.Node.{Node, FieldNode}
+use Rattle.avro_types.specs.Datum.{Data, Pairs, ArrayDatum, MapDatum, RecordDatum, datum_of, data_of, pairs_of}
 use Rattle.avro_types.specs.Laws.DatumOf.{datum_of-Array, datum_of-Map, datum_of-Record}
 use Rattle.outcome.specs.declared.mismatch.MismatchKind.TheVariants.{NoMatch}
 use Rattle.resolver.specs.declared.mismatch.ResolveError.{ResolveError}
 use Rattle.resolver.specs.declared.mismatch.ResolveError.TheVariants as errors
-use Rattle.resolver.specs.Matching.{given, both_items, both_values, place}
-use Rattle.resolver.specs.Resolution.{Resolved, ◌>>=◌, Resolves, Came, mismatch, placed, field_lists, lacking, unless_lacking, resolved, resolved_items, resolved_values, resolved_fields, gathered}
-use Rattle.resolver.specs.Steps.{filled, inside, is_named, into_slots, one_field, slots_from, slots_of, value_of}
-use Rattle.resolver.proofs.Named.{named_none, named_some}
-use Rattle.resolver.proofs.Slots.{gathered_slots}
+use Rattle.matching.specs.Matching.{both_items, both_values, place}
+use Rattle.matching.specs.Options.{given}
+use Rattle.matching.specs.Partners.{routes}
+use Rattle.resolver.specs.Resolution.{Resolved, ◌>>=◌, Resolves, Slots, mismatch, placed, field_lists, filled, lacking, no_slots, unless_lacking, resolved, resolved_items, resolved_values, resolved_fields}
+use Rattle.resolver.specs.Laws.Placed.{by_place, is_union_datum}
+use Rattle.resolver.specs.Steps.{inside, slots_of}
+
+pub none_lacking : {A B : Type 0} (f : A → B) (o : Option A) (x : Option B) → o ≡ None → option_map f o ≡ x → None ≡ x
+none_lacking f o x none e = sym (ap (option_map f) none) ∙ e
 
 module _ (W R : List Node) where
-  pub by_place : (w r : ℕ) (d : rust.Datum) → ((n : ℕ) (b : Box rust.Datum Global) → d ≡ rust.Union n b → ⊥) → resolved W R w r (datum_of d) ≡ placed (place W R w r) w r (λ node. inside W R w node (datum_of d))
-  unfolding resolved inside
-  by_place w r rust.Null h = refl
-  by_place w r (rust.Boolean b) h = refl
-  by_place w r (rust.Int n) h = refl
-  by_place w r (rust.Long n) h = refl
-  by_place w r (rust.Bytes bytes) h = refl
-  by_place w r (rust.Text text) h = refl
-  by_place w r (rust.Fixed bytes) h = refl
-  by_place w r (rust.Enum n) h = refl
-  by_place w r (rust.Array' shape items) h = refl
-  by_place w r (rust.Map' shape pairs) h = refl
-  by_place w r (rust.Record' shape fields) h = refl
-  by_place w r (rust.Union' n p d) h = absurd (h n (record { ptr = p.ptr; alloc = p.alloc; value = d }) refl)
+  no_union_datum : (d : rust.Datum) → ((n : ℕ) (b : Box rust.Datum Global) → d ≡ rust.Union n b → ⊥) → is_union_datum (datum_of d) ≡ false
+  no_union_datum (rust.Union' n p d) h = absurd (h n (record { ptr = p.ptr; alloc = p.alloc; value = d }) refl)
+  no_union_datum d h = refl
 
   pub into_place : (w r : ℕ) (d : rust.Datum) → ((n : ℕ) (b : Box rust.Datum Global) → d ≡ rust.Union n b → ⊥) → (res : Result rust.Datum ResolveError) → Resolves datum_of res (placed (place W R w r) w r (λ node. inside W R w node (datum_of d))) → Resolves datum_of res (resolved W R w r (datum_of d))
-  into_place w r d not res h = rw (by_place w r d not) h
+  into_place w r d not res h = rw (by_place W R w r (datum_of d) (no_union_datum d not)) h
 
-  in_order : (gs : List FieldNode) (slots : List (Option rust.Datum)) (came : Resolved Came) → into_slots gs came ≡ Ok (slots_of slots) → (came >>= λ came. Ok (RecordDatum (gathered gs came))) ≡ Ok (RecordDatum (filled gs (slots_of slots)))
-  in_order gs slots (Ok came) e =
-      let same : slots_from gs came ≡ slots_of slots = cc in
-      ap (λ (ds : Data). Ok (RecordDatum ds)) (sym (gathered_slots gs came) ∙ ap (filled gs) same)
-  in_order gs slots (Err m) e = cc
+  -- a record whose reader lacks nothing
+  within_record : (w r : ℕ) (fs gs : List FieldNode) (ds : Data) → Some (fs, gs) ≡ field_lists (slice_get W w) (slice_get R r) → None ≡ lacking fs gs → inside W R w r (RecordDatum ds) ≡ (resolved_fields W R (no_slots gs) (routes fs gs) ds >>= λ slots. Ok (RecordDatum (filled gs slots)))
+  unfolding inside
+  within_record w r fs gs ds lists none =
+      ap (λ (o : Option (List FieldNode × List FieldNode)). given o (mismatch NoMatch w r) (λ p. unless_lacking (lacking p.0 p.1) w (resolved_fields W R (no_slots p.1) (routes p.0 p.1) ds >>= λ slots. Ok (RecordDatum (filled p.1 slots))))) (sym lists)
+      ∙ ap (λ (o : Option FieldNode). unless_lacking o w (resolved_fields W R (no_slots gs) (routes fs gs) ds >>= λ slots. Ok (RecordDatum (filled gs slots)))) (sym none)
+
+  -- a mismatch of a field is the record's
+  pub record_err : (w r : ℕ) (fs gs : List FieldNode) (ds : Data) (empty : Slots) (e : ResolveError) → Some (fs, gs) ≡ field_lists (slice_get W w) (slice_get R r) → None ≡ lacking fs gs → empty ≡ no_slots gs → Resolves (λ (v : Vec (Option rust.Datum)). slots_of v.items) (Err e) (resolved_fields W R empty (routes fs gs) ds) → Resolves datum_of (Err e) (inside W R w r (RecordDatum ds))
+  record_err w r fs gs ds empty (errors.Mismatch m) lists none first h =
+      within_record w r fs gs ds lists none
+      ∙ ap (λ (l : Slots). resolved_fields W R l (routes fs gs) ds >>= λ slots. Ok (RecordDatum (filled gs slots))) (sym first)
+      ∙ ap (λ (x : Resolved Slots). x >>= λ slots. Ok (RecordDatum (filled gs slots))) h
+  record_err w r fs gs ds empty errors.NoMemory lists none first h = tt
 
   -- the fields that came or had defaults, in the reader's order
-  pub record_made : (w r : ℕ) (fs gs : List FieldNode) (ds : Data) (slots : List (Option rust.Datum)) (all : Vec rust.Datum) → Some (fs, gs) ≡ field_lists (slice_get W w) (slice_get R r) → None ≡ lacking fs gs → into_slots gs (resolved_fields W R fs gs ds) ≡ Ok (slots_of slots) → data_of all.items ≡ filled gs (slots_of slots) → inside W R w r (RecordDatum ds) ≡ Ok (datum_of (rust.Record all))
+  pub record_made : (w r : ℕ) (fs gs : List FieldNode) (ds : Data) (empty : Slots) (slots : List (Option rust.Datum)) (all : Vec rust.Datum) → Some (fs, gs) ≡ field_lists (slice_get W w) (slice_get R r) → None ≡ lacking fs gs → empty ≡ no_slots gs → resolved_fields W R empty (routes fs gs) ds ≡ Ok (slots_of slots) → data_of all.items ≡ filled gs (slots_of slots) → inside W R w r (RecordDatum ds) ≡ Ok (datum_of (rust.Record all))
   unfolding inside
-  record_made w r fs gs ds slots all lists none came held =
-      ap (λ (o : Option (List FieldNode × List FieldNode)). given o (mismatch NoMatch w r) (λ p. unless_lacking (lacking p.0 p.1) w (resolved_fields W R p.0 p.1 ds >>= λ came. Ok (RecordDatum (gathered p.1 came))))) (sym lists)
-      ∙ ap (λ (o : Option FieldNode). unless_lacking o w (resolved_fields W R fs gs ds >>= λ came. Ok (RecordDatum (gathered gs came)))) (sym none)
-      ∙ in_order gs slots (resolved_fields W R fs gs ds) came
+  record_made w r fs gs ds empty slots all lists none first came held =
+      within_record w r fs gs ds lists none
+      ∙ ap (λ (l : Slots). resolved_fields W R l (routes fs gs) ds >>= λ slots. Ok (RecordDatum (filled gs slots))) (sym first)
+      ∙ ap (λ (x : Resolved Slots). x >>= λ slots. Ok (RecordDatum (filled gs slots))) came
       ∙ ap (λ (ds : Data). Ok (RecordDatum ds)) (sym held)
       ∙ ap Ok (sym (datum_of-Record all))
 
@@ -73,24 +74,3 @@ module _ (W R : List Node) where
 
   pub record_result : (w r : ℕ) (d : rust.Datum) (v : Vec rust.Datum) → d ≡ rust.Record v → (res : Result rust.Datum ResolveError) → Resolves datum_of res (inside W R w r (RecordDatum (data_of v.items))) → Resolves datum_of res (inside W R w r (datum_of d))
   record_result w r d v same res h = rw (same, datum_of-Record v) h
-
-  -- a field whose partner was looked for
-  module _ (f : Field) (rs : List Field) (d : Datum) where
-    pub field_none : None ≡ position (is_named (field_of f).name) rs → one_field W R (field_of f) (fields_of rs) d ≡ Ok None
-    field_none at = ap (λ (o : Option FieldNode). given o (Ok None) (λ g. resolved W R f.node g.node d >>= λ e. Ok (Some e))) (named_none _ rs (sym at))
-
-    module _ (j : ℕ) (g : Field) (at : Some j ≡ position (is_named (field_of f).name) rs) (is : g ≡ get_or rs j g) where
-      partner : one_field W R (field_of f) (fields_of rs) d ≡ resolved W R f.node g.node d >>= λ e. Ok (Some e)
-      partner = ap (λ (o : Option FieldNode). given o (Ok None) (λ g. resolved W R f.node g.node d >>= λ e. Ok (Some e))) (named_some _ rs j g (sym at) is)
-
-      pub field_err : (e : ResolveError) → Resolves datum_of (Err e) (resolved W R f.node g.node d) → Resolves (option_map value_of) (Err e) (one_field W R (field_of f) (fields_of rs) d)
-      field_err (errors.Mismatch m) h = partner ∙ ap (λ (x : Resolved Datum). x >>= λ e. Ok (Some e)) h
-      field_err errors.NoMemory h = tt
-
-      pub field_ok : (x : rust.Datum) → resolved W R f.node g.node d ≡ Ok (datum_of x) → one_field W R (field_of f) (fields_of rs) d ≡ Ok (Some (datum_of x))
-      field_ok x h = partner ∙ ap (λ (x : Resolved Datum). x >>= λ e. Ok (Some e)) h
-
-pub field_below : (len : ℕ) (fs : List Field) (j : ℕ) (f : Field) → FieldsBelow len (fields_of fs) → j < length fs → (get_or fs j f).node < len
-field_below len [] j f all lt = absurd (omega arith)
-field_below len (g ∷ fs) zero f all lt = all.0
-field_below len (g ∷ fs) (suc j) f all lt = field_below len fs j f all.1 (omega arith)

@@ -1,20 +1,25 @@
 -- What resolution makes of data of the writer's node are data of the reader's node.
-use Rattle.std.proofs.Common.{◌≡◌, ℕ, ◌<◌, Bool, true, false, cond, List, [], ◌∷◌, length, position, slice_get, Option, Some, None, IfSome, Ok, Err, refl, sym, ap, subst, ◌∙◌, pos, negsuc, inl, inr, ℤ, arith}
-use Rattle.std.specs.Str.{bytes_eq, is_utf8}
+use Rattle.std.proofs.Common.{◌≡◌, ℕ, ◌+◌, ◌<◌, Bool, true, false, cond, List, [], ◌∷◌, length, slice_get, Option, Some, None, IfSome, Ok, Err, refl, sym, ap, subst, ◌∙◌, pos, negsuc, inl, inr, ℤ, arith}
+use Rattle.std.specs.Str.{is_utf8}
 use Rattle.std.proofs.lemmas.Str.{IsUtf8-from_is_utf8}
-use Rattle.std.proofs.lemmas.List.Quantifiers.{position-Some}
 use Rattle.avro_types.specs.Laws.Placed.{place-within}
 use Rattle.avro_types.specs.Symbols.{place_of}
-use Rattle.avro_types.specs.Node.{Node, FieldNode, NullNode, BooleanNode, IntNode, LongNode, BytesNode, TextNode, FixedNode, EnumNode, ArrayNode, MapNode, RecordNode, IsWellFormed, is_union}
+use Rattle.avro_types.specs.Node.{Node, FieldNode, NullNode, BooleanNode, IntNode, LongNode, BytesNode, TextNode, FixedNode, EnumNode, ArrayNode, MapNode, RecordNode}
+use Rattle.avro_types.specs.WellFormed.{IsWellFormed, is_union}
 use Rattle.avro_types.specs.Datum.{Datum, Data, Pairs, NullDatum, BooleanDatum, IntDatum, LongDatum, BytesDatum, TextDatum, FixedDatum, EnumDatum, ArrayDatum, MapDatum, UnionDatum, RecordDatum, no_more, more, no_pairs, pair}
-use Rattle.avro_types.specs.Conforming.{Conforms, ConformAll, ConformPairs, ConformsEach, DefaultsConform, HasBits}
+use Rattle.avro_types.specs.Conforming.{Conforms, ConformAll, ConformPairs, DefaultsConform, HasBits}
 use Rattle.outcome.specs.declared.mismatch.MismatchKind.TheVariants.{NoMatch, NoSymbol, BytesNotText}
-use Rattle.resolver.specs.Matching.{given, both_items, both_values, matches}
-use Rattle.resolver.specs.Resolution.{Resolved, ◌>>=◌, Came, mismatch, int_for, text_for, bytes_for, or_else, symbol_at, symbol_for, symbol_in, member_at, field_lists, field_named, lacking, unless_lacking, gathered, resolved, resolved_items, resolved_values, resolved_fields}
+use Rattle.matching.specs.Matching.{both_items, both_values, matches}
+use Rattle.matching.specs.Options.{given}
+use Rattle.resolver.specs.Resolution.{Resolved, ◌>>=◌, mismatch, int_for, text_for, bytes_for, symbol_at, symbol_for, symbol_in, member_at, field_lists, lacking, unless_lacking, resolved, resolved_items, resolved_values, resolved_fields, Slots, filled, no_slots}
+use Rattle.matching.specs.Options.{or_else}
 use Rattle.resolver.specs.Conforming.{ResolutionIsWhole}
-use Rattle.resolver.proofs.Arriving.{Arrive, all_arrived, each_found, field_arrives, nothing_else}
-use Rattle.resolver.proofs.Partners.{node_fits}
+use Rattle.matching.proofs.Fitting.{node_fits}
 use Rattle.resolver.proofs.Places.{placed_whole}
+use Rattle.resolver.specs.Laws.Fields.{GoTo, came, length_no_slots, length_routes, one_put, routes_go}
+use Rattle.resolver.proofs.Seats.{AreOf, Seated, all_filled, are_many, field_seated, fields_are_of, none_seated}
+use Rattle.matching.specs.Partners.{has_partner, partners, routes}
+use Rattle.matching.specs.declared.pairing.Route.{Route}
 
 wider : (n : ℤ) → HasBits 31 n → HasBits 63 n
 wider (pos n) h = omega arith
@@ -60,10 +65,10 @@ two (Err m) y f c h = absurd cc
 member_made : (o : Option ℕ) (w r m : ℕ) (go : ℕ → Resolved Datum) (e : Datum) → o ≡ Some m → given o (mismatch NoMatch w r) go ≡ Ok e → go m ≡ Ok e
 member_made o w r m go e at h = sym (ap (λ (o : Option ℕ). given o (mismatch NoMatch w r) go) at) ∙ h
 
-pub none_lacks : (o : Option FieldNode) (w : ℕ) (came : Resolved Came) (gs : List FieldNode) (e : Datum) → unless_lacking o w (came >>= λ came. Ok (RecordDatum (gathered gs came))) ≡ Ok e → (o ≡ None) × ((c : Came) × (came ≡ Ok c) × (RecordDatum (gathered gs c) ≡ e))
+pub none_lacks : (o : Option FieldNode) (w : ℕ) (came : Resolved Slots) (gs : List FieldNode) (e : Datum) → unless_lacking o w (came >>= λ slots. Ok (RecordDatum (filled gs slots))) ≡ Ok e → (o ≡ None) × ((slots : Slots) × (came ≡ Ok slots) × (RecordDatum (filled gs slots) ≡ e))
 none_lacks (Some g) w came gs e h = absurd cc
 none_lacks None w (Err m) gs e h = absurd cc
-none_lacks None w (Ok c) gs e h = (refl, (c, refl, cc))
+none_lacks None w (Ok slots) gs e h = (refl, (slots, refl, cc))
 
 module _ (W R : List Node) (formed : IsWellFormed R) (defaults : DefaultsConform R) where
   -- ---- a datum in the reader's node itself, which matches
@@ -121,18 +126,19 @@ module _ (W R : List Node) (formed : IsWellFormed R) (defaults : DefaultsConform
         let made = bound (resolved_values W R is.0 f.0 ps) MapDatum d (sym (ap (λ (o : Option (ℕ × ℕ)). given o (mismatch NoMatch w node) (λ p. resolved_values W R p.0 p.1 ps >>= λ qs. Ok (MapDatum qs))) both) ∙ h) in
         subst (Conforms R node) made.2 (f.0, f.1, values f.0 made.0 made.1)
 
-    record_inside : (ds : Data) → (is : Conforms W w (RecordDatum ds)) → ((gs : List FieldNode) (came : Came) → resolved_fields W R is.1 gs ds ≡ Ok came → Arrive W R is.1 gs came) → given (field_lists (slice_get W w) (slice_get R node)) (mismatch NoMatch w node) (λ p. unless_lacking (lacking p.0 p.1) w (resolved_fields W R p.0 p.1 ds >>= λ came. Ok (RecordDatum (gathered p.1 came)))) ≡ Ok d → Conforms R node d
-    record_inside ds is fields h =
+    record_inside : (ds : Data) → (is : Conforms W w (RecordDatum ds)) → ((gs : List FieldNode) (final : Slots) → resolved_fields W R (no_slots gs) (routes is.1 gs) ds ≡ Ok final → Seated R gs final) → given (field_lists (slice_get W w) (slice_get R node)) (mismatch NoMatch w node) (λ p. unless_lacking (lacking p.0 p.1) w (resolved_fields W R (no_slots p.1) (routes p.0 p.1) ds >>= λ slots. Ok (RecordDatum (filled p.1 slots)))) ≡ Ok d → Conforms R node d
+    unfolding made_of
+    record_inside ds is seated h =
         let fs = is.1 in
         let f = node_fits W R w node (RecordNode is.0 fs) is.2 m u in
         let gs = f.1 in
         let lists : field_lists (slice_get W w) (slice_get R node) ≡ Some (fs, gs) = ap (λ (o : Option Node). field_lists o (slice_get R node)) is.2 ∙ ap (λ (o : Option Node). field_lists (Some (RecordNode is.0 fs)) o) f.2 in
-        let inner : unless_lacking (lacking fs gs) w (resolved_fields W R fs gs ds >>= λ came. Ok (RecordDatum (gathered gs came))) ≡ Ok d =
-        sym (ap (λ (o : Option (List FieldNode × List FieldNode)). given o (mismatch NoMatch w node) (λ p. unless_lacking (lacking p.0 p.1) w (resolved_fields W R p.0 p.1 ds >>= λ came. Ok (RecordDatum (gathered p.1 came))))) lists) ∙ h in
-        let p = none_lacks (lacking fs gs) w (resolved_fields W R fs gs ds) gs d inner in
-        let distinct = (formed.each node (RecordNode f.0 gs) f.2).1 in
-        let came = p.1.0 in
-        subst (Conforms R node) p.1.2 (f.0, gs, f.2, all_arrived W R fs gs gs came p.0 (each_found gs distinct) (defaults node f.0 gs f.2) (fields gs came p.1.1) (nothing_else W R fs gs ds came p.1.1))
+        let inner : unless_lacking (lacking fs gs) w (resolved_fields W R (no_slots gs) (routes fs gs) ds >>= λ slots. Ok (RecordDatum (filled gs slots))) ≡ Ok d =
+        sym (ap (λ (o : Option (List FieldNode × List FieldNode)). given o (mismatch NoMatch w node) (λ p. unless_lacking (lacking p.0 p.1) w (resolved_fields W R (no_slots p.1) (routes p.0 p.1) ds >>= λ slots. Ok (RecordDatum (filled p.1 slots))))) lists) ∙ h in
+        let p = none_lacks (lacking fs gs) w (resolved_fields W R (no_slots gs) (routes fs gs) ds) gs d inner in
+        let final = p.1.0 in
+        let there = λ (k i : ℕ) (at : i ≡ 0 + k) (has : has_partner i (routes fs gs) ≡ true). came W R gs (routes fs gs) ds (no_slots gs) final k (are_many W fs ds is.3 ∙ sym (length_routes fs gs)) (routes_go gs fs (partners fs gs)) (length_no_slots gs) (subst (λ (n : ℕ). has_partner n (routes fs gs) ≡ true) (let same : i ≡ k = omega (arith, at) in same) has) p.1.1 in
+        subst (Conforms R node) p.1.2 (f.0, gs, f.2, all_filled R (routes fs gs) 0 gs final p.0 there (defaults node f.0 gs f.2) (seated gs final p.1.1))
 
   mutual
     unfolding resolved resolved_items resolved_values resolved_fields made_of
@@ -148,7 +154,7 @@ module _ (W R : List Node) (formed : IsWellFormed R) (defaults : DefaultsConform
     datum_whole (EnumDatum n) w r e is h = placed_whole W R formed w _ (λ node d u m k. enum_inside w node d u m n is k) r e h
     datum_whole (ArrayDatum ds) w r e is h = placed_whole W R formed w _ (λ node d u m k. array_inside w node d u m ds is (λ j es l. items_whole ds is.0 j es is.2 l) k) r e h
     datum_whole (MapDatum ps) w r e is h = placed_whole W R formed w _ (λ node d u m k. map_inside w node d u m ps is (λ j qs l. values_whole ps is.0 j qs is.2 l) k) r e h
-    datum_whole (RecordDatum ds) w r e is h = placed_whole W R formed w _ (λ node d u m k. record_inside w node d u m ds is (λ gs came l. fields_whole ds is.1 gs came is.3 l) k) r e h
+    datum_whole (RecordDatum ds) w r e is h = placed_whole W R formed w _ (λ node d u m k. record_inside w node d u m ds is (λ gs final l. fields_whole ds gs (routes is.1 gs) (no_slots gs) final (fields_are_of W is.1 gs ds is.3) (routes_go gs is.1 (partners is.1 gs)) (none_seated R gs) l) k) r e h
     datum_whole (UnionDatum n d) w r e is h =
         let at : member_at (slice_get W w) n ≡ Some is.2 = ap (λ (o : Option Node). member_at o n) is.1 ∙ is.3 in
         datum_whole d is.2 r e is.4 (member_made (member_at (slice_get W w) n) w r is.2 (λ member. resolved W R member r d) e at h)
@@ -165,12 +171,12 @@ module _ (W R : List Node) (formed : IsWellFormed R) (defaults : DefaultsConform
         let p = two (resolved W R i j d) (resolved_values W R i j ps) (pair key) qs h in
         subst (ConformPairs R j) p.4 (is.0, datum_whole d i j p.0 is.1 p.2, values_whole ps i j p.1 is.2 p.3)
 
-    fields_whole : (ds : Data) (ws rs : List FieldNode) (came : Came) → ConformsEach W ws ds → resolved_fields W R ws rs ds ≡ Ok came → Arrive W R ws rs came
-    fields_whole no_more [] rs came is h = λ name f g at there. absurd cc
-    fields_whole no_more (f ∷ ws) rs came is h = absurd is
-    fields_whole (more d ds) [] rs came is h = absurd is
-    fields_whole (more d ds) (f ∷ ws) rs came is h =
-        field_arrives W R f ws rs d (resolved_fields W R ws rs ds) (λ g e k. datum_whole d f.node g.node e is.0 k) (λ c k. fields_whole ds ws rs c is.1 k) (field_named f.name rs) refl came h
+    fields_whole : (ds : Data) (gs : List FieldNode) (routes : List Route) (slots final : Slots) → AreOf W routes ds → GoTo gs routes → Seated R gs slots → resolved_fields W R slots routes ds ≡ Ok final → Seated R gs final
+    fields_whole no_more gs [] slots final of go s h = subst (Seated R gs) (let same : slots ≡ final = cc in same) s
+    fields_whole no_more gs (r ∷ routes) slots final of go s h = absurd of
+    fields_whole (more d ds) gs [] slots final of go s h = absurd of
+    fields_whole (more d ds) gs (r ∷ routes) slots final of go s h =
+        one_put W R r d (λ slots. resolved_fields W R slots routes ds) (Seated R gs) final (λ slots s h. fields_whole ds gs routes slots final of.1 go.1 s h) r.partner slots s (field_seated W R gs r d slots s (λ p e k. datum_whole d r.node p.node e of.0 k) r.partner go.0) h
 
 pub whole : (W R : List Node) → IsWellFormed R → DefaultsConform R → ResolutionIsWhole W R
 whole W R formed defaults w r d e is h = datum_whole W R formed defaults d w r e is h

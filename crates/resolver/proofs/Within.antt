@@ -1,43 +1,58 @@
--- The pairs that nodes of two schemas lead to are nodes of the schemas.
-use Rattle.std.proofs.Common.{◌≡◌, ℕ, suc, ◌+◌, ◌<◌, Bool, true, false, cond, List, [], ◌∷◌, ◌++◌, length, drop, get_or, map, Option, Some, None, option_map, option_to_list, Result, Ok, Err, IfOk, refl, sym, ap, subst, ◌∙◌, add-one}
+-- The pairs and routes of nodes of two schemas are of nodes of the schemas.
+use Rattle.std.proofs.Common.{◌≡◌, ℕ, zero, suc, ◌<◌, List, [], ◌∷◌, length, map, slice_get, Option, Some, None, IfSome, option_map, Result, Ok, Err, IfOk, sym, subst, ◌∙◌, arith}
+use Rattle.std.proofs.lemmas.List.{length-map}
+use Rattle.avro_types.specs.declared.kind.Field.{Field}
 use Rattle.std.specs.Global.{Vec}
 use Rattle.std.specs.declared.alloc.AllocError.{AllocError}
 use Rattle.std.specs.List.{AllByRecursion}
-use Rattle.std.specs.Str.{bytes_eq}
-use Rattle.std.proofs.Math.Seq.{drop-cons}
-use Rattle.avro_types.specs.declared.kind.Field.{Field}
-use Rattle.avro_types.specs.Node.{Node, FieldNode, FieldsBelow, IsMember, field_of, fields_of}
-use Rattle.resolver.specs.Matching.{given}
+use Rattle.avro_types.specs.Node.{Node, FieldNode, fields_of}
+use Rattle.avro_types.specs.WellFormed.{FieldsBelow, IsMember}
+use Rattle.matching.specs.declared.pairing.Partner.{Partner}
+use Rattle.matching.specs.declared.pairing.Route.{Route}
+use Rattle.resolver.specs.NextPairs.{partner_pairs}
+use Rattle.matching.specs.Options.{given}
 use Rattle.resolver.specs.Pairs.{AreWithin}
-use Rattle.resolver.specs.Resolution.{field_named}
-use Rattle.resolver.specs.Safety.{Pair, partner_pairs}
+use Rattle.matching.specs.Partners.{AreRoutes, partner_at, partners, routes, routes_to}
+use Rattle.resolver.specs.Safety.{Pair}
 
-named_below : (len : ℕ) (name : List ℕ) (fs : List FieldNode) (g : FieldNode) → FieldsBelow len fs → field_named name fs ≡ Some g → g.node < len
-named_below len name [] g below e = absurd cc
-named_below len name (f ∷ fs) g below e = one (bytes_eq name f.name) e (λ h. named_below len name fs g below.1 h) where
-  one : (b : Bool) → cond b (Some f) (field_named name fs) ≡ Some g → (field_named name fs ≡ Some g → g.node < len) → g.node < len
-  one true e rest = let same : f ≡ g = cc in subst (λ (x : FieldNode). x.node < len) same below.0
-  one false e rest = rest e
+partner_within : (readers j : ℕ) (rs : List FieldNode) → FieldsBelow readers rs → IfSome (slice_get rs j) (λ g. (j < length rs) × (g.node < readers))
+partner_within readers j [] b = tt
+partner_within readers zero (g ∷ rs) b = (omega arith, b.0)
+partner_within readers (suc j) (g ∷ rs) b = further (slice_get rs j) (partner_within readers j rs b.1) where
+  further : (o : Option FieldNode) → IfSome o (λ g. (j < length rs) × (g.node < readers)) → IfSome o (λ g. (suc j < suc (length rs)) × (g.node < readers))
+  further None h = tt
+  further (Some g) h = (omega (arith, h.0), h.1)
 
-pub partners_within : (writers readers : ℕ) (ws rs : List FieldNode) → FieldsBelow writers ws → FieldsBelow readers rs → AreWithin writers readers (partner_pairs ws rs)
-partners_within writers readers [] rs a b = tt
-partners_within writers readers (f ∷ ws) rs a b = one (field_named f.name rs) refl (partners_within writers readers ws rs a.1 b) where
-  one : (o : Option FieldNode) → field_named f.name rs ≡ o → AreWithin writers readers (partner_pairs ws rs) → AreWithin writers readers (given o (partner_pairs ws rs) (λ g. (f.node, g.node) ∷ partner_pairs ws rs))
-  one None e rest = rest
-  one (Some g) e rest = ((a.0, named_below readers f.name rs g b e), rest)
+-- where the writer's fields go
+routes_to_within : (writers readers : ℕ) (rs ws : List FieldNode) (ps : List (Option ℕ)) → FieldsBelow writers ws → FieldsBelow readers rs → AreRoutes writers readers (length rs) (routes_to rs ws ps)
+routes_to_within writers readers rs [] ps a b = tt
+routes_to_within writers readers rs (f ∷ ws) [] a b = tt
+routes_to_within writers readers rs (f ∷ ws) (p ∷ ps) a b = (record { node = a.0; partner = here p }, routes_to_within writers readers rs ws ps a.1 b) where
+  found : (j : ℕ) (o : Option FieldNode) → IfSome o (λ g. (j < length rs) × (g.node < readers)) → IfSome (option_map (λ g. record { position = j; node = g.node }) o) (λ (p : Partner). (p.position < length rs) × (p.node < readers))
+  found j None h = tt
+  found j (Some g) h = h
 
-pub members_within : (W : List Node) (readers r : ℕ) (ms : List ℕ) → AllByRecursion (IsMember W) ms → r < readers → AreWithin (length W) readers (map (λ m. (m, r)) ms)
-members_within W readers r [] all lt = tt
-members_within W readers r (m ∷ ms) all lt = ((all.0.below, lt), members_within W readers r ms all.1 lt)
+  here : (p : Option ℕ) → IfSome (given p None (partner_at rs)) (λ p. (p.position < length rs) × (p.node < readers))
+  here None = tt
+  here (Some j) = found j (slice_get rs j) (partner_within readers j rs b)
+
+pub routes_within : (writers readers : ℕ) (ws rs : List FieldNode) → FieldsBelow writers ws → FieldsBelow readers rs → AreRoutes writers readers (length rs) (routes ws rs)
+routes_within writers readers ws rs a b = routes_to_within writers readers rs ws (partners ws rs) a b
+
+pub partners_within : (writers readers places : ℕ) (routes : List Route) → AreRoutes writers readers places routes → AreWithin writers readers (partner_pairs routes)
+partners_within writers readers places [] a = tt
+partners_within writers readers places (r ∷ routes) a = one r.partner a.0.partner (partners_within writers readers places routes a.1) where
+  one : (o : Option Partner) → IfSome o (λ p. (p.position < places) × (p.node < readers)) → AreWithin writers readers (partner_pairs routes) → AreWithin writers readers (given o (partner_pairs routes) (λ p. (r.node, p.node) ∷ partner_pairs routes))
+  one None h rest = rest
+  one (Some p) h rest = ((a.0.node, h.1), rest)
+
+pub members_within : (W : List Node) (own readers r : ℕ) (ms : List ℕ) → AllByRecursion (IsMember W own) ms → r < readers → AreWithin (length W) readers (map (λ m. (m, r)) ms)
+members_within W own readers r [] all lt = tt
+members_within W own readers r (m ∷ ms) all lt = ((all.0.below, lt), members_within W own readers r ms all.1 lt)
 
 pub result_within : (writers readers : ℕ) (ps : List Pair) (res : Result (Vec Pair) AllocError) → IfOk res (λ v. v.items ≡ ps) → AreWithin writers readers ps → IfOk res (λ v. AreWithin writers readers v.items)
 result_within writers readers ps (Ok v) e a = rw e a
 result_within writers readers ps (Err x) e a = tt
 
--- the loop over the fields
-pub partners_here : (ws : List Field) (i : ℕ) (f : Field) (rs : List FieldNode) → i < length ws → f ≡ get_or ws i f → partner_pairs (fields_of (drop i ws)) rs ≡ option_to_list (option_map (λ g. (f.node, g.node)) (field_named (field_of f).name rs)) ++ partner_pairs (fields_of (drop (i + 1) ws)) rs
-partners_here ws i f rs lt is =
-    rw add-one (ap (λ (x : List Field). partner_pairs (fields_of x) rs) (drop-cons ws i f lt ∙ ap (λ (x : Field). x ∷ drop (suc i) ws) (sym is)) ∙ one (field_named (field_of f).name rs)) where
-      one : (o : Option FieldNode) → given o (partner_pairs (fields_of (drop (suc i) ws)) rs) (λ g. (f.node, g.node) ∷ partner_pairs (fields_of (drop (suc i) ws)) rs) ≡ option_to_list (option_map (λ g. (f.node, g.node)) o) ++ partner_pairs (fields_of (drop (suc i) ws)) rs
-      one None = refl
-      one (Some g) = refl
+pub places_within : {X : Type 0} (writers readers : ℕ) (routes : List Route) (rs : List Field) (slots : List X) → length slots ≡ length rs → AreRoutes writers readers (length (fields_of rs)) routes → AreRoutes writers readers (length slots) routes
+places_within writers readers routes rs slots e a = subst (λ (n : ℕ). AreRoutes writers readers n routes) (length-map rs _ ∙ sym e) a

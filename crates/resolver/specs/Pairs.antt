@@ -1,7 +1,8 @@
 -- Pairs in the order in which they came, each once.
 use Rattle.std.specs.Prelude.{◌≡◌, ℕ, ◌+◌, ◌*◌, ◌<◌, suc, Bool, true, false, List, [], ◌∷◌, ◌++◌, length, slice_index_or, ◌⊎◌}
 use Rattle.std.specs.List.{AllByRecursion}
-use Rattle.resolver.specs.Safety.{Pair, Among}
+use Rattle.resolver.specs.NextPairs.{Among}
+use Rattle.resolver.specs.Safety.{Pair}
 use Rattle.resolver.specs.declared.pairs.PairList.TheInside.{Inside}
 
 -- the pairs, and how many nodes either schema has
@@ -13,7 +14,7 @@ pub record Listed : Type 0 where
 abbrev pub listed_of : Inside → Listed
 listed_of s = record { pairs = s.pairs.items; writers = s.writers; readers = s.readers }
 
--- the pair was there, or stands behind the others
+-- the pair was there, or stands after the others
 pub record Adds (p : Pair) (old new : Listed) : Type 0 where
   pub writers : new.writers ≡ old.writers
   pub readers : new.readers ≡ old.readers

@@ -1,17 +1,20 @@
 -- What resolution makes of a datum (Avro 1.11, "Schema Resolution").
-use Rattle.std.specs.Prelude.{◌≡◌, ℕ, Bool, ◌&&◌, List, [], ◌∷◌, Option, Some, None, is_none, Result, Ok, Err, if◌then◌else◌, slice_get}
-use Rattle.std.specs.Str.{bytes_eq, is_utf8}
+use Rattle.std.specs.Prelude.{◌≡◌, ℕ, suc, Bool, not, ◌&&◌, List, [], ◌∷◌, map, Option, Some, None, is_none, Result, Ok, Err, if◌then◌else◌, slice_get, slice_set}
+use Rattle.std.specs.Str.{is_utf8}
 use Rattle.avro_types.specs.Node.{Node, FieldNode, LongNode, BytesNode, TextNode, EnumNode, UnionNode, RecordNode}
 use Rattle.avro_types.specs.Symbols.{place_of}
 use Rattle.avro_types.specs.Datum.{Datum, Data, Pairs, NullDatum, BooleanDatum, IntDatum, LongDatum, BytesDatum, TextDatum, FixedDatum, EnumDatum, ArrayDatum, MapDatum, UnionDatum, RecordDatum, no_more, more, no_pairs, pair}
-use Rattle.resolver.specs.declared.place.Place.{Place}
-use Rattle.resolver.specs.declared.place.Place.TheVariants.{Straight, IntoMember, Nowhere, Unmatched}
+use Rattle.matching.specs.declared.place.Place.{Place}
+use Rattle.matching.specs.declared.place.Place.TheVariants.{Straight, IntoMember, Nowhere, Unmatched}
 use Rattle.outcome.specs.declared.mismatch.Mismatch.{Mismatch}
 use Rattle.outcome.specs.declared.mismatch.MismatchKind.{MismatchKind}
 use Rattle.outcome.specs.declared.mismatch.MismatchKind.TheVariants.{NoMatch, NoBranch, NoSymbol, NoDefault, BytesNotText}
 use Rattle.resolver.specs.declared.mismatch.ResolveError.{ResolveError}
 use Rattle.resolver.specs.declared.mismatch.ResolveError.TheVariants as errors
-use Rattle.resolver.specs.Matching.{given, both_items, both_values, place}
+use Rattle.matching.specs.Matching.{both_items, both_values, place}
+use Rattle.matching.specs.Options.{given, or_else}
+use Rattle.matching.specs.Partners.{has_partner, routes}
+use Rattle.matching.specs.declared.pairing.Route.{Route}
 
 -- a value of the reader, or the first mismatch
 abbrev pub Resolved : Type 0 → Type 0
@@ -47,12 +50,8 @@ abbrev pub bytes_for : Option Node → ℕ → ℕ → List ℕ → Resolved Dat
 bytes_for (Some TextNode) w r bytes = if is_utf8 bytes then Ok (TextDatum bytes) else mismatch BytesNotText w r
 bytes_for _ w r bytes = Ok (BytesDatum bytes)
 
--- the first, or else the second
-abbrev pub or_else : {A : Type 0} → Option A → Option A → Option A
-or_else (Some a) other = Some a
-or_else None other = other
-
--- ---- enums: "if the symbol is not present in the reader's enum and the reader has a default value, then that value is used"
+-- ---- enums: "if the writer's symbol is not present in the reader's enum and the reader has a default value, then
+-- that value is used, otherwise an error is signalled"
 
 -- the position of a symbol among others, or else the default
 abbrev pub symbol_in : List (List ℕ) → Option ℕ → List ℕ → Option ℕ
@@ -75,11 +74,7 @@ abbrev pub member_at : Option Node → ℕ → Option ℕ
 member_at (Some (UnionNode members)) n = slice_get members n
 member_at _ n = None
 
--- ---- records: fields go by name
-
-abbrev pub field_named : List ℕ → List FieldNode → Option FieldNode
-field_named name [] = None
-field_named name (f ∷ fs) = if bytes_eq name f.name then Some f else field_named name fs
+-- ---- records
 
 -- the fields of two records
 abbrev pub field_lists : Option Node → Option Node → Option (List FieldNode × List FieldNode)
@@ -87,30 +82,36 @@ field_lists (Some (RecordNode n fs)) (Some (RecordNode m gs)) = Some (fs, gs)
 field_lists _ _ = None
 
 -- a reader's field with neither a partner nor a default
-abbrev pub lacks : List FieldNode → FieldNode → Bool
-lacks ws g = is_none (field_named g.name ws) && is_none g.default
+abbrev pub lacks : List Route → ℕ → FieldNode → Bool
+lacks routes j g = not (has_partner j routes) && is_none g.default
 
--- the first such field
+-- the first such field, from a position on
+abbrev pub lacking_from : List Route → ℕ → List FieldNode → Option FieldNode
+lacking_from routes j [] = None
+lacking_from routes j (g ∷ rs) = if lacks routes j g then Some g else lacking_from routes (suc j) rs
+
 abbrev pub lacking : List FieldNode → List FieldNode → Option FieldNode
-lacking ws [] = None
-lacking ws (g ∷ rs) = if lacks ws g then Some g else lacking ws rs
+lacking ws rs = lacking_from (routes ws rs) 0 rs
 
+-- "if the reader's record schema has a field with no default value, and writer's schema does not have a field with
+-- the same name, an error is signalled": before its fields
 abbrev pub unless_lacking : Option FieldNode → ℕ → Resolved Datum → Resolved Datum
 unless_lacking None w value = value
 unless_lacking (Some g) w value = mismatch NoDefault w g.node
 
--- what came of the writer's fields, by name
-abbrev pub Came : Type 0
-Came = List (List ℕ × Datum)
+-- a slot for each of the reader's fields, for what comes from its partner
+abbrev pub Slots : Type 0
+Slots = List (Option Datum)
 
-abbrev pub came_as : List ℕ → Came → Option Datum
-came_as name [] = None
-came_as name (c ∷ came) = if bytes_eq name c.0 then Some c.1 else came_as name came
+abbrev pub no_slots : List FieldNode → Slots
+no_slots rs = map (λ g. None) rs
 
--- the reader's fields in the reader's order, what came or else the default
-abbrev pub gathered : List FieldNode → Came → Data
-gathered [] came = no_more
-gathered (g ∷ rs) came = given (or_else (came_as g.name came) g.default) (gathered rs came) (λ d. more d (gathered rs came))
+-- the reader's fields in the reader's order, what came or else the default: "if the reader's record schema has a
+-- field that contains a default value, .. then the reader should use the default value from its field"
+abbrev pub filled : List FieldNode → Slots → Data
+filled [] slots = no_more
+filled (g ∷ rs) [] = no_more
+filled (g ∷ rs) (slot ∷ slots) = given (or_else slot g.default) (filled rs slots) (λ d. more d (filled rs slots))
 
 module _ (W R : List Node) where
   unfoldable mutual
@@ -134,9 +135,10 @@ module _ (W R : List Node) where
         resolved_values p.0 p.1 ps >>= λ qs. Ok (MapDatum qs)))
     resolved w r (RecordDatum ds) = placed (place W R w r) w r (λ node.
         given (field_lists (slice_get W w) (slice_get R node)) (mismatch NoMatch w node) (λ p.
-        unless_lacking (lacking p.0 p.1) w (resolved_fields p.0 p.1 ds >>= λ came. Ok (RecordDatum (gathered p.1 came)))))
-    -- the writer's union goes first: its datum, whose place is its own
-    resolved w r (UnionDatum n d) = given (member_at (slice_get W w) n) (mismatch NoMatch w r) (λ member. resolved member r d)
+        unless_lacking (lacking p.0 p.1) w (resolved_fields (no_slots p.1) (routes p.0 p.1) ds >>= λ slots. Ok (RecordDatum (filled p.1 slots)))))
+    -- the writer's union goes first: "the selected writer's schema" is resolved, whose place is its own
+    resolved w r (UnionDatum n d) =
+        given (member_at (slice_get W w) n) (mismatch NoMatch w r) (λ member. resolved member r d)
 
     -- items, one after another
     pub resolved_items : ℕ → ℕ → Data → Resolved Data
@@ -148,13 +150,15 @@ module _ (W R : List Node) where
     resolved_values w r no_pairs = Ok no_pairs
     resolved_values w r (pair key d ps) = resolved w r d >>= λ e. resolved_values w r ps >>= λ qs. Ok (pair key e qs)
 
-    -- the writer's fields in the writer's order, less those that the reader lacks
-    pub resolved_fields : List FieldNode → List FieldNode → Data → Resolved Came
-    resolved_fields [] rs ds = Ok []
-    resolved_fields (f ∷ ws) rs no_more = Ok []
-    resolved_fields (f ∷ ws) rs (more d ds) =
-        given (field_named f.name rs) (resolved_fields ws rs ds) (λ g.
-        resolved f.node g.node d >>= λ e. resolved_fields ws rs ds >>= λ came. Ok ((f.name, e) ∷ came))
+    -- the writer's fields in the writer's order, each into its partner's slot; one without a partner is dropped: "if
+    -- the writer's record contains a field with a name not present in the reader's record, the writer's value for
+    -- that field is ignored"
+    pub resolved_fields : Slots → List Route → Data → Resolved Slots
+    resolved_fields slots [] ds = Ok slots
+    resolved_fields slots (r ∷ routes) no_more = Ok slots
+    resolved_fields slots (r ∷ routes) (more d ds) =
+        given r.partner (resolved_fields slots routes ds) (λ p.
+        resolved r.node p.node d >>= λ e. resolved_fields (slice_set slots p.position (Some e)) routes ds)
 
 -- what is answered, seen by view, unless memory ran out
 abbrev pub Resolves : {X A : Type 0} → (X → A) → Result X ResolveError → Resolved A → Type 0

@@ -1,14 +1,17 @@
-ghost use Rattle.std.specs.Prelude.{◌≡◌, ◌<◌, length, map, slice_get, IfOk, IfSome, option_map, position};
+ghost use Rattle.std.specs.Prelude.{◌≡◌, ◌<◌, ℕ, false, length, slice_get, slice_index_or, IfOk, IfSome, option_map};
 ghost use Rattle.avro_types.specs.Datum.{data_of, datum_of};
 ghost use Rattle.avro_types.specs.Node.{field_of, fields_of};
-ghost use Rattle.resolver.specs.Resolution.{field_lists, lacking, lacks, or_else};
-ghost use Rattle.resolver.specs.Steps.{AreFields, both_lists, filled, is_named, kept, slots_of};
+ghost use Rattle.matching.specs.Options.{or_else};
+ghost use Rattle.matching.specs.Partners.{has_partner};
+ghost use Rattle.resolver.specs.Resolution.{field_lists, filled, lacking_from, no_slots};
+ghost use Rattle.resolver.specs.Steps.{AreFields, both_lists, kept, slots_of};
 
 use avro_types::{Datum, Field, Kind, Nodes};
+use matching::Route;
 use std::alloc::{AllocError, Global};
 
 /// The fields of two records.
-pub(crate) fn field_lists<'a, 'b>(
+pub fn field_lists<'a, 'b>(
     w: &'a Nodes,
     wn: usize,
     r: &'b Nodes,
@@ -30,38 +33,43 @@ pub(crate) fn field_lists<'a, 'b>(
     }
 }
 
-/// The place of the field of a name.
-pub(crate) fn place_of_name(name: &str, fields: &[Field]) -> Option<usize>
-    ensures place { result ≡ position (is_named name.now) fields.now }
-    ensures within { IfSome result (λ i. i < length fields.now) }
+/// Which of the reader's fields have partners.
+fn have_partners(alloc: Global, routes: &[Route], rs: &[Field]) -> Result<Vec<bool>, AllocError>
+    ensures each { IfOk result (λ v. length v.items ≡ length rs.now) }
+    ensures mark { IfOk result (λ v. (j : ℕ) → j < length rs.now → slice_index_or v.items j false ≡ has_partner j routes.now) }
 {
-    fields.iter().position(|field| name == field.name.as_str())
-}
-
-/// Whether a reader's field has neither a partner nor a default.
-#[tactic(auto, using(crate::proofs::Named::none_named))]
-fn lacks(writers: &[Field], field: &Field) -> bool
-    ensures { result ≡ lacks (fields_of writers.now) (field_of field.now) }
-{
-    place_of_name(&field.name, writers).is_none() && field.default.is_none()
+    let mut marks = vec![in alloc; false; rs.len()]?;
+    for route in routes {
+        if let Some(partner) = route.partner {
+            if partner.position < marks.len() {
+                marks[partner.position] = true;
+            }
+        }
+    }
+    Ok(marks)
 }
 
 /// The first of the reader's fields that has neither a partner nor a default.
-#[tactic(auto, using(crate::proofs::Named::lacking_here))]
-pub(crate) fn first_lacking<'a>(writers: &[Field], readers: &'a [Field]) -> Option<&'a Field>
-    ensures { option_map (λ g. field_of g.now) result ≡ lacking (fields_of writers.now) (fields_of readers.now) }
+pub fn first_lacking<'a>(
+    alloc: Global,
+    routes: &[Route],
+    rs: &'a [Field],
+) -> Result<Option<&'a Field>, AllocError>
+    ensures { IfOk result (λ o. option_map (λ g. field_of g.now) o ≡ lacking_from routes.now 0 (fields_of rs.now)) }
 {
-    for field in readers {
-        if lacks(writers, field) {
-            return Some(field);
+    let marks = have_partners(alloc, routes, rs)?;
+    for (position, field) in rs.iter().enumerate() {
+        if !marks[position] && field.default.is_none() {
+            return Ok(Some(field));
         }
     }
-    None
+    Ok(None)
 }
 
 /// An empty slot for each field.
 pub(crate) fn empty_slots(alloc: Global, fields: &[Field]) -> Result<Vec<Option<Datum>>, AllocError>
-    ensures { IfOk result (λ v. v.items ≡ map (λ _. None) fields.now) }
+    ensures none { IfOk result (λ v. slots_of v.items ≡ no_slots (fields_of fields.now)) }
+    ensures each { IfOk result (λ v. length v.items ≡ length fields.now) }
 {
     let mut slots = Vec::new(alloc);
     for _field in fields {

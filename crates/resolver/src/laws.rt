@@ -4,14 +4,8 @@ ghost use Rattle.outcome.specs.Outcome.{Outcome};
 ghost use Rattle.resolver.specs.Outcome.{IsOutcome};
 ghost use Rattle.resolver.specs.Safety.{SafeDataAreReadable};
 ghost use Rattle.resolver.specs.Conforming.{AnswersAreSpelled, ResolutionIsWhole};
-ghost use Rattle.resolver.specs.Matching.{MatchesByRule};
 
 use avro_types::Nodes;
-
-/// The law that matching is the rule as the standard writes it, however deep arrays and maps nest.
-pub fn matches_by_rule()
-    ensures { MatchesByRule }
-{}
 
 /// The law that what comes of a writer's datum is a datum of the reader's node, whole and in range.
 pub fn resolution_is_whole(w: &Nodes, r: &Nodes)

@@ -4,26 +4,26 @@
 mod fields;
 mod laws;
 mod leaves;
-mod matching;
-mod memory;
 mod mismatch;
 mod pairs;
-mod place;
-mod reading;
 mod resolving;
+mod safety;
 mod symbols;
 mod transcoding;
 mod unions;
 
+pub use fields::{field_lists, first_lacking};
 pub use laws::{
-    answer_is_spelled, matches_by_rule, payload_has_one_outcome, resolution_is_whole,
-    what_is_safe_can_be_read,
+    answer_is_spelled, payload_has_one_outcome, resolution_is_whole, what_is_safe_can_be_read,
 };
-pub use matching::matches;
-pub use memory::NoMemory;
+pub use matching::{
+    Partner, Place, Route, both_items, both_values, matches, matches_by_rule, partners,
+    partners_by_rule, place_of, routes,
+};
 pub use mismatch::ResolveError;
 pub use outcome::{MOST_OUTPUT, MOST_PAYLOAD, Mismatch, MismatchKind, Outcome};
-pub use place::{Place, place_of};
-pub use reading::can_read;
 pub use resolving::resolve;
+pub use safety::can_read;
+pub use symbols::{symbol_at, symbol_for};
 pub use transcoding::{TranscodeError, transcode_tree};
+pub use unions::member_of;

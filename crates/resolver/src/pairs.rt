@@ -1,8 +1,8 @@
 ghost use Rattle.std.specs.Prelude.{◌≡◌, ◌<◌, ◌≤◌, ◌*◌, [], length, slice_index_or, IfOk, OnOk};
 ghost use Rattle.resolver.specs.Pairs.{Adds};
 
-use crate::memory::NoMemory;
-use std::alloc::Global;
+use avro_types::MOST_NODES;
+use std::alloc::{AllocError, Global};
 use std::marker::Model;
 
 /// Pairs of nodes in the order in which they came, each once. Callers see it as a `Listed`.
@@ -26,13 +26,12 @@ impl Model for PairList {
 
 impl PairList {
     /// No pairs yet, of so many nodes.
-    pub(crate) fn new(alloc: Global, writers: usize, readers: usize) -> Result<PairList, NoMemory>
+    pub(crate) fn new(alloc: Global, writers: usize, readers: usize) -> Result<PairList, AllocError>
+        requires writers { writers ≤ MOST_NODES }
+        requires readers { readers ≤ MOST_NODES }
         ensures { IfOk result (λ s. s ≡ record { pairs = []; writers = writers; readers = readers }) }
     {
-        let Some(all) = writers.checked_mul(readers) else {
-            return Err(NoMemory);
-        };
-        let seen = vec![in alloc; false; all]?;
+        let seen = vec![in alloc; false; writers * readers]?;
         Ok(PairList {
             pairs: Vec::new(alloc),
             seen,
@@ -60,7 +59,7 @@ impl PairList {
     }
 
     /// Adds a pair that is not there.
-    pub(crate) fn add(&mut self, pair: (usize, usize)) -> Result<(), NoMemory>
+    pub(crate) fn add(&mut self, pair: (usize, usize)) -> Result<(), AllocError>
         requires writer { pair.0 < self.old.writers }
         requires reader { pair.1 < self.old.readers }
         ensures { OnOk result (Adds pair self.old self.new) }

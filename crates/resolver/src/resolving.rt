@@ -1,17 +1,16 @@
-ghost use Rattle.std.specs.Prelude.{◌≡◌, ◌<◌, length, position, string_bytes, IfOk, IfSome, option_map};
-ghost use Rattle.avro_types.specs.Node.{field_of, fields_of};
+ghost use Rattle.std.specs.Prelude.{◌≡◌, ◌<◌, length, IfOk, IfSome, option_map};
 ghost use Rattle.avro_types.specs.Datum.{ArrayDatum, MapDatum, RecordDatum, data_of, datum_of, pairs_of};
-ghost use Rattle.resolver.specs.Matching.{place};
-ghost use Rattle.resolver.specs.Steps.{AreFields, inside, into_slots, is_named, one_field, slots_of, value_of};
+ghost use Rattle.matching.specs.Matching.{place};
+ghost use Rattle.matching.specs.Partners.{AreRoutes};
+ghost use Rattle.resolver.specs.Steps.{inside, one_field, placed_value, slots_of};
 ghost use Rattle.resolver.specs.Resolution.{Resolves, placed, resolved, resolved_fields, resolved_items, resolved_values};
 
-use crate::fields::{empty_slots, field_lists, fill, first_lacking, keep, place_of_name};
+use crate::fields::{empty_slots, field_lists, fill, first_lacking, keep};
 use crate::leaves::{bytes_for, enum_for, int_for, text_for};
-use crate::matching::{both_items, both_values};
 use crate::mismatch::{ResolveError, mismatched};
-use crate::place::{Place, place_of};
 use crate::unions::member_of;
-use avro_types::{Datum, Field, Nodes};
+use avro_types::{Datum, Nodes};
+use matching::{Place, Route, both_items, both_values, place_of, routes};
 use outcome::MismatchKind;
 use std::alloc::Global;
 
@@ -222,10 +221,13 @@ fn resolve_record(
     let Some((ws, rs)) = field_lists(w, wn, r, rn) else {
         return Err(mismatched(MismatchKind::NoMatch, wn, rn));
     };
-    if let Some(field) = first_lacking(ws, rs) {
+    let routes = routes(alloc, ws, rs)?;
+    let lacking = first_lacking(alloc, &routes, rs)?;
+    if let Some(field) = lacking {
         return Err(mismatched(MismatchKind::NoDefault, wn, field.node));
     }
-    let slots = resolve_fields(alloc, fields, w, ws, r, rs)?;
+    let empty = empty_slots(alloc, rs)?;
+    let slots = resolve_fields(alloc, fields, w, &routes, r, empty)?;
     let all = fill(alloc, rs, slots)?;
     Ok(Datum::Record(all))
 }
@@ -236,43 +238,39 @@ fn resolve_fields(
     alloc: Global,
     fields: Vec<Datum>,
     w: &Nodes,
-    ws: &[Field],
+    routes: &[Route],
     r: &Nodes,
-    rs: &[Field],
+    slots: Vec<Option<Datum>>,
 ) -> Result<Vec<Option<Datum>>, ResolveError>
-    requires writer { AreFields (length w.now) (fields_of ws.now) }
-    requires reader { AreFields (length r.now) (fields_of rs.now) }
-    ensures { Resolves (λ v. slots_of v.items) result
-        (into_slots (fields_of rs.now) (resolved_fields w.now r.now (fields_of ws.now) (fields_of rs.now) (data_of fields.items))) }
+    requires { AreRoutes (length w.now) (length r.now) (length slots.items) routes.now }
+    ensures { Resolves (λ v. slots_of v.items) result (resolved_fields w.now r.now (slots_of slots.items) routes.now (data_of fields.items)) }
 {
-    let mut slots = empty_slots(alloc, rs)?;
-    for (field, datum) in ws.iter().zip(fields) {
-        let value = resolve_field(alloc, datum, w, field, r, rs)?;
+    let mut slots = slots;
+    for (route, datum) in routes.iter().zip(fields) {
+        let value = resolve_field(alloc, datum, w, route, r)?;
         slots = keep(slots, value);
     }
     Ok(slots)
 }
 
-/// Resolves a field that has a partner, whose place comes with it.
+/// Resolves a field that has a partner, whose position comes with it.
 #[cycle(resolve)]
 fn resolve_field(
     alloc: Global,
     datum: Datum,
     w: &Nodes,
-    field: &Field,
+    route: &Route,
     r: &Nodes,
-    rs: &[Field],
 ) -> Result<Option<(usize, Datum)>, ResolveError>
-    requires writer { field.now.node < length w.now }
-    requires reader { AreFields (length r.now) (fields_of rs.now) }
-    ensures value { Resolves (option_map value_of) result (one_field w.now r.now (field_of field.now) (fields_of rs.now) (datum_of datum)) }
-    ensures place { IfOk result (λ o. IfSome o (λ p. position (is_named (string_bytes field.now.name)) rs.now ≡ Some p.0)) }
-    ensures within { IfOk result (λ o. IfSome o (λ p. p.0 < length rs.now)) }
+    requires writer { route.now.node < length w.now }
+    requires reader { IfSome route.now.partner (λ p. p.node < length r.now) }
+    ensures value { Resolves (option_map placed_value) result (one_field w.now r.now route.now (datum_of datum)) }
+    ensures position { IfOk result (λ o. IfSome o (λ v. IfSome route.now.partner (λ p. v.0 ≡ p.position))) }
 {
-    match place_of_name(&field.name, rs) {
-        Some(place) => {
-            let value = resolve_at(alloc, w, field.node, r, rs[place].node, datum)?;
-            Ok(Some((place, value)))
+    match route.partner {
+        Some(partner) => {
+            let value = resolve_at(alloc, w, route.node, r, partner.node, datum)?;
+            Ok(Some((partner.position, value)))
         }
         None => Ok(None),
     }

@@ -1,11 +1,11 @@
 ghost use Rattle.std.specs.Prelude.{◌≡◌, ◌<◌, ◌≤◌, length, map, option_map, position, slice_get, string_bytes, IfSome};
 ghost use Rattle.resolver.specs.Resolution.{symbol_at, symbol_for, symbol_in};
-ghost use Rattle.resolver.specs.Safety.{some_missing};
+ghost use Rattle.resolver.specs.NextPairs.{some_missing};
 
 use avro_types::{Kind, MOST_SYMBOLS, Nodes, Symbols};
 
 /// The symbol of a position in an enum.
-pub(crate) fn symbol_at(nodes: &Nodes, node: usize, position: u32) -> Option<&str>
+pub fn symbol_at(nodes: &Nodes, node: usize, position: u32) -> Option<&str>
     requires { node < length nodes.now }
     ensures { option_map (λ s. s.now) result ≡ symbol_at (slice_get nodes.now node) position }
 {
@@ -27,7 +27,7 @@ fn symbol_in(symbols: &Symbols, default: Option<u32>, symbol: &str) -> Option<u3
 }
 
 /// The position of a symbol in an enum, and else that of its default.
-pub(crate) fn symbol_for(nodes: &Nodes, node: usize, symbol: &str) -> Option<u32>
+pub fn symbol_for(nodes: &Nodes, node: usize, symbol: &str) -> Option<u32>
     requires { node < length nodes.now }
     ensures { result ≡ symbol_for (slice_get nodes.now node) symbol.now }
 {

@@ -3,8 +3,7 @@ ghost use Rattle.avro_types.specs.Datum.{datum_of};
 
 use crate::mismatch::ResolveError;
 use crate::resolving::resolve;
-use avro_bytes::Fault;
-use avro_datum::{WriteError, read_all, write};
+use avro_datum::{PayloadError, WriteError, read_all, write};
 use avro_types::{Datum, Nodes};
 use outcome::{MOST_PAYLOAD, Outcome};
 use std::alloc::Global;
@@ -45,9 +44,8 @@ pub fn transcode_tree(
     }
     let datum = match read_all(alloc, w, payload) {
         Ok(datum) => datum,
-        Err(Fault::Malformed { kind, at }) => return Ok(Outcome::Malformed { kind, at }),
-        Err(Fault::NoMemory) => return Err(TranscodeError::NoMemory),
-        Err(Fault::Need) => unreachable!(),
+        Err(PayloadError::Malformed { kind, at }) => return Ok(Outcome::Malformed { kind, at }),
+        Err(PayloadError::NoMemory) => return Err(TranscodeError::NoMemory),
     };
     match resolve(alloc, w, r, datum) {
         Ok(resolved) => write_resolved(alloc, &resolved),

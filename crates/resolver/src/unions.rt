@@ -4,7 +4,7 @@ ghost use Rattle.resolver.specs.Resolution.{member_at};
 use avro_types::{Kind, Nodes};
 
 /// The node of the member of a position in a union.
-pub(crate) fn member_of(nodes: &Nodes, node: usize, position: u32) -> Option<usize>
+pub fn member_of(nodes: &Nodes, node: usize, position: u32) -> Option<usize>
     requires { node < length nodes.now }
     ensures node { result ≡ member_at (slice_get nodes.now node) position }
     ensures within { IfSome result (λ member. member < length nodes.now) }

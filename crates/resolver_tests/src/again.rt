@@ -1,10 +1,9 @@
 //! Calls that are made again where memory ran out the first time.
 
-use avro_bytes::Fault;
-use avro_datum::{WriteError, read_all, write};
+use avro_datum::{PayloadError, WriteError, read_all, write};
 use avro_schema::{Datum, Nodes, Schema, SchemaError};
-use resolver::{NoMemory, Outcome, TranscodeError, can_read, transcode_tree};
-use std::alloc::Global;
+use resolver::{Outcome, TranscodeError, can_read, transcode_tree};
+use std::alloc::{AllocError, Global};
 use std::process::Abort;
 use std::test::Fail;
 
@@ -17,14 +16,18 @@ pub(crate) fn parsed(alloc: Global, text: &str) -> Result<Schema, SchemaError> {
 }
 
 /// A payload's datum, read again where memory ran out the first time.
-pub(crate) fn read_again(alloc: Global, nodes: &Nodes, payload: &[u8]) -> Result<Datum, Fault> {
+pub(crate) fn read_again(
+    alloc: Global,
+    nodes: &Nodes,
+    payload: &[u8],
+) -> Result<Datum, PayloadError> {
     match read_all(alloc, nodes, payload) {
-        Err(Fault::NoMemory) => read_all(alloc, nodes, payload),
+        Err(PayloadError::NoMemory) => read_all(alloc, nodes, payload),
         answer => answer,
     }
 }
 
-/// A datum behind a byte that was there, written again where memory ran out the first time.
+/// A datum after a byte that was there, written again where memory ran out the first time.
 pub(crate) fn written(rt: &(impl Abort + AllocGlobal), datum: &Datum) -> Result<Vec<u8>, Fail> {
     let mut out = vec![in rt.alloc(); 9u8]?;
     if write(datum, &mut out) == Err(WriteError::NoMemory) {
@@ -35,9 +38,9 @@ pub(crate) fn written(rt: &(impl Abort + AllocGlobal), datum: &Datum) -> Result<
 }
 
 /// Whether a reader is safe with a writer, asked again where memory ran out the first time.
-pub(crate) fn readable(alloc: Global, w: &Schema, r: &Schema) -> Result<bool, NoMemory> {
+pub(crate) fn readable(alloc: Global, w: &Schema, r: &Schema) -> Result<bool, AllocError> {
     match can_read(alloc, w.nodes(), r.nodes()) {
-        Err(NoMemory) => can_read(alloc, w.nodes(), r.nodes()),
+        Err(AllocError) => can_read(alloc, w.nodes(), r.nodes()),
         answer => answer,
     }
 }

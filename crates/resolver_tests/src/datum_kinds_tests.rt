@@ -1,7 +1,8 @@
 //! Payloads of every kind of schema, and each fault that only some kinds have.
 
 use crate::again::{parsed, read_again, written};
-use avro_bytes::{Fault, MalformedKind, Meter, WireForm};
+use avro_bytes::{MalformedKind, Meter, WireForm};
+use avro_datum::PayloadError;
 use std::test::Fail;
 
 const FIXED: &str = "{\"type\":\"fixed\",\"name\":\"F\",\"size\":2}";
@@ -101,7 +102,7 @@ fn faults_of_every_kind(rt: HostRuntime) -> Result<(), Fail> {
         let read = read_again(rt.alloc(), schema.nodes(), payload);
         assert_eq!(rt;
             read.err(),
-            Some(Fault::Malformed { kind, at }),
+            Some(PayloadError::Malformed { kind, at }),
             "{text} {payload:?}"
         );
     }
@@ -134,7 +135,7 @@ fn a_thousand_records_nest(rt: HostRuntime) -> Result<(), Fail> {
     assert_eq!(rt; out.len(), 1001);
     assert!(rt; out.ends_with(&payload));
     let deeper = vec![in rt.alloc(); 2u8; 1000]?;
-    let refused = Fault::Malformed {
+    let refused = PayloadError::Malformed {
         kind: MalformedKind::TooDeep,
         at: 1000,
     };

@@ -3,7 +3,8 @@
 use crate::again::{parsed, read_again, written};
 use avro_bytes::{Fault, MOST_UNITS, MalformedKind, Meter, WireForm, read_and_skip};
 use avro_datum::{
-    NodeForm, WriteError, payload_is_spelled_or_faulty, read_all, spelled_datum_conforms, write,
+    NodeForm, PayloadError, WriteError, payload_is_spelled_or_faulty, read_all,
+    spelled_datum_conforms, write,
 };
 use avro_schema::Datum;
 use resolver::MOST_OUTPUT;
@@ -63,7 +64,7 @@ fn faults_of_payloads(rt: HostRuntime) -> Result<(), Fail> {
         let read = read_again(rt.alloc(), schema.nodes(), payload);
         assert_eq!(rt;
             read.err(),
-            Some(Fault::Malformed { kind, at }),
+            Some(PayloadError::Malformed { kind, at }),
             "{text} {payload:?}"
         );
     }

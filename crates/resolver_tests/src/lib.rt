@@ -4,6 +4,8 @@
 #[cfg(test)]
 mod again;
 #[cfg(test)]
+mod alias_tests;
+#[cfg(test)]
 mod datum_kinds_tests;
 #[cfg(test)]
 mod datum_tests;

@@ -6,13 +6,13 @@ use Rattle.std.proofs.lemmas.List.{drop_at, drop_all, drop_more, drop-append-le}
 use Rattle.avro_bytes.specs.declared.meter.Meter.{Meter}
 use Rattle.avro_bytes.specs.declared.fault.MalformedKind.TheVariants.{BadBoolean}
 use Rattle.avro_bytes.specs.Boolean.{IsBoolean, IsAboveOne, FaultyBoolean, boolean_at, boolean_byte, boolean_of}
-use Rattle.avro_bytes.specs.Decoding.{Complete, Invalid, Incomplete, Stands}
-use Rattle.avro_bytes.specs.Fault.{Defect, Broken, CutShort, HasDefect, failing}
 use Rattle.avro_bytes.specs.Laws.Binds.{complete_is}
+use Rattle.avro_bytes.specs.Decoding.{Complete, Defect, Failed, Malformed, Need, Stands}
+use Rattle.avro_bytes.specs.Fault.{HasDefect, failing}
 
 -- ---- what stands at a place
 
-pub boolean_past : (bytes : List ℕ) (at : ℕ) (m : Meter) → length bytes ≤ at → boolean_at bytes at m ≡ Incomplete
+pub boolean_past : (bytes : List ℕ) (at : ℕ) (m : Meter) → length bytes ≤ at → boolean_at bytes at m ≡ Failed Need
 unfolding boolean_at
 boolean_past bytes at m past = ap (boolean_of at m) (drop_all at bytes past)
 
@@ -23,7 +23,7 @@ boolean_there bytes at m inside = ap (boolean_of at m) (drop_more bytes at 0 ins
 -- ---- what is decoded
 
 byte_sound : (byte at to : ℕ) (m after : Meter) (zeros ones value : Bool) → eqb byte 0 ≡ zeros → eqb byte 1 ≡ ones
-    → cond zeros (Complete false (at + 1) m) (cond ones (Complete true (at + 1) m) (Invalid BadBoolean at)) ≡ Complete value to after → (byte ≡ boolean_byte value) × (at + 1 ≡ to) × (m ≡ after)
+    → cond zeros (Complete false (at + 1) m) (cond ones (Complete true (at + 1) m) (Failed (Malformed BadBoolean at))) ≡ Complete value to after → (byte ≡ boolean_byte value) × (at + 1 ≡ to) × (m ≡ after)
 byte_sound byte at to m after true ones value z o e = let w = complete_is e in (eqb-true byte 0 z ∙ ap boolean_byte w.0, w.1, w.2)
 byte_sound byte at to m after false true value z o e = let w = complete_is e in (eqb-true byte 1 o ∙ ap boolean_byte w.0, w.1, w.2)
 byte_sound byte at to m after false false value z o e = absurd cc
@@ -64,11 +64,11 @@ boolean_one_form a b x y v w s t e =
     let same = same_byte v w byte in
     (s ∙ ap (λ (k : ℕ). k ∷ []) byte ∙ sym t, same)
 
-of_steady : (bytes more : List ℕ) (at : ℕ) (m : Meter) → boolean_of at m bytes ≢ Incomplete → boolean_of at m (bytes ++ more) ≡ boolean_of at m bytes
+of_steady : (bytes more : List ℕ) (at : ℕ) (m : Meter) → boolean_of at m bytes ≢ Failed Need → boolean_of at m (bytes ++ more) ≡ boolean_of at m bytes
 of_steady [] more at m c = absurd (c refl)
 of_steady (byte ∷ rest) more at m c = refl
 
-pub boolean_steady : (all more : List ℕ) (at : ℕ) (m : Meter) → at ≤ length all → boolean_at all at m ≢ Incomplete → boolean_at (all ++ more) at m ≡ boolean_at all at m
+pub boolean_steady : (all more : List ℕ) (at : ℕ) (m : Meter) → at ≤ length all → boolean_at all at m ≢ Failed Need → boolean_at (all ++ more) at m ≡ boolean_at all at m
 unfolding boolean_at
 boolean_steady all more at m le c = ap (boolean_of at m) (drop-append-le at all more le) ∙ of_steady (drop at all) more at m c
 
@@ -78,7 +78,7 @@ above_one : (byte : ℕ) → byte ≢ 0 → byte ≢ 1 → 1 < byte
 above_one byte z o = omega arith
 
 byte_defect : (byte at : ℕ) (rest : List ℕ) (m : Meter) (zeros ones : Bool) → eqb byte 0 ≡ zeros → eqb byte 1 ≡ ones
-    → HasDefect (cond zeros (Complete false (at + 1) m) (cond ones (Complete true (at + 1) m) (Invalid BadBoolean at))) at (FaultyBoolean (byte ∷ rest))
+    → HasDefect (cond zeros (Complete false (at + 1) m) (cond ones (Complete true (at + 1) m) (Failed (Malformed BadBoolean at)))) at (FaultyBoolean (byte ∷ rest))
 byte_defect byte at rest m true ones z o = tt
 byte_defect byte at rest m false true z o = tt
 byte_defect byte at rest m false false z o =
@@ -93,15 +93,15 @@ pub boolean_defect : (all : List ℕ) (at : ℕ) (m : Meter) → HasDefect (bool
 unfolding boolean_at
 boolean_defect all at m = of_defect (drop at all) at m
 
-of_above : (byte : ℕ) (rest : List ℕ) (at : ℕ) (m : Meter) → 1 < byte → boolean_of at m (byte ∷ rest) ≡ Invalid BadBoolean at
+of_above : (byte : ℕ) (rest : List ℕ) (at : ℕ) (m : Meter) → 1 < byte → boolean_of at m (byte ∷ rest) ≡ Failed (Malformed BadBoolean at)
 of_above byte rest at m above = grind (arith, nat_tests)
 
 pub boolean_told : (before bytes : List ℕ) (m : Meter) (d : Defect) → FaultyBoolean bytes d → boolean_at (before ++ bytes) (length before) m ≡ failing (length before) d
 unfolding boolean_at
-boolean_told before bytes m (Broken kind offset) f =
+boolean_told before bytes m (Malformed kind offset) f =
     let above = f.0 in
     let place : length before ≡ length before + offset = omega (arith, f.2) in
     ap (boolean_of (length before) m) (drop_at before bytes (length before) refl ∙ above.parts)
     ∙ of_above above.byte above.rest (length before) m above.above
-    ∙ ap (Invalid BadBoolean) place ∙ ap (λ k. Invalid k (length before + offset)) (sym f.1)
-boolean_told before bytes m CutShort f = ap (boolean_of (length before) m) (drop_at before bytes (length before) refl ∙ f)
+    ∙ ap (λ k. Failed (Malformed BadBoolean k)) place ∙ ap (λ k. Failed (Malformed k (length before + offset))) (sym f.1)
+boolean_told before bytes m Need f = ap (boolean_of (length before) m) (drop_at before bytes (length before) refl ∙ f)

@@ -4,10 +4,10 @@ use Rattle.std.proofs.lemmas.Bool.{le-ltb, lt-ltb, cases_lt}
 use Rattle.std.proofs.lemmas.List.{drop_at}
 use Rattle.avro_bytes.specs.declared.meter.Meter.{Meter}
 use Rattle.avro_bytes.specs.declared.fault.MalformedKind.TheVariants.{BadNumber}
-use Rattle.avro_bytes.specs.Decoding.{Invalid}
-use Rattle.avro_bytes.specs.Fault.{Defect, Broken, CutShort, AllHigh, IsTooGreat, IsCutNumber, FaultyNumber, HasDefect, failing}
 use Rattle.avro_bytes.specs.Number.{Limit}
 use Rattle.avro_bytes.specs.NumberDecoding.{Front, Ends, TooGreat, Open, longer, number_front, number_of, number_at}
+use Rattle.avro_bytes.specs.Decoding.{Defect, Failed, Malformed, Need}
+use Rattle.avro_bytes.specs.Fault.{AllHigh, FaultyNumber, HasDefect, NumberNeedsMore, IsTooGreat, failing}
 
 -- ---- numbers
 
@@ -76,27 +76,31 @@ open_front (suc (suc left)) top (b ∷ bytes) h lt =
     let le : 128 ≤ b = h.0 in
     rw le-ltb (ap (longer b) (open_front (suc left) top bytes h.1 (omega arith)))
 
-number_of_defect : (limit : Limit) (bytes : List ℕ) (at : ℕ) (m : Meter) (f : Front) → (f ≡ TooGreat → IsTooGreat limit bytes) → (f ≡ Open → IsCutNumber limit bytes) → HasDefect (number_of at m f) at (FaultyNumber limit bytes)
+number_of_defect : (limit : Limit) (bytes : List ℕ) (at : ℕ) (m : Meter) (f : Front) → (f ≡ TooGreat → IsTooGreat limit bytes) → (f ≡ Open → NumberNeedsMore limit bytes) → HasDefect (number_of at m f) at (FaultyNumber limit bytes)
 number_of_defect limit bytes at m (Ends ends) g o = tt
 number_of_defect limit bytes at m TooGreat g o = (0, omega arith, (g refl, refl, refl))
 number_of_defect limit bytes at m Open g o = o refl
 
--- a limit of one byte at least
-pub number_defect : (most top : ℕ) (all : List ℕ) (at : ℕ) (m : Meter) → HasDefect (number_at (record { most = suc most; top = top }) all at m) at (FaultyNumber (record { most = suc most; top = top }) (drop at all))
+defect_of : (most top : ℕ) (all : List ℕ) (at : ℕ) (m : Meter) → 0 < most → HasDefect (number_at (record { most = most; top = top }) all at m) at (FaultyNumber (record { most = most; top = top }) (drop at all))
 unfolding number_at
-number_defect most top all at m =
+defect_of zero top all at m some = absurd (omega arith)
+defect_of (suc most) top all at m some =
     number_of_defect (record { most = suc most; top = top }) (drop at all) at m (number_front (suc most) top (drop at all))
     (λ e. front_great most top (drop at all) e)
     (λ e. let o = front_open most top (drop at all) e in record { high = o.0; few = o.1 })
 
+-- a limit of one byte at least
+pub number_defect : (limit : Limit) (all : List ℕ) (at : ℕ) (m : Meter) → 0 < limit.most → HasDefect (number_at limit all at m) at (FaultyNumber limit (drop at all))
+number_defect limit all at m some = defect_of limit.most limit.top all at m some
+
 pub number_told : (limit : Limit) (before bytes : List ℕ) (m : Meter) (d : Defect) → FaultyNumber limit bytes d → number_at limit (before ++ bytes) (length before) m ≡ failing (length before) d
 unfolding number_at
-number_told limit before bytes m (Broken kind offset) f =
+number_told limit before bytes m (Malformed kind offset) f =
     let g = f.0 in
     let place : length before ≡ length before + offset = omega (arith, f.2) in
     ap (λ (x : List ℕ). number_of (length before) m (number_front limit.most limit.top x)) (drop_at before bytes (length before) refl ∙ g.parts)
     ∙ ap (number_of (length before) m) (great_front limit.most limit.top g.last g.front g.rest g.high g.whole g.great)
-    ∙ ap (Invalid BadNumber) place ∙ ap (λ k. Invalid k (length before + offset)) (sym f.1)
-number_told limit before bytes m CutShort f =
+    ∙ ap (λ k. Failed (Malformed BadNumber k)) place ∙ ap (λ k. Failed (Malformed k (length before + offset))) (sym f.1)
+number_told limit before bytes m Need f =
     ap (λ (x : List ℕ). number_of (length before) m (number_front limit.most limit.top x)) (drop_at before bytes (length before) refl)
     ∙ ap (number_of (length before) m) (open_front limit.most limit.top bytes f.high f.few)

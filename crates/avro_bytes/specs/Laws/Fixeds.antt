@@ -1,14 +1,14 @@
--- The bytes of a fixed: what is read is spelled so, what is spelled is read, and the only fault is a cut, both ways.
+-- The bytes of a fixed: what is read is spelled so, what is spelled is read, and bytes are needed just where they lack.
 use Rattle.std.proofs.Common.{◌≡◌, ◌≢◌, ℕ, ◌+◌, ◌-◌, ◌<◌, ◌≤◌, List, ◌++◌, length, take, drop, Bool, true, false, cond, ltb, refl, sym, ap, ◌∙◌, arith, inl, inr}
 use Rattle.std.proofs.lemmas.Bool.{cases_lt, le-ltb, lt-ltb, ltb-true, ltb-false}
 use Rattle.std.proofs.lemmas.List.{drop_at, take_at, length-append, length-take, length-drop, take-append-drop, drop-append-le, take-append-le}
 use Rattle.avro_bytes.specs.declared.meter.Meter.{Meter}
 use Rattle.avro_bytes.specs.Blob.{IsFixed, FaultyFixed, fixed_at}
-use Rattle.avro_bytes.specs.Decoding.{Complete, Incomplete, Stands}
-use Rattle.avro_bytes.specs.Fault.{Defect, Broken, CutShort, HasDefect, failing}
 use Rattle.avro_bytes.specs.Laws.Binds.{complete_is}
+use Rattle.avro_bytes.specs.Decoding.{Complete, Defect, Failed, Malformed, Need, Stands}
+use Rattle.avro_bytes.specs.Fault.{HasDefect, failing}
 
-fixed_complete_is : (lacks : Bool) (content value : List ℕ) (place to : ℕ) (m after : Meter) → cond lacks Incomplete (Complete content place m) ≡ Complete value to after → (lacks ≡ false) × (content ≡ value) × (place ≡ to) × (m ≡ after)
+fixed_complete_is : (lacks : Bool) (content value : List ℕ) (place to : ℕ) (m after : Meter) → cond lacks (Failed Need) (Complete content place m) ≡ Complete value to after → (lacks ≡ false) × (content ≡ value) × (place ≡ to) × (m ≡ after)
 fixed_complete_is true content value place to m after e = absurd cc
 fixed_complete_is false content value place to m after e = let w = complete_is e in (refl, w.0, w.1, w.2)
 
@@ -46,7 +46,7 @@ fixed_one_form size a b x y v w s t e =
     let same : a ≡ b = sym (take_at a x size la) ∙ ap (take size) e ∙ take_at b y size lb in
     (same, sym s.same ∙ same ∙ t.same)
 
-pub fixed_steady : (size : ℕ) (all more : List ℕ) (at : ℕ) (m : Meter) → at ≤ length all → fixed_at size all at m ≢ Incomplete → fixed_at size (all ++ more) at m ≡ fixed_at size all at m
+pub fixed_steady : (size : ℕ) (all more : List ℕ) (at : ℕ) (m : Meter) → at ≤ length all → fixed_at size all at m ≢ Failed Need → fixed_at size (all ++ more) at m ≡ fixed_at size all at m
 unfolding fixed_at
 fixed_steady size all more at m le c =
     elim (cases_lt (length all - at) size) [
@@ -58,17 +58,17 @@ fixed_steady size all more at m le c =
           rw (le-ltb (length all - at) size room, le-ltb (length (all ++ more) - at) size room', part) refl)
     ]
 
-cut_defect : (lacks : Bool) (size : ℕ) (all : List ℕ) (at : ℕ) (m : Meter) → ltb (length all - at) size ≡ lacks → HasDefect (cond lacks Incomplete (Complete (take size (drop at all)) (at + size) m)) at (FaultyFixed size (drop at all))
-cut_defect true size all at m e = omega (arith, ltb-true _ _ e, length-drop at all)
-cut_defect false size all at m e = tt
+need_defect : (lacks : Bool) (size : ℕ) (all : List ℕ) (at : ℕ) (m : Meter) → ltb (length all - at) size ≡ lacks → HasDefect (cond lacks (Failed Need) (Complete (take size (drop at all)) (at + size) m)) at (FaultyFixed size (drop at all))
+need_defect true size all at m e = omega (arith, ltb-true _ _ e, length-drop at all)
+need_defect false size all at m e = tt
 
 pub fixed_defect : (size : ℕ) (all : List ℕ) (at : ℕ) (m : Meter) → HasDefect (fixed_at size all at m) at (FaultyFixed size (drop at all))
 unfolding fixed_at
-fixed_defect size all at m = cut_defect (ltb (length all - at) size) size all at m refl
+fixed_defect size all at m = need_defect (ltb (length all - at) size) size all at m refl
 
 pub fixed_told : (size : ℕ) (before bytes : List ℕ) (m : Meter) (d : Defect) → FaultyFixed size bytes d → fixed_at size (before ++ bytes) (length before) m ≡ failing (length before) d
 unfolding fixed_at
-fixed_told size before bytes m (Broken kind offset) f = absurd f
-fixed_told size before bytes m CutShort f =
+fixed_told size before bytes m (Malformed kind offset) f = absurd f
+fixed_told size before bytes m Need f =
     let lacks : length (before ++ bytes) - length before < size = omega (arith, f, length-append before bytes) in
     rw (lt-ltb (length (before ++ bytes) - length before) size lacks) refl

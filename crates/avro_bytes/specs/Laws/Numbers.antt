@@ -4,11 +4,11 @@ use Rattle.std.proofs.lemmas.Bool.{le-ltb, lt-ltb, cases_lt, eqb-true, eqb-false
 use Rattle.std.proofs.lemmas.List.{drop_at, drop-append-le}
 use Rattle.std.proofs.Math.Numerals.{sub-one}
 use Rattle.avro_bytes.specs.declared.meter.Meter.{Meter}
-use Rattle.avro_bytes.specs.Decoding.{Complete, Incomplete, Stands}
 use Rattle.avro_bytes.specs.Number.{groups_sum, IsChained, zigzag, Limit, IsNumber}
 use Rattle.avro_bytes.specs.NumberDecoding.{Front, Ends, TooGreat, Open, longer, number_front, from_zigzag, number_of, number_at}
 use Rattle.avro_bytes.specs.Laws.Binds.{complete_is}
 use Rattle.avro_bytes.specs.Laws.Groups.{ends_is, front_below, longer_ends}
+use Rattle.avro_bytes.specs.Decoding.{Complete, Failed, Need, Stands}
 
 pub record Sound (left top : ℕ) (bytes ends : List ℕ) : Type 0 where
   pub rest : List ℕ
@@ -124,12 +124,12 @@ number_one_form limit a b x y m n s t e =
     let same : a ≡ b = ends_is (sym f ∙ ap (number_front limit.most limit.top) e ∙ g) in
     (same, sym (from-zigzag m) ∙ ap from_zigzag (sym s.value ∙ ap groups_sum same ∙ t.value) ∙ from-zigzag n)
 
-number_of_steady : (at : ℕ) (m : Meter) (f g : Front) → (f ≢ Open → g ≡ f) → number_of at m f ≢ Incomplete → number_of at m g ≡ number_of at m f
+number_of_steady : (at : ℕ) (m : Meter) (f g : Front) → (f ≢ Open → g ≡ f) → number_of at m f ≢ Failed Need → number_of at m g ≡ number_of at m f
 number_of_steady at m (Ends bytes) g h c = ap (number_of at m) (h (λ e. absurd cc))
 number_of_steady at m TooGreat g h c = ap (number_of at m) (h (λ e. absurd cc))
 number_of_steady at m Open g h c = absurd (c refl)
 
-pub number_steady : (limit : Limit) (all more : List ℕ) (at : ℕ) (m : Meter) → at ≤ length all → number_at limit all at m ≢ Incomplete → number_at limit (all ++ more) at m ≡ number_at limit all at m
+pub number_steady : (limit : Limit) (all more : List ℕ) (at : ℕ) (m : Meter) → at ≤ length all → number_at limit all at m ≢ Failed Need → number_at limit (all ++ more) at m ≡ number_at limit all at m
 unfolding number_at
 number_steady limit all more at m le c =
     let d : drop at (all ++ more) ≡ drop at all ++ more = drop-append-le at all more le in
@@ -143,3 +143,11 @@ pub number_below : (limit : Limit) (n : ℤ) (bytes : List ℕ) → 0 < limit.mo
 number_below limit n bytes some top s =
     let again = front_again limit.most limit.top bytes [] s.chained s.short s.last in
     subst (λ (k : ℕ). k < (limit.top + 1) * 2 ^ (7 * (limit.most - 1))) s.value (front_below limit.most limit.top (bytes ++ []) bytes some top again)
+
+-- a number has a byte at least
+pub number_some : (limit : Limit) (n : ℤ) (bytes : List ℕ) → IsNumber limit n bytes → 0 < length bytes
+number_some limit n [] s = absurd s.chained
+number_some limit n (b ∷ bytes) s = omega arith
+
+pub pos_is : {a b : ℕ} → pos a ≡ pos b → a ≡ b
+pos_is e = cc

@@ -6,14 +6,15 @@ use Rattle.std.proofs.Math.Pow.{pow_mono}
 use Rattle.std.proofs.lemmas.Bool.{le-ltb, lt-ltb, cases_lt}
 use Rattle.std.proofs.lemmas.Nat.{div_below}
 use Rattle.avro_bytes.specs.Number.{IsChained, IsNumber, Limit, groups_sum, zigzag}
-use Rattle.avro_bytes.specs.Shortest.{Extends, shortest, shortest_groups}
+use Rattle.avro_bytes.specs.Shortest.{Extends, FitsLimit, shortest, shortest_groups}
+use Rattle.avro_bytes.specs.declared.limits.TheConstants.{LONG_BYTES}
 use Rattle.avro_bytes.specs.Laws.Groups.{power-next, scaled}
 
 -- what is written so far, and the groups that are left
 pub record SoFar (old out : List ℕ) (n rest : ℕ) : Type 0 where
   pub left : ℕ
   pub small : rest < 2 ^ (7 * (left + 1))
-  pub written : out ++ shortest_groups (suc left) rest ≡ old ++ shortest_groups 10 n
+  pub written : out ++ shortest_groups (suc left) rest ≡ old ++ shortest_groups LONG_BYTES n
 
 pub starts : (old : List ℕ) (n : ℕ) → n < 2 ^ 64 → SoFar old old n n
 starts old n lt = record { left = 9; small = omega arith; written = refl }
@@ -26,7 +27,7 @@ module _ (old out : List ℕ) (n rest : ℕ) (s : SoFar old out n rest) where
       let k : suc left + 1 ≡ suc (left + 1) = omega arith in
       let small : rest < 2 ^ (7 * (suc left + 1)) = rw e at s.small in
       let power : 2 ^ (7 * (suc left + 1)) ≡ 128 * 2 ^ (7 * (left + 1)) = ap (λ (j : ℕ). 2 ^ (7 * j)) k ∙ power-next (left + 1) in
-      let w : out ++ shortest_groups (suc (suc left)) rest ≡ old ++ shortest_groups 10 n = rw e at s.written in
+      let w : out ++ shortest_groups (suc (suc left)) rest ≡ old ++ shortest_groups LONG_BYTES n = rw e at s.written in
       let one : shortest_groups (suc (suc left)) rest ≡ (rest % 128 + 128) ∷ shortest_groups (suc left) (rest / 128) = rw (le-ltb rest 128 le) refl in
       record {
         left = left;
@@ -37,7 +38,7 @@ module _ (old out : List ℕ) (n rest : ℕ) (s : SoFar old out n rest) where
   pub goes_on : 128 ≤ rest → SoFar old (out ++ (rest % 128 + 128) ∷ []) n (rest / 128)
   goes_on le = go s.left refl le
 
-  pub ends : rest < 128 → out ++ rest ∷ [] ≡ old ++ shortest_groups 10 n
+  pub ends : rest < 128 → out ++ rest ∷ [] ≡ old ++ shortest_groups LONG_BYTES n
   unfolding shortest_groups
   ends lt =
       let one : shortest_groups (suc s.left) rest ≡ rest ∷ [] = rw (lt-ltb rest 128 lt) refl in
@@ -49,7 +50,7 @@ module _ (old out : List ℕ) (n rest : ℕ) (s : SoFar old out n rest) where
 pub record Counted (n rest len : ℕ) : Type 0 where
   pub left : ℕ
   pub small : rest < 2 ^ (7 * (left + 1))
-  pub counted : len + length (shortest_groups (suc left) rest) ≡ length (shortest_groups 10 n) + 1
+  pub counted : len + length (shortest_groups (suc left) rest) ≡ length (shortest_groups LONG_BYTES n) + 1
 
 pub counts_from : (n : ℕ) → n < 2 ^ 64 → Counted n n 1
 counts_from n lt = record { left = 9; small = omega arith; counted = omega arith }
@@ -62,7 +63,7 @@ module _ (n rest len : ℕ) (s : Counted n rest len) where
       let k : suc left + 1 ≡ suc (left + 1) = omega arith in
       let small : rest < 2 ^ (7 * (suc left + 1)) = rw e at s.small in
       let power : 2 ^ (7 * (suc left + 1)) ≡ 128 * 2 ^ (7 * (left + 1)) = ap (λ (j : ℕ). 2 ^ (7 * j)) k ∙ power-next (left + 1) in
-      let c : len + length (shortest_groups (suc (suc left)) rest) ≡ length (shortest_groups 10 n) + 1 = rw e at s.counted in
+      let c : len + length (shortest_groups (suc (suc left)) rest) ≡ length (shortest_groups LONG_BYTES n) + 1 = rw e at s.counted in
       let one : shortest_groups (suc (suc left)) rest ≡ (rest % 128 + 128) ∷ shortest_groups (suc left) (rest / 128) = rw (le-ltb rest 128 le) refl in
       record {
         left = left;
@@ -73,7 +74,7 @@ module _ (n rest len : ℕ) (s : Counted n rest len) where
   pub counts_on : 128 ≤ rest → Counted n (rest / 128) (len + 1)
   counts_on le = count s.left refl le
 
-  pub counts_to : rest < 128 → len ≡ length (shortest_groups 10 n)
+  pub counts_to : rest < 128 → len ≡ length (shortest_groups LONG_BYTES n)
   unfolding shortest_groups
   counts_to lt =
       let one : shortest_groups (suc s.left) rest ≡ rest ∷ [] = rw (lt-ltb rest 128 lt) refl in
@@ -130,15 +131,22 @@ same_groups (suc a) (suc b) n p q =
 fits_groups : (left top n : ℕ) → top < 128 → n < (top + 1) * 2 ^ (7 * left) → n < 2 ^ (7 * suc left)
 fits_groups left top n t lt = omega (arith, power-next left, mul-le-mul_right {m = top + 1} {n = 128} (2 ^ (7 * left)) (omega arith))
 
--- the shortest spelling is one, where the limit's bytes can hold the number
-pub shortest_is_number : (most top : ℕ) (n : ℤ) → top < 128 → suc most ≤ 10 → zigzag n < (top + 1) * 2 ^ (7 * most) → IsNumber (record { most = suc most; top = top }) n (shortest n)
+shortest_of : (most top : ℕ) (n : ℤ) → top < 128 → suc most ≤ LONG_BYTES → zigzag n < (top + 1) * 2 ^ (7 * most) → IsNumber (record { most = suc most; top = top }) n (shortest n)
 unfolding shortest
-shortest_is_number most top n t ten lt =
+shortest_of most top n t ten lt =
     let fits = fits_groups most top (zigzag n) t lt in
     let ten_fit : zigzag n < 2 ^ (7 * suc 9) = omega (arith, fits, pow_mono {i = 7 * suc most} {j = 7 * suc 9} (omega arith)) in
-    let same : shortest_groups (suc most) (zigzag n) ≡ shortest_groups 10 (zigzag n) = same_groups most 9 (zigzag n) fits ten_fit in
+    let same : shortest_groups (suc most) (zigzag n) ≡ shortest_groups LONG_BYTES (zigzag n) = same_groups most 9 (zigzag n) fits ten_fit in
     let s = shortest_groups-spelled most top (zigzag n) t lt in
     subst (λ (x : List ℕ). IsNumber (record { most = suc most; top = top }) n x) same (record { chained = s.chained; short = s.short; last = rw sub-one s.last; value = s.sum })
+
+shortest_within : (most top : ℕ) (n : ℤ) → 0 < most → top < 128 → most ≤ LONG_BYTES → FitsLimit (record { most = most; top = top }) n → IsNumber (record { most = most; top = top }) n (shortest n)
+shortest_within zero top n some t ten fits = absurd (omega arith)
+shortest_within (suc most) top n some t ten fits = let lt : zigzag n < (top + 1) * 2 ^ (7 * most) = rw sub-one at fits in shortest_of most top n t ten lt
+
+-- the shortest spelling is one, where the limit's bytes can hold the number
+pub shortest_is_number : (limit : Limit) (n : ℤ) → 0 < limit.most → limit.top < 128 → limit.most ≤ LONG_BYTES → FitsLimit limit n → IsNumber limit n (shortest n)
+shortest_is_number limit n some t ten fits = shortest_within limit.most limit.top n some t ten fits
 
 -- ---- and no spelling is shorter
 
@@ -159,7 +167,7 @@ no_shorter (suc left) (b ∷ d ∷ bytes) c =
 
 pub shortest_is_shortest : (limit : Limit) (n : ℤ) (bytes : List ℕ) → IsNumber limit n bytes → length (shortest n) ≤ length bytes
 unfolding shortest
-shortest_is_shortest limit n bytes s = subst (λ (k : ℕ). length (shortest_groups 10 k) ≤ length bytes) s.value (no_shorter 10 bytes s.chained)
+shortest_is_shortest limit n bytes s = subst (λ (k : ℕ). length (shortest_groups LONG_BYTES k) ≤ length bytes) s.value (no_shorter 10 bytes s.chained)
 
 pub extends_more : (old out new x : List ℕ) → Extends old out → new ≡ out ++ x → Extends old new
 extends_more old out new x e is = (e.0 ++ x, is ∙ ap (λ (b : List ℕ). b ++ x) e.1 ∙ append_assoc old e.0 x)

@@ -1,39 +1,41 @@
--- What is spelled within the limits is decoded, whatever stands before and behind it.
+-- What is spelled within the limits is decoded, whatever stands before and after it.
 use Rattle.std.proofs.Common.{◌≡◌, ℕ, zero, suc, ◌+◌, ◌-◌, List, ◌++◌, length, Option, Some, false, refl, sym, ap, subst, ◌∙◌, arith, slice_get}
 use Rattle.avro_bytes.specs.declared.fault.MalformedKind.TheVariants.{BadEnum}
 use Rattle.avro_bytes.specs.declared.meter.Meter.{Meter}
-use Rattle.avro_bytes.specs.Blob.{fixed_at}
+use Rattle.avro_bytes.specs.Blob.{fixed_at, content_at}
 use Rattle.avro_bytes.specs.Boolean.{boolean_at}
-use Rattle.avro_bytes.specs.Decoding.{Complete, Incomplete, map_decoding}
 use Rattle.avro_bytes.specs.Meter.{Counts}
 use Rattle.avro_bytes.specs.Number.{int_limit, long_limit}
 use Rattle.avro_bytes.specs.NumberDecoding.{number_at}
-use Rattle.avro_bytes.specs.Text.{content_at, text_at}
+use Rattle.avro_bytes.specs.Text.{text_at}
 use Rattle.avro_bytes.specs.Laws.Blobs.{blob_complete}
 use Rattle.avro_bytes.specs.Laws.Booleans.{boolean_complete}
 use Rattle.avro_bytes.specs.Laws.Fixeds.{fixed_complete}
 use Rattle.avro_bytes.specs.Laws.Numbers.{number_complete}
 use Rattle.avro_bytes.specs.Laws.Texts.{text_complete}
-use Rattle.avro_types.specs.Node.{Node, NullNode, BooleanNode, IntNode, LongNode, BytesNode, TextNode, FixedNode, EnumNode, ArrayNode, MapNode, UnionNode, RecordNode, is_union}
+use Rattle.avro_types.specs.Node.{Node, NullNode, BooleanNode, IntNode, LongNode, BytesNode, TextNode, FixedNode, EnumNode, ArrayNode, MapNode, UnionNode, RecordNode}
+use Rattle.avro_types.specs.WellFormed.{is_union}
 use Rattle.avro_types.specs.Datum.{Datum, NullDatum, BooleanDatum, IntDatum, LongDatum, BytesDatum, TextDatum, FixedDatum, EnumDatum, ArrayDatum, MapDatum, UnionDatum, RecordDatum}
 use Rattle.avro_datum.specs.Decoding.{Decoder, datum_at, kind_at, node_at, plain_at}
-use Rattle.avro_datum.specs.Position.{position_at}
+use Rattle.avro_bytes.specs.Position.{position_at}
 use Rattle.avro_datum.specs.Spelling.{Spells, depth_of, units_of}
 use Rattle.avro_datum.specs.Laws.Arrays.{array_complete, spell_each}
 use Rattle.avro_datum.specs.Laws.Decoders.{Deeper, IsComplete}
 use Rattle.avro_datum.specs.Laws.Kinds.{Group, array_group, group_of, kind_is_plain, leaf, leaf_no_union, map_group, none_deeper, nothing, one_deeper, record_group, union_group}
 use Rattle.avro_datum.specs.Laws.Maps.{map_complete, spell_pairs}
 use Rattle.avro_datum.specs.Laws.Parts.{counts_nothing}
-use Rattle.avro_datum.specs.Laws.Positions.{position_again}
+use Rattle.avro_bytes.specs.Laws.Positions.{position_again}
 use Rattle.avro_datum.specs.Laws.Records.{record_complete}
 use Rattle.avro_datum.specs.Laws.Unions.{union_complete}
+use Rattle.avro_bytes.specs.Decoding.{Complete, Failed, Need, map_decoding}
+use Rattle.avro_bytes.specs.declared.limits.TheConstants.{MOST_DEPTH}
 
 module _ (nodes : List Node) (all : List ℕ) (decoder : Decoder) (left : ℕ) (deeper : Deeper (IsComplete nodes all decoder) left) where
   at_plain : (node at : ℕ) (m : Meter) (o : Option Node) → slice_get nodes node ≡ o → plain_at decoder all (slice_get nodes node) at m ≡ plain_at decoder all o at m
   at_plain node at m o e = ap (λ (o : Option Node). plain_at decoder all o at m) e
 
   -- a datum that is no union's
-  plain_complete : (node : ℕ) (d : Datum) (before bytes rest : List ℕ) (m after : Meter) → left ≡ 1000 - m.depth → all ≡ before ++ (bytes ++ rest) → is_union (slice_get nodes node) ≡ false → Spells nodes node d bytes → Counts (depth_of d) (units_of d) m after → plain_at decoder all (slice_get nodes node) (length before) m ≡ Complete d (length before + length bytes) after
+  plain_complete : (node : ℕ) (d : Datum) (before bytes rest : List ℕ) (m after : Meter) → left ≡ MOST_DEPTH - m.depth → all ≡ before ++ (bytes ++ rest) → is_union (slice_get nodes node) ≡ false → Spells nodes node d bytes → Counts (depth_of d) (units_of d) m after → plain_at decoder all (slice_get nodes node) (length before) m ≡ Complete d (length before + length bytes) after
   plain_complete node NullDatum before bytes rest m after l is f s t =
       at_plain node (length before) m (Some NullNode) s.0 ∙ ap (λ (k : ℕ). Complete NullDatum k m) (let e : length before ≡ length before + length bytes = omega (arith, ap length s.1) in e) ∙ ap (Complete NullDatum (length before + length bytes)) (counts_nothing m after t)
   plain_complete node (BooleanDatum b) before bytes rest m after l is f s t =
@@ -64,17 +66,17 @@ module _ (nodes : List Node) (all : List ℕ) (decoder : Decoder) (left : ℕ) (
   of_union node members (UnionDatum n d) bytes is s = (n, d, refl)
   of_union node members _ bytes is s = absurd cc
 
-  not_union : (node : ℕ) (d : Datum) (before bytes rest : List ℕ) (m after : Meter) → left ≡ 1000 - m.depth → all ≡ before ++ (bytes ++ rest) → is_union (slice_get nodes node) ≡ false → Spells nodes node d bytes → Counts (depth_of d) (units_of d) m after → kind_at decoder nodes all (slice_get nodes node) (length before) m ≡ Complete d (length before + length bytes) after
+  not_union : (node : ℕ) (d : Datum) (before bytes rest : List ℕ) (m after : Meter) → left ≡ MOST_DEPTH - m.depth → all ≡ before ++ (bytes ++ rest) → is_union (slice_get nodes node) ≡ false → Spells nodes node d bytes → Counts (depth_of d) (units_of d) m after → kind_at decoder nodes all (slice_get nodes node) (length before) m ≡ Complete d (length before + length bytes) after
   not_union node d before bytes rest m after l e f s t = kind_is_plain decoder nodes all (length before) m (slice_get nodes node) f ∙ plain_complete node d before bytes rest m after l e f s t
 
-  union_datum : (node n : ℕ) (d : Datum) (before bytes rest : List ℕ) (m after : Meter) → left ≡ 1000 - m.depth → all ≡ before ++ (bytes ++ rest) → Spells nodes node (UnionDatum n d) bytes → Counts (depth_of d) (units_of d) m after → kind_at decoder nodes all (slice_get nodes node) (length before) m ≡ Complete (UnionDatum n d) (length before + length bytes) after
+  union_datum : (node n : ℕ) (d : Datum) (before bytes rest : List ℕ) (m after : Meter) → left ≡ MOST_DEPTH - m.depth → all ≡ before ++ (bytes ++ rest) → Spells nodes node (UnionDatum n d) bytes → Counts (depth_of d) (units_of d) m after → kind_at decoder nodes all (slice_get nodes node) (length before) m ≡ Complete (UnionDatum n d) (length before + length bytes) after
   union_datum node n d before bytes rest m after l e s t =
       ap (λ (o : Option Node). kind_at decoder nodes all o (length before) m) s.1
       ∙ union_complete nodes node left all s.0 (λ node at m. plain_at decoder all (slice_get nodes node) at m) s.1 n s.2 d before s.5 s.6 rest m after (e ∙ ap (λ (b : List ℕ). before ++ (b ++ rest)) s.7) s.8 s.3
       (λ before bytes rest e k. plain_complete s.2 d before bytes rest m after l e s.4 k t) s.9
       ∙ ap (λ (b : List ℕ). Complete (UnionDatum n d) (length before + length b) after) (sym s.7)
 
-  kind_complete : (node : ℕ) (o : Option Node) → Group o → (d : Datum) (before bytes rest : List ℕ) (m after : Meter) → left ≡ 1000 - m.depth → all ≡ before ++ (bytes ++ rest) → slice_get nodes node ≡ o → Spells nodes node d bytes → Counts (depth_of d) (units_of d) m after → kind_at decoder nodes all (slice_get nodes node) (length before) m ≡ Complete d (length before + length bytes) after
+  kind_complete : (node : ℕ) (o : Option Node) → Group o → (d : Datum) (before bytes rest : List ℕ) (m after : Meter) → left ≡ MOST_DEPTH - m.depth → all ≡ before ++ (bytes ++ rest) → slice_get nodes node ≡ o → Spells nodes node d bytes → Counts (depth_of d) (units_of d) m after → kind_at decoder nodes all (slice_get nodes node) (length before) m ≡ Complete d (length before + length bytes) after
   kind_complete node _ nothing d before bytes rest m after l e is s t = not_union node d before bytes rest m after l e (ap is_union is) s t
   kind_complete node _ (leaf n f) d before bytes rest m after l e is s t = not_union node d before bytes rest m after l e (ap is_union is ∙ leaf_no_union n f) s t
   kind_complete node _ (array_group inner) d before bytes rest m after l e is s t = not_union node d before bytes rest m after l e (ap is_union is) s t
@@ -88,9 +90,9 @@ module _ (nodes : List Node) (all : List ℕ) (decoder : Decoder) (left : ℕ) (
 pub node_complete : (left : ℕ) (nodes : List Node) (all : List ℕ) → IsComplete nodes all (node_at left nodes all) left
 unfolding node_at
 node_complete zero nodes all node d before bytes rest m after l is s t =
-    kind_complete nodes all (λ node at m. Incomplete) 0 (none_deeper (IsComplete nodes all (λ node at m. Incomplete))) node (slice_get nodes node) (group_of (slice_get nodes node)) d before bytes rest m after l is refl s t
+    kind_complete nodes all (λ node at m. Failed Need) 0 (none_deeper (IsComplete nodes all (λ node at m. Failed Need))) node (slice_get nodes node) (group_of (slice_get nodes node)) d before bytes rest m after l is refl s t
 node_complete (suc left) nodes all node d before bytes rest m after l is s t =
     kind_complete nodes all (node_at left nodes all) (suc left) (one_deeper (IsComplete nodes all (node_at left nodes all)) left (node_complete left nodes all)) node (slice_get nodes node) (group_of (slice_get nodes node)) d before bytes rest m after l is refl s t
 
 pub datum_complete : (nodes : List Node) (node : ℕ) (before bytes rest : List ℕ) (m : Meter) (d : Datum) (after : Meter) → Spells nodes node d bytes → Counts (depth_of d) (units_of d) m after → datum_at nodes (before ++ (bytes ++ rest)) node (length before) m ≡ Complete d (length before + length bytes) after
-datum_complete nodes node before bytes rest m d after s t = node_complete (1000 - m.depth) nodes (before ++ (bytes ++ rest)) node d before bytes rest m after refl refl s t
+datum_complete nodes node before bytes rest m d after s t = node_complete (MOST_DEPTH - m.depth) nodes (before ++ (bytes ++ rest)) node d before bytes rest m after refl refl s t

@@ -1,7 +1,8 @@
 -- The kinds of a node in groups: those that hold no others, arrays, maps, unions and records.
 use Rattle.std.proofs.Common.{◌≡◌, ℕ, suc, List, Option, Some, None, false, refl, sym, subst, ◌∙◌, arith}
 use Rattle.avro_bytes.specs.declared.meter.Meter.{Meter}
-use Rattle.avro_types.specs.Node.{Node, FieldNode, NullNode, BooleanNode, IntNode, LongNode, BytesNode, TextNode, FixedNode, EnumNode, ArrayNode, MapNode, UnionNode, RecordNode, is_union}
+use Rattle.avro_types.specs.Node.{Node, Names, FieldNode, NullNode, BooleanNode, IntNode, LongNode, BytesNode, TextNode, FixedNode, EnumNode, ArrayNode, MapNode, UnionNode, RecordNode}
+use Rattle.avro_types.specs.WellFormed.{is_union}
 use Rattle.avro_datum.specs.Decoding.{Decoder, IsLeaf, kind_at, leaf_at, plain_at}
 use Rattle.avro_datum.specs.Laws.Decoders.{Deeper}
 
@@ -11,7 +12,7 @@ pub data Group : Option Node → Type 0 where
   array_group : (inner : ℕ) → Group (Some (ArrayNode inner))
   map_group : (inner : ℕ) → Group (Some (MapNode inner))
   union_group : (members : List ℕ) → Group (Some (UnionNode members))
-  record_group : (name : List ℕ) (fields : List FieldNode) → Group (Some (RecordNode name fields))
+  record_group : (name : Names) (fields : List FieldNode) → Group (Some (RecordNode name fields))
 
 pub group_of : (o : Option Node) → Group o
 group_of None = nothing

@@ -2,31 +2,31 @@
 use Rattle.std.proofs.Common.{◌≡◌, ◌≢◌, ℕ, ◌≤◌, List, ◌++◌, length, drop, Some, refl, sym, subst, slice_get, lit<}
 use Rattle.avro_bytes.specs.declared.fault.MalformedKind.TheVariants.{BadEnum}
 use Rattle.avro_bytes.specs.declared.meter.Meter.{Meter}
-use Rattle.avro_bytes.specs.Blob.{FaultyFixed, fixed_at}
+use Rattle.avro_bytes.specs.Blob.{FaultyFixed, fixed_at, content_at}
 use Rattle.avro_bytes.specs.Boolean.{FaultyBoolean, boolean_at}
-use Rattle.avro_bytes.specs.Decoding.{Decoding, Complete, Incomplete, Stands, map_decoding}
-use Rattle.avro_bytes.specs.Fault.{Defect, FaultyContent, FaultyNumber, FaultyText, HasDefect}
 use Rattle.avro_bytes.specs.Meter.{Counts}
 use Rattle.avro_bytes.specs.Number.{int_limit, long_limit}
 use Rattle.avro_bytes.specs.NumberDecoding.{number_at}
-use Rattle.avro_bytes.specs.Text.{content_at, text_at}
-use Rattle.avro_bytes.specs.Laws.Binds.{defect_as, defect_map}
-use Rattle.avro_bytes.specs.Laws.Blobs.{blob_sound, blob_steady}
+use Rattle.avro_bytes.specs.Text.{text_at}
+use Rattle.avro_bytes.specs.Laws.Binds.{defect_as, defect_map, complete_is}
+use Rattle.avro_bytes.specs.Laws.Blobs.{blob_sound, content_steady}
 use Rattle.avro_bytes.specs.Laws.Booleans.{boolean_defect, boolean_sound, boolean_steady}
 use Rattle.avro_bytes.specs.Laws.Defects.{number_defect}
 use Rattle.avro_bytes.specs.Laws.Fixeds.{fixed_defect, fixed_sound, fixed_steady}
 use Rattle.avro_bytes.specs.Laws.Numbers.{number_sound, number_steady}
 use Rattle.avro_bytes.specs.Laws.Texts.{text_sound, text_steady}
-use Rattle.avro_bytes.specs.Laws.TextDefects.{content_defect, text_defect}
+use Rattle.avro_bytes.specs.Laws.TextDefects.{text_defect}
 use Rattle.avro_types.specs.Node.{Node, NullNode, BooleanNode, IntNode, LongNode, BytesNode, TextNode, FixedNode, EnumNode, ArrayNode, MapNode, UnionNode, RecordNode}
 use Rattle.avro_types.specs.Datum.{Datum, NullDatum, BooleanDatum, IntDatum, LongDatum, BytesDatum, TextDatum, FixedDatum, EnumDatum}
 use Rattle.avro_datum.specs.Decoding.{IsLeaf, leaf_at}
-use Rattle.avro_datum.specs.Fault.{FaultyDatum, faulty_boolean, faulty_int, faulty_long, faulty_bytes, faulty_text, faulty_fixed, faulty_enum}
-use Rattle.avro_datum.specs.Position.{FaultyPosition, position_at}
+use Rattle.avro_datum.specs.Fault.{FaultyDatum, faulty, faulty_boolean, faulty_int, faulty_long, faulty_bytes, faulty_text, faulty_fixed, faulty_enum}
+use Rattle.avro_bytes.specs.Position.{FaultyPosition, position_at}
 use Rattle.avro_datum.specs.Spelling.{Spells, depth_of, units_of}
 use Rattle.avro_datum.specs.Laws.Parts.{counts_none, map_steady, mapped, nowhere, stands_as}
-use Rattle.avro_datum.specs.Laws.Positions.{position_defect, position_sound, position_steady}
-use Rattle.avro_bytes.specs.Laws.Binds.{complete_is}
+use Rattle.avro_bytes.specs.Laws.Positions.{position_defect, position_sound, position_steady}
+use Rattle.avro_bytes.specs.Decoding.{Complete, Decoding, Defect, Failed, Need, Stands, map_decoding}
+use Rattle.avro_bytes.specs.Fault.{FaultyContent, FaultyNumber, FaultyText, HasDefect}
+use Rattle.avro_bytes.specs.Laws.BlobDefects.{content_defect}
 
 -- a value that is read, as the datum that it is
 read_as : {A : Type 0} (P : A → List ℕ → Type 0) (f : A → Datum) (nodes : List Node) (node : ℕ) (all : List ℕ) (at : ℕ) (m : Meter) (decoding : Decoding A)
@@ -57,12 +57,12 @@ leaf_sound nodes node all (MapNode inner) at m d to after is e = absurd cc
 leaf_sound nodes node all (UnionNode members) at m d to after is e = absurd cc
 leaf_sound nodes node all (RecordNode name fields) at m d to after is e = absurd cc
 
-pub leaf_steady : (all more : List ℕ) (n : Node) (at : ℕ) (m : Meter) → at ≤ length all → leaf_at all n at m ≢ Incomplete → leaf_at (all ++ more) n at m ≡ leaf_at all n at m
+pub leaf_steady : (all more : List ℕ) (n : Node) (at : ℕ) (m : Meter) → at ≤ length all → leaf_at all n at m ≢ Failed Need → leaf_at (all ++ more) n at m ≡ leaf_at all n at m
 leaf_steady all more NullNode at m le c = refl
 leaf_steady all more BooleanNode at m le c = map_steady BooleanDatum (boolean_at all at m) (boolean_at (all ++ more) at m) (boolean_steady all more at m le) c
 leaf_steady all more IntNode at m le c = map_steady IntDatum (number_at int_limit all at m) (number_at int_limit (all ++ more) at m) (number_steady int_limit all more at m le) c
 leaf_steady all more LongNode at m le c = map_steady LongDatum (number_at long_limit all at m) (number_at long_limit (all ++ more) at m) (number_steady long_limit all more at m le) c
-leaf_steady all more BytesNode at m le c = map_steady BytesDatum (content_at all at m) (content_at (all ++ more) at m) (blob_steady all more at m le) c
+leaf_steady all more BytesNode at m le c = map_steady BytesDatum (content_at all at m) (content_at (all ++ more) at m) (content_steady all more at m le) c
 leaf_steady all more TextNode at m le c = map_steady TextDatum (text_at all at m) (text_at (all ++ more) at m) (text_steady all more at m le) c
 leaf_steady all more (FixedNode name size) at m le c = map_steady FixedDatum (fixed_at size all at m) (fixed_at size (all ++ more) at m) (fixed_steady size all more at m le) c
 leaf_steady all more (EnumNode name symbols default) at m le c = map_steady EnumDatum (position_at BadEnum (length symbols) all at m) (position_at BadEnum (length symbols) (all ++ more) at m) (position_steady BadEnum (length symbols) all more at m le) c
@@ -77,13 +77,13 @@ faulty_as f decoding at P Q as_datum h = defect_map f decoding at Q (defect_as d
 
 pub leaf_defect : (nodes : List Node) (node : ℕ) (all : List ℕ) (n : Node) (at : ℕ) (m : Meter) → slice_get nodes node ≡ Some n → IsLeaf n → HasDefect (leaf_at all n at m) at (FaultyDatum nodes node (drop at all) m)
 leaf_defect nodes node all NullNode at m is l = tt
-leaf_defect nodes node all BooleanNode at m is l = faulty_as BooleanDatum (boolean_at all at m) at (FaultyBoolean (drop at all)) (FaultyDatum nodes node (drop at all) m) (λ d h. faulty_boolean is h) (boolean_defect all at m)
-leaf_defect nodes node all IntNode at m is l = faulty_as IntDatum (number_at int_limit all at m) at (FaultyNumber int_limit (drop at all)) (FaultyDatum nodes node (drop at all) m) (λ d h. faulty_int is h) (number_defect 4 15 all at m)
-leaf_defect nodes node all LongNode at m is l = faulty_as LongDatum (number_at long_limit all at m) at (FaultyNumber long_limit (drop at all)) (FaultyDatum nodes node (drop at all) m) (λ d h. faulty_long is h) (number_defect 9 1 all at m)
-leaf_defect nodes node all BytesNode at m is l = faulty_as BytesDatum (content_at all at m) at (FaultyContent (drop at all)) (FaultyDatum nodes node (drop at all) m) (λ d h. faulty_bytes is h) (content_defect all at m)
-leaf_defect nodes node all TextNode at m is l = faulty_as TextDatum (text_at all at m) at (FaultyText (drop at all)) (FaultyDatum nodes node (drop at all) m) (λ d h. faulty_text is h) (text_defect all at m)
-leaf_defect nodes node all (FixedNode name size) at m is l = faulty_as FixedDatum (fixed_at size all at m) at (FaultyFixed size (drop at all)) (FaultyDatum nodes node (drop at all) m) (λ d h. faulty_fixed name size is h) (fixed_defect size all at m)
-leaf_defect nodes node all (EnumNode name symbols default) at m is l = faulty_as EnumDatum (position_at BadEnum (length symbols) all at m) at (FaultyPosition BadEnum (length symbols) (drop at all)) (FaultyDatum nodes node (drop at all) m) (λ d h. faulty_enum name symbols default is h) (position_defect BadEnum (length symbols) all at m)
+leaf_defect nodes node all BooleanNode at m is l = faulty_as BooleanDatum (boolean_at all at m) at (FaultyBoolean (drop at all)) (FaultyDatum nodes node (drop at all) m) (λ d h. faulty BooleanNode is (faulty_boolean h)) (boolean_defect all at m)
+leaf_defect nodes node all IntNode at m is l = faulty_as IntDatum (number_at int_limit all at m) at (FaultyNumber int_limit (drop at all)) (FaultyDatum nodes node (drop at all) m) (λ d h. faulty IntNode is (faulty_int h)) (number_defect int_limit all at m (lit< tt))
+leaf_defect nodes node all LongNode at m is l = faulty_as LongDatum (number_at long_limit all at m) at (FaultyNumber long_limit (drop at all)) (FaultyDatum nodes node (drop at all) m) (λ d h. faulty LongNode is (faulty_long h)) (number_defect long_limit all at m (lit< tt))
+leaf_defect nodes node all BytesNode at m is l = faulty_as BytesDatum (content_at all at m) at (FaultyContent (drop at all)) (FaultyDatum nodes node (drop at all) m) (λ d h. faulty BytesNode is (faulty_bytes h)) (content_defect all at m)
+leaf_defect nodes node all TextNode at m is l = faulty_as TextDatum (text_at all at m) at (FaultyText (drop at all)) (FaultyDatum nodes node (drop at all) m) (λ d h. faulty TextNode is (faulty_text h)) (text_defect all at m)
+leaf_defect nodes node all (FixedNode name size) at m is l = faulty_as FixedDatum (fixed_at size all at m) at (FaultyFixed size (drop at all)) (FaultyDatum nodes node (drop at all) m) (λ d h. faulty (FixedNode name size) is (faulty_fixed h)) (fixed_defect size all at m)
+leaf_defect nodes node all (EnumNode name symbols default) at m is l = faulty_as EnumDatum (position_at BadEnum (length symbols) all at m) at (FaultyPosition BadEnum (length symbols) (drop at all)) (FaultyDatum nodes node (drop at all) m) (λ d h. faulty (EnumNode name symbols default) is (faulty_enum h)) (position_defect BadEnum (length symbols) all at m)
 leaf_defect nodes node all (ArrayNode inner) at m is l = absurd l
 leaf_defect nodes node all (MapNode inner) at m is l = absurd l
 leaf_defect nodes node all (UnionNode members) at m is l = absurd l

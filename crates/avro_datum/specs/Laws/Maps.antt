@@ -2,17 +2,15 @@
 use Rattle.std.proofs.Common.{◌≡◌, ◌≢◌, ℕ, ◌+◌, ◌-◌, ◌≤◌, ◌⊎◌, max, List, [], ◌∷◌, ◌++◌, length, drop, Some, refl, sym, ap, subst, ◌∙◌, append_assoc, arith, inl, inr, slice_get}
 use Rattle.std.proofs.lemmas.List.{length-append}
 use Rattle.avro_bytes.specs.declared.meter.Meter.{Meter}
-use Rattle.avro_bytes.specs.Decoding.{Decoding, Complete, Incomplete, Stands, ◌>>=◌, map_decoding}
-use Rattle.avro_bytes.specs.Fault.{Defect, FaultyText, HasDefect, failing, shifted}
 use Rattle.avro_bytes.specs.Meter.{Counts, OpensBlocks}
 use Rattle.avro_bytes.specs.Text.{IsText, text_at}
-use Rattle.avro_bytes.specs.Laws.Binds.{behind, defect_as, defect_behind, defect_map, defect_then, failing_map, stands_within, then_complete, then_steady}
+use Rattle.avro_bytes.specs.Laws.Binds.{rest_after, defect_as, defect_after, defect_map, defect_then, failing_map, stands_within, then_complete, then_steady}
 use Rattle.avro_bytes.specs.Laws.TextDefects.{text_defect}
 use Rattle.avro_bytes.specs.Laws.Texts.{text_complete, text_sound, text_steady}
-use Rattle.avro_types.specs.Node.{Node, MapNode, is_array_or_map}
+use Rattle.avro_types.specs.Node.{Node, MapNode}
 use Rattle.avro_types.specs.Datum.{Datum, Pairs, MapDatum, no_pairs, pair}
 use Rattle.avro_datum.specs.Decoding.{Decoder, map_of, pair_at, pairs_from}
-use Rattle.avro_datum.specs.Fault.{FaultyDatum, SpellsPair, faulty_key, faulty_map, faulty_value, pair_depth, pair_units, refused_blocks}
+use Rattle.avro_datum.specs.Fault.{FaultyDatum, SpellsPair, faulty_key, faulty_map, faulty_value, pair_depth, pair_units, refused_map, faulty}
 use Rattle.avro_datum.specs.ItemDecoding.{blocks_at}
 use Rattle.avro_datum.specs.ItemFault.{Begins, FaultyBlocks, SpellEach, deepest, units_all}
 use Rattle.avro_datum.specs.Spelling.{Spells, SpellsPairs, depth_of, depth_of_pairs, units_of, units_of_pairs}
@@ -22,6 +20,9 @@ use Rattle.avro_datum.specs.Laws.ItemFaults.{AtFault}
 use Rattle.avro_datum.specs.Laws.Items.{ReadsSound}
 use Rattle.avro_datum.specs.Laws.ItemsPassed.{ReadsComplete}
 use Rattle.avro_datum.specs.Laws.Parts.{joined_stands, map_steady, mapped, stands_as}
+use Rattle.avro_bytes.specs.Decoding.{Complete, Decoding, Defect, Failed, Need, Stands, map_decoding, ◌>>=◌}
+use Rattle.avro_bytes.specs.Fault.{FaultyText, HasDefect, failing, shifted}
+use Rattle.avro_bytes.specs.declared.limits.TheConstants.{MOST_DEPTH}
 
 -- ---- one pair
 
@@ -31,7 +32,7 @@ module _ (nodes : List Node) (inner left : ℕ) (all : List ℕ) (decoder : Deco
       let t = then_complete (text_at all at m) (λ key to after. map_decoding (λ d. (key, d)) (decoder inner to after)) p to after e in
       let k = text_sound all at m t.first t.mid t.meter t.first_is in
       let v = mapped (λ d. (t.first, d)) (decoder inner t.mid t.meter) p to after t.next_is in
-      let s = sound inner t.mid t.meter v.0 to after (l ∙ ap (λ (x : Meter). 1000 - x.depth) k.1) v.1 in
+      let s = sound inner t.mid t.meter v.0 to after (l ∙ ap (λ (x : Meter). MOST_DEPTH - x.depth) k.1) v.1 in
       let made : Stands (SpellsPair nodes inner (t.first, v.0)) all at to = joined_stands (IsText t.first) (Spells nodes inner v.0) all at t.mid to k.0 s.0 in
       let counts : Counts (depth_of v.0) (units_of v.0) m after = subst (λ (x : Meter). Counts (depth_of v.0) (units_of v.0) x after) (sym k.1) s.1 in
       subst (λ (x : List ℕ × Datum). Stands (SpellsPair nodes inner x) all at to × Counts (pair_depth x) (pair_units x) m after) (sym v.2) (made, counts)
@@ -49,16 +50,16 @@ module _ (nodes : List Node) (inner left : ℕ) (all : List ℕ) (decoder : Deco
       ap (λ (x : Decoding (List ℕ)). x >>= λ key to after. map_decoding (λ d. (key, d)) (decoder inner to after)) key
       ∙ ap (map_decoding (λ (d : Datum). (p.0, d))) datum ∙ ap (λ (k : ℕ). Complete (p.0, p.1) k after) end
 
-  pub pair_steady : (others : List ℕ) (further : Decoder) → IsSteady all decoder further left → (at : ℕ) (m : Meter) → left ≡ 1000 - m.depth → at ≤ length all → pair_at decoder all inner at m ≢ Incomplete → pair_at further (all ++ others) inner at m ≡ pair_at decoder all inner at m
+  pub pair_steady : (others : List ℕ) (further : Decoder) → IsSteady all decoder further left → (at : ℕ) (m : Meter) → left ≡ MOST_DEPTH - m.depth → at ≤ length all → pair_at decoder all inner at m ≢ Failed Need → pair_at further (all ++ others) inner at m ≡ pair_at decoder all inner at m
   pair_steady others further steady at m l le c =
       then_steady (text_at all at m) (text_at (all ++ others) at m) (λ key to after. map_decoding (λ d. (key, d)) (decoder inner to after)) (λ key to after. map_decoding (λ d. (key, d)) (further inner to after))
       (text_steady all others at m le)
       (λ key mid after e d.
       let k = text_sound all at m key mid after e in
-      map_steady (λ d. (key, d)) (decoder inner mid after) (further inner mid after) (steady inner mid after (l ∙ ap (λ (x : Meter). 1000 - x.depth) k.1) (stands_within (IsText key) all at mid le k.0)) d)
+      map_steady (λ d. (key, d)) (decoder inner mid after) (further inner mid after) (steady inner mid after (l ∙ ap (λ (x : Meter). MOST_DEPTH - x.depth) k.1) (stands_within (IsText key) all at mid le k.0)) d)
       c
 
--- the datum behind a key is at fault
+-- the datum after a key is at fault
 record IsFaultyValue (nodes : List Node) (inner : ℕ) (bytes : List ℕ) (m : Meter) (d : Defect) : Type 0 where
   key : List ℕ
   spelling : List ℕ
@@ -72,18 +73,18 @@ record IsFaultyValue (nodes : List Node) (inner : ℕ) (bytes : List ℕ) (m : M
 abbrev FaultyPair : List Node → ℕ → List ℕ → Meter → Defect → Type 0
 FaultyPair nodes inner bytes m d = FaultyText bytes d ⊎ IsFaultyValue nodes inner bytes m d
 
-pair_defect : (nodes : List Node) (inner left : ℕ) (all : List ℕ) (decoder : Decoder) → HasFault nodes all decoder left → (at : ℕ) (m : Meter) → left ≡ 1000 - m.depth → HasDefect (pair_at decoder all inner at m) at (FaultyPair nodes inner (drop at all) m)
-pair_defect nodes inner left all decoder faulty at m l =
+pair_defect : (nodes : List Node) (inner left : ℕ) (all : List ℕ) (decoder : Decoder) → HasFault nodes all decoder left → (at : ℕ) (m : Meter) → left ≡ MOST_DEPTH - m.depth → HasDefect (pair_at decoder all inner at m) at (FaultyPair nodes inner (drop at all) m)
+pair_defect nodes inner left all decoder fault at m l =
     let P = FaultyPair nodes inner (drop at all) m in
     defect_then (text_at all at m) (λ key to after. map_decoding (λ d. (key, d)) (decoder inner to after)) at P
     (defect_as (text_at all at m) at (FaultyText (drop at all)) P (λ d h. inl h) (text_defect all at m))
     (λ key mid after e.
     let k = text_sound all at m key mid after e in
-    let here : drop mid all ≡ k.0.rest = behind k.0.bytes k.0.rest all at mid k.0.parts k.0.end in
+    let here : drop mid all ≡ k.0.rest = rest_after k.0.bytes k.0.rest all at mid k.0.parts k.0.end in
     defect_map (λ d. (key, d)) (decoder inner mid after) at P
-    (defect_behind (decoder inner mid after) at (length k.0.bytes) mid (FaultyDatum nodes inner (drop mid all) after) P k.0.end
+    (defect_after (decoder inner mid after) at (length k.0.bytes) mid (FaultyDatum nodes inner (drop mid all) after) P k.0.end
     (λ further h. inr (record { key = key; spelling = k.0.bytes; value = k.0.rest; further = further; parts = k.0.parts; text = k.0.spelled; faulty = subst (λ (x : Meter). FaultyDatum nodes inner k.0.rest x further) (sym k.1) (subst (λ (b : List ℕ). FaultyDatum nodes inner b after further) here h); place = refl }))
-    (faulty inner mid after (l ∙ ap (λ (x : Meter). 1000 - x.depth) k.1))))
+    (fault inner mid after (l ∙ ap (λ (x : Meter). MOST_DEPTH - x.depth) k.1))))
 
 -- ---- pairs as a list
 
@@ -116,41 +117,41 @@ units_from [] = refl
 units_from (p ∷ ps) = ap (λ (k : ℕ). (units_of p.1 + 1) + k) (units_from ps)
 
 module _ (nodes : List Node) (node inner left : ℕ) (all : List ℕ) (decoder : Decoder) (is : slice_get nodes node ≡ Some (MapNode inner)) where
-  pub map_sound : Deeper (IsSound nodes all decoder) left → (at : ℕ) (m : Meter) (d : Datum) (to : ℕ) (after : Meter) → left ≡ 1000 - m.depth → map_decoding map_of (blocks_at (pair_at decoder all inner) all at m) ≡ Complete d to after → Stands (Spells nodes node d) all at to × Counts (depth_of d) (units_of d) m after
+  pub map_sound : Deeper (IsSound nodes all decoder) left → (at : ℕ) (m : Meter) (d : Datum) (to : ℕ) (after : Meter) → left ≡ MOST_DEPTH - m.depth → map_decoding map_of (blocks_at (pair_at decoder all inner) all at m) ≡ Complete d to after → Stands (Spells nodes node d) all at to × Counts (depth_of d) (units_of d) m after
   map_sound sound at m d to after l e =
       let v = mapped map_of (blocks_at (pair_at decoder all inner) all at m) d to after e in
       let b = blocks_sound (SpellsPair nodes inner) pair_depth pair_units left all (pair_at decoder all inner) (λ less k. pair_sound nodes inner less all decoder (sound less k)) at m v.0 to after l v.1 in
       let counts : Counts (depth_of (map_of v.0)) (units_of (map_of v.0)) m after = rw (levels_of v.0, units_from v.0) b.1 in
       subst (λ (x : Datum). Stands (Spells nodes node x) all at to × Counts (depth_of x) (units_of x) m after) (sym v.2) (stands_as (λ bytes s. (inner, is, s.0, s.1, spells_pairs nodes inner v.0 s.0 s.2)) b.0, counts)
 
-  pub map_complete : Deeper (IsComplete nodes all decoder) left → (ps : Pairs) (before bytes rest : List ℕ) (m after : Meter) → left ≡ 1000 - m.depth → all ≡ before ++ (bytes ++ rest) → SpellBlocks (SpellsPair nodes inner) pair_depth pair_units (list_of ps) bytes → Counts (depth_of_pairs ps + 1) (units_of_pairs ps) m after
+  pub map_complete : Deeper (IsComplete nodes all decoder) left → (ps : Pairs) (before bytes rest : List ℕ) (m after : Meter) → left ≡ MOST_DEPTH - m.depth → all ≡ before ++ (bytes ++ rest) → SpellBlocks (SpellsPair nodes inner) pair_depth pair_units (list_of ps) bytes → Counts (depth_of_pairs ps + 1) (units_of_pairs ps) m after
       → map_decoding map_of (blocks_at (pair_at decoder all inner) all (length before) m) ≡ Complete (MapDatum ps) (length before + length bytes) after
   map_complete complete ps before bytes rest m after l e s t =
       let counts : Counts (depth_of_pairs (pairs_from (list_of ps)) + 1) (units_of_pairs (pairs_from (list_of ps))) m after = subst (λ (x : Pairs). Counts (depth_of_pairs x + 1) (units_of_pairs x) m after) (sym (from_list ps)) t in
       ap (map_decoding map_of) (blocks_complete (SpellsPair nodes inner) pair_depth pair_units left all (pair_at decoder all inner) (λ less k. pair_complete nodes inner less all decoder (complete less k)) (list_of ps) before bytes rest m after l e s (rw (levels_of (list_of ps), units_from (list_of ps)) at counts))
       ∙ ap (λ (x : Pairs). Complete (MapDatum x) (length before + length bytes) after) (from_list ps)
 
-  pub map_is_steady : (others : List ℕ) (further : Decoder) → Deeper (IsSound nodes all decoder) left → Deeper (IsSteady all decoder further) left → (at : ℕ) (m : Meter) → left ≡ 1000 - m.depth → at ≤ length all → map_decoding map_of (blocks_at (pair_at decoder all inner) all at m) ≢ Incomplete
+  pub map_is_steady : (others : List ℕ) (further : Decoder) → Deeper (IsSound nodes all decoder) left → Deeper (IsSteady all decoder further) left → (at : ℕ) (m : Meter) → left ≡ MOST_DEPTH - m.depth → at ≤ length all → map_decoding map_of (blocks_at (pair_at decoder all inner) all at m) ≢ Failed Need
       → map_decoding map_of (blocks_at (pair_at further (all ++ others) inner) (all ++ others) at m) ≡ map_decoding map_of (blocks_at (pair_at decoder all inner) all at m)
   map_is_steady others further sound steady at m l le c =
       map_steady map_of (blocks_at (pair_at decoder all inner) all at m) (blocks_at (pair_at further (all ++ others) inner) (all ++ others) at m)
       (blocks_steady (SpellsPair nodes inner) pair_depth pair_units left all (pair_at decoder all inner) others (pair_at further (all ++ others) inner) (λ less k. pair_sound nodes inner less all decoder (sound less k)) (λ less k _. pair_steady nodes inner less all decoder others further (steady less k)) at m l le) c
 
   map_fault : (at : ℕ) (m within : Meter) → OpensBlocks m within → (d : Defect) → AtFault (SpellsPair nodes inner) pair_depth pair_units (FaultyPair nodes inner) (drop at all) within d → FaultyDatum nodes node (drop at all) m d
-  map_fault at m within o d (inl h) = faulty_map inner within is o h
+  map_fault at m within o d (inl h) = faulty (MapNode inner) is (faulty_map within o h)
   map_fault at m within o d (inr h) = pair_fault h.faulty
     where
       pair_fault : FaultyPair nodes inner h.rest h.opened h.inner → FaultyDatum nodes node (drop at all) m d
-      pair_fault (inl f) = faulty_key inner within h.opened h.front h.rest h.inner is o h.begins f h.where_it_is
-      pair_fault (inr v) = faulty_value inner within h.opened h.front h.rest v.key v.spelling v.value v.further is o h.begins v.parts v.text v.faulty (h.where_it_is ∙ ap (shifted (length h.front)) v.place)
+      pair_fault (inl f) = faulty (MapNode inner) is (faulty_key within h.opened h.front h.rest h.inner o h.begins f h.where_it_is)
+      pair_fault (inr v) = faulty (MapNode inner) is (faulty_value within h.opened h.front h.rest v.key v.spelling v.value v.further o h.begins v.parts v.text v.faulty (h.where_it_is ∙ ap (shifted (length h.front)) v.place))
 
-  pub map_defect : Deeper (IsSound nodes all decoder) left → Deeper (HasFault nodes all decoder) left → (at : ℕ) (m : Meter) → left ≡ 1000 - m.depth → HasDefect (map_decoding map_of (blocks_at (pair_at decoder all inner) all at m)) at (FaultyDatum nodes node (drop at all) m)
-  map_defect sound faulty at m l =
+  pub map_defect : Deeper (IsSound nodes all decoder) left → Deeper (HasFault nodes all decoder) left → (at : ℕ) (m : Meter) → left ≡ MOST_DEPTH - m.depth → HasDefect (map_decoding map_of (blocks_at (pair_at decoder all inner) all at m)) at (FaultyDatum nodes node (drop at all) m)
+  map_defect sound fault at m l =
       defect_map map_of (blocks_at (pair_at decoder all inner) all at m) at (FaultyDatum nodes node (drop at all) m)
-      (blocks_have_defect (SpellsPair nodes inner) pair_depth pair_units left all (pair_at decoder all inner) (FaultyPair nodes inner) (FaultyDatum nodes node (drop at all) m) (λ less k. pair_sound nodes inner less all decoder (sound less k)) (λ less k. pair_defect nodes inner less all decoder (faulty less k)) at m l
-      (λ d r. refused_blocks (ap is_array_or_map is) r) (map_fault at m))
+      (blocks_have_defect (SpellsPair nodes inner) pair_depth pair_units left all (pair_at decoder all inner) (FaultyPair nodes inner) (FaultyDatum nodes node (drop at all) m) (λ less k. pair_sound nodes inner less all decoder (sound less k)) (λ less k. pair_defect nodes inner less all decoder (fault less k)) at m l
+      (λ d r. faulty (MapNode inner) is (refused_map r)) (map_fault at m))
 
-  module _ (complete : Deeper (IsComplete nodes all decoder) left) (before bytes : List ℕ) (m within : Meter) (d : Defect) (l : left ≡ 1000 - m.depth) (e : all ≡ before ++ bytes) (o : OpensBlocks m within) where
+  module _ (complete : Deeper (IsComplete nodes all decoder) left) (before bytes : List ℕ) (m within : Meter) (d : Defect) (l : left ≡ MOST_DEPTH - m.depth) (e : all ≡ before ++ bytes) (o : OpensBlocks m within) where
     pub map_told : FaultyBlocks (SpellsPair nodes inner) pair_depth pair_units bytes within d → map_decoding map_of (blocks_at (pair_at decoder all inner) all (length before) m) ≡ failing (length before) d
     map_told h =
         ap (map_decoding map_of) (around_told (SpellsPair nodes inner) pair_depth pair_units left all (pair_at decoder all inner) (λ less k. pair_complete nodes inner less all decoder (complete less k)) before bytes m within l e o d h) ∙ failing_map (length before) d map_of

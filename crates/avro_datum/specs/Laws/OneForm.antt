@@ -1,30 +1,29 @@
 -- No spelling begins another, and each spells one datum.
 use Rattle.std.proofs.Common.{◌≡◌, ℕ, ◌+◌, List, [], ◌∷◌, ◌++◌, length, drop, Option, Some, refl, sym, ap, subst, ◌∙◌, append_assoc, slice_get}
 use Rattle.std.proofs.lemmas.List.{drop_at}
-use Rattle.avro_bytes.specs.declared.blocks.BlockWalk.{BlockWalk}
-use Rattle.avro_bytes.specs.BlockDecoding.{first_walk}
-use Rattle.avro_bytes.specs.Blocks.{Remains}
+use Rattle.avro_bytes.specs.Walk.{Walk, first_walk}
+use Rattle.avro_bytes.specs.Walking.{Remains, Comes}
 use Rattle.avro_bytes.specs.Number.{int_limit, long_limit}
 use Rattle.avro_bytes.specs.Laws.BlockEnds.{remains_first}
 use Rattle.avro_bytes.specs.Laws.Blobs.{blob_one_form}
-use Rattle.avro_bytes.specs.Laws.BlocksAgain.{Comes, step_complete}
+use Rattle.avro_bytes.specs.Laws.BlocksAgain.{step_complete}
 use Rattle.avro_bytes.specs.Laws.BlocksSame.{comes_or_ends, comes_same, ends_same}
 use Rattle.avro_bytes.specs.Laws.Booleans.{boolean_one_form}
 use Rattle.avro_bytes.specs.Laws.Fixeds.{fixed_one_form}
 use Rattle.avro_bytes.specs.Laws.Numbers.{number_one_form}
 use Rattle.avro_bytes.specs.Laws.Texts.{text_one_form}
-use Rattle.avro_types.specs.Node.{Node, FieldNode, FixedNode, EnumNode, ArrayNode, MapNode, UnionNode, RecordNode}
+use Rattle.avro_types.specs.Node.{Names, Node, FieldNode, FixedNode, EnumNode, ArrayNode, MapNode, UnionNode, RecordNode}
 use Rattle.avro_types.specs.Datum.{Datum, Data, Pairs, NullDatum, BooleanDatum, IntDatum, LongDatum, BytesDatum, TextDatum, FixedDatum, EnumDatum, ArrayDatum, MapDatum, UnionDatum, RecordDatum, no_more, more, no_pairs, pair}
-use Rattle.avro_datum.specs.Position.{SpellsPosition}
+use Rattle.avro_bytes.specs.Position.{SpellsPosition}
 use Rattle.avro_datum.specs.Spelling.{Spells, SpellsFields, SpellsItems, SpellsPairs}
-use Rattle.avro_datum.specs.Laws.Positions.{position_one_form}
+use Rattle.avro_bytes.specs.Laws.Positions.{position_one_form}
 
 -- ---- one node is of one kind
 
-same_size : {n k : List ℕ} {a b : ℕ} {o : Option Node} → o ≡ Some (FixedNode n a) → o ≡ Some (FixedNode k b) → a ≡ b
+same_size : {n k : Names} {a b : ℕ} {o : Option Node} → o ≡ Some (FixedNode n a) → o ≡ Some (FixedNode k b) → a ≡ b
 same_size p q = cc
 
-same_symbols : {n k : List ℕ} {a b : List (List ℕ)} {x y : Option ℕ} {o : Option Node} → o ≡ Some (EnumNode n a x) → o ≡ Some (EnumNode k b y) → a ≡ b
+same_symbols : {n k : Names} {a b : List (List ℕ)} {x y : Option ℕ} {o : Option Node} → o ≡ Some (EnumNode n a x) → o ≡ Some (EnumNode k b y) → a ≡ b
 same_symbols p q = cc
 
 same_items : {a b : ℕ} {o : Option Node} → o ≡ Some (ArrayNode a) → o ≡ Some (ArrayNode b) → a ≡ b
@@ -39,12 +38,12 @@ same_members p q = cc
 same_member : {a b : ℕ} {o : Option ℕ} → o ≡ Some a → o ≡ Some b → a ≡ b
 same_member p q = cc
 
-same_fields : {n k : List ℕ} {a b : List FieldNode} {o : Option Node} → o ≡ Some (RecordNode n a) → o ≡ Some (RecordNode k b) → a ≡ b
+same_fields : {n k : Names} {a b : List FieldNode} {o : Option Node} → o ≡ Some (RecordNode n a) → o ≡ Some (RecordNode k b) → a ≡ b
 same_fields p q = cc
 
--- ---- one part behind another
+-- ---- one part after another
 
--- what stands behind equal fronts
+-- what stands after equal fronts
 rest_is : (a b x y : List ℕ) → a ≡ b → a ++ x ≡ b ++ y → x ≡ y
 rest_is a b x y same e = sym (drop_at a x (length a) refl) ∙ ap (drop (length a)) e ∙ drop_at b y (length a) (sym (ap length same))
 
@@ -54,15 +53,15 @@ two_parts a f r x b g s y p q e = sym (append_assoc f r x) ∙ ap (λ (k : List 
 joined_same : (a f r b g s : List ℕ) → a ≡ f ++ r → b ≡ g ++ s → f ≡ g → r ≡ s → a ≡ b
 joined_same a f r b g s p q e h = p ∙ ap (λ (k : List ℕ). k ++ r) e ∙ ap (λ (k : List ℕ). g ++ k) h ∙ sym q
 
--- behind an item that both walks come to, they go on alike
-record GoOn (walk : BlockWalk) (at : ℕ) (i j : List ℕ) (is js : List (List ℕ)) (a b x y : List ℕ) : Type 0 where
+-- after an item that both walks come to, they go on alike
+record GoOn (walk : Walk) (at : ℕ) (i j : List ℕ) (is js : List (List ℕ)) (a b x y : List ℕ) : Type 0 where
   p : Comes walk at i is a
   q : Comes walk at j js b
   first : i ++ (p.rest ++ x) ≡ j ++ (q.rest ++ y)
   next : i ≡ j → Remains q.next ((at + length q.head) + length j) is p.rest
   whole : i ≡ j → p.rest ≡ q.rest → a ≡ b
 
-go_on : (walk : BlockWalk) (at : ℕ) (i j : List ℕ) (is js : List (List ℕ)) (a b x y : List ℕ) → Remains walk at (i ∷ is) a → Remains walk at (j ∷ js) b → a ++ x ≡ b ++ y → GoOn walk at i j is js a b x y
+go_on : (walk : Walk) (at : ℕ) (i j : List ℕ) (is js : List (List ℕ)) (a b x y : List ℕ) → Remains walk at (i ∷ is) a → Remains walk at (j ∷ js) b → a ++ x ≡ b ++ y → GoOn walk at i j is js a b x y
 go_on walk at i j is js a b x y r s e =
     let p = step_complete walk at i is a r in
     let q = step_complete walk at j js b s in
@@ -71,7 +70,7 @@ go_on walk at i j is js a b x y r s e =
       p = p;
       q = q;
       first = same.2;
-      next = λ k. subst (λ (w : BlockWalk). Remains w ((at + length q.head) + length j) is p.rest) same.0 (subst (λ (h : List ℕ). Remains p.next ((at + length h) + length j) is p.rest) same.1 (subst (λ (n : List ℕ). Remains p.next ((at + length p.head) + length n) is p.rest) k p.still));
+      next = λ k. subst (λ (w : Walk). Remains w ((at + length q.head) + length j) is p.rest) same.0 (subst (λ (h : List ℕ). Remains p.next ((at + length h) + length j) is p.rest) same.1 (subst (λ (n : List ℕ). Remains p.next ((at + length p.head) + length n) is p.rest) k p.still));
       whole = λ k h. joined_same a p.head (i ++ p.rest) b q.head (j ++ q.rest) p.parts q.parts same.1 (ap (λ (n : List ℕ). n ++ p.rest) k ∙ ap (λ (n : List ℕ). j ++ n) h);
     }
 
@@ -88,9 +87,9 @@ mutual
   datum_one_form nodes node (EnumDatum m) (EnumDatum n) a b x y s t e =
       let f = position_one_form (length s.1) a b x y m n s.4 (subst (λ (k : List (List ℕ)). SpellsPosition (length k) n b) (same_symbols t.3 s.3) t.4) e in (f.0, ap EnumDatum f.1)
   datum_one_form nodes node (ArrayDatum ds) (ArrayDatum es) a b x y s t e =
-      let f = items_one_form nodes s.0 ds es first_walk 0 s.2 t.2 a b x y (remains_first 0 s.2 a s.3) (remains_first 0 t.2 b t.3) s.4 (subst (λ (k : ℕ). SpellsItems nodes k es t.2) (same_items t.1 s.1) t.4) e in (f.0, ap ArrayDatum f.1)
+      let f = items_one_form nodes s.0 ds es (first_walk 0) 0 s.2 t.2 a b x y (remains_first 0 0 s.2 a s.3) (remains_first 0 0 t.2 b t.3) s.4 (subst (λ (k : ℕ). SpellsItems nodes k es t.2) (same_items t.1 s.1) t.4) e in (f.0, ap ArrayDatum f.1)
   datum_one_form nodes node (MapDatum ps) (MapDatum qs) a b x y s t e =
-      let f = pairs_one_form nodes s.0 ps qs first_walk 0 s.2 t.2 a b x y (remains_first 0 s.2 a s.3) (remains_first 0 t.2 b t.3) s.4 (subst (λ (k : ℕ). SpellsPairs nodes k qs t.2) (same_values t.1 s.1) t.4) e in (f.0, ap MapDatum f.1)
+      let f = pairs_one_form nodes s.0 ps qs (first_walk 0) 0 s.2 t.2 a b x y (remains_first 0 0 s.2 a s.3) (remains_first 0 0 t.2 b t.3) s.4 (subst (λ (k : ℕ). SpellsPairs nodes k qs t.2) (same_values t.1 s.1) t.4) e in (f.0, ap MapDatum f.1)
   datum_one_form nodes node (UnionDatum m d) (UnionDatum n f) a b x y s t e =
       let whole = two_parts a s.5 s.6 x b t.5 t.6 y s.7 t.7 e in
       let same = same_members t.1 s.1 in
@@ -102,7 +101,7 @@ mutual
       let f = fields_one_form nodes s.1 ds es a b x y s.3 (subst (λ (fs : List FieldNode). SpellsFields nodes fs es b) (same_fields t.2 s.2) t.3) e in (f.0, ap RecordDatum f.1)
   datum_one_form nodes node _ _ a b x y s t e = absurd cc
 
-  items_one_form : (nodes : List Node) (node : ℕ) (ds es : Data) (walk : BlockWalk) (at : ℕ) (is js : List (List ℕ)) (a b x y : List ℕ) → Remains walk at is a → Remains walk at js b → SpellsItems nodes node ds is → SpellsItems nodes node es js → a ++ x ≡ b ++ y → (a ≡ b) × (ds ≡ es)
+  items_one_form : (nodes : List Node) (node : ℕ) (ds es : Data) (walk : Walk) (at : ℕ) (is js : List (List ℕ)) (a b x y : List ℕ) → Remains walk at is a → Remains walk at js b → SpellsItems nodes node ds is → SpellsItems nodes node es js → a ++ x ≡ b ++ y → (a ≡ b) × (ds ≡ es)
   items_one_form nodes node no_more no_more walk at [] [] a b x y r k s t e = (ends_same walk at a b x y r k e, refl)
   items_one_form nodes node (more d ds) (more f es) walk at (i ∷ is) (j ∷ js) a b x y r k s t e =
       let g = go_on walk at i j is js a b x y r k e in
@@ -116,7 +115,7 @@ mutual
   items_one_form nodes node ds no_more walk at is (j ∷ js) a b x y r k s t e = absurd t
   items_one_form nodes node ds (more f es) walk at is [] a b x y r k s t e = absurd t
 
-  pairs_one_form : (nodes : List Node) (node : ℕ) (ps qs : Pairs) (walk : BlockWalk) (at : ℕ) (is js : List (List ℕ)) (a b x y : List ℕ) → Remains walk at is a → Remains walk at js b → SpellsPairs nodes node ps is → SpellsPairs nodes node qs js → a ++ x ≡ b ++ y → (a ≡ b) × (ps ≡ qs)
+  pairs_one_form : (nodes : List Node) (node : ℕ) (ps qs : Pairs) (walk : Walk) (at : ℕ) (is js : List (List ℕ)) (a b x y : List ℕ) → Remains walk at is a → Remains walk at js b → SpellsPairs nodes node ps is → SpellsPairs nodes node qs js → a ++ x ≡ b ++ y → (a ≡ b) × (ps ≡ qs)
   pairs_one_form nodes node no_pairs no_pairs walk at [] [] a b x y r k s t e = (ends_same walk at a b x y r k e, refl)
   pairs_one_form nodes node (pair key d ps) (pair name f qs) walk at (i ∷ is) (j ∷ js) a b x y r k s t e =
       let g = go_on walk at i j is js a b x y r k e in

@@ -4,10 +4,10 @@ use Rattle.avro_bytes.specs.Laws.Shortests.{shortest_is_number, shortest_is_shor
 use Rattle.avro_bytes.proofs.laws.shortest_spelling_is_shortest.Goals as goal
 
 pub returns-clause-long : goal.returns-clause-long
-returns-clause-long c = λ n fits. shortest_is_number 9 1 n (lit< tt) (lit≤ tt) fits
+returns-clause-long c = λ n fits. shortest_is_number long_limit n (lit< tt) (lit< tt) (lit≤ tt) fits
 
 pub returns-clause-int : goal.returns-clause-int
-returns-clause-int c = λ n fits. shortest_is_number 4 15 n (lit< tt) (lit≤ tt) fits
+returns-clause-int c = λ n fits. shortest_is_number int_limit n (lit< tt) (lit< tt) (lit≤ tt) fits
 
 pub returns-clause-none_shorter : goal.returns-clause-none_shorter
 returns-clause-none_shorter c = λ n bytes s. shortest_is_shortest long_limit n bytes s

@@ -5,7 +5,7 @@ use Rattle.avro_bytes.specs.Laws.BlocksSame.{comes_or_ends, comes_same, ends_sam
 use Rattle.avro_bytes.proofs.laws.walks_pass_the_items.Goals as goal
 
 pub returns-clause-first : goal.returns-clause-first
-returns-clause-first c = λ at items bytes. (λ s. remains_first at items bytes s, λ r. first_remains at items bytes r)
+returns-clause-first c = λ start at items bytes. (λ s. remains_first start at items bytes s, λ r. first_remains start at items bytes r)
 
 pub returns-clause-step_sound : goal.returns-clause-step_sound
 returns-clause-step_sound c = λ walk all at m next to after e. step_sound walk all at m next to after e

@@ -1,36 +1,37 @@
 use Rattle.std.proofs.Common.{◌≡◌, ◌≤◌, ◌-◌, ◌+◌, ◌*◌, length}
+use Rattle.avro_datum.proofs.Items as items
+use Rattle.avro_datum.proofs.reading.+read.Given as goal
 use Rattle.avro_types.specs.Datum.{datum_of}
 use Rattle.avro_types.specs.Node.{fields_of}
 use Rattle.avro_datum.specs.Decoding.{fields_at, node_at, pair_at}
 use Rattle.avro_datum.specs.ItemDecoding.{items_at, steps_left}
 use Rattle.avro_datum.specs.View.{pair_of}
 use Rattle.avro_datum.proofs.Fields.{SoFar}
-use Rattle.avro_datum.proofs.Items as items
-use Rattle.avro_datum.proofs.reading.+read.Given as goal
+use Rattle.avro_bytes.specs.declared.limits.TheConstants.{MOST_DEPTH, MOST_UNITS}
 
 -- a union's member lies no deeper, a record's, array's or map's parts do
 
 abbrev pub decreases-read_node : goal.decreases-read_node
-decreases-read_node l = 4 * (1000 - l.m.depth) + 1
+decreases-read_node l = 4 * (MOST_DEPTH - l.m.depth) + 1
 
 abbrev pub decreases-read_plain : goal.decreases-read_plain
-decreases-read_plain l = 4 * (1000 - l.m.depth)
+decreases-read_plain l = 4 * (MOST_DEPTH - l.m.depth)
 
 abbrev pub decreases-read_fields : goal.decreases-read_fields
-decreases-read_fields l = 4 * (1000 - l.m.depth) + 2
+decreases-read_fields l = 4 * (MOST_DEPTH - l.m.depth) + 2
 
 abbrev pub decreases-read_items : goal.decreases-read_items
-decreases-read_items l = 4 * (1000 - l.m.depth) + 2
+decreases-read_items l = 4 * (MOST_DEPTH - l.m.depth) + 2
 
 abbrev pub decreases-read_pairs : goal.decreases-read_pairs
-decreases-read_pairs l = 4 * (1000 - l.m.depth) + 3
+decreases-read_pairs l = 4 * (MOST_DEPTH - l.m.depth) + 3
 
 abbrev pub decreases-read_pair : goal.decreases-read_pair
-decreases-read_pair l = 4 * (1000 - l.m.depth) + 2
+decreases-read_pair l = 4 * (MOST_DEPTH - l.m.depth) + 2
 
 abbrev pub invariant-read_fields-loop-field : goal.invariant-read_fields-loop-field
 invariant-read_fields-loop-field l =
-    let decoder = node_at (1000 - l.fn.m.depth) l.nodes l.bytes in
+    let decoder = node_at (MOST_DEPTH - l.fn.m.depth) l.nodes l.bytes in
     record {
       within : l.to ≤ length l.bytes;
       depth : l.so_far.depth ≡ l.fn.m.depth;
@@ -40,7 +41,7 @@ invariant-read_fields-loop-field l =
 
 abbrev pub invariant-read_items-loop-data : goal.invariant-read_items-loop-data
 invariant-read_items-loop-data l =
-    let reader = node_at (1000 - l.fn.m.depth) l.nodes l.bytes l.inner in
+    let reader = node_at (MOST_DEPTH - l.fn.m.depth) l.nodes l.bytes l.inner in
     record {
       within : l.to ≤ length l.bytes;
       depth : l.so_far.depth ≡ l.fn.m.depth;
@@ -49,11 +50,11 @@ invariant-read_items-loop-data l =
     }
 
 abbrev pub decreases-read_items-loop-data : goal.decreases-read_items-loop-data
-decreases-read_items-loop-data l = 1048576 - l.so_far.units
+decreases-read_items-loop-data l = MOST_UNITS - l.so_far.units
 
 abbrev pub invariant-read_pairs-loop-pairs : goal.invariant-read_pairs-loop-pairs
 invariant-read_pairs-loop-pairs l =
-    let reader = pair_at (node_at (1000 - l.fn.m.depth) l.nodes l.bytes) l.bytes l.inner in
+    let reader = pair_at (node_at (MOST_DEPTH - l.fn.m.depth) l.nodes l.bytes) l.bytes l.inner in
     record {
       within : l.to ≤ length l.bytes;
       depth : l.so_far.depth ≡ l.fn.m.depth;
@@ -62,4 +63,4 @@ invariant-read_pairs-loop-pairs l =
     }
 
 abbrev pub decreases-read_pairs-loop-pairs : goal.decreases-read_pairs-loop-pairs
-decreases-read_pairs-loop-pairs l = 1048576 - l.so_far.units
+decreases-read_pairs-loop-pairs l = MOST_UNITS - l.so_far.units

@@ -1,11 +1,11 @@
 use Rattle.std.proofs.Common.{rules, ◌≡◌, length, refl, ◌∙◌, sym, arith, Err, Ok}
 use Rattle.std.proofs.lemmas.Option.{slice_get_read}
 use Rattle.std.proofs.lemmas.Result.{err_from_is_err_and}
-use Rattle.avro_datum.proofs.Fields.{field_below}
 use Rattle.avro_datum.proofs.Items as items
+use Rattle.avro_datum.proofs.skipping.+skip.Goals as goal
+use Rattle.avro_datum.proofs.Fields.{field_below}
 use Rattle.avro_datum.proofs.Skips.{was_complete}
 use Rattle.avro_datum.proofs.LessValue.{skip_array_not_opened, skip_map_not_opened, skip_pair_at_depth, skip_position_fails, skips_array, skips_map, skips_member, skips_on, skip_fails, skip_ends, skip_at_depth, skips_leaf, skip_not_opened, skip_fields_fail, skip_fields_end}
-use Rattle.avro_datum.proofs.skipping.+skip.Goals as goal
 
 pub skip_fields-skip_node-requires : goal.skip_fields-skip_node-requires
 skip_fields-skip_node-requires t c = (

@@ -1,34 +1,35 @@
 use Rattle.std.proofs.Common.{◌≡◌, ◌≤◌, ◌-◌, ◌+◌, ◌*◌, length, drop}
+use Rattle.avro_datum.proofs.skipping.+skip.Given as goal
 use Rattle.avro_bytes.specs.Contract.{skipped}
 use Rattle.avro_types.specs.Node.{fields_of}
 use Rattle.avro_datum.specs.Decoding.{fields_at, node_at, pair_at}
 use Rattle.avro_datum.specs.ItemDecoding.{items_at, steps_left}
 use Rattle.avro_datum.proofs.Items.{Skipped}
-use Rattle.avro_datum.proofs.skipping.+skip.Given as goal
+use Rattle.avro_bytes.specs.declared.limits.TheConstants.{MOST_DEPTH, MOST_UNITS}
 
 -- a union's member lies no deeper, a record's, array's or map's parts do
 
 abbrev pub decreases-skip_node : goal.decreases-skip_node
-decreases-skip_node l = 4 * (1000 - l.m.depth) + 1
+decreases-skip_node l = 4 * (MOST_DEPTH - l.m.depth) + 1
 
 abbrev pub decreases-skip_plain : goal.decreases-skip_plain
-decreases-skip_plain l = 4 * (1000 - l.m.depth)
+decreases-skip_plain l = 4 * (MOST_DEPTH - l.m.depth)
 
 abbrev pub decreases-skip_fields : goal.decreases-skip_fields
-decreases-skip_fields l = 4 * (1000 - l.m.depth) + 2
+decreases-skip_fields l = 4 * (MOST_DEPTH - l.m.depth) + 2
 
 abbrev pub decreases-skip_items : goal.decreases-skip_items
-decreases-skip_items l = 4 * (1000 - l.m.depth) + 2
+decreases-skip_items l = 4 * (MOST_DEPTH - l.m.depth) + 2
 
 abbrev pub decreases-skip_pairs : goal.decreases-skip_pairs
-decreases-skip_pairs l = 4 * (1000 - l.m.depth) + 3
+decreases-skip_pairs l = 4 * (MOST_DEPTH - l.m.depth) + 3
 
 abbrev pub decreases-skip_pair : goal.decreases-skip_pair
-decreases-skip_pair l = 4 * (1000 - l.m.depth) + 2
+decreases-skip_pair l = 4 * (MOST_DEPTH - l.m.depth) + 2
 
 abbrev pub invariant-skip_fields-loop-field : goal.invariant-skip_fields-loop-field
 invariant-skip_fields-loop-field l =
-    let decoder = node_at (1000 - l.fn.m.depth) l.nodes l.bytes in
+    let decoder = node_at (MOST_DEPTH - l.fn.m.depth) l.nodes l.bytes in
     record {
       within : l.to ≤ length l.bytes;
       depth : l.so_far.depth ≡ l.fn.m.depth;
@@ -38,7 +39,7 @@ invariant-skip_fields-loop-field l =
 
 abbrev pub invariant-skip_items-loop-further : goal.invariant-skip_items-loop-further
 invariant-skip_items-loop-further l =
-    let reader = node_at (1000 - l.fn.m.depth) l.nodes l.bytes l.inner in
+    let reader = node_at (MOST_DEPTH - l.fn.m.depth) l.nodes l.bytes l.inner in
     record {
       within : l.to ≤ length l.bytes;
       depth : l.so_far.depth ≡ l.fn.m.depth;
@@ -47,11 +48,11 @@ invariant-skip_items-loop-further l =
     }
 
 abbrev pub decreases-skip_items-loop-further : goal.decreases-skip_items-loop-further
-decreases-skip_items-loop-further l = 1048576 - l.so_far.units
+decreases-skip_items-loop-further l = MOST_UNITS - l.so_far.units
 
 abbrev pub invariant-skip_pairs-loop-further : goal.invariant-skip_pairs-loop-further
 invariant-skip_pairs-loop-further l =
-    let reader = pair_at (node_at (1000 - l.fn.m.depth) l.nodes l.bytes) l.bytes l.inner in
+    let reader = pair_at (node_at (MOST_DEPTH - l.fn.m.depth) l.nodes l.bytes) l.bytes l.inner in
     record {
       within : l.to ≤ length l.bytes;
       depth : l.so_far.depth ≡ l.fn.m.depth;
@@ -60,4 +61,4 @@ invariant-skip_pairs-loop-further l =
     }
 
 abbrev pub decreases-skip_pairs-loop-further : goal.decreases-skip_pairs-loop-further
-decreases-skip_pairs-loop-further l = 1048576 - l.so_far.units
+decreases-skip_pairs-loop-further l = MOST_UNITS - l.so_far.units

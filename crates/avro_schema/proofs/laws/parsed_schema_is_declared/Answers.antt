@@ -1,5 +1,5 @@
-use Rattle.avro_schema.proofs.RootNode.{parsed-nodes}
+use Rattle.avro_schema.proofs.SchemaText.{faults_told, nodes_declared}
 use Rattle.avro_schema.proofs.laws.parsed_schema_is_declared.Goals as goal
 
 pub returns : goal.returns
-returns c = parsed-nodes
+returns c = record { nodes = nodes_declared; faults = faults_told }

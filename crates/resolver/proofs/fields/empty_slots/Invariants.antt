@@ -1,6 +1,12 @@
 -- A slot for each field so far.
-use Rattle.std.proofs.Common.{◌≡◌, map, take, None}
+use Rattle.std.proofs.Common.{◌≡◌, length, take}
+use Rattle.avro_types.specs.Node.{fields_of}
+use Rattle.resolver.specs.Resolution.{no_slots}
+use Rattle.resolver.specs.Steps.{slots_of}
 use Rattle.resolver.proofs.fields.empty_slots.Given as goal
 
 abbrev pub invariant-loop-field : goal.invariant-loop-field
-invariant-loop-field l = l.slots.items ≡ map (λ _. None) (take l._field-index l.fields)
+invariant-loop-field l = record {
+  none : slots_of l.slots.items ≡ no_slots (fields_of (take l._field-index l.fields));
+  each : length l.slots.items ≡ l._field-index;
+}

@@ -1,4 +1,4 @@
--- A slot more is filled, and behind the last all is done.
+-- A slot more is filled, and after the last all is done.
 use Rattle.std.proofs.Common.{rules, inl, inr, ap, sym, ◌∙◌, option_map}
 use Rattle.avro_types.specs.Datum.{datum_of}
 use Rattle.resolver.proofs.Filled.{filled_end, filled_on}

@@ -1,8 +1,8 @@
--- The fields so far have partners, so what lacks is what lacks among the rest.
+-- The fields so far lack nothing, so what lacks is what lacks among the rest.
 use Rattle.std.proofs.Common.{◌≡◌, drop}
 use Rattle.avro_types.specs.Node.{fields_of}
-use Rattle.resolver.specs.Resolution.{lacking}
+use Rattle.resolver.specs.Resolution.{lacking_from}
 use Rattle.resolver.proofs.fields.first_lacking.Given as goal
 
-abbrev pub invariant-loop-field : goal.invariant-loop-field
-invariant-loop-field l = lacking (fields_of l.writers) (fields_of (drop l.field-index l.readers)) ≡ lacking (fields_of l.writers) (fields_of l.readers)
+abbrev pub invariant-loop-position : goal.invariant-loop-position
+invariant-loop-position l = lacking_from l.routes l.position (fields_of (drop l.position l.rs)) ≡ lacking_from l.routes 0 (fields_of l.rs)

@@ -1,56 +1,45 @@
 -- Each step of resolution makes what the definition makes there.
-use Rattle.std.proofs.Common.{rules, inl, inr, sym, ◌∙◌}
+use Rattle.std.proofs.Common.{rules, inl, inr, refl, sym, ◌∙◌}
 use Rattle.std.proofs.lemmas.Result.{err_from_is_err_and}
-use Rattle.avro_types.specs.Datum.{datum_of}
-use Rattle.resolver.proofs.Steps.{into_place, array_made, map_made, array_result, map_result, record_made, record_result, field_below, field_err, field_ok, field_none}
+use Rattle.resolver.proofs.Steps.{into_place, none_lacking, array_made, map_made, array_result, map_result, record_made, record_result}
 use Rattle.resolver.proofs.Deeper.{at_first, falls, one_on}
 use Rattle.resolver.proofs.Items.{pairs_begin, item_on, item_wrong, items_end, pair_on, pair_wrong, pairs_end, no_length}
-use Rattle.resolver.proofs.Loop.{begins, goes_wrong, goes_on, goes_out}
+use Rattle.resolver.proofs.Loop.{goes_wrong, goes_on, goes_out}
+use Rattle.resolver.proofs.Within.{places_within, routes_within}
 use Rattle.resolver.proofs.resolving.+resolve.Goals as goal
 
 pub resolve_at-returns-in_default : goal.resolve_at-returns-in_default
 resolve_at-returns-in_default t c = into_place _ _ _ _ c.args.datum c.in_default.not-Union c.resolve_placed.result c.resolve_placed.ensures
 
-pub resolve_field-resolve_at-requires : goal.resolve_field-resolve_at-requires
-resolve_field-resolve_at-requires t c = (search rules, (c.requires.writer, field_below _ c.args.rs.now c.in-Some.place _ c.requires.reader.below c.in-Some.ensures.within))
-
-pub resolve_field-returns-in_err-value-in-Some-clause-value : goal.resolve_field-returns-in_err-value-in-Some-clause-value
-resolve_field-returns-in_err-value-in-Some-clause-value t c =
-    let p = err_from_is_err_and c.from_residual.result c.from_residual.ensures.1 in
-    rw (p.1, p.2) (field_err _ _ c.args.field.now c.args.rs.now (datum_of c.args.datum) c.in-Some.place c.index-rs-place.result (rw c.deref.ensures at c.in-Some.ensures.place) c.index-rs-place.is c.in_err-value-in-Some.field-0.0 (rw (← c.index-rs-place.is) at c.in_err-value-in-Some.ensures))
-
-pub resolve_field-returns-in_ok-value-in-Some-clause-value : goal.resolve_field-returns-in_ok-value-in-Some-clause-value
-resolve_field-returns-in_ok-value-in-Some-clause-value t c =
-    field_ok _ _ c.args.field.now c.args.rs.now (datum_of c.args.datum) c.in-Some.place c.index-rs-place.result (rw c.deref.ensures at c.in-Some.ensures.place) c.index-rs-place.is c.in_ok-value-in-Some.value (rw (← c.index-rs-place.is) at c.in_ok-value-in-Some.ensures)
-
-pub resolve_field-returns-in-None-clause-value : goal.resolve_field-returns-in-None-clause-value
-resolve_field-returns-in-None-clause-value t c = field_none _ _ c.args.field.now c.args.rs.now (datum_of c.args.datum) (rw c.deref.ensures at c.in-None.ensures.place)
-
-pub resolve_fields-loop-field-init : goal.resolve_fields-loop-field-init
-resolve_fields-loop-field-init t c = record {
-  goes = begins _ _ c.args.rs.now c.args.ws.now _ _ c.args.fields.items _ c.requires.writer (search rules) (search rules) c.in_ok-slots.ensures;
+pub resolve_fields-loop-route-init : goal.resolve_fields-loop-route-init
+resolve_fields-loop-route-init t c = record {
+  goes = record { within = search rules; ready = refl; so_far = search rules };
   len = search rules;
 }
 
 pub resolve_fields-returns-in_err-value : goal.resolve_fields-returns-in_err-value
 resolve_fields-returns-in_err-value t c =
-    let p = err_from_is_err_and c.from_residual-in_err-value.result c.from_residual-in_err-value.ensures.1 in
-    rw (p.1, p.2) (goes_wrong _ _ c.args.rs.now _ c.in-Some.field.now _ _ _ c.in-Some.datum _ _ c.loop-field.invariant.goes c.in-Some.ensures.steps.0 c.in-Some.ensures.steps.1.0 c.in_err-value.field-0.0 c.in_err-value.ensures.value)
+    let p = err_from_is_err_and c.from_residual.result c.from_residual.ensures.1 in
+    rw (p.1, p.2) (goes_wrong _ _ _ _ c.in-Some.route.now _ _ _ c.in-Some.datum _ _ c.loop-route.invariant.goes c.in-Some.ensures.steps.0 c.in-Some.ensures.steps.1.0 c.in_err-value.field-0.0 c.in_err-value.ensures.value)
 
-pub resolve_fields-loop-field-preserved : goal.resolve_fields-loop-field-preserved
-resolve_fields-loop-field-preserved t c = record {
-  goes = goes_on _ _ c.args.rs.now _ c.in-Some.field.now _ _ _ c.in-Some.datum _ _ c.loop-field.invariant.goes c.in-Some.ensures.steps.0 c.in-Some.ensures.steps.1.0 c.requires.reader.distinct c.in_ok-value.value _ c.in_ok-value.ensures.value c.in_ok-value.ensures.place c.keep-slots.ensures;
+pub resolve_fields-loop-route-preserved : goal.resolve_fields-loop-route-preserved
+resolve_fields-loop-route-preserved t c = record {
+  goes = goes_on _ _ _ _ c.in-Some.route.now _ _ _ c.in-Some.datum _ _ c.loop-route.invariant.goes c.in-Some.ensures.steps.0 c.in-Some.ensures.steps.1.0 c.in_ok-value.value _ c.in_ok-value.ensures.value c.keep-slots.ensures;
   len = search rules;
 }
 
 pub resolve_fields-returns : goal.resolve_fields-returns
-resolve_fields-returns t c = goes_out _ _ c.args.rs.now _ _ _ _ c.loop-field.invariant.goes (elim c.in-None.ensures.steps [ inl a ↦ inl a.1.0 | inr b ↦ inr (sym c.loop-field.invariant.len ∙ b.1.0) ])
+resolve_fields-returns t c = goes_out _ _ _ _ _ _ _ c.loop-route.invariant.goes (elim c.in-None.ensures.steps [ inl a ↦ inl a.1.0 | inr b ↦ inr (sym c.loop-route.invariant.len ∙ b.1.0) ])
+
+pub resolve_record-resolve_fields-requires : goal.resolve_record-resolve_fields-requires
+resolve_record-resolve_fields-requires t c = (search rules, rw (c.deref-2.ensures.value, c.in_ok-routes.ensures) (places_within _ _ _ c.in-Some.rs.now c.in_ok-empty.empty.items c.in_ok-empty.ensures.each (routes_within _ _ _ _ c.in-Some.ensures.writer.below c.in-Some.ensures.reader.below)))
+
+pub resolve_record-returns : goal.resolve_record-returns
+resolve_record-returns t c =
+    record_made _ _ _ _ _ _ _ _ c.in_ok-slots.slots.items c.in_ok-all.all c.in-Some.ensures.lists (none_lacking _ c.in_ok-lacking.lacking _ c.in_default-lacking.is (rw (c.deref.ensures.value, c.in_ok-routes.ensures) at c.in_ok-lacking.ensures)) c.in_ok-empty.ensures.none (rw (c.deref-2.ensures.value, c.in_ok-routes.ensures) at c.in_ok-slots.ensures) c.in_ok-all.ensures
 
 pub resolve_inside-returns-in-Record : goal.resolve_inside-returns-in-Record
 resolve_inside-returns-in-Record t c = record_result _ _ _ _ c.args.datum c.in-Record.fields c.in-Record.is c.resolve_record.result c.resolve_record.ensures
-
-pub resolve_record-returns : goal.resolve_record-returns
-resolve_record-returns t c = record_made _ _ _ _ _ _ _ c.in_ok-slots.slots.items c.in_ok-all.all c.in-Some.ensures.lists c.in_default-first_lacking.ensures c.in_ok-slots.ensures c.in_ok-all.ensures
 
 pub resolve_inside-returns-in-Array : goal.resolve_inside-returns-in-Array
 resolve_inside-returns-in-Array t c = array_result _ _ _ _ c.args.datum c.in-Array.items c.in-Array.is c.resolve_array.result c.resolve_array.ensures

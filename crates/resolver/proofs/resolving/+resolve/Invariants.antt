@@ -2,9 +2,8 @@
 use Rattle.std.proofs.Common.{◌≡◌, length}
 use Rattle.std.specs.Slice.Iter.{iter_rest}
 use Rattle.std.specs.Vec.Iter.{into_iter_items, into_iter_len}
-use Rattle.avro_types.specs.Node.{fields_of}
 use Rattle.avro_types.specs.Datum.{data_of, pairs_of}
-use Rattle.resolver.specs.Steps.{into_slots}
+use Rattle.resolver.specs.Steps.{slots_of}
 use Rattle.resolver.specs.Resolution.{resolved_fields, resolved_items, resolved_values}
 use denote.Param.Weighed.{most}
 use Rattle.avro_types.proofs.datum.Datum.TheLaws.{the_size}
@@ -14,10 +13,10 @@ use Rattle.resolver.proofs.Items.{Rest, RestPairs}
 use Rattle.resolver.proofs.Loop.{Goes}
 use Rattle.resolver.proofs.resolving.+resolve.Given as goal
 
-abbrev pub invariant-resolve_fields-loop-field : goal.invariant-resolve_fields-loop-field
-invariant-resolve_fields-loop-field l = record {
-  goes : Goes l.w l.r l.rs (iter_rest l.field-iterator.a) l.slots.items (into_iter_items l.field-iterator.b) (into_slots (fields_of l.rs) (resolved_fields l.w l.r (fields_of l.ws) (fields_of l.rs) (data_of l.fn.fields.items)));
-  len : into_iter_len l.field-iterator.b ≡ length (into_iter_items l.field-iterator.b);
+abbrev pub invariant-resolve_fields-loop-route : goal.invariant-resolve_fields-loop-route
+invariant-resolve_fields-loop-route l = record {
+  goes : Goes l.w l.r (length l.fn.slots.items) (iter_rest l.route-iterator.a) l.slots.items (into_iter_items l.route-iterator.b) (resolved_fields l.w l.r (slots_of l.fn.slots.items) l.routes (data_of l.fn.fields.items));
+  len : into_iter_len l.route-iterator.b ≡ length (into_iter_items l.route-iterator.b);
 }
 
 abbrev pub invariant-resolve_items-loop-item : goal.invariant-resolve_items-loop-item

@@ -1,6 +1,6 @@
 -- No symbol so far is missing.
 use Rattle.std.proofs.Common.{◌≡◌, drop, map, string_bytes}
-use Rattle.resolver.specs.Safety.{some_missing}
+use Rattle.resolver.specs.NextPairs.{some_missing}
 use Rattle.resolver.proofs.symbols.some_missing.Given as goal
 
 abbrev pub invariant-loop-symbol : goal.invariant-loop-symbol

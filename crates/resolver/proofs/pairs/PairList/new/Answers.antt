@@ -7,7 +7,7 @@ use Rattle.resolver.proofs.pairs.PairList.new.Goals as goal
 pub invariant_of-result : goal.invariant_of-result
 invariant_of-result c =
     let cleared = c.in_ok-seen.ensures.items_if_clones_equal (λ y h. h) in
-    let none = ap marks cleared ∙ none_marked c.in-Some.all in
+    let none = ap marks cleared ∙ none_marked (c.args.writers * c.args.readers) in
     record {
       all = search rules;
       counted = none ∙ sym (ap length c.new.ensures.items);

@@ -1,0 +1,354 @@
+//! Worked spellings of the Avro 1.11 Specification ("Binary Encoding"), and each fault from outside data.
+
+ghost use Rattle.std.specs.Prelude.{◌≡◌};
+
+use avro_bytes::{
+    Blob, BlockWalk, Bool, Fault, FixedBytes, Int, Long, MOST_CONTENT, MOST_DEPTH, MOST_UNITS,
+    MalformedKind, Meter, Position, Text, WireForm, content_is_a_length_and_a_fixed,
+    limits_are_these, long_len, put_long, read_and_skip, read_boolean, read_int, read_length,
+    read_long, read_position, shortest_spelling_is_shortest, tight_spelling_is_the_shortest,
+    walks_pass_the_items, walks_stand_at_their_blocks, walks_tell_the_first_fault,
+};
+use std::test::Fail;
+
+const START: Meter = Meter { depth: 0, units: 0 };
+
+fn malformed(kind: MalformedKind, at: usize) -> Fault {
+    Fault::Malformed { kind, at }
+}
+
+#[test]
+fn numbers_of_the_specification(rt: HostRuntime) -> Result<(), Fail> {
+    shortest_spelling_is_shortest();
+    let table: [(i64, &[u8]); 10] = [
+        (0, &[0x00]),
+        (-1, &[0x01]),
+        (1, &[0x02]),
+        (-2, &[0x03]),
+        (2, &[0x04]),
+        (-64, &[0x7f]),
+        (64, &[0x80, 0x01]),
+        (27, &[0x36]),
+        (
+            i64::MAX,
+            &[0xfe, 0xff, 0xff, 0xff, 0xff, 0xff, 0xff, 0xff, 0xff, 0x01],
+        ),
+        (
+            i64::MIN,
+            &[0xff, 0xff, 0xff, 0xff, 0xff, 0xff, 0xff, 0xff, 0xff, 0x01],
+        ),
+    ];
+    for (n, bytes) in table {
+        let mut out = Vec::new(rt.alloc());
+        put_long(&mut out, n)?;
+        assert_eq!(rt; out.as_slice(), bytes, "{n}");
+        assert_eq!(rt; long_len(n), bytes.len(), "{n}");
+        let (read, skip) = read_and_skip(&Long, bytes, 0, START);
+        assert_eq!(rt; read, Ok((n, bytes.len(), START)), "{n}");
+        assert_eq!(rt; skip, Ok((bytes.len(), START)), "{n}");
+    }
+    Ok(())
+}
+
+#[test]
+fn longer_spellings_are_numbers_too(rt: HostRuntime) {
+    assert_eq!(rt; Int.read(&[0x80, 0x00], 0, START), Ok((0, 2, START)));
+    assert_eq!(rt;
+        Int.read(&[0xff, 0xff, 0xff, 0xff, 0x0f], 0, START),
+        Ok((i32::MIN, 5, START))
+    );
+    assert_eq!(rt; Int.skip(&[0x82, 0x80, 0x00], 0, START), Ok((3, START)));
+    assert_eq!(rt; read_int(&[0xff, 0x81, 0x00], 1, START), Ok((-1, 3, START)));
+    assert_eq!(rt; Long.read(&[0xff, 0x36], 1, START), Ok((27, 2, START)));
+}
+
+#[test]
+fn numbers_too_long_or_too_great(rt: HostRuntime) {
+    let bad = malformed(MalformedKind::BadNumber, 0);
+    let int = [0xff, 0xff, 0xff, 0xff, 0x1f];
+    assert_eq!(rt; Int.read(&int, 0, START), Err(bad));
+    assert_eq!(rt; Int.skip(&int, 0, START), Err(bad));
+    let long = [0xff, 0xff, 0xff, 0xff, 0xff, 0xff, 0xff, 0xff, 0xff, 0x02];
+    assert_eq!(rt; Long.read(&long, 0, START), Err(bad));
+    assert_eq!(rt; Long.skip(&long, 0, START), Err(bad));
+}
+
+#[test]
+fn numbers_cut_short(rt: HostRuntime) {
+    assert_eq!(rt;
+        Int.read(&[0x80, 0x80, 0x80, 0x80], 0, START),
+        Err(Fault::Need)
+    );
+    assert_eq!(rt; Long.read(&[], 0, START), Err(Fault::Need));
+    assert_eq!(rt; Long.skip(&[0x80], 0, START), Err(Fault::Need));
+}
+
+#[test]
+fn lengths_and_positions(rt: HostRuntime) {
+    limits_are_these();
+    tight_spelling_is_the_shortest();
+    content_is_a_length_and_a_fixed();
+    let length = malformed(MalformedKind::BadLength, 1);
+    assert_eq!(rt; read_length(&[0xff, 0x04], 1, START), Ok((2, 2, START)));
+    assert_eq!(rt; read_length(&[0xff, 0x01], 1, START), Err(length));
+    assert_eq!(rt; read_length(&[0x80], 0, START), Err(Fault::Need));
+    let branch = malformed(MalformedKind::BadBranch, 0);
+    let position = Position {
+        bad: MalformedKind::BadBranch,
+        many: 2,
+    };
+    assert_eq!(rt; position.read(&[0x02], 0, START), Ok((1, 1, START)));
+    assert_eq!(rt; position.skip(&[0x02], 0, START), Ok((1, START)));
+    assert_eq!(rt; position.read(&[0x04], 0, START), Err(branch));
+    assert_eq!(rt; position.skip(&[0x01], 0, START), Err(branch));
+    let symbol = read_position(MalformedKind::BadEnum, 1, &[0x02], 0, START);
+    assert_eq!(rt; symbol, Err(malformed(MalformedKind::BadEnum, 0)));
+    assert_eq!(rt; read_long(&[0xff, 0x36], 1, START), Ok((27, 2, START)));
+    assert_eq!(rt; read_boolean(&[0x01], 0, START), Ok((true, 1, START)));
+}
+
+#[test]
+fn booleans(rt: HostRuntime) {
+    let table: [(&[u8], Result<bool, Fault>); 5] = [
+        (&[0x00], Ok(false)),
+        (&[0x01], Ok(true)),
+        (&[0x02], Err(malformed(MalformedKind::BadBoolean, 0))),
+        (&[0x80, 0x00], Err(malformed(MalformedKind::BadBoolean, 0))),
+        (&[], Err(Fault::Need)),
+    ];
+    for (bytes, answer) in table {
+        let (read, skip) = read_and_skip(&Bool, bytes, 0, START);
+        assert_eq!(rt; read, answer.map(|value| (value, 1, START)), "{bytes:?}");
+        assert_eq!(rt; skip, answer.map(|_| (1, START)), "{bytes:?}");
+    }
+}
+
+/// What a text answers, read again where memory ran out the first time.
+fn read_text(rt: &HostRuntime, bytes: &[u8]) -> Result<(String, usize, Meter), Fault> {
+    let form = Text { alloc: rt.alloc() };
+    match form.read(bytes, 0, START) {
+        Err(Fault::NoMemory) => form.read(bytes, 0, START),
+        answer => answer,
+    }
+}
+
+#[test]
+fn texts(rt: HostRuntime) -> Result<(), Fail> {
+    let (text, to, after) = read_text(&rt, &[0x06, 0x66, 0x6f, 0x6f, 0x00])?;
+    assert_eq!(rt; text.as_str(), "foo");
+    assert_eq!(rt; (to, after), (4, START));
+    let form = Text { alloc: rt.alloc() };
+    assert_eq!(rt;
+        form.skip(&[0x06, 0x66, 0x6f, 0x6f, 0x00], 0, START),
+        Ok((4, START))
+    );
+    Ok(())
+}
+
+#[test]
+fn faults_of_texts(rt: HostRuntime) {
+    let too_long = (MOST_CONTENT as i64 + 1) * 2;
+    let groups = [
+        (too_long % 128) as u8 + 128,
+        (too_long / 128 % 128) as u8 + 128,
+        (too_long / 16384 % 128) as u8 + 128,
+        (too_long / 2097152) as u8,
+    ];
+    let table: [(&[u8], Fault); 7] = [
+        (&[0x02, 0xff], malformed(MalformedKind::BadText, 1)),
+        (&[0x04, 0xc3, 0x28], malformed(MalformedKind::BadText, 1)),
+        (&[0x04, 0xff], Fault::Need),
+        (&[0x01], malformed(MalformedKind::BadLength, 0)),
+        (&groups, malformed(MalformedKind::BadLength, 0)),
+        (&[0x80], Fault::Need),
+        (&[], Fault::Need),
+    ];
+    let form = Text { alloc: rt.alloc() };
+    for (bytes, fault) in table {
+        assert_eq!(rt; form.skip(bytes, 0, START), Err(fault), "{bytes:?}");
+        assert_eq!(rt; read_text(&rt, bytes).err(), Some(fault), "{bytes:?}");
+    }
+}
+
+/// What a form of bytes answers, read again where memory ran out the first time.
+fn read_bytes<F: WireForm<Value = Vec<u8>>>(
+    form: &F,
+    bytes: &[u8],
+) -> Result<(Vec<u8>, usize, Meter), Fault> {
+    match form.read(bytes, 0, START) {
+        Err(Fault::NoMemory) => form.read(bytes, 0, START),
+        answer => answer,
+    }
+}
+
+#[test]
+fn bytes_after_their_length(rt: HostRuntime) -> Result<(), Fail> {
+    let form = Blob { alloc: rt.alloc() };
+    let (value, to, after) = read_bytes(&form, &[0x04, 0x01, 0x02, 0x00])?;
+    assert_eq!(rt; value.as_slice(), [0x01, 0x02].as_slice());
+    assert_eq!(rt; (to, after), (3, START));
+    let (value, to, _) = read_bytes(&form, &[0x02, 0xff])?;
+    assert_eq!(rt; (value.as_slice(), to), ([0xff].as_slice(), 2));
+    let table: [(&[u8], Result<(usize, Meter), Fault>); 5] = [
+        (&[0x04, 0x01, 0x02], Ok((3, START))),
+        (&[0x00], Ok((1, START))),
+        (&[0x04, 0x01], Err(Fault::Need)),
+        (&[0x01], Err(malformed(MalformedKind::BadLength, 0))),
+        (&[], Err(Fault::Need)),
+    ];
+    for (bytes, answer) in table {
+        assert_eq!(rt; form.skip(bytes, 0, START), answer, "{bytes:?}");
+        assert_eq!(rt; read_bytes(&form, bytes).err(), answer.err(), "{bytes:?}");
+    }
+    Ok(())
+}
+
+#[test]
+fn so_many_bytes(rt: HostRuntime) -> Result<(), Fail> {
+    let form = FixedBytes {
+        alloc: rt.alloc(),
+        size: 3,
+    };
+    let (value, to, after) = read_bytes(&form, &[0x01, 0x02, 0x03, 0x04])?;
+    assert_eq!(rt; value.as_slice(), [0x01, 0x02, 0x03].as_slice());
+    assert_eq!(rt; (to, after), (3, START));
+    assert_eq!(rt; form.skip(&[0x01, 0x02, 0x03], 0, START), Ok((3, START)));
+    assert_eq!(rt; form.skip(&[0x01, 0x02], 0, START), Err(Fault::Need));
+    assert_eq!(rt; read_bytes(&form, &[0x01, 0x02]).err(), Some(Fault::Need));
+    Ok(())
+}
+
+#[test]
+fn records_too_deep_or_too_many(rt: HostRuntime) {
+    assert_eq!(rt; START.enter_record(5), Ok(Meter { depth: 1, units: 1 }));
+    let deep = Meter {
+        depth: MOST_DEPTH,
+        units: MOST_UNITS,
+    };
+    assert_eq!(rt;
+        deep.enter_record(5),
+        Err(malformed(MalformedKind::TooDeep, 5))
+    );
+    let many = Meter {
+        depth: 0,
+        units: MOST_UNITS,
+    };
+    assert_eq!(rt;
+        many.enter_record(5),
+        Err(malformed(MalformedKind::TooMany, 5))
+    );
+}
+
+#[test]
+fn items_too_many_and_blocks_too_deep(rt: HostRuntime) {
+    let last = Meter {
+        depth: MOST_DEPTH - 1,
+        units: MOST_UNITS - 1,
+    };
+    let deep = Meter {
+        depth: MOST_DEPTH,
+        units: MOST_UNITS - 1,
+    };
+    let many = Meter {
+        depth: MOST_DEPTH - 1,
+        units: MOST_UNITS,
+    };
+    assert_eq!(rt; last.enter_blocks(5), Ok(deep));
+    assert_eq!(rt; last.enter_item(5), Ok(many));
+    assert_eq!(rt;
+        deep.enter_blocks(5),
+        Err(malformed(MalformedKind::TooDeep, 5))
+    );
+    assert_eq!(rt;
+        many.enter_item(5),
+        Err(malformed(MalformedKind::TooMany, 5))
+    );
+    assert_eq!(rt; START.enter_blocks(5), Ok(Meter { depth: 1, units: 0 }));
+    assert_eq!(rt; START.enter_item(5), Ok(Meter { depth: 0, units: 1 }));
+}
+
+/// The meter inside an array in a message's root, with so many units.
+fn inside(units: u32) -> Meter
+    ensures { result ≡ record { depth = 1; units = units } }
+{
+    Meter { depth: 1, units }
+}
+
+#[test]
+fn blocks_with_and_without_a_size(rt: HostRuntime) -> Result<(), Fail> {
+    let outside = Meter { depth: 0, units: 1 };
+    walks_pass_the_items();
+    let (mut walk, m) = BlockWalk::begin(0, START)?;
+    assert_eq!(rt; m, inside(0));
+    let bytes = [0x02, 0x36, 0x00];
+    assert_eq!(rt; walk.next(&bytes, 0, inside(0)), Ok((true, 1, inside(1))));
+    assert_eq!(rt; walk.next(&bytes, 2, inside(1)), Ok((false, 3, outside)));
+    let (mut walk, _) = BlockWalk::begin(0, START)?;
+    let bytes = [0x01, 0x02, 0x36, 0x00];
+    assert_eq!(rt; walk.next(&bytes, 0, inside(0)), Ok((true, 2, inside(1))));
+    assert_eq!(rt; walk.next(&bytes, 3, inside(1)), Ok((false, 4, outside)));
+    let (mut walk, _) = BlockWalk::begin(0, START)?;
+    assert_eq!(rt; walk.next(&[0x00], 0, inside(0)), Ok((false, 1, START)));
+    Ok(())
+}
+
+#[test]
+fn walks_go_on_from_their_parts(rt: HostRuntime) -> Result<(), Fail> {
+    walks_stand_at_their_blocks();
+    let (mut walk, _) = BlockWalk::begin(0, START)?;
+    let bytes = [0x03, 0x04, 0x36, 0x36, 0x00];
+    assert_eq!(rt; walk.next(&bytes, 0, inside(0)), Ok((true, 2, inside(1))));
+    assert_eq!(rt; (walk.left(), walk.count_at(), walk.items_at()), (1, 0, 2));
+    assert_eq!(rt; walk.size(), Some(2));
+    let mut again = BlockWalk::walk_of(1, 0, 2, Some(2));
+    assert_eq!(rt; again.next(&bytes, 3, inside(1)), Ok((true, 3, inside(2))));
+    let outside = Meter { depth: 0, units: 2 };
+    assert_eq!(rt; again.next(&bytes, 4, inside(2)), Ok((false, 5, outside)));
+    Ok(())
+}
+
+#[test]
+fn several_blocks_of_several_items(rt: HostRuntime) -> Result<(), Fail> {
+    let bytes = [0x04, 0x36, 0x36, 0x03, 0x04, 0x36, 0x36, 0x00];
+    let (mut walk, _) = BlockWalk::begin(0, START)?;
+    assert_eq!(rt; walk.next(&bytes, 0, inside(0)), Ok((true, 1, inside(1))));
+    assert_eq!(rt; walk.next(&bytes, 2, inside(1)), Ok((true, 2, inside(2))));
+    assert_eq!(rt; walk.next(&bytes, 3, inside(2)), Ok((true, 5, inside(3))));
+    assert_eq!(rt; walk.next(&bytes, 6, inside(3)), Ok((true, 6, inside(4))));
+    let outside = Meter { depth: 0, units: 4 };
+    assert_eq!(rt; walk.next(&bytes, 7, inside(4)), Ok((false, 8, outside)));
+    Ok(())
+}
+
+#[test]
+fn faults_of_blocks(rt: HostRuntime) -> Result<(), Fail> {
+    walks_tell_the_first_fault();
+    let (mut walk, _) = BlockWalk::begin(0, START)?;
+    let bytes = [0x01, 0x04, 0x36, 0x00];
+    assert_eq!(rt; walk.next(&bytes, 0, inside(0)), Ok((true, 2, inside(1))));
+    let bad = malformed(MalformedKind::BadBlock, 0);
+    assert_eq!(rt; walk.next(&bytes, 3, inside(1)), Err(bad));
+    assert_eq!(rt; walk.next(&bytes, 3, inside(1)), Err(bad));
+    let (mut walk, _) = BlockWalk::begin(0, START)?;
+    assert_eq!(rt; walk.next(&[0x01, 0x80], 0, inside(0)), Err(Fault::Need));
+    assert_eq!(rt; walk.next(&[], 0, inside(0)), Err(Fault::Need));
+    let full = malformed(MalformedKind::TooMany, 1);
+    assert_eq!(rt; walk.next(&[0x02, 0x36], 0, inside(MOST_UNITS)), Err(full));
+    let deep = Meter {
+        depth: MOST_DEPTH,
+        units: 0,
+    };
+    assert_eq!(rt;
+        BlockWalk::begin(5, deep).err(),
+        Some(malformed(MalformedKind::TooDeep, 5))
+    );
+    Ok(())
+}
+
+#[test]
+fn faults_are_told_in_words(rt: HostRuntime) -> Result<(), Fail> {
+    assert_eq!(rt; MalformedKind::BadText.name(), "BadText");
+    let text = format!(in rt.alloc(); "{}", malformed(MalformedKind::TooDeep, 7))?;
+    assert_eq!(rt; text.as_str(), "malformed TooDeep at 7");
+    Ok(())
+}

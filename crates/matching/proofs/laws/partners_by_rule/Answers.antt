@@ -1,0 +1,12 @@
+use Rattle.matching.proofs.Apart.{partners_apart}
+use Rattle.matching.proofs.Partnering.{names_go_first, others_go_by_alias}
+use Rattle.matching.proofs.laws.partners_by_rule.Goals as goal
+
+pub returns-clause-name : goal.returns-clause-name
+returns-clause-name c = names_go_first
+
+pub returns-clause-alias : goal.returns-clause-alias
+returns-clause-alias c = others_go_by_alias
+
+pub returns-clause-apart : goal.returns-clause-apart
+returns-clause-apart c = partners_apart

@@ -1,0 +1,4 @@
+pub mod Matches
+pub mod Matching
+pub mod Options
+pub mod Partners

@@ -1,0 +1,37 @@
+-- A bad pair that is reached is the answer, and a list that all that it leads to is in has all that is reached.
+use Rattle.std.proofs.Common.{rules, ◌≡◌, true, false, ◌<◌, length, arith, ap, ◌∙◌, sym}
+use Rattle.resolver.specs.Pairs.{Listed, AddsAll}
+use Rattle.resolver.specs.NextPairs.{next_pairs}
+use Rattle.resolver.specs.Safety.{Reached}
+use Rattle.resolver.proofs.Leading.{told_bad}
+use Rattle.resolver.proofs.Closed.{all_at, kept_on, kept_end, kept_first}
+use Rattle.resolver.proofs.safety.can_read.Goals as goal
+
+pub loop-place-init : goal.loop-place-init
+loop-place-init c = record {
+  writers = c.in_ok-add.ensures.writers ∙ ap (λ (s : Listed). s.writers) c.in_ok-pairs.ensures ∙ c.len.ensures;
+  readers = c.in_ok-add.ensures.readers ∙ ap (λ (s : Listed). s.readers) c.in_ok-pairs.ensures ∙ c.len-2.ensures;
+  kept = kept_first _ _ _ _ (ap (λ (s : Listed). s.pairs) c.in_ok-pairs.ensures) c.in_ok-add.ensures;
+}
+
+pub add_all-requires : goal.add_all-requires
+add_all-requires c = rw (c.deref.ensures.value, c.loop-place.invariant.writers, c.loop-place.invariant.readers) c.in_ok-next.ensures.within
+
+pub loop-place-preserved : goal.loop-place-preserved
+loop-place-preserved c =
+    let lt : c.loop-place.place < length c.loop-place.pairs.pairs = omega (arith, c.loop-place-test.true, c.len-in-loop-place.ensures.len) in
+    let added : AddsAll (next_pairs c.args.w.now c.args.r.now (c.get-wn.result.0, c.get-wn.result.1)) c.loop-place.pairs c.add_all.new.pairs = rw (c.deref.ensures.value, c.in_ok-next.ensures.pairs) at c.in_ok-add_all.ensures in
+    record {
+      writers = c.in_ok-add_all.ensures.writers ∙ c.loop-place.invariant.writers;
+      readers = c.in_ok-add_all.ensures.readers ∙ c.loop-place.invariant.readers;
+      kept = kept_on _ _ _ c.get-wn.result _ _ c.loop-place.invariant.kept lt c.get-wn.ensures.pair (sym c.in_ok-bad.ensures ∙ c.if-bad.false) added;
+    }
+
+pub returns : goal.returns
+returns c = (λ _. kept_end _ _ _ _ c.loop-place.invariant.kept (omega (arith, c.loop-place-test.false, c.len-in-loop-place.ensures.len)), λ _. search rules)
+
+pub returns-then-bad : goal.returns-then-bad
+returns-then-bad c =
+    let p = c.get-wn.result in
+    let reached = all_at (Reached c.args.w.now c.args.r.now) c.loop-place.pairs.pairs c.loop-place.place p c.loop-place.invariant.kept.reached (omega (arith, c.loop-place-test.true, c.len-in-loop-place.ensures.len)) c.get-wn.ensures.pair in
+    (λ h. absurd (let no : false ≡ true = h in cc), λ safe. absurd (safe p reached (told_bad _ _ p (sym c.in_ok-bad.ensures ∙ c.if-bad.true))))

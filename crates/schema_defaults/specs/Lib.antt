@@ -1,0 +1,2 @@
+pub mod DefaultData
+pub mod Defaults

@@ -1,0 +1,7 @@
+//! The data of fields' defaults (Avro 1.11 Specification, "Complex Types", the table of default values by type).
+#![tactic(auto)]
+
+mod defaults;
+mod finishing;
+
+pub use finishing::{all_defaults, nodes_with};

@@ -1,0 +1,11 @@
+pub mod Aliases
+pub mod Attributes
+pub mod Draft
+pub mod Fault
+pub mod Head
+pub mod Index
+pub mod Names
+pub mod SchemaError
+pub mod Seen
+pub mod Unnamed
+pub mod Word

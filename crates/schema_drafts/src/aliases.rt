@@ -1,0 +1,137 @@
+ghost use Rattle.schema_drafts.specs.Seen.{IsNamespaceIn, heads_in, text_of_namespace};
+ghost use Rattle.std.specs.Prelude.{◌≡◌, IfOk, None, codes, map, string_bytes};
+ghost use Rattle.std.specs.Arc.{arc_str_bytes};
+ghost use Rattle.std.specs.List.{list_all};
+ghost use Rattle.serde_json.specs.Find.{get};
+ghost use Rattle.serde_json.specs.View.{view};
+ghost use Rattle.avro_types.specs.FullNames.{full_name, has_dot, is_full_name};
+ghost use Rattle.avro_types.specs.Node.{names_of};
+ghost use Rattle.schema_drafts.specs.Aliases.{alias_texts, field_aliases, full_aliases, new_names, type_aliases};
+ghost use Rattle.schema_drafts.specs.Draft.{data_at, drafts_of};
+ghost use Rattle.schema_drafts.specs.Fault.{Tells};
+ghost use Rattle.schema_drafts.specs.Head.{defined_at, heads_of};
+ghost use Rattle.schema_drafts.specs.Index.{IsNamespaceOf, IsNumbered};
+
+use crate::drafts::Drafts;
+use crate::error::SchemaError;
+use crate::names::{NewName, is_full_name, new_name};
+use crate::namespace::Namespace;
+use crate::type_attributes::{are_names, texts_of};
+use avro_types::Name;
+use serde_json::Value;
+use std::alloc::{AllocError, Global};
+
+/// The texts that `aliases` lists, where it is there.
+fn alias_texts(alloc: Global, value: Option<&Value>) -> Result<Vec<String>, SchemaError>
+    ensures { Tells (λ v. map string_bytes v.items) result (alias_texts (data_at value.entry)) }
+{
+    match value {
+        Some(_) => texts_of(alloc, value),
+        None => Ok(Vec::new(alloc)),
+    }
+}
+
+fn has_dot(text: &[u8]) -> bool
+    ensures { result ≡ has_dot text.now }
+{
+    text.iter().any(|c| *c == b'.')
+}
+
+/// An alias as a full name, which without a dot stands in a namespace.
+fn full_alias(alloc: Global, namespace: &str, alias: &str) -> Result<String, AllocError>
+    ensures { IfOk result (λ s. string_bytes s ≡ full_name namespace.now alias.now) }
+{
+    if namespace.is_empty() || has_dot(alias.as_bytes()) {
+        return String::from_str(alloc, alias);
+    }
+    let mut full = String::from_str(alloc, namespace)?;
+    full.push('.')?;
+    full.push_str(alias)?;
+    Ok(full)
+}
+
+/// Aliases as full names, in the namespace of the type that has them.
+fn full_aliases(alloc: Global, name: &Name, texts: &[String]) -> Result<Vec<String>, AllocError>
+    ensures { IfOk result (λ v. map string_bytes v.items ≡ full_aliases name.now (map string_bytes texts.now)) }
+{
+    let mut aliases = Vec::new(alloc);
+    for text in texts {
+        let alias = full_alias(alloc, name.namespace(), text.as_str())?;
+        aliases.push(alias)?;
+    }
+    Ok(aliases)
+}
+
+/// Whether each text is names joined by dots.
+fn are_full_names(texts: &[String]) -> bool
+    ensures { result ≡ list_all (λ s. is_full_name (string_bytes s)) texts.now }
+{
+    texts.iter().all(|text| is_full_name(text.as_str()))
+}
+
+/// The aliases of a type, as full names.
+#[tactic(auto, using(crate::proofs::Texts::all_full_names), unfolding(crate::specs::Aliases::type_aliases))]
+fn type_aliases(
+    alloc: Global,
+    name: &Name,
+    value: Option<&Value>,
+) -> Result<Vec<String>, SchemaError>
+    ensures { Tells (λ v. map string_bytes v.items) result (type_aliases name.now (data_at value.entry)) }
+{
+    let texts = alias_texts(alloc, value)?;
+    let aliases = full_aliases(alloc, name, &texts)?;
+    if !are_full_names(&aliases) {
+        return Err(SchemaError::BadName);
+    }
+    Ok(aliases)
+}
+
+/// The aliases of a field.
+#[tactic(auto, using(crate::proofs::Texts::all_names), unfolding(crate::specs::Aliases::field_aliases))]
+pub fn field_aliases(alloc: Global, value: Option<&Value>) -> Result<Vec<String>, SchemaError>
+    ensures { Tells (λ v. map string_bytes v.items) result (field_aliases (data_at value.entry)) }
+{
+    let texts = alias_texts(alloc, value)?;
+    if !are_names(&texts) {
+        return Err(SchemaError::BadName);
+    }
+    Ok(texts)
+}
+
+/// The new name of a type with its aliases, and the number of its namespace where that has names already.
+#[derive(Drop)]
+pub struct NewNames {
+    pub name: Name,
+    pub aliases: Vec<String>,
+    pub number: Option<usize>,
+}
+
+/// The new name that the attributes of a type define, and its aliases.
+#[tactic(auto, unfolding(crate::specs::Aliases::new_names))]
+pub fn new_names(
+    alloc: Global,
+    value: &Value,
+    enclosing: &Namespace,
+    drafts: &Drafts,
+) -> Result<NewNames, SchemaError>
+    requires { IsNamespaceIn enclosing.now drafts.now }
+    ensures numbered { IfOk result (λ n. IsNumbered n.name n.number drafts.now.nodes.items) }
+    ensures names { Tells (λ n. names_of n.name (map string_bytes n.aliases.items)) result
+        (new_names (get (codes "name") (view value.now)) (get (codes "namespace") (view value.now))
+        (get (codes "aliases") (view value.now)) (text_of_namespace enclosing.now) (heads_in drafts.now)) }
+    ensures new { IfOk result (λ n. defined_at n.name (heads_in drafts.now) ≡ None) }
+{
+    let NewName { name, number } = new_name(
+        alloc,
+        value.get("name"),
+        value.get("namespace"),
+        enclosing,
+        drafts,
+    )?;
+    let aliases = type_aliases(alloc, &name, value.get("aliases"))?;
+    Ok(NewNames {
+        name,
+        aliases,
+        number,
+    })
+}

@@ -1,0 +1,218 @@
+ghost use Rattle.std.specs.Prelude.{◌≡◌, [], ◌∷◌, ◌++◌, length, set, slice_get, Some, None, false, IfOk, OnOk, string_bytes};
+ghost use Rattle.std.specs.Arc.{arc_str_bytes};
+ghost use Rattle.schema_drafts.specs.Draft.{field_names};
+ghost use Rattle.schema_drafts.specs.Draft.{draft_of, drafts_of};
+ghost use Rattle.schema_drafts.specs.declared.draft.Draft.TheVariants as drafts;
+ghost use Rattle.avro_types.specs.FullNames.{has_dot, inside, namespace_of};
+ghost use Rattle.schema_drafts.specs.Head.{IsUnnamed, Named, defined_at, head_of, head_of_node, heads_of};
+ghost use Rattle.schema_drafts.specs.Index.{AreNamesOf, IsIndexOf, IsNumbered, IsNamespaceOf, namespaces_of};
+ghost use Rattle.avro_types.specs.Symbols.{is_used, place_of};
+ghost use Rattle.avro_types.specs.Node.{node_of};
+
+use crate::draft::{Draft, DraftField};
+use crate::namespace::Namespace;
+use avro_types::{Kind, Name};
+use std::alloc::{AllocError, Global};
+use std::collections::{BTreeMap, BTreeSet};
+
+/// The nodes so far, and where each full name is defined.
+#[derive(Drop)]
+pub struct Drafts<'v> {
+    pub nodes: Vec<Draft<'v>>,
+    /// The number of each namespace that has names; that of the null one is 0.
+    numbers: BTreeMap<String, usize>,
+    /// For each namespace, the nodes that the last parts of its names define.
+    scopes: Vec<BTreeMap<String, usize>>,
+    ghost known: { IsIndexOf numbers scopes.items nodes.items },
+}
+
+impl<'v> Drafts<'v> {
+    pub fn new(alloc: Global) -> Result<Self, AllocError>
+        ensures { IfOk result (λ d. d.nodes.items ≡ []) }
+    {
+        let mut numbers = BTreeMap::new(alloc);
+        numbers.insert(String::from_str(alloc, "")?, 0)?;
+        let mut scopes = Vec::new(alloc);
+        scopes.push(BTreeMap::new(alloc))?;
+        Ok(Drafts {
+            nodes: Vec::new(alloc),
+            numbers,
+            scopes,
+        })
+    }
+
+    /// The node of a name that stands in a namespace, given by its last part.
+    pub fn defined_in(&self, enclosing: &Namespace, last: &str) -> Option<usize>
+        requires known { IsNamespaceOf enclosing.now self.now.nodes.items }
+        requires undotted { has_dot last.now ≡ false }
+        ensures { result ≡ defined_at (inside (arc_str_bytes enclosing.now.text) last.now)
+            (heads_of (drafts_of self.now.nodes.items)) }
+    {
+        self.scopes[enclosing.number].get(last).copied()
+    }
+
+    /// The number of a namespace that has names.
+    pub fn number_of(&self, namespace: &str) -> Option<usize>
+        ensures { result ≡ place_of namespace.now (namespaces_of (heads_of (drafts_of self.now.nodes.items))) }
+    {
+        self.numbers.get(namespace).copied()
+    }
+
+    /// The node of a name, given by its namespace and its last part.
+    pub fn defined_by(&self, namespace: &str, last: &str) -> Option<usize>
+        requires undotted { has_dot last.now ≡ false }
+        ensures { result ≡ defined_at (inside namespace.now last.now) (heads_of (drafts_of self.now.nodes.items)) }
+    {
+        match self.number_of(namespace) {
+            Some(number) => self.scopes[number].get(last).copied(),
+            None => None,
+        }
+    }
+
+    /// Adds a node of a kind that has no name. An `Err` leaves the nodes as they were.
+    pub fn push(&mut self, kind: Kind) -> Result<(), AllocError>
+        requires { IsUnnamed (head_of_node (node_of kind)) }
+        ensures { OnOk result (self.new.nodes.items ≡ self.old.nodes.items ++ drafts.Whole kind ∷ []) }
+    {
+        self.nodes.push(Draft::Whole(kind))?;
+        Ok(())
+    }
+
+    /// Adds the node that defines a full name, which is new, and answers the number of its namespace, where it is given
+    /// if there is one. An `Err` leaves the nodes as they were.
+    pub fn define(
+        &mut self,
+        alloc: Global,
+        name: &Name,
+        number: Option<usize>,
+        draft: Draft<'v>,
+    ) -> Result<usize, AllocError>
+        requires new { defined_at name.now (heads_of (drafts_of self.old.nodes.items)) ≡ None }
+        requires named { head_of (draft_of draft) ≡ Named name.now }
+        requires numbered { IsNumbered name.now number self.old.nodes.items }
+        ensures nodes { OnOk result (self.new.nodes.items ≡ self.old.nodes.items ++ draft.entry ∷ []) }
+        ensures number { IfOk result (λ n. slice_get (namespaces_of (heads_of (drafts_of self.new.nodes.items)))
+            n ≡ Some (namespace_of name.now)) }
+    {
+        match number {
+            Some(number) => {
+                self.define_in(alloc, number, name, draft)?;
+                Ok(number)
+            }
+            None => {
+                let number = self.scopes.len();
+                self.define_first(alloc, name, draft)?;
+                Ok(number)
+            }
+        }
+    }
+
+    /// Adds the node that defines a name in a namespace that has a number.
+    fn define_in(
+        &mut self,
+        alloc: Global,
+        number: usize,
+        name: &Name,
+        draft: Draft<'v>,
+    ) -> Result<(), AllocError>
+        requires new { defined_at name.now (heads_of (drafts_of self.old.nodes.items)) ≡ None }
+        requires named { head_of (draft_of draft) ≡ Named name.now }
+        requires numbered { slice_get (namespaces_of (heads_of (drafts_of self.old.nodes.items))) number ≡ Some
+            (namespace_of name.now) }
+        ensures { OnOk result (self.new.nodes.items ≡ self.old.nodes.items ++ draft.entry ∷ []) }
+    {
+        name.has_two_parts();
+        let node = self.nodes.len();
+        let last = String::from_str(alloc, name.last())?;
+        self.nodes.push(draft)?;
+        match self.scopes[number].insert(last, node) {
+            Ok(_) => Ok(()),
+            Err(_) => {
+                self.nodes.truncate(node);
+                Err(AllocError)
+            }
+        }
+    }
+
+    /// Adds the node that defines the first name of a namespace.
+    fn define_first(
+        &mut self,
+        alloc: Global,
+        name: &Name,
+        draft: Draft<'v>,
+    ) -> Result<(), AllocError>
+        requires named { head_of (draft_of draft) ≡ Named name.now }
+        requires first { place_of (namespace_of name.now) (namespaces_of
+            (heads_of (drafts_of self.old.nodes.items))) ≡ None }
+        ensures { OnOk result (self.new.nodes.items ≡ self.old.nodes.items ++ draft.entry ∷ []) }
+    {
+        name.has_two_parts();
+        let node = self.nodes.len();
+        let number = self.scopes.len();
+        let mut scope = BTreeMap::new(alloc);
+        scope.insert(String::from_str(alloc, name.last())?, node)?;
+        let namespace = String::from_str(alloc, name.namespace())?;
+        self.scopes.push(scope)?;
+        if self.nodes.push(draft).is_err() {
+            self.scopes.pop();
+            return Err(AllocError);
+        }
+        match self.numbers.insert(namespace, number) {
+            Ok(_) => Ok(()),
+            Err(_) => {
+                self.nodes.pop();
+                self.scopes.pop();
+                Err(AllocError)
+            }
+        }
+    }
+
+    /// Puts a node in the place of one with the same head.
+    pub fn set(&mut self, node: usize, draft: Draft<'v>)
+        requires { slice_get (heads_of (drafts_of self.old.nodes.items)) node ≡ Some (head_of (draft_of draft)) }
+        ensures { self.new.nodes.items ≡ set self.old.nodes.items node draft.entry }
+    {
+        self.nodes[node] = draft;
+    }
+}
+
+/// The fields of a record so far, and their names.
+#[derive(Drop)]
+pub struct FieldList<'v> {
+    pub fields: Vec<DraftField<'v>>,
+    names: BTreeSet<String>,
+    ghost known: { AreNamesOf names fields.items },
+}
+
+impl<'v> FieldList<'v> {
+    pub fn new(alloc: Global) -> Self
+        ensures { result.fields.items ≡ [] }
+    {
+        FieldList {
+            fields: Vec::new(alloc),
+            names: BTreeSet::new(alloc),
+        }
+    }
+
+    /// Whether one of the fields has a name.
+    pub fn is_used(&self, name: &str) -> bool
+        ensures { result ≡ is_used name.now (field_names self.now.fields.items) }
+    {
+        self.names.contains(name)
+    }
+
+    /// Adds a field. An `Err` leaves the fields as they were.
+    pub fn push(&mut self, field: DraftField<'v>) -> Result<(), AllocError>
+        ensures { OnOk result (self.new.fields.items ≡ self.old.fields.items ++ field.entry ∷ []) }
+    {
+        let name = field.name.clone()?;
+        self.fields.push(field)?;
+        match self.names.insert(name) {
+            Ok(_) => Ok(()),
+            Err(_) => {
+                self.fields.pop();
+                Err(AllocError)
+            }
+        }
+    }
+}
