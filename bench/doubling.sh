@@ -74,12 +74,12 @@ def references(size):
     return whole([small(0, "N")] + [referring(i) for i in range(size // 5200)], ',"namespace":"%s"' % ("n" * (size // 2)))
 
 def aliases(size):
-    """A writer's fields, each the last alias of a reader's of another name, in a record that is an alias too; and one record to resolve."""
-    count, others = min(size // 250, 1000), ",".join('"o%05d"' % i for i in range(size // 25))
+    """A writer's fields, each the last alias of a reader's of another name, in a record that is an alias too, in one long namespace; and one record to resolve."""
+    space, count, others = "n" * (size // 4), min(size // 250, 1000), ",".join('"o%05d"' % i for i in range(size // 25))
     written = ",".join('{"name":"w%04d","type":"int"}' % i for i in range(count))
     read = ",".join('{"name":"r%04d","type":"long","aliases":[%s,"w%04d"]}' % (i, ",".join('"n%04d%02d"' % (i, j) for j in range(8)), i) for i in range(count))
-    writer = '{"type":"record","name":"W","fields":[%s]}' % written
-    reader = '{"type":"record","name":"R","aliases":[%s,"W"],"fields":[%s]}' % (others, read)
+    writer = '{"type":"record","name":"W","namespace":"%s","fields":[%s]}' % (space, written)
+    reader = '{"type":"record","name":"R","namespace":"%s","aliases":[%s,"W"],"fields":[%s]}' % (space, others, read)
     return writer + "\n" + reader + "\n" + "02" * count + "\n"
 
 def seconds(data):

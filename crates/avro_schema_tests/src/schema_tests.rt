@@ -1,7 +1,17 @@
 //! What texts declare, and each of their faults.
 
-use avro_schema::{Datum, Kind, Schema, SchemaError, parsed_schema_is_declared};
+use avro_schema::{Datum, Kind, Name, Schema, SchemaError, parsed_schema_is_declared};
 use std::alloc::{AllocError, Global};
+
+/// The text of a full name.
+fn full_text(alloc: Global, name: &Name) -> Result<String, AllocError> {
+    let mut full = String::from_str(alloc, name.namespace())?;
+    if !name.namespace().is_empty() {
+        full.push_str(".")?;
+    }
+    full.push_str(name.last())?;
+    Ok(full)
+}
 
 /// The word or the full name of a kind.
 fn kind_text(alloc: Global, kind: &Kind) -> Result<String, AllocError> {
@@ -16,12 +26,7 @@ fn kind_text(alloc: Global, kind: &Kind) -> Result<String, AllocError> {
         Kind::Map(_) => "map",
         Kind::Union(_) => "union",
         Kind::Record { name, .. } | Kind::Enum { name, .. } | Kind::Fixed { name, .. } => {
-            let mut full = String::from_str(alloc, name.namespace())?;
-            if !name.namespace().is_empty() {
-                full.push_str(".")?;
-            }
-            full.push_str(name.last())?;
-            return Ok(full);
+            return full_text(alloc, name);
         }
     };
     String::from_str(alloc, word)
@@ -629,6 +634,19 @@ fn are_texts(texts: &[String], others: &[&str]) -> bool {
     true
 }
 
+/// Whether full names are these.
+fn are_names(alloc: Global, names: &[Name], others: &[&str]) -> Result<bool, AllocError> {
+    if names.len() != others.len() {
+        return Ok(false);
+    }
+    for at in 0..others.len() {
+        if full_text(alloc, &names[at])?.as_str() != others[at] {
+            return Ok(false);
+        }
+    }
+    Ok(true)
+}
+
 #[test]
 fn aliases_stand_in_the_namespace_of_their_type(rt: HostRuntime) {
     let text = r#"{"type":"record","name":"a.b","aliases":["c","x.y","c"],"fields":[
@@ -645,14 +663,46 @@ fn aliases_stand_in_the_namespace_of_their_type(rt: HostRuntime) {
     else {
         panic!(&rt; "no record");
     };
-    assert!(rt; are_texts(aliases, &["a.c", "x.y", "a.c"]) && fields.len() == 3);
+    assert!(rt;
+        are_names(rt.alloc(), aliases, &["a.c", "x.y", "a.c"]).expect(&rt, "no memory")
+            && fields.len() == 3
+    );
     assert!(rt; are_texts(&fields[0].aliases, &["e", "e", "int"]) && fields[1].aliases.is_empty());
     let Kind::Fixed { aliases, .. } = schema.kind(1) else {
         panic!(&rt; "no fixed");
     };
-    assert!(rt; are_texts(aliases, &["int", "n.long"]));
+    assert!(rt; are_names(rt.alloc(), aliases, &["int", "n.long"]).expect(&rt, "no memory"));
     let Kind::Enum { aliases, .. } = schema.kind(2) else {
         panic!(&rt; "no enum");
     };
-    assert!(rt; are_texts(aliases, &["m.F"]));
+    assert!(rt; are_names(rt.alloc(), aliases, &["m.F"]).expect(&rt, "no memory"));
+}
+
+/// A fixed in a namespace of so many bytes, with so many aliases that stand in it.
+fn aliased_text(alloc: Global, namespace: u32, aliases: u32) -> Result<String, SchemaError> {
+    let mut text = String::from_str(alloc, r#"{"type":"fixed","size":1,"namespace":""#)?;
+    for _ in 0..namespace {
+        text.push_str("n")?;
+    }
+    text.push_str(r#"","name":"F","aliases":["A""#)?;
+    for number in 1..aliases {
+        let alias = format!(in alloc; ",\"a{number}\"")?;
+        text.push_str(alias.as_str())?;
+    }
+    text.push_str("]}")?;
+    Ok(text)
+}
+
+#[test]
+fn aliases_share_a_long_namespace(rt: HostRuntime) {
+    let text = aliased_text(rt.alloc(), 60_000, 5_000).expect(&rt, "no memory");
+    let schema = parsed(rt.alloc(), text.as_str()).expect(&rt, "a schema");
+    let Kind::Fixed { name, aliases, .. } = schema.kind(0) else {
+        panic!(&rt; "no fixed");
+    };
+    assert!(rt; name.namespace().len() == 60_000 && aliases.len() == 5_000);
+    let first = &aliases[0];
+    assert!(rt; first.last() == "A" && first.namespace() == name.namespace());
+    let last = &aliases[4_999];
+    assert!(rt; last.last() == "a4999" && last.namespace() == name.namespace());
 }

@@ -14,14 +14,14 @@ pub enum Kind {
     /// A fixed under its full name, with its aliases as full names, of so many bytes.
     Fixed {
         name: Name,
-        aliases: Vec<String>,
+        aliases: Vec<Name>,
         size: usize,
     },
     /// An enum under its full name, with its aliases as full names, its symbols, and the position of the one that stands
     /// for unknown ones.
     Enum {
         name: Name,
-        aliases: Vec<String>,
+        aliases: Vec<Name>,
         symbols: Symbols,
         default: Option<u32>,
     },
@@ -34,7 +34,7 @@ pub enum Kind {
     /// A record under its full name, with its aliases as full names, and its fields in the order of their declaration.
     Record {
         name: Name,
-        aliases: Vec<String>,
+        aliases: Vec<Name>,
         fields: Vec<Field>,
     },
 }

@@ -1,35 +1,25 @@
-ghost use Rattle.std.specs.Prelude.{◌≡◌, ◌||◌, map, string_bytes};
+ghost use Rattle.std.specs.Prelude.{◌≡◌, ◌||◌};
 ghost use Rattle.std.specs.Str.{bytes_eq};
 ghost use Rattle.avro_types.specs.FullNames.{unqualified};
 ghost use Rattle.avro_types.specs.Symbols.{is_used};
 
 use avro_types::Name;
 
-/// Whether a text is a full name.
-fn is_full_name(name: &Name, text: &str) -> bool
-    ensures { result ≡ bytes_eq text.now name.now }
+/// Whether two full names are the same, in both their parts.
+fn are_same(one: &Name, other: &Name) -> bool
+    ensures { result ≡ bytes_eq one.now other.now }
 {
-    name.has_two_parts();
-    let namespace = name.namespace();
-    let last = name.last();
-    if namespace.is_empty() {
-        return text == last;
-    }
-    let Some(after) = text.as_bytes().strip_prefix(namespace.as_bytes()) else {
-        return false;
-    };
-    match after.split_first() {
-        Some((dot, rest)) => *dot == b'.' && rest == last.as_bytes(),
-        None => false,
-    }
+    one.has_two_parts();
+    other.has_two_parts();
+    one.last() == other.last() && one.namespace() == other.namespace()
 }
 
 /// Whether a full name is one of these.
-fn is_one_of(name: &Name, aliases: &[String]) -> bool
-    ensures { result ≡ is_used name.now (map string_bytes aliases.now) }
+fn is_one_of(name: &Name, aliases: &[Name]) -> bool
+    ensures { result ≡ is_used name.now aliases.now }
 {
     for alias in aliases {
-        if is_full_name(name, alias) {
+        if are_same(alias, name) {
             return true;
         }
     }
@@ -37,8 +27,8 @@ fn is_one_of(name: &Name, aliases: &[String]) -> bool
 }
 
 /// Whether the last parts of two full names are the same, or the writer's is an alias of the reader's.
-pub(crate) fn have_matching_names(writer: &Name, reader: &Name, aliases: &[String]) -> bool
-    ensures { result ≡ (bytes_eq (unqualified writer.now) (unqualified reader.now) || is_used writer.now (map string_bytes aliases.now)) }
+pub(crate) fn have_matching_names(writer: &Name, reader: &Name, aliases: &[Name]) -> bool
+    ensures { result ≡ (bytes_eq (unqualified writer.now) (unqualified reader.now) || is_used writer.now aliases.now) }
 {
     writer.last() == reader.last() || is_one_of(writer, aliases)
 }

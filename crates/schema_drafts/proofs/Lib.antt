@@ -11,3 +11,4 @@ pub mod NewIndex
 pub mod NameSteps
 pub mod SymbolPlaces
 pub mod Texts
+pub mod TypeAliases

@@ -8,7 +8,7 @@ use Rattle.serde_json.specs.declared.value.Value.{Value}
 use Rattle.schema_drafts.specs.declared.error.SchemaError.{SchemaError}
 use Rattle.schema_drafts.specs.Attributes.{texts_in}
 use Rattle.schema_drafts.specs.Fault.{◌>>=◌}
-use Rattle.avro_types.specs.FullNames.{is_full_name, is_name}
+use Rattle.avro_types.specs.FullNames.{is_name}
 use Rattle.schema_drafts.specs.Names.{text_of}
 
 abbrev pub names : List (String Global) → List (List ℕ)
@@ -49,7 +49,3 @@ not_not false e = refl
 pub all_names : (ts : List (String Global)) → list_all is_name (map string_bytes ts) ≡ list_all (λ s. is_name (string_bytes s)) ts
 all_names [] = refl
 all_names (t ∷ ts) = ap (λ b. is_name (string_bytes t) && b) (all_names ts)
-
-pub all_full_names : (ts : List (String Global)) → list_all is_full_name (map string_bytes ts) ≡ list_all (λ s. is_full_name (string_bytes s)) ts
-all_full_names [] = refl
-all_full_names (t ∷ ts) = ap (λ b. is_full_name (string_bytes t) && b) (all_full_names ts)

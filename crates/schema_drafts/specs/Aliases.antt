@@ -21,12 +21,23 @@ alias_texts (Some d) = texts_of (Some d)
 abbrev pub full_aliases : List ℕ → List (List ℕ) → List (List ℕ)
 full_aliases full texts = map (full_name (namespace_of full)) texts
 
+-- a full name by the rule for names
+abbrev pub if_full_name : List ℕ → Result (List ℕ) SchemaError
+if_full_name full = do
+  _ ← require (is_full_name full) BadName
+  Ok full
+
+-- full names, each by the rule for names
+abbrev pub if_full_names : List (List ℕ) → Result (List (List ℕ)) SchemaError
+if_full_names names = do
+  _ ← require (list_all is_full_name names) BadName
+  Ok names
+
 -- a type's aliases as full names, each by the rule for names
 unfoldable pub type_aliases : List ℕ → Option Data → Result (List (List ℕ)) SchemaError
 type_aliases full aliases = do
   ss ← alias_texts aliases
-  _ ← require (list_all is_full_name (full_aliases full ss)) BadName
-  Ok (full_aliases full ss)
+  if_full_names (full_aliases full ss)
 
 -- a field's aliases, each by the rule for names
 unfoldable pub field_aliases : Option Data → Result (List (List ℕ)) SchemaError

@@ -1,12 +1,11 @@
 ghost use Rattle.schema_drafts.specs.Seen.{IsNamespaceIn, heads_in, text_of_namespace};
-ghost use Rattle.std.specs.Prelude.{◌≡◌, IfOk, None, codes, map, string_bytes};
+ghost use Rattle.std.specs.Prelude.{◌≡◌, IfOk, None, codes, false, map, string_bytes};
 ghost use Rattle.std.specs.Arc.{arc_str_bytes};
-ghost use Rattle.std.specs.List.{list_all};
 ghost use Rattle.serde_json.specs.Find.{get};
 ghost use Rattle.serde_json.specs.View.{view};
-ghost use Rattle.avro_types.specs.FullNames.{full_name, has_dot, is_full_name};
+ghost use Rattle.avro_types.specs.FullNames.{full_name, has_dot, inside, namespace_of};
 ghost use Rattle.avro_types.specs.Node.{names_of};
-ghost use Rattle.schema_drafts.specs.Aliases.{alias_texts, field_aliases, full_aliases, new_names, type_aliases};
+ghost use Rattle.schema_drafts.specs.Aliases.{alias_texts, field_aliases, full_aliases, if_full_name, if_full_names, new_names, type_aliases};
 ghost use Rattle.schema_drafts.specs.Draft.{data_at, drafts_of};
 ghost use Rattle.schema_drafts.specs.Fault.{Tells};
 ghost use Rattle.schema_drafts.specs.Head.{defined_at, heads_of};
@@ -14,12 +13,13 @@ ghost use Rattle.schema_drafts.specs.Index.{IsNamespaceOf, IsNumbered};
 
 use crate::drafts::Drafts;
 use crate::error::SchemaError;
-use crate::names::{NewName, is_full_name, new_name};
+use crate::names::{NewName, is_name, is_namespace, new_name};
 use crate::namespace::Namespace;
 use crate::type_attributes::{are_names, texts_of};
 use avro_types::Name;
 use serde_json::Value;
-use std::alloc::{AllocError, Global};
+use std::alloc::Global;
+use std::sync::ArcStr;
 
 /// The texts that `aliases` lists, where it is there.
 fn alias_texts(alloc: Global, value: Option<&Value>) -> Result<Vec<String>, SchemaError>
@@ -31,59 +31,63 @@ fn alias_texts(alloc: Global, value: Option<&Value>) -> Result<Vec<String>, Sche
     }
 }
 
-fn has_dot(text: &[u8]) -> bool
-    ensures { result ≡ has_dot text.now }
+/// An alias of a namespace of its own.
+fn qualified_alias(alloc: Global, namespace: &str, last: &str) -> Result<Name, SchemaError>
+    requires undotted { has_dot last.now ≡ false }
+    ensures { Tells (λ n. n) result (if_full_name (inside namespace.now last.now)) }
 {
-    text.iter().any(|c| *c == b'.')
-}
-
-/// An alias as a full name, which without a dot stands in a namespace.
-fn full_alias(alloc: Global, namespace: &str, alias: &str) -> Result<String, AllocError>
-    ensures { IfOk result (λ s. string_bytes s ≡ full_name namespace.now alias.now) }
-{
-    if namespace.is_empty() || has_dot(alias.as_bytes()) {
-        return String::from_str(alloc, alias);
+    if !is_namespace(namespace) || !is_name(last.as_bytes()) {
+        return Err(SchemaError::BadName);
     }
-    let mut full = String::from_str(alloc, namespace)?;
-    full.push('.')?;
-    full.push_str(alias)?;
-    Ok(full)
+    let namespace = ArcStr::from_str(alloc, namespace)?;
+    Ok(Name::new(namespace, String::from_str(alloc, last)?))
 }
 
-/// Aliases as full names, in the namespace of the type that has them.
-fn full_aliases(alloc: Global, name: &Name, texts: &[String]) -> Result<Vec<String>, AllocError>
-    ensures { IfOk result (λ v. map string_bytes v.items ≡ full_aliases name.now (map string_bytes texts.now)) }
+/// An alias in the namespace of the type that has it, which it shares.
+fn relative_alias(alloc: Global, name: &Name, last: &str) -> Result<Name, SchemaError>
+    requires undotted { has_dot last.now ≡ false }
+    ensures { Tells (λ n. n) result (if_full_name (inside (namespace_of name.now) last.now)) }
+{
+    if !is_name(last.as_bytes()) {
+        return Err(SchemaError::BadName);
+    }
+    let namespace = name.shared_namespace()?;
+    Ok(Name::new(namespace, String::from_str(alloc, last)?))
+}
+
+/// An alias as a full name.
+fn full_alias(alloc: Global, name: &Name, alias: &str) -> Result<Name, SchemaError>
+    ensures { Tells (λ n. n) result (if_full_name (full_name (namespace_of name.now) alias.now)) }
+{
+    match alias.rsplit_once('.') {
+        Some((namespace, last)) => {
+            if namespace.is_empty() {
+                return Err(SchemaError::BadName);
+            }
+            qualified_alias(alloc, namespace, last)
+        }
+        None => relative_alias(alloc, name, alias),
+    }
+}
+
+/// Aliases as full names.
+fn full_aliases(alloc: Global, name: &Name, texts: &[String]) -> Result<Vec<Name>, SchemaError>
+    ensures { Tells (λ v. v.items) result (if_full_names (full_aliases name.now (map string_bytes texts.now))) }
 {
     let mut aliases = Vec::new(alloc);
     for text in texts {
-        let alias = full_alias(alloc, name.namespace(), text.as_str())?;
+        let alias = full_alias(alloc, name, text.as_str())?;
         aliases.push(alias)?;
     }
     Ok(aliases)
 }
 
-/// Whether each text is names joined by dots.
-fn are_full_names(texts: &[String]) -> bool
-    ensures { result ≡ list_all (λ s. is_full_name (string_bytes s)) texts.now }
-{
-    texts.iter().all(|text| is_full_name(text.as_str()))
-}
-
 /// The aliases of a type, as full names.
-#[tactic(auto, using(crate::proofs::Texts::all_full_names), unfolding(crate::specs::Aliases::type_aliases))]
-fn type_aliases(
-    alloc: Global,
-    name: &Name,
-    value: Option<&Value>,
-) -> Result<Vec<String>, SchemaError>
-    ensures { Tells (λ v. map string_bytes v.items) result (type_aliases name.now (data_at value.entry)) }
+#[tactic(auto, unfolding(crate::specs::Aliases::type_aliases))]
+fn type_aliases(alloc: Global, name: &Name, value: Option<&Value>) -> Result<Vec<Name>, SchemaError>
+    ensures { Tells (λ v. v.items) result (type_aliases name.now (data_at value.entry)) }
 {
-    let texts = alias_texts(alloc, value)?;
-    let aliases = full_aliases(alloc, name, &texts)?;
-    if !are_full_names(&aliases) {
-        return Err(SchemaError::BadName);
-    }
-    Ok(aliases)
+    full_aliases(alloc, name, &alias_texts(alloc, value)?)
 }
 
 /// The aliases of a field.
@@ -102,7 +106,7 @@ pub fn field_aliases(alloc: Global, value: Option<&Value>) -> Result<Vec<String>
 #[derive(Drop)]
 pub struct NewNames {
     pub name: Name,
-    pub aliases: Vec<String>,
+    pub aliases: Vec<Name>,
     pub number: Option<usize>,
 }
 
@@ -116,7 +120,7 @@ pub fn new_names(
 ) -> Result<NewNames, SchemaError>
     requires { IsNamespaceIn enclosing.now drafts.now }
     ensures numbered { IfOk result (λ n. IsNumbered n.name n.number drafts.now.nodes.items) }
-    ensures names { Tells (λ n. names_of n.name (map string_bytes n.aliases.items)) result
+    ensures names { Tells (λ n. names_of n.name n.aliases.items) result
         (new_names (get (codes "name") (view value.now)) (get (codes "namespace") (view value.now))
         (get (codes "aliases") (view value.now)) (text_of_namespace enclosing.now) (heads_in drafts.now)) }
     ensures new { IfOk result (λ n. defined_at n.name (heads_in drafts.now) ≡ None) }

@@ -9,7 +9,7 @@ pub enum Draft<'v> {
     /// A record under its full name, with its aliases as full names.
     Record {
         name: Name,
-        aliases: Vec<String>,
+        aliases: Vec<Name>,
         fields: Vec<DraftField<'v>>,
     },
 }

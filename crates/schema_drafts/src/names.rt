@@ -50,7 +50,7 @@ pub fn is_name(text: &[u8]) -> bool
 }
 
 /// Whether a text is names joined by dots.
-pub fn is_full_name(text: &str) -> bool
+fn is_full_name(text: &str) -> bool
     ensures { result ≡ is_full_name text.now }
 {
     let mut rest = text;
@@ -64,7 +64,7 @@ pub fn is_full_name(text: &str) -> bool
 }
 
 /// Whether a text is the null namespace, or names joined by dots.
-fn is_namespace(text: &str) -> bool
+pub fn is_namespace(text: &str) -> bool
     ensures { result ≡ is_namespace text.now }
 {
     text.is_empty() || is_full_name(text)

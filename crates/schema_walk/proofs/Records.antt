@@ -1,5 +1,5 @@
 -- The walk of a named type, step by step.
-use Rattle.std.proofs.Common.{◌≡◌, ℕ, ◌<◌, List, [], ◌∷◌, ◌++◌, length, Option, Result, Ok, Err, refl, ◌∙◌, set, Vec, String, Global}
+use Rattle.std.proofs.Common.{◌≡◌, ℕ, ◌<◌, List, [], ◌∷◌, ◌++◌, length, Option, Result, Ok, Err, refl, ◌∙◌, set, Vec, Global}
 use Rattle.serde_json.specs.Data.{Data}
 use Rattle.avro_types.specs.declared.limits.TheConstants.{MOST_NODES}
 use Rattle.schema_drafts.specs.declared.error.SchemaError.{SchemaError}
@@ -43,7 +43,7 @@ module _ (name namespace aliases : Option Data) (fields : Option (Walk (List Dra
     record-failed x e = run-record room ∙ rw is (unclosed (λ fs. RecordDraft s fs) (RecordDraft (names_of s.full []) []) (or_unknown fields) (namespace_of s.full) ks x e)
 
 -- the nodes, with a record that has no aliases or fields yet
-pub pushed-record : (ks ls : List rust.Draft) (name copy : Name) (aliases : Vec (String Global) Global) (fields : Vec rust_field.DraftField Global) → ls ≡ ks ++ drafts.Record copy aliases fields ∷ [] → copy ≡ name → aliases.items ≡ [] → fields.items ≡ []
+pub pushed-record : (ks ls : List rust.Draft) (name copy : Name) (aliases : Vec Name Global) (fields : Vec rust_field.DraftField Global) → ls ≡ ks ++ drafts.Record copy aliases fields ∷ [] → copy ≡ name → aliases.items ≡ [] → fields.items ≡ []
     → drafts_of ls ≡ drafts_of ks ++ RecordDraft (names_of name []) [] ∷ []
 pushed-record ks ls name copy aliases fields e same first none = rw (e, drafts_of-append ks (drafts.Record copy aliases fields ∷ []), same, first, none) refl
 

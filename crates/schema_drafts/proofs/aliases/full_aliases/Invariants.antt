@@ -1,6 +1,7 @@
-use Rattle.std.proofs.Common.{◌≡◌, map, string_bytes, take}
-use Rattle.schema_drafts.specs.Aliases.{full_aliases}
+use Rattle.std.proofs.Common.{◌≡◌, drop}
+use Rattle.schema_drafts.proofs.Texts.{listed}
+use Rattle.schema_drafts.proofs.TypeAliases.{ruled}
 use Rattle.schema_drafts.proofs.aliases.full_aliases.Given as goal
 
 abbrev pub invariant-loop-text : goal.invariant-loop-text
-invariant-loop-text l = map string_bytes l.aliases.items ≡ full_aliases l.name (map string_bytes (take l.text-index l.texts))
+invariant-loop-text l = listed l.aliases.items (ruled l.name (drop l.text-index l.texts)) ≡ ruled l.name l.texts

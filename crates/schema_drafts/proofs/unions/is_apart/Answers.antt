@@ -1,4 +1,4 @@
-use Rattle.std.proofs.Common.{◌≡◌, not, refl, sym, ap, ◌∙◌}
+use Rattle.std.proofs.Common.{◌≡◌, not, refl, ap, ◌∙◌}
 use Rattle.schema_drafts.specs.Draft.{draft_of, drafts_of}
 use Rattle.schema_drafts.specs.Head.{head_of, heads_of, is_named_head}
 use Rattle.schema_drafts.specs.Head.{head_at}

@@ -1,4 +1,4 @@
-use Rattle.schema_drafts.proofs.Heads.{head_here, head_nowhere}
+use Rattle.schema_drafts.proofs.Heads.{head_here}
 use Rattle.schema_drafts.proofs.unions.is_of_type.Goals as goal
 
 pub returns : goal.returns
