@@ -86,8 +86,7 @@ ask_again avro_bytes_tests values::{texts,faults_of_texts,bytes_after_their_leng
 ask_again avro_schema_tests schema_tests::{reads_primitives,reads_a_record,keeps_the_last_of_a_repeated_key,tells_the_first_fault}
 ask_again avro_schema_tests schema_tests::{numbers_nodes_in_order_of_appearance,names_stand_in_their_namespaces,reads_defaults_by_type,refuses_defaults_of_other_types}
 ask_again avro_schema_tests schema_tests::{a_name_is_one_however_it_is_told,names_of_other_namespaces_are_others}
-ask_again resolver_tests datum_tests::{payloads_are_read_and_written,faults_of_payloads} datum_kinds_tests::{payloads_of_every_kind,faults_of_every_kind}
-ask_again resolver_tests resolving_tests::{fields_go_by_name,mismatches,outcomes} resolving_kinds_tests::{written_by_the_reader,mismatched,malformed,readers_that_are_safe}
+ask_again resolver_tests data_tests::payloads_are_read_and_written outcome_tests::{outcomes_of_pairs,readers_that_are_safe} resolving_tests::{fields_go_by_name,mismatches}
 ask_again commands_tests run_tests::{answers_schemas,answers_lines_that_are_no_payloads,answers_what_is_no_text,answers_worked_rows}
 echo "$passed passed, $failed failed"
 [ $failed = 0 ]

@@ -110,8 +110,8 @@ fn kinds_in(alloc: Global, value: &Value) -> Result<Vec<Kind>, SchemaError>
     let mut drafts = Drafts::new(alloc)?;
     let enclosing = Namespace::null(alloc)?;
     walk(alloc, value, &enclosing, &mut drafts)?;
-    let defaults = all_defaults(alloc, &drafts.nodes)?;
-    Ok(nodes_with(alloc, drafts.nodes, defaults)?)
+    let defaults = all_defaults(alloc, drafts.as_slice())?;
+    Ok(nodes_with(alloc, drafts.into_nodes(), defaults)?)
 }
 
 /// The JSON value of a text.

@@ -1,7 +1,11 @@
 //! What texts declare, and each of their faults.
 
+use crate::rows::{
+    ALIAS_FAULTS, BAD_DEFAULTS, FAULTS, FURTHER_FAULTS, FURTHER_NAMES, PRIMITIVES,
+};
 use avro_schema::{Datum, Kind, Name, Schema, SchemaError, parsed_schema_is_declared};
 use std::alloc::{AllocError, Global};
+use std::process::Abort;
 
 /// The text of a full name.
 fn full_text(alloc: Global, name: &Name) -> Result<String, AllocError> {
@@ -32,17 +36,28 @@ fn kind_text(alloc: Global, kind: &Kind) -> Result<String, AllocError> {
     String::from_str(alloc, word)
 }
 
-/// Whether the nodes of a schema are of the kinds that these words and full names tell.
-fn are_nodes(alloc: Global, schema: &Schema, kinds: &[&str]) -> Result<bool, AllocError> {
-    if schema.len() != kinds.len() {
-        return Ok(false);
-    }
-    for node in 0..kinds.len() {
-        if kind_text(alloc, schema.kind(node))?.as_str() != kinds[node] {
-            return Ok(false);
+/// The words and full names of the kinds of a schema's nodes, with a space between them.
+fn nodes_text(alloc: Global, schema: &Schema) -> Result<String, AllocError> {
+    let mut text = String::new(alloc);
+    for node in 0..schema.len() {
+        if node > 0 {
+            text.push_str(" ")?;
         }
+        let kind = kind_text(alloc, schema.kind(node))?;
+        text.push_str(&kind)?;
     }
-    Ok(true)
+    Ok(text)
+}
+
+/// Whether the kinds of a schema's nodes are these words and full names.
+fn are_nodes(alloc: Global, schema: &Schema, kinds: &str) -> Result<bool, AllocError> {
+    let text = nodes_text(alloc, schema)?;
+    Ok(text.as_str() == kinds)
+}
+
+/// Whether a schema's compact text is this one.
+fn is_compact(schema: &Schema, text: &str) -> bool {
+    schema.text() == text
 }
 
 /// What a text is parsed to, asked again where memory ran out the first time.
@@ -55,6 +70,15 @@ fn parsed(alloc: Global, text: &str) -> Result<Schema, SchemaError> {
 
 fn fault_of(alloc: Global, text: &str) -> Option<SchemaError> {
     parsed(alloc, text).err()
+}
+
+/// Whether each line, of a fault's name and a text, tells what the text's fault is.
+fn assert_faults(rt: &(impl Abort + AllocGlobal), lines: &str) {
+    for line in lines.lines() {
+        let (name, text) = line.split_once(' ').expect(rt, "a fault and a text");
+        let fault = fault_of(rt.alloc(), text).expect(rt, "a fault");
+        assert_eq!(rt; fault.name(), name, "{text}");
+    }
 }
 
 /// A record with so many fields of type `int`.
@@ -73,24 +97,17 @@ fn record_text(alloc: Global, fields: u32) -> Result<String, SchemaError> {
 
 #[test]
 fn reads_primitives(rt: HostRuntime) {
-    let cases = [
-        (r#""null""#, "null", r#""null""#),
-        (r#""boolean""#, "boolean", r#""boolean""#),
-        (r#""int""#, "int", r#""int""#),
-        (" \"long\"\n", "long", r#""long""#),
-        (r#""bytes""#, "bytes", r#""bytes""#),
-        (r#""str\u0069ng""#, "string", r#""string""#),
-        (
-            r#"{"type":{"type":"int"},"logicalType":"date"}"#,
-            "int",
-            r#"{"logicalType":"date","type":{"type":"int"}}"#,
-        ),
-    ];
-    for (text, kind, compact) in cases {
+    let lines: Vec<&str> = PRIMITIVES.lines().collect(rt.alloc()).expect(&rt, "no memory");
+    for row in lines.chunks(3) {
+        let [text, kind, compact] = row else {
+            panic!(&rt; "rows have three lines");
+        };
         let schema = parsed(rt.alloc(), text).expect(&rt, "a schema");
-        assert!(rt; are_nodes(rt.alloc(), &schema, &[kind]).expect(&rt, "no memory"));
-        assert!(rt; schema.text() == compact);
+        assert!(rt; are_nodes(rt.alloc(), &schema, kind).expect(&rt, "no memory"));
+        assert!(rt; is_compact(&schema, compact));
     }
+    let schema = parsed(rt.alloc(), " \"long\"\n").expect(&rt, "a schema");
+    assert!(rt; schema.text() == "\"long\"");
 }
 
 #[test]
@@ -101,7 +118,7 @@ fn reads_a_record(rt: HostRuntime) {
     let schema = parsed(rt.alloc(), text).expect(&rt, "a schema");
     schema.is_declared();
     assert!(rt; schema.len() == 3);
-    assert!(rt; are_nodes(rt.alloc(), &schema, &["T", "long", "string"]).expect(&rt, "no memory"));
+    assert!(rt; are_nodes(rt.alloc(), &schema, "T long string").expect(&rt, "no memory"));
     if let Kind::Record { fields, .. } = schema.kind(0) {
         assert!(rt; fields.len() == 2);
         assert!(rt; fields[0].name.as_str() == "a" && fields[0].node == 1);
@@ -122,153 +139,7 @@ fn keeps_the_last_of_a_repeated_key(rt: HostRuntime) {
 
 #[test]
 fn tells_the_first_fault(rt: HostRuntime) {
-    let cases = [
-        ("", SchemaError::NotJson),
-        ("\"int\" \"int\"", SchemaError::NotJson),
-        (r#"{"type":"float","x":1.0}"#, SchemaError::BadNumber),
-        (r#"18446744073709551616"#, SchemaError::BadNumber),
-        (r#"null"#, SchemaError::Unknown),
-        (r#"3"#, SchemaError::Unknown),
-        (r#"{}"#, SchemaError::Unknown),
-        (r#"{"type":3}"#, SchemaError::Unknown),
-        (r#"{"type":null}"#, SchemaError::Unknown),
-        (r#""C""#, SchemaError::Unknown),
-        (r#""record""#, SchemaError::Unknown),
-        (r#""error""#, SchemaError::Unknown),
-        (r#"".C""#, SchemaError::Unknown),
-        (r#"{"type":"record"}"#, SchemaError::Unknown),
-        (r#"{"type":"record","name":"T"}"#, SchemaError::Unknown),
-        (
-            r#"{"type":"record","name":"T","fields":[3]}"#,
-            SchemaError::Unknown,
-        ),
-        (
-            r#"{"type":"record","name":"T","fields":[{"name":"a"}]}"#,
-            SchemaError::Unknown,
-        ),
-        (
-            r#"{"type":"record","name":"T","fields":[{"type":"int"}]}"#,
-            SchemaError::Unknown,
-        ),
-        (
-            r#"{"type":"record","name":"T","namespace":null,"fields":[]}"#,
-            SchemaError::Unknown,
-        ),
-        (
-            r#"{"type":"record","name":"a.B","fields":[{"name":"c","type":"C"}]}"#,
-            SchemaError::Unknown,
-        ),
-        (
-            r#"["D",{"type":"fixed","name":"D","size":1}]"#,
-            SchemaError::Unknown,
-        ),
-        (r#"{"type":"enum","name":"E"}"#, SchemaError::Unknown),
-        (
-            r#"{"type":"enum","name":"E","symbols":["A",1]}"#,
-            SchemaError::Unknown,
-        ),
-        (
-            r#"{"type":"enum","name":"E","symbols":["1",1]}"#,
-            SchemaError::Unknown,
-        ),
-        (
-            r#"{"type":"enum","name":"E","symbols":["A"],"default":null}"#,
-            SchemaError::Unknown,
-        ),
-        (r#"{"type":"fixed","name":"F"}"#, SchemaError::Unknown),
-        (r#"{"type":"array"}"#, SchemaError::Unknown),
-        (r#"{"type":"map","items":"int"}"#, SchemaError::Unknown),
-        (r#""float""#, SchemaError::OutOfProfile),
-        (r#"{"type":"double"}"#, SchemaError::OutOfProfile),
-        (
-            r#"{"type":"error","name":"E","fields":[]}"#,
-            SchemaError::OutOfProfile,
-        ),
-        (r#"["int","double","float"]"#, SchemaError::OutOfProfile),
-        (
-            r#"{"type":"record","name":"","fields":[]}"#,
-            SchemaError::BadName,
-        ),
-        (r#"{"type":"record","name":"1"}"#, SchemaError::BadName),
-        (
-            r#"{"type":"record","name":"int","fields":[]}"#,
-            SchemaError::BadName,
-        ),
-        (
-            r#"{"type":"record","name":"a.double","fields":[]}"#,
-            SchemaError::BadName,
-        ),
-        (
-            r#"{"type":"fixed","name":".A","size":1}"#,
-            SchemaError::BadName,
-        ),
-        (
-            r#"{"type":"fixed","name":"A","namespace":"a..b","size":1}"#,
-            SchemaError::BadName,
-        ),
-        (
-            r#"{"type":"record","name":"T","fields":[{"name":"a.b","type":"int"}]}"#,
-            SchemaError::BadName,
-        ),
-        (
-            r#"{"type":"record","name":"T","fields":[{"name":"1","type":"float"}]}"#,
-            SchemaError::BadName,
-        ),
-        (
-            r#"{"type":"record","name":"T","fields":[{"name":"a","type":"int"},{"name":"a"}]}"#,
-            SchemaError::BadName,
-        ),
-        (
-            r#"["null",{"type":"fixed","name":"F","size":1},{"type":"fixed","name":"F","size":1}]"#,
-            SchemaError::Redefined,
-        ),
-        (
-            r#"{"type":"record","name":"n.T","fields":[{"name":"a","type":{"type":"enum","name":"T","symbols":[]}}]}"#,
-            SchemaError::Redefined,
-        ),
-        (r#"["int","int"]"#, SchemaError::BadUnion),
-        (r#"["null",["int"]]"#, SchemaError::BadUnion),
-        (r#"["null",{"type":["int"]}]"#, SchemaError::BadUnion),
-        (
-            r#"[{"type":"array","items":"int"},{"type":"array","items":"long"}]"#,
-            SchemaError::BadUnion,
-        ),
-        (
-            r#"[{"type":"fixed","name":"F","size":1},"F"]"#,
-            SchemaError::BadUnion,
-        ),
-        (
-            r#"{"type":"enum","name":"E","symbols":["A","A"]}"#,
-            SchemaError::BadSymbols,
-        ),
-        (
-            r#"{"type":"enum","name":"E","symbols":["A","1"]}"#,
-            SchemaError::BadSymbols,
-        ),
-        (
-            r#"{"type":"enum","name":"E","symbols":["A"],"default":"B"}"#,
-            SchemaError::BadSymbols,
-        ),
-        (
-            r#"{"type":"fixed","name":"F","size":-1}"#,
-            SchemaError::BadNumber,
-        ),
-        (
-            r#"{"type":"fixed","name":"F","size":"1"}"#,
-            SchemaError::BadNumber,
-        ),
-        (
-            r#"{"type":"fixed","name":"F","size":null}"#,
-            SchemaError::BadNumber,
-        ),
-        (
-            r#"{"type":"fixed","name":"F","size":1048577}"#,
-            SchemaError::TooLarge,
-        ),
-    ];
-    for (text, fault) in cases {
-        assert!(rt; fault_of(rt.alloc(), text) == Some(fault));
-    }
+    assert_faults(&rt, FAULTS);
 }
 
 /// The text of a record whose one field has this type and default.
@@ -281,29 +152,13 @@ fn with_default(alloc: Global, type_: &str, default: &str) -> Result<String, Sch
 
 #[test]
 fn refuses_defaults_of_other_types(rt: HostRuntime) {
-    let cases = [
-        (r#""int""#, r#"2147483648"#),
-        (r#""int""#, r#""1""#),
-        (r#""long""#, r#"9223372036854775808"#),
-        (r#""null""#, r#"0"#),
-        (r#""boolean""#, r#"0"#),
-        (r#""string""#, r#"null"#),
-        (r#""bytes""#, r#""\u0100""#),
-        (r#"{"type":"fixed","name":"F","size":2}"#, r#""a""#),
-        (r#"{"type":"enum","name":"E","symbols":["A"]}"#, r#""B""#),
-        (r#"["int","null"]"#, r#"null"#),
-        (r#"[]"#, r#"null"#),
-        (r#"{"type":"array","items":"int"}"#, r#"[1,null]"#),
-        (r#"{"type":"map","values":"int"}"#, r#"{"a":null}"#),
-        (
-            r#"{"type":"record","name":"R","fields":[{"name":"a","type":"int"}]}"#,
-            r#"{"b":1}"#,
-        ),
-        (r#"{"type":"array","items":"int"}"#, r#"{}"#),
-    ];
-    for (type_, default) in cases {
+    let lines: Vec<&str> = BAD_DEFAULTS.lines().collect(rt.alloc()).expect(&rt, "no memory");
+    for row in lines.chunks(2) {
+        let [type_, default] = row else {
+            panic!(&rt; "rows have two lines");
+        };
         let text = with_default(rt.alloc(), type_, default).expect(&rt, "no memory");
-        assert!(rt; fault_of(rt.alloc(), text.as_str()) == Some(SchemaError::BadDefault));
+        assert!(rt; fault_of(rt.alloc(), text.as_str()) == Some(SchemaError::BadDefault), "{text}");
     }
 }
 
@@ -314,6 +169,13 @@ fn first_default(schema: &Schema) -> Option<&Datum> {
         Kind::Record { fields, .. } => fields.first()?.default.as_ref(),
         _ => None,
     }
+}
+
+/// Whether a field's default of a type is read as a datum.
+fn assert_default(rt: &(impl Abort + AllocGlobal), type_: &str, default: &str, datum: &Datum) {
+    let text = with_default(rt.alloc(), type_, default).expect(rt, "no memory");
+    let schema = parsed(rt.alloc(), text.as_str()).expect(rt, "a schema");
+    assert!(rt; first_default(&schema) == Some(datum), "{text}");
 }
 
 #[test]
@@ -331,49 +193,18 @@ fn reads_defaults_by_type(rt: HostRuntime) {
         "no memory",
     );
     let fields = vec![in alloc; Datum::Boolean(false)].expect(&rt, "no memory");
-    let cases = [
-        (r#""null""#, "null", Datum::Null),
-        (r#""boolean""#, "true", Datum::Boolean(true)),
-        (r#""int""#, "-2147483648", Datum::Int(-2147483648)),
-        (
-            r#""long""#,
-            "9223372036854775807",
-            Datum::Long(9223372036854775807),
-        ),
-        (r#""bytes""#, r#""a\u00ff""#, Datum::Bytes(two)),
-        (
-            r#"{"type":"fixed","name":"F","size":2}"#,
-            r#""a\u00ff""#,
-            Datum::Fixed(again),
-        ),
-        (r#""string""#, r#""\u00e9""#, Datum::Text(text)),
-        (
-            r#"{"type":"enum","name":"E","symbols":["A","B"]}"#,
-            r#""B""#,
-            Datum::Enum(1),
-        ),
-        (r#"["null","int"]"#, "null", Datum::Union(0, first)),
-        (
-            r#"{"type":"array","items":"int"}"#,
-            "[-1,2]",
-            Datum::Array(items),
-        ),
-        (
-            r#"{"type":"map","values":"long"}"#,
-            r#"{"b":2,"a":1}"#,
-            Datum::Map(pairs),
-        ),
-        (
-            r#"{"type":"record","name":"R","fields":[{"name":"a","type":"boolean"}]}"#,
-            r#"{"x":[],"a":false}"#,
-            Datum::Record(fields),
-        ),
-    ];
-    for (type_, default, datum) in cases {
-        let text = with_default(alloc, type_, default).expect(&rt, "no memory");
-        let schema = parsed(alloc, text.as_str()).expect(&rt, "a schema");
-        assert!(rt; first_default(&schema) == Some(&datum));
-    }
+    assert_default(&rt, r#""null""#, "null", &Datum::Null);
+    assert_default(&rt, r#""boolean""#, "true", &Datum::Boolean(true));
+    assert_default(&rt, r#""int""#, "-2147483648", &Datum::Int(-2147483648));
+    assert_default(&rt, r#""long""#, "9223372036854775807", &Datum::Long(9223372036854775807));
+    assert_default(&rt, r#""bytes""#, r#""a\u00ff""#, &Datum::Bytes(two));
+    assert_default(&rt, r#"{"type":"fixed","name":"F","size":2}"#, r#""a\u00ff""#, &Datum::Fixed(again));
+    assert_default(&rt, r#""string""#, r#""\u00e9""#, &Datum::Text(text));
+    assert_default(&rt, r#"{"type":"enum","name":"E","symbols":["A","B"]}"#, r#""B""#, &Datum::Enum(1));
+    assert_default(&rt, r#"["null","int"]"#, "null", &Datum::Union(0, first));
+    assert_default(&rt, r#"{"type":"array","items":"int"}"#, "[-1,2]", &Datum::Array(items));
+    assert_default(&rt, r#"{"type":"map","values":"long"}"#, r#"{"b":2,"a":1}"#, &Datum::Map(pairs));
+    assert_default(&rt, r#"{"type":"record","name":"R","fields":[{"name":"a","type":"boolean"}]}"#, r#"{"x":[],"a":false}"#, &Datum::Record(fields));
 }
 
 #[test]
@@ -399,9 +230,8 @@ fn names_stand_in_their_namespaces(rt: HostRuntime) {
         {"name":"h","type":{"type":"fixed","name":"b.c.F","namespace":3,"size":1048576}},
         {"name":"i","type":"C"}]}}]}"#;
     let schema = parsed(rt.alloc(), nested).expect(&rt, "a schema");
-    let names = ["a.B", "a.C", "D", "a.E", "map", "array", "b.c.F"];
-    assert!(rt; schema.len() == names.len());
-    assert!(rt; are_nodes(rt.alloc(), &schema, &names).expect(&rt, "no memory"));
+    assert!(rt; schema.len() == 7);
+    assert!(rt; are_nodes(rt.alloc(), &schema, "a.B a.C D a.E map array b.c.F").expect(&rt, "no memory"));
     if let Kind::Enum {
         symbols,
         default,
@@ -430,77 +260,24 @@ fn record_with(alloc: Global, further: &str) -> Result<String, AllocError> {
 
 #[test]
 fn a_name_is_one_however_it_is_told(rt: HostRuntime) {
-    let faults = [
-        (
-            r#"{"type":"fixed","name":"F","size":2}"#,
-            SchemaError::Redefined,
-        ),
-        (
-            r#"{"type":"fixed","name":"a.F","size":2}"#,
-            SchemaError::Redefined,
-        ),
-        (
-            r#"{"type":"fixed","name":"F","namespace":"a","size":2}"#,
-            SchemaError::Redefined,
-        ),
-        (
-            r#"{"type":"record","name":"Q","namespace":"b","fields":[{"name":"f","type":{"type":"fixed","name":"F","namespace":"a","size":1}}]}"#,
-            SchemaError::Redefined,
-        ),
-        (r#"["F","a.F"]"#, SchemaError::BadUnion),
-        (r#"["a.F","null","F"]"#, SchemaError::BadUnion),
-        (r#"["R","F","a.R"]"#, SchemaError::BadUnion),
-        (r#"".F""#, SchemaError::Unknown),
-        (r#""b.F""#, SchemaError::Unknown),
-        (r#""a.b.F""#, SchemaError::Unknown),
-        (
-            r#"{"type":"fixed","name":".F","size":2}"#,
-            SchemaError::BadName,
-        ),
-        (
-            r#"{"type":"fixed","name":"F","namespace":"a.","size":2}"#,
-            SchemaError::BadName,
-        ),
-        (
-            r#"{"type":"fixed","name":"F","namespace":".a","size":2}"#,
-            SchemaError::BadName,
-        ),
-        (
-            r#"{"type":"record","name":"Q","namespace":"","fields":[{"name":"f","type":"F"}]}"#,
-            SchemaError::Unknown,
-        ),
-    ];
-    for (further, fault) in faults {
+    for line in FURTHER_FAULTS.lines() {
+        let (name, further) = line.split_once(' ').expect(&rt, "a fault and a text");
         let text = record_with(rt.alloc(), further).expect(&rt, "no memory");
-        assert!(rt; fault_of(rt.alloc(), text.as_str()) == Some(fault));
+        let fault = fault_of(rt.alloc(), text.as_str()).expect(&rt, "a fault");
+        assert_eq!(rt; fault.name(), name, "{further}");
     }
 }
 
 #[test]
 fn names_of_other_namespaces_are_others(rt: HostRuntime) {
-    let cases = [
-        (
-            r#"{"type":"fixed","name":"F","namespace":"","size":2}"#,
-            ["a.R", "a.F", "F"],
-        ),
-        (
-            r#"{"type":"fixed","name":"F","namespace":"a.b","size":2}"#,
-            ["a.R", "a.F", "a.b.F"],
-        ),
-        (
-            r#"{"type":"fixed","name":"b.F","size":2}"#,
-            ["a.R", "a.F", "b.F"],
-        ),
-        (
-            r#"{"type":"record","name":"Q","namespace":"b","fields":[{"name":"f","type":"a.F"},{"name":"q","type":"Q"}]}"#,
-            ["a.R", "a.F", "b.Q"],
-        ),
-        (r#"["F","R"]"#, ["a.R", "a.F", "union"]),
-    ];
-    for (further, names) in cases {
+    let lines: Vec<&str> = FURTHER_NAMES.lines().collect(rt.alloc()).expect(&rt, "no memory");
+    for row in lines.chunks(2) {
+        let [names, further] = row else {
+            panic!(&rt; "rows have two lines");
+        };
         let text = record_with(rt.alloc(), further).expect(&rt, "no memory");
         let schema = parsed(rt.alloc(), text.as_str()).expect(&rt, "a schema");
-        assert!(rt; are_nodes(rt.alloc(), &schema, &names).expect(&rt, "no memory"));
+        assert!(rt; are_nodes(rt.alloc(), &schema, names).expect(&rt, "no memory"));
     }
 }
 
@@ -591,34 +368,9 @@ fn bounds_text(rt: HostRuntime) {
     assert!(rt; fault_of(rt.alloc(), text.as_str()) == Some(SchemaError::TooLarge));
 }
 
-/// Lines of a fault's name and a text.
-const ALIAS_FAULTS: &str = r#"Unknown {"type":"record","name":"Q","fields":[],"aliases":"A"}
-Unknown {"type":"record","name":"Q","fields":[],"aliases":null}
-Unknown {"type":"fixed","name":"Q","size":1,"aliases":["A",1]}
-Unknown {"type":"enum","name":"Q","symbols":[],"aliases":{"A":"B"}}
-Unknown {"type":"fixed","name":"Q","size":-1,"aliases":3}
-BadName {"type":"record","name":"Q","fields":[],"aliases":["1"]}
-BadName {"type":"record","name":"Q","fields":3,"aliases":["1"]}
-BadName {"type":"record","name":"Q","fields":[],"aliases":[""]}
-BadName {"type":"enum","name":"Q","symbols":["1"],"aliases":["a."]}
-BadName {"type":"fixed","name":"Q","size":-1,"aliases":[".a"]}
-BadName {"type":"fixed","name":"Q","size":1,"aliases":["a..b"]}
-BadName {"type":"fixed","name":"1","size":1,"aliases":3}
-Redefined {"type":"record","name":"T","fields":[{"name":"f","type":{"type":"fixed","name":"T","size":1,"aliases":3}}]}
-Unknown {"type":"record","name":"T","fields":[{"name":"f","type":"int","aliases":"a"}]}
-Unknown {"type":"record","name":"T","fields":[{"name":"f","type":"int","aliases":null}]}
-Unknown {"type":"record","name":"T","fields":[{"name":"f","type":"float","aliases":[null]}]}
-BadName {"type":"record","name":"T","fields":[{"name":"f","type":"int","aliases":["a.b"]}]}
-BadName {"type":"record","name":"T","fields":[{"name":"f","type":"float","aliases":["1"]}]}
-BadName {"type":"record","name":"T","fields":[{"name":"1","type":"int","aliases":3}]}"#;
-
 #[test]
 fn tells_faults_of_aliases(rt: HostRuntime) {
-    for line in ALIAS_FAULTS.lines() {
-        let (name, text) = line.split_once(' ').expect(&rt, "a fault and a text");
-        let fault = fault_of(rt.alloc(), text).expect(&rt, "a fault");
-        assert_eq!(rt; fault.name(), name);
-    }
+    assert_faults(&rt, ALIAS_FAULTS);
 }
 
 /// Whether a list of texts is these.

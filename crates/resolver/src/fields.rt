@@ -36,7 +36,8 @@ pub fn field_lists<'a, 'b>(
 /// Which of the reader's fields have partners.
 fn have_partners(alloc: Global, routes: &[Route], rs: &[Field]) -> Result<Vec<bool>, AllocError>
     ensures each { IfOk result (λ v. length v.items ≡ length rs.now) }
-    ensures mark { IfOk result (λ v. (j : ℕ) → j < length rs.now → slice_index_or v.items j false ≡ has_partner j routes.now) }
+    ensures mark { IfOk result (λ v. (j : ℕ) → j < length rs.now →
+        slice_index_or v.items j false ≡ has_partner j routes.now) }
 {
     let mut marks = vec![in alloc; false; rs.len()]?;
     for route in routes {
@@ -96,7 +97,8 @@ fn or_default(
     slot: Option<Datum>,
     field: &Field,
 ) -> Result<Option<Datum>, AllocError>
-    ensures { IfOk result (λ o. option_map datum_of o ≡ or_else (option_map datum_of slot) (field_of field.now).default) }
+    ensures { IfOk result (λ o. option_map datum_of o
+        ≡ or_else (option_map datum_of slot) (field_of field.now).default) }
 {
     match slot {
         Some(datum) => Ok(Some(datum)),

@@ -37,7 +37,8 @@ impl<T: Drop> From<AllocFailed<T>> for ResolveError {
 
 /// The error of a mismatch of two nodes.
 pub(crate) fn mismatched(kind: MismatchKind, writer_node: usize, reader_node: usize) -> ResolveError
-    ensures { result ≡ ResolveError.Mismatch (record { kind = kind; writer_node = writer_node; reader_node = reader_node }) }
+    ensures { result
+        ≡ ResolveError.Mismatch (record { kind = kind; writer_node = writer_node; reader_node = reader_node }) }
 {
     ResolveError::Mismatch(Mismatch {
         kind,

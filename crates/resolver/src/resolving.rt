@@ -50,7 +50,8 @@ fn resolve_placed(
 ) -> Result<Datum, ResolveError>
     requires writer { wn < length w.now }
     requires reader { rn < length r.now }
-    ensures { Resolves datum_of result (placed (place w.now r.now wn rn) wn rn (λ node. inside w.now r.now wn node (datum_of datum))) }
+    ensures { Resolves datum_of result
+        (placed (place w.now r.now wn rn) wn rn (λ node. inside w.now r.now wn node (datum_of datum))) }
 {
     match place_of(w, wn, r, rn) {
         Place::Straight => resolve_inside(alloc, w, wn, r, rn, datum),
@@ -243,7 +244,8 @@ fn resolve_fields(
     slots: Vec<Option<Datum>>,
 ) -> Result<Vec<Option<Datum>>, ResolveError>
     requires { AreRoutes (length w.now) (length r.now) (length slots.items) routes.now }
-    ensures { Resolves (λ v. slots_of v.items) result (resolved_fields w.now r.now (slots_of slots.items) routes.now (data_of fields.items)) }
+    ensures { Resolves (λ v. slots_of v.items) result
+        (resolved_fields w.now r.now (slots_of slots.items) routes.now (data_of fields.items)) }
 {
     let mut slots = slots;
     for (route, datum) in routes.iter().zip(fields) {

@@ -6,10 +6,12 @@ mod again;
 #[cfg(test)]
 mod alias_tests;
 #[cfg(test)]
-mod datum_kinds_tests;
+mod data_tests;
 #[cfg(test)]
-mod datum_tests;
+mod lines;
 #[cfg(test)]
-mod resolving_kinds_tests;
+mod outcome_tests;
 #[cfg(test)]
 mod resolving_tests;
+#[cfg(test)]
+mod rows;

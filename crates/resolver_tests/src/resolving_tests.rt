@@ -1,36 +1,33 @@
-//! Pairs of records and of primitive types, with the answers of worked examples.
+//! A datum of a record, resolved for readers by hand.
 
-use crate::again::{outcome, parsed, readable};
-use avro_bytes::MalformedKind;
+use crate::again::parsed;
 use avro_schema::{Datum, Schema};
 use resolver::{
-    MOST_PAYLOAD, Mismatch, MismatchKind, Outcome, Place, ResolveError, TranscodeError,
-    answer_is_spelled, matches, matches_by_rule, payload_has_one_outcome, place_of,
-    resolution_is_whole, resolve, transcode_tree, what_is_safe_can_be_read,
+    Mismatch, MismatchKind, Place, ResolveError, TranscodeError, matches, place_of,
+    resolve,
 };
 use std::alloc::{AllocError, Global};
 use std::test::Fail;
 
 /// A record with two fields.
 const RECORD: &str =
-    "{\"type\":\"record\",\"name\":\"T\",\"fields\":[{\"name\":\"a\",\"type\":\"long\"},{\"name\":\"b\",\"type\":\"string\"}]}";
+    r#"{"type":"record","name":"T","fields":[{"name":"a","type":"long"},{"name":"b","type":"string"}]}"#;
 
-/// The same in the other order, one that lacks a field, one with a field more, one of another name, and one whose
-/// fields are of other types.
+/// The same in the other order.
 const REORDERED: &str =
-    "{\"type\":\"record\",\"name\":\"T\",\"fields\":[{\"name\":\"b\",\"type\":\"string\"},{\"name\":\"a\",\"type\":\"long\"}]}";
+    r#"{"type":"record","name":"T","fields":[{"name":"b","type":"string"},{"name":"a","type":"long"}]}"#;
 
+/// One that lacks a field.
 const SHORTER: &str =
-    "{\"type\":\"record\",\"name\":\"T\",\"fields\":[{\"name\":\"b\",\"type\":\"string\"}]}";
+    r#"{"type":"record","name":"T","fields":[{"name":"b","type":"string"}]}"#;
 
+/// One with a field more.
 const LONGER: &str =
-    "{\"type\":\"record\",\"name\":\"T\",\"fields\":[{\"name\":\"a\",\"type\":\"long\"},{\"name\":\"b\",\"type\":\"string\"},{\"name\":\"d\",\"type\":\"int\"}]}";
+    r#"{"type":"record","name":"T","fields":[{"name":"a","type":"long"},{"name":"b","type":"string"},{"name":"d","type":"int"}]}"#;
 
-const RENAMED: &str =
-    "{\"type\":\"record\",\"name\":\"U\",\"fields\":[{\"name\":\"a\",\"type\":\"long\"},{\"name\":\"b\",\"type\":\"string\"}]}";
-
+/// One whose fields are of other types.
 const RETYPED: &str =
-    "{\"type\":\"record\",\"name\":\"T\",\"fields\":[{\"name\":\"a\",\"type\":\"string\"},{\"name\":\"b\",\"type\":\"long\"}]}";
+    r#"{"type":"record","name":"T","fields":[{"name":"a","type":"string"},{"name":"b","type":"long"}]}"#;
 
 /// The datum `{a: 27, b: "foo"}` of the record.
 fn datum(alloc: Global) -> Result<Datum, AllocError> {
@@ -57,7 +54,6 @@ fn resolved(alloc: Global, w: &Schema, r: &Schema) -> Result<Datum, ResolveError
 fn fields_go_by_name(rt: HostRuntime) -> Result<(), Fail> {
     let alloc = rt.alloc();
     let (writer, reader) = (parsed(alloc, RECORD)?, parsed(alloc, REORDERED)?);
-    resolution_is_whole(writer.nodes(), reader.nodes());
     let text = Datum::Text(String::from_str(alloc, "foo")?);
     let reordered = resolved(alloc, &writer, &reader)?;
     let Datum::Record(fields) = reordered else {
@@ -81,31 +77,25 @@ fn fields_go_by_name(rt: HostRuntime) -> Result<(), Fail> {
 fn mismatches(rt: HostRuntime) -> Result<(), Fail> {
     let alloc = rt.alloc();
     let writer = parsed(alloc, RECORD)?;
-    let table = [
-        (LONGER, MismatchKind::NoDefault, 0, 3),
-        (RENAMED, MismatchKind::NoMatch, 0, 0),
-        (RETYPED, MismatchKind::NoMatch, 1, 1),
-        ("\"long\"", MismatchKind::NoMatch, 0, 0),
-    ];
-    for (text, kind, writer_node, reader_node) in table {
-        let reader = parsed(alloc, text)?;
-        let found = resolved(alloc, &writer, &reader);
-        let expected = Mismatch {
-            kind,
-            writer_node,
-            reader_node,
-        };
-        assert!(rt;
-            found.err() == Some(ResolveError::Mismatch(expected)),
-            "{text}"
-        );
-    }
+    let lacking = Mismatch {
+        kind: MismatchKind::NoDefault,
+        writer_node: 0,
+        reader_node: 3,
+};
+    let found = resolved(alloc, &writer, &parsed(alloc, LONGER)?);
+    assert!(rt; found.err() == Some(ResolveError::Mismatch(lacking)));
+    let other = Mismatch {
+        kind: MismatchKind::NoMatch,
+        writer_node: 1,
+        reader_node: 1,
+};
+    let found = resolved(alloc, &writer, &parsed(alloc, RETYPED)?);
+    assert!(rt; found.err() == Some(ResolveError::Mismatch(other)));
     Ok(())
 }
 
 #[test]
 fn promotion_goes_one_way(rt: HostRuntime) -> Result<(), Fail> {
-    matches_by_rule();
     let alloc = rt.alloc();
     let (int, long) = (parsed(alloc, "\"int\"")?, parsed(alloc, "\"long\"")?);
     let (int, long) = (int.nodes(), long.nodes());
@@ -116,64 +106,6 @@ fn promotion_goes_one_way(rt: HostRuntime) -> Result<(), Fail> {
     assert_eq!(rt; place_of(int, 0, long, 0), Place::Straight);
     assert_eq!(rt; place_of(long, 0, int, 0), Place::Unmatched);
     assert!(rt; resolve(alloc, int, long, Datum::Int(-1)) == Ok(Datum::Long(-1)));
-    Ok(())
-}
-
-#[test]
-fn what_can_be_read(rt: HostRuntime) -> Result<(), Fail> {
-    what_is_safe_can_be_read();
-    let alloc = rt.alloc();
-    let record = parsed(alloc, RECORD)?;
-    let table = [
-        (RECORD, true),
-        (REORDERED, true),
-        (SHORTER, true),
-        (LONGER, false),
-        (RENAMED, false),
-        (RETYPED, false),
-    ];
-    for (text, safe) in table {
-        let reader = parsed(alloc, text)?;
-        assert!(rt; readable(alloc, &record, &reader)? == safe, "{text}");
-    }
-    Ok(())
-}
-
-#[test]
-fn outcomes(rt: HostRuntime) -> Result<(), Fail> {
-    payload_has_one_outcome();
-    let alloc = rt.alloc();
-    let (record, retyped) = (parsed(alloc, RECORD)?, parsed(alloc, RETYPED)?);
-    answer_is_spelled(record.nodes(), record.nodes());
-    let payload = [0x36, 0x06, 0x66, 0x6f, 0x6f];
-    let done = outcome(alloc, &record, &record, &payload)?;
-    assert!(rt; done == Outcome::Done(payload.to_vec(alloc)?));
-    let cut = outcome(alloc, &record, &retyped, payload.split_at(3).0)?;
-    let truncated = Outcome::Malformed {
-        kind: MalformedKind::Truncated,
-        at: 3,
-    };
-    assert!(rt;
-        cut == truncated,
-        "the rest is read before a mismatch is told"
-    );
-    let mismatch = Mismatch {
-        kind: MismatchKind::NoMatch,
-        writer_node: 1,
-        reader_node: 1,
-    };
-    let whole = outcome(alloc, &record, &retyped, &payload)?;
-    assert!(rt; whole == Outcome::Mismatch(mismatch));
-    Ok(())
-}
-
-#[test]
-fn refusals(rt: HostRuntime) -> Result<(), Fail> {
-    let alloc = rt.alloc();
-    let record = parsed(alloc, RECORD)?;
-    let long = vec![in alloc; 0u8; MOST_PAYLOAD + 1]?;
-    let refused = transcode_tree(alloc, record.nodes(), record.nodes(), &long);
-    assert!(rt; refused.err() == Some(TranscodeError::TooLarge));
     Ok(())
 }
 

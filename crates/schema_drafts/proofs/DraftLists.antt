@@ -1,5 +1,5 @@
 -- Lists of drafts, and of their heads, and more of them.
-use Rattle.std.proofs.Common.{◌≡◌, ℕ, zero, suc, ◌<◌, List, [], ◌∷◌, ◌++◌, length, map, refl, ap, ◌∙◌, arith, slice_get, set}
+use Rattle.std.proofs.Common.{◌≡◌, ℕ, zero, suc, ◌<◌, List, [], ◌∷◌, ◌++◌, length, map, Bool, true, false, cond, refl, ap, ◌∙◌, arith, slice_get, set}
 use Rattle.schema_drafts.specs.declared.draft.Draft as rust
 use Rattle.schema_drafts.specs.Draft.{Draft, draft_of, drafts_of}
 use Rattle.schema_drafts.specs.Head.{head_of, heads_of}
@@ -15,6 +15,11 @@ length-heads_of (n ∷ ns) = ap suc (length-heads_of ns)
 pub drafts_of-append : (ks ls : List rust.Draft) → drafts_of (ks ++ ls) ≡ drafts_of ks ++ drafts_of ls
 drafts_of-append [] ls = refl
 drafts_of-append (k ∷ ks) ls = ap (λ ns. draft_of k ∷ ns) (drafts_of-append ks ls)
+
+-- one more, where it was put there
+pub drafts_of-pushed : (pushed : Bool) (ks ls : List rust.Draft) (k : rust.Draft) → ls ≡ cond pushed (ks ++ k ∷ []) ks → drafts_of ls ≡ cond pushed (drafts_of ks ++ draft_of k ∷ []) (drafts_of ks)
+drafts_of-pushed true ks ls k e = ap drafts_of e ∙ drafts_of-append ks (k ∷ [])
+drafts_of-pushed false ks ls k e = ap drafts_of e
 
 pub heads_of-append : (ns ms : List Draft) → heads_of (ns ++ ms) ≡ heads_of ns ++ heads_of ms
 heads_of-append [] ms = refl

@@ -1,5 +1,5 @@
 -- Names in order beside nodes and fields, when one more comes.
-use Rattle.std.proofs.Common.{◌≡◌, ◌<◌, ℕ, ◌+◌, List, [], ◌∷◌, ◌++◌, length, true, false, ◌||◌, Some, None, sym, ap, ◌∙◌, arith, get_or, String, string_bytes, slice_get}
+use Rattle.std.proofs.Common.{◌≡◌, ◌<◌, ℕ, ◌+◌, List, [], ◌∷◌, ◌++◌, length, true, false, ◌||◌, Some, sym, ap, ◌∙◌, arith, get_or, String, string_bytes, slice_get}
 use Rattle.std.specs.BTreeMap.{BTreeMap, get_by_text}
 use Rattle.std.specs.BTreeSet as sorted
 use Rattle.std.specs.BTreeSet.{BTreeSet, contains_text}
@@ -10,20 +10,14 @@ use Rattle.std.specs.String.{string_cmp}
 use Rattle.std.proofs.lemmas.Map.Text.{btree_set_updates_text}
 use Rattle.std.proofs.lemmas.Option.{slice_get_within, slice_get-get_or}
 use Rattle.std.proofs.lemmas.Slice.Eq.{bytes_eq-Decides}
-use Rattle.avro_types.specs.Laws.Placed.{none-used, place-some, or_last, position-behind, used-push}
-use Rattle.schema_drafts.specs.declared.draft.Draft as rust
-use Rattle.schema_drafts.specs.declared.draft.DraftField as rust_field
-use Rattle.schema_drafts.specs.Draft.{field_names}
-use Rattle.schema_drafts.specs.Draft.{draft_of, drafts_of}
+use Rattle.avro_types.specs.Laws.Placed.{or_last, position-behind, used-push}
+use Rattle.schema_drafts.specs.Draft.{Draft, DraftField, field_names}
 use Rattle.avro_types.specs.FullNames.{has_dot, inside, namespace_of, unqualified}
 use Rattle.schema_drafts.specs.Head.{Head, defined_at, defines, head_of, heads_of}
 use Rattle.schema_drafts.specs.Index.{AreNamesOf, IsIndexOf, namespaces_of}
-use Rattle.avro_types.specs.Symbols.{is_used}
 use Rattle.avro_types.specs.Laws.Booleans.{false_by, same_by}
 use Rattle.avro_types.specs.Laws.Dots.{namespace-inside, unqualified-inside}
-use Rattle.schema_drafts.proofs.DraftLists.{map-push}
-use Rattle.schema_drafts.proofs.DraftLists.{drafts_of-append, heads_of-append}
-use Rattle.schema_drafts.proofs.Namespaces.{spaceless}
+use Rattle.schema_drafts.proofs.DraftLists.{heads_of-append, map-push}
 use Rattle.schema_drafts.proofs.Texts.{cond_or}
 
 -- ---- full names, by namespace and last part
@@ -32,8 +26,8 @@ pub defined-behind : (full : List ℕ) (hs : List Head) (h : Head) → defined_a
 unfolding defined_at
 defined-behind full hs h = position-behind (defines full) 0 hs h ∙ ap (λ n. or_last (defines full h) n (defined_at full hs)) (let z : 0 + length hs ≡ length hs = omega arith in z)
 
-pub heads-behind : (ks : List rust.Draft) (k : rust.Draft) → heads_of (drafts_of (ks ++ k ∷ [])) ≡ heads_of (drafts_of ks) ++ head_of (draft_of k) ∷ []
-heads-behind ks k = ap heads_of (drafts_of-append ks (k ∷ [])) ∙ heads_of-append (drafts_of ks) (draft_of k ∷ [])
+pub heads-behind : (ks : List Draft) (k : Draft) → heads_of (ks ++ k ∷ []) ≡ heads_of ks ++ head_of k ∷ []
+heads-behind ks k = heads_of-append ks (k ∷ [])
 
 -- names in one namespace differ where their last parts do
 pub inside-same : (namespace last other : List ℕ) → has_dot last ≡ false → has_dot other ≡ false → bytes_eq (inside namespace last) (inside namespace other) ≡ bytes_eq last other
@@ -50,28 +44,20 @@ inside-apart full namespace other none apart =
 
 -- ---- looked up
 
-module _ {A : Type 0} (numbers : BTreeMap (String A) ℕ) (scopes : List (BTreeMap (String A) ℕ)) (ks : List rust.Draft) (known : IsIndexOf numbers scopes ks) where
-  pub number-below : (number : ℕ) (namespace : List ℕ) → slice_get (namespaces_of (heads_of (drafts_of ks))) number ≡ Some namespace → number < length scopes
-  number-below number namespace at = omega (arith, slice_get_within (namespaces_of (heads_of (drafts_of ks))) number namespace at, known.each_has_one)
+module _ {A : Type 0} (numbers : BTreeMap (String A) ℕ) (scopes : List (BTreeMap (String A) ℕ)) (ks : List Draft) (known : IsIndexOf numbers scopes ks) where
+  pub number-below : (number : ℕ) (namespace : List ℕ) → slice_get (namespaces_of (heads_of ks)) number ≡ Some namespace → number < length scopes
+  number-below number namespace at = omega (arith, slice_get_within (namespaces_of (heads_of ks)) number namespace at, known.each_has_one)
 
-  pub found-under : (number : ℕ) (namespace last : List ℕ) (scope : BTreeMap (String A) ℕ) → slice_get (namespaces_of (heads_of (drafts_of ks))) number ≡ Some namespace → scope ≡ get_or scopes number scope → has_dot last ≡ false
-      → get_by_text scope last ≡ defined_at (inside namespace last) (heads_of (drafts_of ks))
+  pub found-under : (number : ℕ) (namespace last : List ℕ) (scope : BTreeMap (String A) ℕ) → slice_get (namespaces_of (heads_of ks)) number ≡ Some namespace → scope ≡ get_or scopes number scope → has_dot last ≡ false
+      → get_by_text scope last ≡ defined_at (inside namespace last) (heads_of ks)
   found-under number namespace last scope at is none = known.found number namespace last scope at (slice_get-get_or scopes number scope (number-below number namespace at) ∙ ap Some (sym is)) none
-
-  pub number-found : (namespace : List ℕ) (number : ℕ) → get_by_text numbers namespace ≡ Some number → slice_get (namespaces_of (heads_of (drafts_of ks))) number ≡ Some namespace
-  number-found namespace number e = place-some namespace (namespaces_of (heads_of (drafts_of ks))) number (sym (known.numbered namespace) ∙ e)
-
-  pub found-nowhere : (namespace last : List ℕ) → get_by_text numbers namespace ≡ None → has_dot last ≡ false → None ≡ defined_at (inside namespace last) (heads_of (drafts_of ks))
-  found-nowhere namespace last e none =
-      let unused = none-used namespace (namespaces_of (heads_of (drafts_of ks))) (sym (known.numbered namespace) ∙ e) in
-      sym (spaceless (inside namespace last) (heads_of (drafts_of ks)) (ap (λ s. is_used s (namespaces_of (heads_of (drafts_of ks)))) (namespace-inside namespace last none) ∙ unused))
 
 -- ---- fields
 
-pub names-behind : {A : Type 0} (bs : List ℕ) (old new : BTreeSet (String A)) (fs gs : List rust_field.DraftField) (f : rust_field.DraftField) → AreNamesOf old fs → gs ≡ fs ++ f ∷ [] → bs ≡ string_bytes f.name
+pub names-behind : {A : Type 0} (bs : List ℕ) (old new : BTreeSet (String A)) (fs gs : List DraftField) (f : DraftField) → AreNamesOf old fs → gs ≡ fs ++ f ∷ [] → bs ≡ f.name
     → sorted.UpdatesBy string_cmp (λ k. slice_cmp nat_cmp bs (string_bytes k)) old new true → AreNamesOf new gs
 names-behind bs old new fs gs f known e is updates name =
     btree_set_updates_text bs old new true updates name
     ∙ cond_or (bytes_eq bs name) (contains_text old name)
     ∙ ap (λ b. bytes_eq bs name || b) (known name)
-    ∙ rw (is, e, map-push (λ g. string_bytes g.name) fs f) (sym (used-push name (field_names fs) (string_bytes f.name)))
+    ∙ rw (is, e, map-push (λ g. g.name) fs f) (sym (used-push name (field_names fs) f.name))

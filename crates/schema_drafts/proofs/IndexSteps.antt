@@ -9,15 +9,13 @@ use Rattle.std.proofs.lemmas.Bool.{ltb-true, ltb-false}
 use Rattle.std.proofs.lemmas.Map.Text.{btree_map_updates_text}
 use Rattle.std.proofs.lemmas.Slice.Eq.{bytes_eq-Decides}
 use Rattle.avro_types.specs.Laws.Placed.{last_not, or_last}
-use Rattle.schema_drafts.specs.declared.draft.Draft as rust
-use Rattle.schema_drafts.specs.Draft.{Draft, draft_of, drafts_of}
+use Rattle.schema_drafts.specs.Draft.{Draft}
 use Rattle.avro_types.specs.FullNames.{inside}
 use Rattle.schema_drafts.specs.Head.{Head, IsUnnamed, NullHead, BooleanHead, IntHead, LongHead, BytesHead, TextHead, ArrayHead, MapHead, UnionHead, Named, defined_at, defines, head_of, heads_of}
 use Rattle.schema_drafts.specs.Index.{IsIndexOf, namespaces_of, with_namespace}
 use Rattle.avro_types.specs.Laws.Booleans.{no_true}
 use Rattle.schema_drafts.proofs.DraftLists.{get-front}
 use Rattle.schema_drafts.proofs.Index.{defined-behind, heads-behind}
-use Rattle.schema_drafts.proofs.DraftLists.{drafts_of-set}
 use Rattle.schema_drafts.proofs.Namespaces.{at-last, namespaces-one}
 use Rattle.avro_types.specs.Symbols.{place_of}
 
@@ -51,9 +49,9 @@ with-unnamed namespaces MapHead none = refl
 with-unnamed namespaces UnionHead none = refl
 
 -- the same namespaces, and the same node for each name
-module _ {A : Type 0} (numbers : BTreeMap (String A) ℕ) (scopes : List (BTreeMap (String A) ℕ)) (ks ls : List rust.Draft) where
-  same-index : IsIndexOf numbers scopes ks → namespaces_of (heads_of (drafts_of ls)) ≡ namespaces_of (heads_of (drafts_of ks)) → ((full : List ℕ) → defined_at full (heads_of (drafts_of ls)) ≡ defined_at full (heads_of (drafts_of ks)))
-      → ((n : ℕ) (full : List ℕ) → slice_get (heads_of (drafts_of ls)) n ≡ Some (Named full) → defined_at full (heads_of (drafts_of ls)) ≡ Some n) → IsIndexOf numbers scopes ls
+module _ {A : Type 0} (numbers : BTreeMap (String A) ℕ) (scopes : List (BTreeMap (String A) ℕ)) (ks ls : List Draft) where
+  same-index : IsIndexOf numbers scopes ks → namespaces_of (heads_of ls) ≡ namespaces_of (heads_of ks) → ((full : List ℕ) → defined_at full (heads_of ls) ≡ defined_at full (heads_of ks))
+      → ((n : ℕ) (full : List ℕ) → slice_get (heads_of ls) n ≡ Some (Named full) → defined_at full (heads_of ls) ≡ Some n) → IsIndexOf numbers scopes ls
   same-index known namespaces same once = record {
     numbered = λ namespace. known.numbered namespace ∙ ap (place_of namespace) (sym namespaces);
     each_has_one = known.each_has_one ∙ ap length (sym namespaces);
@@ -62,19 +60,19 @@ module _ {A : Type 0} (numbers : BTreeMap (String A) ℕ) (scopes : List (BTreeM
     begins_none = λ last. same (46 ∷ last) ∙ known.begins_none last;
   }
 
-  index-heads : IsIndexOf numbers scopes ks → heads_of (drafts_of ls) ≡ heads_of (drafts_of ks) → IsIndexOf numbers scopes ls
+  index-heads : IsIndexOf numbers scopes ks → heads_of ls ≡ heads_of ks → IsIndexOf numbers scopes ls
   index-heads known e = same-index known (ap namespaces_of e) (λ full. ap (defined_at full) e) (λ n full at. ap (defined_at full) e ∙ known.once n full (ap (λ hs. slice_get hs n) (sym e) ∙ at))
 
-  index-unnamed : (k : rust.Draft) → IsIndexOf numbers scopes ks → IsUnnamed (head_of (draft_of k)) → ls ≡ ks ++ k ∷ [] → IsIndexOf numbers scopes ls
+  index-unnamed : (k : Draft) → IsIndexOf numbers scopes ks → IsUnnamed (head_of k) → ls ≡ ks ++ k ∷ [] → IsIndexOf numbers scopes ls
   index-unnamed k known none e =
-      let hs = heads_of (drafts_of ks) in
-      let h = head_of (draft_of k) in
-      let all : heads_of (drafts_of ls) ≡ hs ++ h ∷ [] = ap (λ xs. heads_of (drafts_of xs)) e ∙ heads-behind ks k in
+      let hs = heads_of ks in
+      let h = head_of k in
+      let all : heads_of ls ≡ hs ++ h ∷ [] = ap (λ xs. heads_of xs) e ∙ heads-behind ks k in
       same-index known (ap namespaces_of all ∙ namespaces-one hs h ∙ with-unnamed (namespaces_of hs) h none)
       (λ full. ap (defined_at full) all ∙ defined-behind full hs h ∙ rw (none full) (last_not (length hs) (defined_at full hs)))
       (λ n full at. ap (defined_at full) all ∙ once-behind hs h known.once (λ own is. absurd (named-not own (subst IsUnnamed is none))) n full (ap (λ xs. slice_get xs n) (sym all) ∙ at))
 
-pub index-pushed : {A : Type 0} (numbers : BTreeMap (String A) ℕ) (scopes : List (BTreeMap (String A) ℕ)) (ks ls : List rust.Draft) (k : rust.Draft) (pushed : Bool) → IsIndexOf numbers scopes ks → IsUnnamed (head_of (draft_of k)) → ls ≡ cond pushed (ks ++ k ∷ []) ks → IsIndexOf numbers scopes ls
+pub index-pushed : {A : Type 0} (numbers : BTreeMap (String A) ℕ) (scopes : List (BTreeMap (String A) ℕ)) (ks ls : List Draft) (k : Draft) (pushed : Bool) → IsIndexOf numbers scopes ks → IsUnnamed (head_of k) → ls ≡ cond pushed (ks ++ k ∷ []) ks → IsIndexOf numbers scopes ls
 index-pushed numbers scopes ks ls k true known none e = index-unnamed numbers scopes ks ls k known none e
 index-pushed numbers scopes ks ls k false known none e = subst (IsIndexOf numbers scopes) (sym e) known
 
@@ -85,8 +83,8 @@ heads-set [] i d e = refl
 heads-set (x ∷ ds) zero d e = let same : head_of x ≡ head_of d = cc in ap (λ h. h ∷ heads_of ds) (sym same)
 heads-set (x ∷ ds) (suc i) d e = ap (λ hs. head_of x ∷ hs) (heads-set ds i d e)
 
-pub index-set : {A : Type 0} (numbers : BTreeMap (String A) ℕ) (scopes : List (BTreeMap (String A) ℕ)) (ks : List rust.Draft) (i : ℕ) (k : rust.Draft) → IsIndexOf numbers scopes ks → slice_get (heads_of (drafts_of ks)) i ≡ Some (head_of (draft_of k)) → IsIndexOf numbers scopes (set ks i k)
-index-set numbers scopes ks i k known same = index-heads numbers scopes ks (set ks i k) known (ap heads_of (drafts_of-set ks i k) ∙ heads-set (drafts_of ks) i (draft_of k) same)
+pub index-set : {A : Type 0} (numbers : BTreeMap (String A) ℕ) (scopes : List (BTreeMap (String A) ℕ)) (ks : List Draft) (i : ℕ) (k : Draft) → IsIndexOf numbers scopes ks → slice_get (heads_of ks) i ≡ Some (head_of k) → IsIndexOf numbers scopes (set ks i k)
+index-set numbers scopes ks i k known same = index-heads numbers scopes ks (set ks i k) known (heads-set ks i k same)
 
 -- ---- no node, and the null namespace
 

@@ -13,15 +13,11 @@ use Rattle.schema_drafts.specs.Unnamed.{unnamed_head}
 use Rattle.schema_drafts.specs.declared.unions.Unnamed.{Unnamed}
 use Rattle.schema_drafts.specs.declared.unions.Unnamed.TheVariants as unnamed
 use Rattle.schema_drafts.specs.Head.{Head, NullHead, BooleanHead, IntHead, LongHead, BytesHead, TextHead, ArrayHead, MapHead, UnionHead, Named, defined_at, defines, is_named_head, is_same_type, is_union_head}
-use Rattle.schema_drafts.specs.Index.{AreNamedMembers}
+use Rattle.schema_drafts.specs.Index.{AreNamedMembers, AreOnce}
 use Rattle.schema_drafts.specs.Head.{head_at}
 use Rattle.avro_types.specs.Laws.Booleans.{or_false, or_true, same_by, same_number, some_inside}
 
 -- ---- one type
-
--- each name is that of one node
-abbrev pub AreOnce : List Head → Type 0
-AreOnce heads = (n : ℕ) (full : List ℕ) → slice_get heads n ≡ Some (Named full) → defined_at full heads ≡ Some n
 
 there : (heads : List Head) (n : ℕ) (full : List ℕ) → head_at heads n ≡ Named full → slice_get heads n ≡ Some (Named full)
 there [] n full e = absurd (let no : ⊥ = cc in no)

@@ -47,8 +47,8 @@ abbrev pub drafts_of : List rust.Draft → List Draft
 drafts_of ds = map draft_of ds
 
 -- the names of fields
-abbrev pub field_names : List rust_field.DraftField → List (List ℕ)
-field_names fs = map (λ f. string_bytes f.name) fs
+abbrev pub field_names : List DraftField → List (List ℕ)
+field_names fs = map (λ f. f.name) fs
 
 -- an enum's symbols are few enough to be numbered
 abbrev pub HasFewSymbols : Draft → Type 0

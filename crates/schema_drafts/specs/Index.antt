@@ -5,12 +5,9 @@ use Rattle.std.specs.BTreeMap.{BTreeMap, get_by_text}
 use Rattle.std.specs.BTreeSet.{BTreeSet, contains, contains_text}
 use Rattle.std.specs.List.{list_any}
 use Rattle.std.specs.Ordering.{nat_cmp}
-use Rattle.schema_drafts.specs.declared.draft.Draft as rust
-use Rattle.schema_drafts.specs.declared.draft.DraftField as rust_field
 use Rattle.avro_types.specs.declared.name.Name.{Name}
 use Rattle.schema_drafts.specs.declared.namespace.Namespace.{Namespace}
-use Rattle.schema_drafts.specs.Draft.{field_names}
-use Rattle.schema_drafts.specs.Draft.{drafts_of}
+use Rattle.schema_drafts.specs.Draft.{Draft, DraftField, field_names}
 use Rattle.avro_types.specs.FullNames.{dot, has_dot, inside, namespace_of}
 use Rattle.schema_drafts.specs.Head.{Head, Named, defined_at, heads_of, is_named_head}
 use Rattle.avro_types.specs.Symbols.{is_used, place_of}
@@ -32,32 +29,40 @@ namespaces_after before (h ∷ hs) = namespaces_after (with_namespace before h) 
 unfoldable pub namespaces_of : List Head → List (List ℕ)
 namespaces_of hs = namespaces_after ([] ∷ []) hs
 
+abbrev pub text_of_namespace : Namespace → List ℕ
+text_of_namespace enclosing = arc_str_bytes enclosing.text
+
 -- the namespace is one of theirs, under its number
-abbrev pub IsNamespaceOf : Namespace → List rust.Draft → Type 0
+abbrev pub IsNamespaceOf : Namespace → List Draft → Type 0
 IsNamespaceOf enclosing ds =
-    slice_get (namespaces_of (heads_of (drafts_of ds))) enclosing.number ≡ Some (arc_str_bytes enclosing.text)
+    slice_get (namespaces_of (heads_of ds)) enclosing.number ≡ Some (text_of_namespace enclosing)
 
 -- the number is that of the name's namespace, where it has one
-abbrev pub IsNumbered : Name → Option ℕ → List rust.Draft → Type 0
-IsNumbered name number ds = number ≡ place_of (namespace_of name) (namespaces_of (heads_of (drafts_of ds)))
+abbrev pub IsNumbered : Name → Option ℕ → List Draft → Type 0
+IsNumbered name number ds = number ≡ place_of (namespace_of name) (namespaces_of (heads_of ds))
 
 -- ---- names
 
+-- each name is that of one node
+abbrev pub AreOnce : List Head → Type 0
+AreOnce heads = (n : ℕ) (full : List ℕ) → slice_get heads n ≡ Some (Named full) → defined_at full heads ≡ Some n
+
+-- no full name begins with a dot
+abbrev pub BeginWithNoDot : List Head → Type 0
+BeginWithNoDot heads = (last : List ℕ) → defined_at (dot ∷ last) heads ≡ None
+
 -- Under each namespace stands its number, and under that, by the last part of a full name, the node that defines it.
 pub record IsIndexOf {A : Type 0} (numbers : BTreeMap (String A) ℕ) (scopes : List (BTreeMap (String A) ℕ))
-    (ds : List rust.Draft) : Type 0 where
+    (ds : List Draft) : Type 0 where
   pub numbered : (namespace : List ℕ)
-      → get_by_text numbers namespace ≡ place_of namespace (namespaces_of (heads_of (drafts_of ds)))
-  pub each_has_one : length scopes ≡ length (namespaces_of (heads_of (drafts_of ds)))
+      → get_by_text numbers namespace ≡ place_of namespace (namespaces_of (heads_of ds))
+  pub each_has_one : length scopes ≡ length (namespaces_of (heads_of ds))
   pub found : (number : ℕ) (namespace last : List ℕ) (scope : BTreeMap (String A) ℕ)
-      → slice_get (namespaces_of (heads_of (drafts_of ds))) number ≡ Some namespace
+      → slice_get (namespaces_of (heads_of ds)) number ≡ Some namespace
       → slice_get scopes number ≡ Some scope
-      → has_dot last ≡ false → get_by_text scope last ≡ defined_at (inside namespace last) (heads_of (drafts_of ds))
-  -- a name is defined once
-  pub once : (n : ℕ) (full : List ℕ) → slice_get (heads_of (drafts_of ds)) n ≡ Some (Named full)
-      → defined_at full (heads_of (drafts_of ds)) ≡ Some n
-  -- no full name begins with a dot
-  pub begins_none : (last : List ℕ) → defined_at (dot ∷ last) (heads_of (drafts_of ds)) ≡ None
+      → has_dot last ≡ false → get_by_text scope last ≡ defined_at (inside namespace last) (heads_of ds)
+  pub once : AreOnce (heads_of ds)
+  pub begins_none : BeginWithNoDot (heads_of ds)
 
 -- the set has those of the members that have names
 abbrev pub AreNamedMembers : BTreeSet ℕ → List ℕ → List Head → Type 0
@@ -65,5 +70,5 @@ AreNamedMembers named members heads = (n : ℕ)
     → contains nat_cmp named n ≡ (is_named_head (head_at heads n) && list_any (λ m. n == m) members)
 
 -- the names are those of the fields
-abbrev pub AreNamesOf : {A : Type 0} → BTreeSet (String A) → List rust_field.DraftField → Type 0
+abbrev pub AreNamesOf : {A : Type 0} → BTreeSet (String A) → List DraftField → Type 0
 AreNamesOf names fs = (name : List ℕ) → contains_text names name ≡ is_used name (field_names fs)

@@ -4,8 +4,8 @@ pub mod Draft
 pub mod Fault
 pub mod Head
 pub mod Index
+pub mod JsonCode
 pub mod Names
 pub mod SchemaError
-pub mod Seen
 pub mod Unnamed
 pub mod Word

@@ -1,15 +1,13 @@
-ghost use Rattle.schema_drafts.specs.Seen.{IsNamespaceIn, heads_in, text_of_namespace};
 ghost use Rattle.std.specs.Prelude.{◌≡◌, IfOk, None, codes, false, map, string_bytes};
-ghost use Rattle.std.specs.Arc.{arc_str_bytes};
 ghost use Rattle.serde_json.specs.Find.{get};
 ghost use Rattle.serde_json.specs.View.{view};
 ghost use Rattle.avro_types.specs.FullNames.{full_name, has_dot, inside, namespace_of};
 ghost use Rattle.avro_types.specs.Node.{names_of};
 ghost use Rattle.schema_drafts.specs.Aliases.{alias_texts, field_aliases, full_aliases, if_full_name, if_full_names, new_names, type_aliases};
-ghost use Rattle.schema_drafts.specs.Draft.{data_at, drafts_of};
+ghost use Rattle.schema_drafts.specs.Draft.{data_at};
 ghost use Rattle.schema_drafts.specs.Fault.{Tells};
 ghost use Rattle.schema_drafts.specs.Head.{defined_at, heads_of};
-ghost use Rattle.schema_drafts.specs.Index.{IsNamespaceOf, IsNumbered};
+ghost use Rattle.schema_drafts.specs.Index.{IsNamespaceOf, IsNumbered, text_of_namespace};
 
 use crate::drafts::Drafts;
 use crate::error::SchemaError;
@@ -118,12 +116,12 @@ pub fn new_names(
     enclosing: &Namespace,
     drafts: &Drafts,
 ) -> Result<NewNames, SchemaError>
-    requires { IsNamespaceIn enclosing.now drafts.now }
-    ensures numbered { IfOk result (λ n. IsNumbered n.name n.number drafts.now.nodes.items) }
+    requires { IsNamespaceOf enclosing.now drafts.now }
+    ensures numbered { IfOk result (λ n. IsNumbered n.name n.number drafts.now) }
     ensures names { Tells (λ n. names_of n.name n.aliases.items) result
         (new_names (get (codes "name") (view value.now)) (get (codes "namespace") (view value.now))
-        (get (codes "aliases") (view value.now)) (text_of_namespace enclosing.now) (heads_in drafts.now)) }
-    ensures new { IfOk result (λ n. defined_at n.name (heads_in drafts.now) ≡ None) }
+        (get (codes "aliases") (view value.now)) (text_of_namespace enclosing.now) (heads_of drafts.now)) }
+    ensures new { IfOk result (λ n. defined_at n.name (heads_of drafts.now) ≡ None) }
 {
     let NewName { name, number } = new_name(
         alloc,

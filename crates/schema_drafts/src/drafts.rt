@@ -1,34 +1,48 @@
-ghost use Rattle.std.specs.Prelude.{◌≡◌, [], ◌∷◌, ◌++◌, length, set, slice_get, Some, None, false, IfOk, OnOk, string_bytes};
-ghost use Rattle.std.specs.Arc.{arc_str_bytes};
-ghost use Rattle.schema_drafts.specs.Draft.{field_names};
-ghost use Rattle.schema_drafts.specs.Draft.{draft_of, drafts_of};
-ghost use Rattle.schema_drafts.specs.declared.draft.Draft.TheVariants as drafts;
+ghost use Rattle.std.specs.Prelude.{◌≡◌, [], ◌∷◌, ◌++◌, length, set, slice_get, Some, None, false, map, IfOk, OnOk};
 ghost use Rattle.avro_types.specs.FullNames.{has_dot, inside, namespace_of};
-ghost use Rattle.schema_drafts.specs.Head.{IsUnnamed, Named, defined_at, head_of, head_of_node, heads_of};
-ghost use Rattle.schema_drafts.specs.Index.{AreNamesOf, IsIndexOf, IsNumbered, IsNamespaceOf, namespaces_of};
-ghost use Rattle.avro_types.specs.Symbols.{is_used, place_of};
 ghost use Rattle.avro_types.specs.Node.{node_of};
+ghost use Rattle.avro_types.specs.Symbols.{is_used, place_of};
+ghost use Rattle.schema_drafts.specs.Draft.{Whole, draft_field_of, draft_of, drafts_of, field_names};
+ghost use Rattle.schema_drafts.specs.Head.{IsUnnamed, Named, defined_at, head_of, head_of_node, heads_of};
+ghost use Rattle.schema_drafts.specs.Index.{AreOnce, BeginWithNoDot, IsNamespaceOf, IsNumbered, namespaces_of, text_of_namespace};
 
 use crate::draft::{Draft, DraftField};
 use crate::namespace::Namespace;
 use avro_types::{Kind, Name};
 use std::alloc::{AllocError, Global};
 use std::collections::{BTreeMap, BTreeSet};
+use std::marker::Model;
 
-/// The nodes so far, and where each full name is defined.
+/// The nodes so far, and where each full name is defined. Callers see them as a list of `Draft`s.
 #[derive(Drop)]
 pub struct Drafts<'v> {
-    pub nodes: Vec<Draft<'v>>,
+    nodes: Vec<Draft<'v>>,
     /// The number of each namespace that has names; that of the null one is 0.
     numbers: BTreeMap<String, usize>,
     /// For each namespace, the nodes that the last parts of its names define.
     scopes: Vec<BTreeMap<String, usize>>,
-    ghost known: { IsIndexOf numbers scopes.items nodes.items },
+}
+
+impl<'v> Model for Drafts<'v> {
+    ghost use Rattle.std.specs.Prelude.{List};
+    ghost use Rattle.std.specs.Coded.{codes};
+    ghost use Rattle.avro_types.specs.DatumCode.{datum_coded};
+    ghost use Rattle.schema_drafts.specs.Draft.{Draft, drafts_of};
+    ghost use Rattle.schema_drafts.specs.Index.{IsIndexOf};
+    ghost use Rattle.schema_drafts.specs.JsonCode.{json_coded};
+
+    ghost Value = { List Draft };
+
+    ghost coded = { Prim.hlevel (codes, datum_coded, json_coded) };
+
+    ghost view = { λ d. drafts_of d.nodes.items };
+
+    ghost invariant = { λ d. IsIndexOf d.numbers d.scopes.items (drafts_of d.nodes.items) };
 }
 
 impl<'v> Drafts<'v> {
     pub fn new(alloc: Global) -> Result<Self, AllocError>
-        ensures { IfOk result (λ d. d.nodes.items ≡ []) }
+        ensures { IfOk result (λ d. d ≡ []) }
     {
         let mut numbers = BTreeMap::new(alloc);
         numbers.insert(String::from_str(alloc, "")?, 0)?;
@@ -41,19 +55,47 @@ impl<'v> Drafts<'v> {
         })
     }
 
+    /// How many nodes there are.
+    pub fn len(&self) -> usize
+        ensures { result ≡ length self.now }
+    {
+        self.nodes.len()
+    }
+
+    /// The nodes, in order.
+    pub fn as_slice(&self) -> &[Draft<'v>]
+        ensures { drafts_of result.now ≡ self.now }
+    {
+        self.nodes.as_slice()
+    }
+
+    /// The nodes, in order, with no more names kept beside them.
+    pub fn into_nodes(self) -> Vec<Draft<'v>>
+        ensures { drafts_of result.items ≡ self.entry }
+    {
+        self.nodes
+    }
+
+    /// The law that each full name is that of one node, and begins with no dot.
+    pub(crate) fn names_are_apart(&self)
+        ensures once { AreOnce (heads_of self.now) }
+        ensures begins_none { BeginWithNoDot (heads_of self.now) }
+    {
+        let _opened = &self.nodes;
+    }
+
     /// The node of a name that stands in a namespace, given by its last part.
     pub fn defined_in(&self, enclosing: &Namespace, last: &str) -> Option<usize>
-        requires known { IsNamespaceOf enclosing.now self.now.nodes.items }
+        requires known { IsNamespaceOf enclosing.now self.now }
         requires undotted { has_dot last.now ≡ false }
-        ensures { result ≡ defined_at (inside (arc_str_bytes enclosing.now.text) last.now)
-            (heads_of (drafts_of self.now.nodes.items)) }
+        ensures { result ≡ defined_at (inside (text_of_namespace enclosing.now) last.now) (heads_of self.now) }
     {
         self.scopes[enclosing.number].get(last).copied()
     }
 
     /// The number of a namespace that has names.
     pub fn number_of(&self, namespace: &str) -> Option<usize>
-        ensures { result ≡ place_of namespace.now (namespaces_of (heads_of (drafts_of self.now.nodes.items))) }
+        ensures { result ≡ place_of namespace.now (namespaces_of (heads_of self.now)) }
     {
         self.numbers.get(namespace).copied()
     }
@@ -61,7 +103,7 @@ impl<'v> Drafts<'v> {
     /// The node of a name, given by its namespace and its last part.
     pub fn defined_by(&self, namespace: &str, last: &str) -> Option<usize>
         requires undotted { has_dot last.now ≡ false }
-        ensures { result ≡ defined_at (inside namespace.now last.now) (heads_of (drafts_of self.now.nodes.items)) }
+        ensures { result ≡ defined_at (inside namespace.now last.now) (heads_of self.now) }
     {
         match self.number_of(namespace) {
             Some(number) => self.scopes[number].get(last).copied(),
@@ -72,7 +114,7 @@ impl<'v> Drafts<'v> {
     /// Adds a node of a kind that has no name. An `Err` leaves the nodes as they were.
     pub fn push(&mut self, kind: Kind) -> Result<(), AllocError>
         requires { IsUnnamed (head_of_node (node_of kind)) }
-        ensures { OnOk result (self.new.nodes.items ≡ self.old.nodes.items ++ drafts.Whole kind ∷ []) }
+        ensures { OnOk result (self.new ≡ self.old ++ Whole (node_of kind) ∷ []) }
     {
         self.nodes.push(Draft::Whole(kind))?;
         Ok(())
@@ -87,11 +129,11 @@ impl<'v> Drafts<'v> {
         number: Option<usize>,
         draft: Draft<'v>,
     ) -> Result<usize, AllocError>
-        requires new { defined_at name.now (heads_of (drafts_of self.old.nodes.items)) ≡ None }
+        requires new { defined_at name.now (heads_of self.old) ≡ None }
         requires named { head_of (draft_of draft) ≡ Named name.now }
-        requires numbered { IsNumbered name.now number self.old.nodes.items }
-        ensures nodes { OnOk result (self.new.nodes.items ≡ self.old.nodes.items ++ draft.entry ∷ []) }
-        ensures number { IfOk result (λ n. slice_get (namespaces_of (heads_of (drafts_of self.new.nodes.items)))
+        requires numbered { IsNumbered name.now number self.old }
+        ensures nodes { OnOk result (self.new ≡ self.old ++ draft_of draft.entry ∷ []) }
+        ensures number { IfOk result (λ n. slice_get (namespaces_of (heads_of self.new))
             n ≡ Some (namespace_of name.now)) }
     {
         match number {
@@ -115,11 +157,11 @@ impl<'v> Drafts<'v> {
         name: &Name,
         draft: Draft<'v>,
     ) -> Result<(), AllocError>
-        requires new { defined_at name.now (heads_of (drafts_of self.old.nodes.items)) ≡ None }
+        requires new { defined_at name.now (heads_of self.old) ≡ None }
         requires named { head_of (draft_of draft) ≡ Named name.now }
-        requires numbered { slice_get (namespaces_of (heads_of (drafts_of self.old.nodes.items))) number ≡ Some
+        requires numbered { slice_get (namespaces_of (heads_of self.old)) number ≡ Some
             (namespace_of name.now) }
-        ensures { OnOk result (self.new.nodes.items ≡ self.old.nodes.items ++ draft.entry ∷ []) }
+        ensures { OnOk result (self.new ≡ self.old ++ draft_of draft.entry ∷ []) }
     {
         name.has_two_parts();
         let node = self.nodes.len();
@@ -142,9 +184,8 @@ impl<'v> Drafts<'v> {
         draft: Draft<'v>,
     ) -> Result<(), AllocError>
         requires named { head_of (draft_of draft) ≡ Named name.now }
-        requires first { place_of (namespace_of name.now) (namespaces_of
-            (heads_of (drafts_of self.old.nodes.items))) ≡ None }
-        ensures { OnOk result (self.new.nodes.items ≡ self.old.nodes.items ++ draft.entry ∷ []) }
+        requires first { place_of (namespace_of name.now) (namespaces_of (heads_of self.old)) ≡ None }
+        ensures { OnOk result (self.new ≡ self.old ++ draft_of draft.entry ∷ []) }
     {
         name.has_two_parts();
         let node = self.nodes.len();
@@ -169,24 +210,39 @@ impl<'v> Drafts<'v> {
 
     /// Puts a node in the place of one with the same head.
     pub fn set(&mut self, node: usize, draft: Draft<'v>)
-        requires { slice_get (heads_of (drafts_of self.old.nodes.items)) node ≡ Some (head_of (draft_of draft)) }
-        ensures { self.new.nodes.items ≡ set self.old.nodes.items node draft.entry }
+        requires { slice_get (heads_of self.old) node ≡ Some (head_of (draft_of draft)) }
+        ensures { self.new ≡ set self.old node (draft_of draft.entry) }
     {
         self.nodes[node] = draft;
     }
 }
 
-/// The fields of a record so far, and their names.
+/// The fields of a record so far, and their names. Callers see them as a list of `DraftField`s.
 #[derive(Drop)]
 pub struct FieldList<'v> {
-    pub fields: Vec<DraftField<'v>>,
+    fields: Vec<DraftField<'v>>,
     names: BTreeSet<String>,
-    ghost known: { AreNamesOf names fields.items },
+}
+
+impl<'v> Model for FieldList<'v> {
+    ghost use Rattle.std.specs.Prelude.{List, map};
+    ghost use Rattle.std.specs.Coded.{codes};
+    ghost use Rattle.schema_drafts.specs.Draft.{DraftField, draft_field_of};
+    ghost use Rattle.schema_drafts.specs.Index.{AreNamesOf};
+    ghost use Rattle.schema_drafts.specs.JsonCode.{json_coded};
+
+    ghost Value = { List DraftField };
+
+    ghost coded = { Prim.hlevel (codes, json_coded) };
+
+    ghost view = { λ l. map draft_field_of l.fields.items };
+
+    ghost invariant = { λ l. AreNamesOf l.names (map draft_field_of l.fields.items) };
 }
 
 impl<'v> FieldList<'v> {
     pub fn new(alloc: Global) -> Self
-        ensures { result.fields.items ≡ [] }
+        ensures { result ≡ [] }
     {
         FieldList {
             fields: Vec::new(alloc),
@@ -194,16 +250,30 @@ impl<'v> FieldList<'v> {
         }
     }
 
+    /// How many fields there are.
+    pub fn len(&self) -> usize
+        ensures { result ≡ length self.now }
+    {
+        self.fields.len()
+    }
+
+    /// The fields, in order, with no more names kept beside them.
+    pub fn into_fields(self) -> Vec<DraftField<'v>>
+        ensures { map draft_field_of result.items ≡ self.entry }
+    {
+        self.fields
+    }
+
     /// Whether one of the fields has a name.
     pub fn is_used(&self, name: &str) -> bool
-        ensures { result ≡ is_used name.now (field_names self.now.fields.items) }
+        ensures { result ≡ is_used name.now (field_names self.now) }
     {
         self.names.contains(name)
     }
 
     /// Adds a field. An `Err` leaves the fields as they were.
     pub fn push(&mut self, field: DraftField<'v>) -> Result<(), AllocError>
-        ensures { OnOk result (self.new.fields.items ≡ self.old.fields.items ++ field.entry ∷ []) }
+        ensures { OnOk result (self.new ≡ self.old ++ draft_field_of field.entry ∷ []) }
     {
         let name = field.name.clone()?;
         self.fields.push(field)?;

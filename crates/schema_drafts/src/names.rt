@@ -1,14 +1,11 @@
-ghost use Rattle.schema_drafts.specs.Seen.{IsNamespaceIn, heads_in, names_in, text_of_namespace};
 ghost use Rattle.std.specs.Prelude.{◌≡◌, ◌&&◌, IfOk, None, false, not, option_map, option_and_then, string_bytes};
-ghost use Rattle.std.specs.Arc.{arc_str_bytes};
 ghost use Rattle.std.specs.List.{list_all};
 ghost use Rattle.serde_json.specs.Find.{as_str};
-ghost use Rattle.schema_drafts.specs.Draft.{field_names};
-ghost use Rattle.schema_drafts.specs.Draft.{data_at, drafts_of};
+ghost use Rattle.schema_drafts.specs.Draft.{data_at, field_names};
 ghost use Rattle.schema_drafts.specs.Fault.{Tells};
 ghost use Rattle.avro_types.specs.FullNames.{full_name, has_dot, inside, is_full_name, is_letter, is_letter_or_digit, is_name, is_namespace};
 ghost use Rattle.schema_drafts.specs.Head.{defined_at, heads_of};
-ghost use Rattle.schema_drafts.specs.Index.{IsNumbered, IsNamespaceOf};
+ghost use Rattle.schema_drafts.specs.Index.{IsNamespaceOf, IsNumbered, text_of_namespace};
 ghost use Rattle.schema_drafts.specs.Names.{field_name, if_new, new_name, text_of};
 ghost use Rattle.schema_drafts.specs.Word.{is_primitive, word_of};
 
@@ -109,12 +106,12 @@ fn inherited_name(
     enclosing: &Namespace,
     drafts: &Drafts,
 ) -> Result<NewName, SchemaError>
-    requires known { IsNamespaceIn enclosing.now drafts.now }
+    requires known { IsNamespaceOf enclosing.now drafts.now }
     requires undotted { has_dot last.now ≡ false }
-    ensures numbered { IfOk result (λ n. IsNumbered n.name n.number drafts.now.nodes.items) }
+    ensures numbered { IfOk result (λ n. IsNumbered n.name n.number drafts.now) }
     ensures name { Tells (λ n. n.name) result (if_new (inside (text_of_namespace enclosing.now) last.now)
-        (heads_in drafts.now)) }
-    ensures new { IfOk result (λ n. defined_at (n.name) (heads_in drafts.now) ≡ None) }
+        (heads_of drafts.now)) }
+    ensures new { IfOk result (λ n. defined_at (n.name) (heads_of drafts.now) ≡ None) }
 {
     if !is_last_part(last) {
         return Err(SchemaError::BadName);
@@ -139,9 +136,9 @@ fn own_name(
     drafts: &Drafts,
 ) -> Result<NewName, SchemaError>
     requires undotted { has_dot last.now ≡ false }
-    ensures numbered { IfOk result (λ n. IsNumbered n.name n.number drafts.now.nodes.items) }
-    ensures name { Tells (λ n. n.name) result (if_new (inside namespace.now last.now) (heads_in drafts.now)) }
-    ensures new { IfOk result (λ n. defined_at (n.name) (heads_in drafts.now) ≡ None) }
+    ensures numbered { IfOk result (λ n. IsNumbered n.name n.number drafts.now) }
+    ensures name { Tells (λ n. n.name) result (if_new (inside namespace.now last.now) (heads_of drafts.now)) }
+    ensures new { IfOk result (λ n. defined_at (n.name) (heads_of drafts.now) ≡ None) }
 {
     if !is_namespace(namespace) || !is_last_part(last) {
         return Err(SchemaError::BadName);
@@ -164,11 +161,11 @@ pub fn new_name(
     enclosing: &Namespace,
     drafts: &Drafts,
 ) -> Result<NewName, SchemaError>
-    requires { IsNamespaceIn enclosing.now drafts.now }
-    ensures numbered { IfOk result (λ n. IsNumbered n.name n.number drafts.now.nodes.items) }
+    requires { IsNamespaceOf enclosing.now drafts.now }
+    ensures numbered { IfOk result (λ n. IsNumbered n.name n.number drafts.now) }
     ensures name { Tells (λ n. n.name) result (new_name (data_at name.entry) (data_at namespace.entry)
-        (text_of_namespace enclosing.now) (heads_in drafts.now)) }
-    ensures new { IfOk result (λ n. defined_at (n.name) (heads_in drafts.now) ≡ None) }
+        (text_of_namespace enclosing.now) (heads_of drafts.now)) }
+    ensures new { IfOk result (λ n. defined_at (n.name) (heads_of drafts.now) ≡ None) }
 {
     let name = text_of(name)?;
     match name.rsplit_once('.') {
@@ -187,12 +184,13 @@ pub fn new_name(
 
 /// The node of the name that a text means in a namespace.
 pub fn defined_node(text: &str, enclosing: &Namespace, drafts: &Drafts) -> Option<usize>
-    requires { IsNamespaceIn enclosing.now drafts.now }
-    ensures { result ≡ defined_at (full_name (text_of_namespace enclosing.now) text.now) (heads_in drafts.now) }
+    requires { IsNamespaceOf enclosing.now drafts.now }
+    ensures { result ≡ defined_at (full_name (text_of_namespace enclosing.now) text.now) (heads_of drafts.now) }
 {
     match text.rsplit_once('.') {
         Some((namespace, last)) => {
             if namespace.is_empty() {
+                drafts.names_are_apart();
                 return None;
             }
             drafts.defined_by(namespace, last)
@@ -208,7 +206,7 @@ pub fn field_name(
     name: Option<&Value>,
     before: &FieldList,
 ) -> Result<String, SchemaError>
-    ensures { Tells string_bytes result (field_name (data_at name.entry) (names_in before.now)) }
+    ensures { Tells string_bytes result (field_name (data_at name.entry) (field_names before.now)) }
 {
     let name = text_of(name)?;
     if !is_name(name.as_bytes()) || before.is_used(name) {

@@ -1,4 +1,3 @@
-ghost use Rattle.schema_drafts.specs.Seen.{heads_in};
 ghost use Rattle.std.specs.Prelude.{◌≡◌, ◌++◌, ◌∷◌, ◌&&◌, [], map, not, true, IfOk, MatchOption};
 ghost use Rattle.std.specs.List.{list_any};
 ghost use Rattle.schema_drafts.specs.Draft.{draft_of, drafts_of};
@@ -99,24 +98,26 @@ fn is_apart(
     named: &mut BTreeSet<usize>,
     drafts: &Drafts,
 ) -> Result<bool, AllocError>
-    requires { AreNamedMembers named.old others.now (heads_in drafts.now) }
-    ensures apart { IfOk result (λ b. b ≡ (not (is_union_head (head_at (heads_in drafts.now) member)) && not
-        (list_any (is_same_type (head_at (heads_in drafts.now) member))
-        (map (head_at (heads_in drafts.now)) others.now)))) }
-    ensures named { IfOk result (λ b. AreNamedMembers named.new (others.now ++ member ∷ []) (heads_in drafts.now)) }
+    requires { AreNamedMembers named.old others.now (heads_of drafts.now) }
+    ensures apart { IfOk result (λ b. b ≡ (not (is_union_head (head_at (heads_of drafts.now) member)) && not
+        (list_any (is_same_type (head_at (heads_of drafts.now) member))
+        (map (head_at (heads_of drafts.now)) others.now)))) }
+    ensures named { IfOk result (λ b. AreNamedMembers named.new (others.now ++ member ∷ []) (heads_of drafts.now)) }
 {
-    let Some(draft) = drafts.nodes.get(member) else {
+    drafts.names_are_apart();
+    let nodes = drafts.as_slice();
+    let Some(draft) = nodes.get(member) else {
         return Ok(false);
     };
     match unnamed_type(draft) {
         None => Ok(named.insert(member)?),
-        Some(one) => Ok(!is_union(one) && !has_type(others, one, &drafts.nodes)),
+        Some(one) => Ok(!is_union(one) && !has_type(others, one, nodes)),
     }
 }
 
 /// Whether no member is a union, nor of the type of one before.
 pub fn are_apart(alloc: Global, members: &[usize], drafts: &Drafts) -> Result<bool, AllocError>
-    ensures { IfOk result (λ b. b ≡ are_apart [] (map (head_at (heads_in drafts.now)) members.now)) }
+    ensures { IfOk result (λ b. b ≡ are_apart [] (map (head_at (heads_of drafts.now)) members.now)) }
 {
     let mut named = BTreeSet::new(alloc);
     for position in 0..members.len() {

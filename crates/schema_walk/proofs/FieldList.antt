@@ -10,13 +10,11 @@ use Rattle.serde_json.specs.declared.value.Value.{Value}
 use Rattle.avro_types.specs.declared.limits.TheConstants.{MOST_FIELDS}
 use Rattle.schema_drafts.specs.declared.error.SchemaError.{SchemaError}
 use Rattle.schema_drafts.specs.declared.error.SchemaError.TheVariants.{TooLarge}
-use Rattle.schema_drafts.specs.declared.draft.DraftField as rust
 use Rattle.schema_drafts.specs.Aliases.{field_aliases}
-use Rattle.schema_drafts.specs.Draft.{field_names}
 use Rattle.schema_walk.specs.Contract.{run, field_walk}
 use Rattle.schema_drafts.specs.Fault.{◌>>=◌}
 use Rattle.schema_drafts.specs.Names.{field_name}
-use Rattle.schema_drafts.specs.Draft.{Draft, DraftField}
+use Rattle.schema_drafts.specs.Draft.{Draft, DraftField, field_names}
 use Rattle.schema_drafts.specs.Head.{heads_of}
 use Rattle.schema_drafts.specs.Draft.{draft_field}
 use Rattle.schema_walk.specs.Walk.{Walk, added, done, followed_by, or_unknown, field_of, walk, fields_after, field}
@@ -82,11 +80,11 @@ module _ (default : Option Data) (w : Walk ℕ) (enclosing : List ℕ) (ns : Lis
   name_at aliases (Ok s) = aliases_at s aliases
   name_at aliases (Err e) = refl
 
-length-names : (fs : List rust.DraftField) → length (field_names fs) ≡ length fs
+length-names : (fs : List DraftField) → length (field_names fs) ≡ length fs
 length-names [] = refl
 length-names (f ∷ fs) = ap suc (length-names fs)
 
-module _ (d : Data) (fs : List rust.DraftField) (enclosing : List ℕ) (ns : List Draft) (is : true ≡ is_some (as_object d)) where
+module _ (d : Data) (fs : List DraftField) (enclosing : List ℕ) (ns : List Draft) (is : true ≡ is_some (as_object d)) where
   pub run-field : length fs < MOST_FIELDS
       → run (field d (field_names fs)) enclosing ns ≡ (field_name (get (codes "name") d) (field_names fs) >>= λ s. field_aliases (get (codes "aliases") d) >>= λ others. typed (get (codes "default") d) s others (run (or_unknown (option_map walk (get (codes "type") d))) enclosing ns))
   unfolding run field_walk field_of

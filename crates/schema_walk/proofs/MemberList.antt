@@ -1,18 +1,15 @@
 -- The walk of a union's members, one after another.
-use Rattle.std.proofs.Common.{◌≡◌, ℕ, ◌+◌, ◌<◌, ◌≤◌, List, [], ◌∷◌, ◌++◌, length, drop, get_or, map, Bool, true, false, cond, Result, Ok, Err, refl, sym, ap, ◌∙◌, append_assoc, append-nil, add-one, set, Vec, Global}
+use Rattle.std.proofs.Common.{◌≡◌, ℕ, ◌+◌, ◌<◌, ◌≤◌, List, [], ◌∷◌, ◌++◌, length, drop, get_or, map, Bool, true, false, cond, Result, Ok, Err, refl, sym, ap, ◌∙◌, append_assoc, append-nil, add-one, set}
 use Rattle.std.proofs.Math.Seq.{drop-cons, set-append_seam}
 use Rattle.std.proofs.Math.ListN.{drop_of_length-le}
 use Rattle.serde_json.specs.Data.{Data, Items, item}
 use Rattle.serde_json.specs.View.{view, items_view}
 use Rattle.serde_json.specs.declared.value.Value.{Value}
 use Rattle.avro_types.specs.declared.limits.TheConstants.{MOST_NODES}
-use Rattle.schema_drafts.specs.declared.draft.Draft as rust
-use Rattle.schema_drafts.specs.declared.draft.Draft.TheVariants as drafts
-use Rattle.avro_types.specs.declared.kind.Kind.TheVariants as kinds
 use Rattle.schema_drafts.specs.declared.error.SchemaError.{SchemaError}
 use Rattle.schema_drafts.specs.declared.error.SchemaError.TheVariants.{BadUnion}
 use Rattle.schema_walk.specs.Contract.{run}
-use Rattle.schema_drafts.specs.Draft.{Draft, Whole, drafts_of}
+use Rattle.schema_drafts.specs.Draft.{Draft, Whole}
 use Rattle.schema_drafts.specs.Fault.{◌>>=◌}
 use Rattle.schema_drafts.specs.Head.{UnionHead, heads_of}
 use Rattle.avro_types.specs.Node.{UnionNode}
@@ -20,8 +17,8 @@ use Rattle.schema_drafts.specs.Head.{head_at}
 use Rattle.schema_drafts.specs.Head.{are_apart}
 use Rattle.schema_walk.specs.Walk.{Walk, added, done, followed_by, if_room, walk, members, apart_union, union_of}
 use Rattle.schema_walk.proofs.FieldList.{behind, behind-one}
-use Rattle.schema_drafts.proofs.DraftLists.{length-heads_of, length-drafts_of, heads_of-append}
-use Rattle.schema_walk.proofs.Runs.{run-if_room, run-followed_by, run-done, run-mapped, pushed}
+use Rattle.schema_drafts.proofs.DraftLists.{length-heads_of, heads_of-append}
+use Rattle.schema_walk.proofs.Runs.{run-if_room, run-followed_by, run-done, run-mapped}
 
 item_at : (ds : Items) (enclosing : List ℕ) (r : Result (ℕ × List Draft) SchemaError)
     → (r >>= λ p. run (followed_by (members ds) (λ ns. done (p.0 ∷ ns))) enclosing p.1) ≡ (r >>= λ p. run (members ds) enclosing p.1 >>= λ q. Ok (p.0 ∷ q.0, q.1))
@@ -71,20 +68,20 @@ run-union : (w : Walk (List ℕ)) (enclosing : List ℕ) (ns : List Draft) → r
 unfolding run union_of
 run-union w enclosing ns = rw (heads_of-append ns (Whole (UnionNode []) ∷ [])) (union_closes ns (w enclosing (heads_of ns ++ UnionHead ∷ [])))
 
-module _ (w : Walk (List ℕ)) (enclosing : List ℕ) (ks : List rust.Draft) (room : length ks < MOST_NODES) where
-  whole_union : run (if_room (union_of w)) enclosing (drafts_of ks) ≡ (run w enclosing (drafts_of ks ++ Whole (UnionNode []) ∷ []) >>= closed_union (length ks))
-  whole_union = run-if_room (union_of w) enclosing ks room ∙ run-union w enclosing (drafts_of ks) ∙ rw (length-drafts_of ks) refl
+module _ (w : Walk (List ℕ)) (enclosing : List ℕ) (ks : List Draft) (room : length ks < MOST_NODES) where
+  whole_union : run (if_room (union_of w)) enclosing ks ≡ (run w enclosing (ks ++ Whole (UnionNode []) ∷ []) >>= closed_union (length ks))
+  whole_union = run-if_room (union_of w) enclosing ks room ∙ run-union w enclosing ks
 
-  pub union-failed : (x : SchemaError) → run w enclosing (drafts_of ks ++ Whole (UnionNode []) ∷ []) ≡ Err x → run (if_room (union_of w)) enclosing (drafts_of ks) ≡ Err x
+  pub union-failed : (x : SchemaError) → run w enclosing (ks ++ Whole (UnionNode []) ∷ []) ≡ Err x → run (if_room (union_of w)) enclosing ks ≡ Err x
   union-failed x e = whole_union ∙ rw e refl
 
-  pub union-bad : (ms : List ℕ) (ls : List Draft) → run w enclosing (drafts_of ks ++ Whole (UnionNode []) ∷ []) ≡ Ok (ms, ls) → false ≡ are_apart [] (map (head_at (heads_of ls)) ms) → run (if_room (union_of w)) enclosing (drafts_of ks) ≡ Err BadUnion
+  pub union-bad : (ms : List ℕ) (ls : List Draft) → run w enclosing (ks ++ Whole (UnionNode []) ∷ []) ≡ Ok (ms, ls) → false ≡ are_apart [] (map (head_at (heads_of ls)) ms) → run (if_room (union_of w)) enclosing ks ≡ Err BadUnion
   union-bad ms ls e bad = whole_union ∙ rw (e, ← bad) refl
 
-  pub union-done : (ms : List ℕ) (ls : List Draft) → run w enclosing (drafts_of ks ++ Whole (UnionNode []) ∷ []) ≡ Ok (ms, ls) → true ≡ are_apart [] (map (head_at (heads_of ls)) ms)
-      → run (if_room (union_of w)) enclosing (drafts_of ks) ≡ Ok (length ks, set ls (length ks) (Whole (UnionNode ms)))
+  pub union-done : (ms : List ℕ) (ls : List Draft) → run w enclosing (ks ++ Whole (UnionNode []) ∷ []) ≡ Ok (ms, ls) → true ≡ are_apart [] (map (head_at (heads_of ls)) ms)
+      → run (if_room (union_of w)) enclosing ks ≡ Ok (length ks, set ls (length ks) (Whole (UnionNode ms)))
   union-done ms ls e good = whole_union ∙ rw (e, ← good) refl
 
 -- the nodes, with a union that has no members yet
-pub pushed_union : (ks ls : List rust.Draft) (members : Vec ℕ Global) → ls ≡ ks ++ drafts.Whole (kinds.Union members) ∷ [] → members.items ≡ [] → drafts_of ls ≡ drafts_of ks ++ Whole (UnionNode []) ∷ []
-pushed_union ks ls members e none = pushed ks ls (drafts.Whole (kinds.Union members)) e ∙ ap (λ ms. drafts_of ks ++ Whole (UnionNode ms) ∷ []) none
+pub pushed_union : (ks ls : List Draft) (members : List ℕ) → ls ≡ ks ++ Whole (UnionNode members) ∷ [] → members ≡ [] → ls ≡ ks ++ Whole (UnionNode []) ∷ []
+pushed_union ks ls members e none = e ∙ ap (λ ms. ks ++ Whole (UnionNode ms) ∷ []) none

@@ -1,11 +1,10 @@
 -- A namespace keeps its number while nodes come.
 use Rattle.std.proofs.Common.{◌≡◌, ℕ, List, [], ◌∷◌, ◌++◌, Some, Result, Ok, Err, slice_get, refl, ap}
 use Rattle.std.specs.Arc.{arc_str_bytes}
-use Rattle.schema_drafts.specs.declared.draft.Draft as rust
 use Rattle.schema_drafts.specs.declared.error.SchemaError.{SchemaError}
 use Rattle.schema_drafts.specs.declared.namespace.Namespace.{Namespace}
 use Rattle.schema_walk.specs.Contract.{run}
-use Rattle.schema_drafts.specs.Draft.{Draft, draft_of, drafts_of}
+use Rattle.schema_drafts.specs.Draft.{Draft}
 use Rattle.schema_drafts.specs.Head.{head_of, heads_of}
 use Rattle.schema_drafts.specs.Index.{IsNamespaceOf, namespaces_of}
 use Rattle.schema_walk.specs.Walk.{Walk, added}
@@ -14,8 +13,8 @@ use Rattle.schema_drafts.proofs.DraftLists.{heads_of-append}
 use Rattle.schema_drafts.proofs.Namespaces.{namespaces-keep}
 
 -- behind one more node
-pub enclosing-pushed : (enclosing : Namespace) (ks ls : List rust.Draft) (k : rust.Draft) → IsNamespaceOf enclosing ks → ls ≡ ks ++ k ∷ [] → IsNamespaceOf enclosing ls
-enclosing-pushed enclosing ks ls k known e = rw (e, heads-behind ks k) (namespaces-keep (heads_of (drafts_of ks)) (head_of (draft_of k) ∷ []) enclosing.number (arc_str_bytes enclosing.text) known)
+pub enclosing-pushed : (enclosing : Namespace) (ks ls : List Draft) (k : Draft) → IsNamespaceOf enclosing ks → ls ≡ ks ++ k ∷ [] → IsNamespaceOf enclosing ls
+enclosing-pushed enclosing ks ls k known e = rw (e, heads-behind ks k) (namespaces-keep (heads_of ks) (head_of k ∷ []) enclosing.number (arc_str_bytes enclosing.text) known)
 
 abbrev all_of : {A : Type 0} → Result (A × List Draft) SchemaError → List Draft
 all_of (Ok p) = p.1
@@ -29,11 +28,11 @@ kept enclosing ns (Ok p) a ms known e =
 kept enclosing ns (Err x) a ms known e = absurd (let no : ⊥ = cc in no)
 
 -- behind what a walk adds
-pub enclosing-walked : {A : Type 0} (w : Walk A) (text : List ℕ) (enclosing : Namespace) (ks ls : List rust.Draft) (a : A) → IsNamespaceOf enclosing ks → run w text (drafts_of ks) ≡ Ok (a, drafts_of ls) → IsNamespaceOf enclosing ls
+pub enclosing-walked : {A : Type 0} (w : Walk A) (text : List ℕ) (enclosing : Namespace) (ks ls : List Draft) (a : A) → IsNamespaceOf enclosing ks → run w text ks ≡ Ok (a, ls) → IsNamespaceOf enclosing ls
 unfolding run
-enclosing-walked w text enclosing ks ls a known e = kept enclosing (drafts_of ks) (w text (heads_of (drafts_of ks))) a (drafts_of ls) known e
+enclosing-walked w text enclosing ks ls a known e = kept enclosing ks (w text (heads_of ks)) a ls known e
 
 -- the null namespace has number 0
-pub null-enclosing : slice_get (namespaces_of (heads_of (drafts_of []))) 0 ≡ Some []
+pub null-enclosing : slice_get (namespaces_of (heads_of [])) 0 ≡ Some []
 unfolding namespaces_of
 null-enclosing = refl

@@ -1,15 +1,14 @@
 -- Walks run behind nodes that are already there.
-use Rattle.schema_drafts.proofs.DraftLists.{length-drafts_of, length-heads_of, drafts_of-append, heads_of-append}
+use Rattle.schema_drafts.proofs.DraftLists.{length-heads_of, heads_of-append}
 use Rattle.std.proofs.Common.{◌≡◌, ℕ, ◌<◌, ◌≤◌, List, [], ◌∷◌, ◌++◌, length, Some, Result, Ok, Err, slice_get, refl, sym, ap, subst, ◌∙◌, arith, append_assoc, append-nil, length-append, set}
 use Rattle.std.proofs.lemmas.Bool.{lt-ltb, le-ltb}
 use Rattle.std.proofs.Math.Seq.{set-append_seam}
 use Rattle.avro_types.specs.declared.limits.TheConstants.{MOST_NODES}
 use Rattle.schema_drafts.specs.declared.error.SchemaError.{SchemaError}
 use Rattle.schema_drafts.specs.declared.error.SchemaError.TheVariants.{TooLarge}
-use Rattle.schema_drafts.specs.declared.draft.Draft as rust
 use Rattle.schema_walk.specs.Contract.{run}
 use Rattle.schema_drafts.specs.Fault.{◌>>=◌}
-use Rattle.schema_drafts.specs.Draft.{Draft, Whole, draft_of, drafts_of}
+use Rattle.schema_drafts.specs.Draft.{Draft, Whole}
 use Rattle.schema_drafts.specs.Head.{head_of, heads_of}
 use Rattle.avro_types.specs.Node.{Node}
 use Rattle.schema_walk.specs.Walk.{Walk, added, one_node, done, followed_by, fault, leaf, if_room, around}
@@ -20,13 +19,13 @@ run-fault e enclosing ns = refl
 
 -- ---- room
 
-pub run-if_room : {A : Type 0} (w : Walk A) (enclosing : List ℕ) (ks : List rust.Draft) → length ks < MOST_NODES → run (if_room w) enclosing (drafts_of ks) ≡ run w enclosing (drafts_of ks)
+pub run-if_room : {A : Type 0} (w : Walk A) (enclosing : List ℕ) (ks : List Draft) → length ks < MOST_NODES → run (if_room w) enclosing ks ≡ run w enclosing ks
 unfolding run
-run-if_room w enclosing ks lt = rw (length-heads_of (drafts_of ks), length-drafts_of ks, lt-ltb (length ks) MOST_NODES lt)
+run-if_room w enclosing ks lt = rw (length-heads_of ks, lt-ltb (length ks) MOST_NODES lt)
 
-pub run-no_room : {A : Type 0} (w : Walk A) (enclosing : List ℕ) (ks : List rust.Draft) → MOST_NODES ≤ length ks → run (if_room w) enclosing (drafts_of ks) ≡ Err TooLarge
+pub run-no_room : {A : Type 0} (w : Walk A) (enclosing : List ℕ) (ks : List Draft) → MOST_NODES ≤ length ks → run (if_room w) enclosing ks ≡ Err TooLarge
 unfolding run
-run-no_room w enclosing ks le = rw (length-heads_of (drafts_of ks), length-drafts_of ks, le-ltb (length ks) MOST_NODES le)
+run-no_room w enclosing ks le = rw (length-heads_of ks, le-ltb (length ks) MOST_NODES le)
 
 -- ---- one after another
 
@@ -80,22 +79,18 @@ kept_at : {A : Type 0} (ns : List Draft) (held : Draft) (r : Result (A × List D
 kept_at ns held (Ok p) a ms e = let same : (ns ++ held ∷ []) ++ p.1 ≡ ms = ap all_of e in subst (λ (xs : List Draft). slice_get (heads_of xs) (length ns) ≡ Some (head_of held)) same (head-kept ns held p.1)
 kept_at ns held (Err x) a ms e = absurd (ok_err x (a, ms) e)
 
-pub run-keeps : {A : Type 0} (w : Walk A) (enclosing : List ℕ) (ks : List rust.Draft) (held : Draft) (a : A) (ms : List Draft) → run w enclosing (drafts_of ks ++ held ∷ []) ≡ Ok (a, ms) → slice_get (heads_of ms) (length ks) ≡ Some (head_of held)
+pub run-keeps : {A : Type 0} (w : Walk A) (enclosing : List ℕ) (ks : List Draft) (held : Draft) (a : A) (ms : List Draft) → run w enclosing (ks ++ held ∷ []) ≡ Ok (a, ms) → slice_get (heads_of ms) (length ks) ≡ Some (head_of held)
 unfolding run
-run-keeps w enclosing ks held a ms e = subst (λ n. slice_get (heads_of ms) n ≡ Some (head_of held)) (length-drafts_of ks) (kept_at (drafts_of ks) held (w enclosing (heads_of (drafts_of ks ++ held ∷ []))) a ms e)
+run-keeps w enclosing ks held a ms e = kept_at ks held (w enclosing (heads_of (ks ++ held ∷ []))) a ms e
 
 -- ---- a node without parts
 
-pub run-one : (d : Draft) (enclosing : List ℕ) (ks : List rust.Draft) → run (one_node d) enclosing (drafts_of ks) ≡ Ok (length ks, drafts_of ks ++ d ∷ [])
+pub run-one : (d : Draft) (enclosing : List ℕ) (ks : List Draft) → run (one_node d) enclosing ks ≡ Ok (length ks, ks ++ d ∷ [])
 unfolding run
-run-one d enclosing ks = rw (length-heads_of (drafts_of ks), length-drafts_of ks) refl
+run-one d enclosing ks = rw (length-heads_of ks) refl
 
-pub run-leaf : (n : Node) (enclosing : List ℕ) (ks : List rust.Draft) → length ks < MOST_NODES → run (leaf n) enclosing (drafts_of ks) ≡ Ok (length ks, drafts_of ks ++ Whole n ∷ [])
+pub run-leaf : (n : Node) (enclosing : List ℕ) (ks : List Draft) → length ks < MOST_NODES → run (leaf n) enclosing ks ≡ Ok (length ks, ks ++ Whole n ∷ [])
 run-leaf n enclosing ks lt = run-if_room _ enclosing ks lt ∙ run-one (Whole n) enclosing ks
-
--- the nodes, and one more
-pub pushed : (ks ls : List rust.Draft) (k : rust.Draft) → ls ≡ ks ++ k ∷ [] → drafts_of ls ≡ drafts_of ks ++ draft_of k ∷ []
-pushed ks ls k e = ap drafts_of e ∙ drafts_of-append ks (k ∷ [])
 
 -- ---- a node before its parts
 
@@ -110,9 +105,9 @@ pub run-around : {A : Type 0} (make : A → Draft) (held : Draft) (w : Walk A) (
 unfolding run around
 run-around make held w enclosing ns = rw (length-heads_of ns, heads_of-append ns (held ∷ [])) (closes make held ns (w enclosing (heads_of ns ++ head_of held ∷ [])))
 
-module _ {A : Type 0} (make : A → Draft) (held : Draft) (w : Walk A) (enclosing : List ℕ) (ks : List rust.Draft) where
-  pub closed : (a : A) (ms : List Draft) → run w enclosing (drafts_of ks ++ held ∷ []) ≡ Ok (a, ms) → run (around make (head_of held) w) enclosing (drafts_of ks) ≡ Ok (length ks, set ms (length ks) (make a))
-  closed a ms e = run-around make held w enclosing (drafts_of ks) ∙ rw (e, length-drafts_of ks) refl
+module _ {A : Type 0} (make : A → Draft) (held : Draft) (w : Walk A) (enclosing : List ℕ) (ks : List Draft) where
+  pub closed : (a : A) (ms : List Draft) → run w enclosing (ks ++ held ∷ []) ≡ Ok (a, ms) → run (around make (head_of held) w) enclosing ks ≡ Ok (length ks, set ms (length ks) (make a))
+  closed a ms e = run-around make held w enclosing ks ∙ rw (e) refl
 
-  pub unclosed : (x : SchemaError) → run w enclosing (drafts_of ks ++ held ∷ []) ≡ Err x → run (around make (head_of held) w) enclosing (drafts_of ks) ≡ Err x
-  unclosed x e = run-around make held w enclosing (drafts_of ks) ∙ rw e refl
+  pub unclosed : (x : SchemaError) → run w enclosing (ks ++ held ∷ []) ≡ Err x → run (around make (head_of held) w) enclosing ks ≡ Err x
+  unclosed x e = run-around make held w enclosing ks ∙ rw e refl

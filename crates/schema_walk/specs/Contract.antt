@@ -2,13 +2,11 @@
 use Rattle.std.specs.Prelude.{◌≡◌, ◌≢◌, ℕ, List, Option, option_map, codes, Result, Ok, Err}
 use Rattle.serde_json.specs.Data.{Data}
 use Rattle.serde_json.specs.Find.{get}
-use Rattle.schema_drafts.specs.declared.drafts.Drafts.{Drafts}
 use Rattle.schema_drafts.specs.declared.error.SchemaError.{SchemaError}
 use Rattle.schema_drafts.specs.declared.error.SchemaError.TheVariants.{NoMemory}
 use Rattle.schema_drafts.specs.declared.word.Form.{Form}
 use Rattle.schema_drafts.specs.Draft.{Draft, DraftField, Whole}
 use Rattle.schema_drafts.specs.Head.{head_of_node, heads_of}
-use Rattle.schema_drafts.specs.Seen.{nodes_in}
 use Rattle.schema_walk.specs.Walk.{Walk, added, around, declared_by, field_of, fields, if_few, if_room, or_unknown, walk}
 use Rattle.schema_walk.specs.Holder.{holder_node}
 use Rattle.schema_walk.specs.declared.holder.Holder.{Holder}
@@ -19,9 +17,9 @@ unfoldable pub run : {A : Type 0} → Walk A → List ℕ → List Draft → Res
 run w enclosing drafts = added drafts (w enclosing (heads_of drafts))
 
 -- the walk leaves these nodes of those before it, and gives the answer, unless memory ran out
-abbrev pub Walks : {R A : Type 0} → (R → A) → Result R SchemaError → Walk A → List ℕ → Drafts → Drafts → Type 0
-Walks f (Ok r) w enclosing before after = run w enclosing (nodes_in before) ≡ Ok (f r, nodes_in after)
-Walks f (Err e) w enclosing before after = e ≢ NoMemory → run w enclosing (nodes_in before) ≡ Err e
+abbrev pub Walks : {R A : Type 0} → (R → A) → Result R SchemaError → Walk A → List ℕ → List Draft → List Draft → Type 0
+Walks f (Ok r) w enclosing before after = run w enclosing before ≡ Ok (f r, after)
+Walks f (Err e) w enclosing before after = e ≢ NoMemory → run w enclosing before ≡ Err e
 
 -- ---- the walk of an object, with each attribute looked up
 

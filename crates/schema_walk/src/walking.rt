@@ -1,13 +1,10 @@
-ghost use Rattle.schema_drafts.specs.Seen.{IsNamespaceIn, names_in, text_of_namespace};
 ghost use Rattle.std.specs.Prelude.{◌≡◌, ◌<◌, ◌≤◌, ℕ, List, [], length, map, option_map, IfOk, IfErr, OnErr};
-ghost use Rattle.std.specs.Arc.{arc_str_bytes};
 ghost use Rattle.serde_json.specs.Find.{get};
 ghost use Rattle.serde_json.specs.View.{view, items_view};
-ghost use Rattle.schema_drafts.specs.Draft.{field_names};
 ghost use Rattle.schema_walk.specs.Contract.{Walks, holder_walk, object_as, object_walk};
-ghost use Rattle.schema_drafts.specs.Draft.{Whole, data_at, draft_field_of};
+ghost use Rattle.schema_drafts.specs.Draft.{Whole, data_at, draft_field_of, field_names};
 ghost use Rattle.schema_drafts.specs.Head.{IsUnnamed, head_of_node};
-ghost use Rattle.schema_drafts.specs.Index.{IsNamespaceOf};
+ghost use Rattle.schema_drafts.specs.Index.{IsNamespaceOf, text_of_namespace};
 ghost use Rattle.avro_types.specs.Node.{node_of};
 ghost use Rattle.schema_walk.specs.Walk.{leaf, reference, named, walk, members, if_room, union_of, or_unknown, fields, fields_after, field};
 
@@ -22,12 +19,12 @@ use std::alloc::Global;
 
 /// The number of one more node, where there is room for it.
 fn next_node(drafts: &Drafts) -> Result<usize, SchemaError>
-    ensures node { IfOk result (λ n. n ≡ length drafts.now.nodes.items) }
+    ensures node { IfOk result (λ n. n ≡ length drafts.now) }
     ensures room { IfOk result (λ n. n < MOST_NODES) }
     ensures full { IfErr result (λ e. e ≡ SchemaError.TooLarge) }
-    ensures none { OnErr result (MOST_NODES ≤ length drafts.now.nodes.items) }
+    ensures none { OnErr result (MOST_NODES ≤ length drafts.now) }
 {
-    let node = drafts.nodes.len();
+    let node = drafts.len();
     if node >= MOST_NODES {
         return Err(SchemaError::TooLarge);
     }
@@ -50,7 +47,7 @@ fn walk_reference(
     enclosing: &Namespace,
     drafts: &mut Drafts,
 ) -> Result<usize, SchemaError>
-    requires known { IsNamespaceIn enclosing.now drafts.old }
+    requires known { IsNamespaceOf enclosing.now drafts.old }
     ensures { Walks (λ n. n) result (reference text.now) (text_of_namespace enclosing.now) drafts.old drafts.new }
 {
     match defined_node(text, enclosing, drafts) {
@@ -61,7 +58,7 @@ fn walk_reference(
 
 /// The node that a text names.
 fn walk_text(text: &str, enclosing: &Namespace, drafts: &mut Drafts) -> Result<usize, SchemaError>
-    requires known { IsNamespaceIn enclosing.now drafts.old }
+    requires known { IsNamespaceOf enclosing.now drafts.old }
     ensures { Walks (λ n. n) result (named text.now) (text_of_namespace enclosing.now) drafts.old drafts.new }
 {
     let word = Word::of_text(text);
@@ -81,7 +78,7 @@ fn walk_enum(
     enclosing: &Namespace,
     drafts: &mut Drafts,
 ) -> Result<usize, SchemaError>
-    requires known { IsNamespaceIn enclosing.now drafts.old }
+    requires known { IsNamespaceOf enclosing.now drafts.old }
     ensures { Walks (λ n. n) result (object_as Form.Enum (view value.now)) (text_of_namespace enclosing.now)
         drafts.old drafts.new }
 {
@@ -106,7 +103,7 @@ fn walk_fixed(
     enclosing: &Namespace,
     drafts: &mut Drafts,
 ) -> Result<usize, SchemaError>
-    requires known { IsNamespaceIn enclosing.now drafts.old }
+    requires known { IsNamespaceOf enclosing.now drafts.old }
     ensures { Walks (λ n. n) result (object_as Form.Fixed (view value.now)) (text_of_namespace enclosing.now)
         drafts.old drafts.new }
 {
@@ -130,7 +127,7 @@ pub fn walk<'v>(
     enclosing: &Namespace,
     drafts: &mut Drafts<'v>,
 ) -> Result<usize, SchemaError>
-    requires known { IsNamespaceIn enclosing.now drafts.old }
+    requires known { IsNamespaceOf enclosing.now drafts.old }
     ensures { Walks (λ n. n) result (walk (view value.now)) (text_of_namespace enclosing.now) drafts.old drafts.new }
 {
     match value {
@@ -149,7 +146,7 @@ fn walk_at<'v>(
     enclosing: &Namespace,
     drafts: &mut Drafts<'v>,
 ) -> Result<usize, SchemaError>
-    requires known { IsNamespaceIn enclosing.now drafts.old }
+    requires known { IsNamespaceOf enclosing.now drafts.old }
     ensures { Walks (λ n. n) result (or_unknown (option_map walk (data_at value.entry)))
         (text_of_namespace enclosing.now) drafts.old drafts.new }
 {
@@ -167,7 +164,7 @@ fn walk_union<'v>(
     enclosing: &Namespace,
     drafts: &mut Drafts<'v>,
 ) -> Result<usize, SchemaError>
-    requires known { IsNamespaceIn enclosing.now drafts.old }
+    requires known { IsNamespaceOf enclosing.now drafts.old }
     ensures { Walks (λ n. n) result (if_room (union_of (members (items_view items.now))))
         (text_of_namespace enclosing.now) drafts.old drafts.new }
 {
@@ -189,7 +186,7 @@ fn walk_members<'v>(
     enclosing: &Namespace,
     drafts: &mut Drafts<'v>,
 ) -> Result<Vec<usize>, SchemaError>
-    requires known { IsNamespaceIn enclosing.now drafts.old }
+    requires known { IsNamespaceOf enclosing.now drafts.old }
     ensures { Walks (λ v. v.items) result (members (items_view items.now)) (text_of_namespace enclosing.now)
         drafts.old drafts.new }
 {
@@ -209,7 +206,7 @@ fn walk_object<'v>(
     enclosing: &Namespace,
     drafts: &mut Drafts<'v>,
 ) -> Result<usize, SchemaError>
-    requires known { IsNamespaceIn enclosing.now drafts.old }
+    requires known { IsNamespaceOf enclosing.now drafts.old }
     ensures { Walks (λ n. n) result (object_walk (view value.now)) (text_of_namespace enclosing.now) drafts.old
         drafts.new }
 {
@@ -233,7 +230,7 @@ fn walk_holder<'v>(
     enclosing: &Namespace,
     drafts: &mut Drafts<'v>,
 ) -> Result<usize, SchemaError>
-    requires known { IsNamespaceIn enclosing.now drafts.old }
+    requires known { IsNamespaceOf enclosing.now drafts.old }
     ensures { Walks (λ n. n) result (holder_walk holder (data_at value.entry)) (text_of_namespace enclosing.now)
         drafts.old drafts.new }
 {
@@ -252,7 +249,7 @@ fn walk_record<'v>(
     enclosing: &Namespace,
     drafts: &mut Drafts<'v>,
 ) -> Result<usize, SchemaError>
-    requires known { IsNamespaceIn enclosing.now drafts.old }
+    requires known { IsNamespaceOf enclosing.now drafts.old }
     ensures { Walks (λ n. n) result (object_as Form.Record (view value.now)) (text_of_namespace enclosing.now)
         drafts.old drafts.new }
 {
@@ -283,7 +280,7 @@ fn walk_fields<'v>(
     enclosing: &Namespace,
     drafts: &mut Drafts<'v>,
 ) -> Result<Vec<DraftField<'v>>, SchemaError>
-    requires known { IsNamespaceIn enclosing.now drafts.old }
+    requires known { IsNamespaceOf enclosing.now drafts.old }
     ensures { Walks (λ v. map draft_field_of v.items) result
         (or_unknown (option_map fields (data_at value.entry))) (text_of_namespace enclosing.now) drafts.old
         drafts.new }
@@ -305,7 +302,7 @@ fn walk_listed<'v>(
     enclosing: &Namespace,
     drafts: &mut Drafts<'v>,
 ) -> Result<Vec<DraftField<'v>>, SchemaError>
-    requires known { IsNamespaceIn enclosing.now drafts.old }
+    requires known { IsNamespaceOf enclosing.now drafts.old }
     ensures { Walks (λ v. map draft_field_of v.items) result (fields_after (items_view items.now) [])
         (text_of_namespace enclosing.now) drafts.old drafts.new }
 {
@@ -314,7 +311,7 @@ fn walk_listed<'v>(
         let field = walk_field(alloc, item, &list, enclosing, drafts)?;
         list.push(field)?;
     }
-    Ok(list.fields)
+    Ok(list.into_fields())
 }
 
 /// A field, after others.
@@ -326,14 +323,14 @@ fn walk_field<'v>(
     enclosing: &Namespace,
     drafts: &mut Drafts<'v>,
 ) -> Result<DraftField<'v>, SchemaError>
-    requires known { IsNamespaceIn enclosing.now drafts.old }
-    ensures { Walks draft_field_of result (field (view value.now) (names_in before.now))
+    requires known { IsNamespaceOf enclosing.now drafts.old }
+    ensures { Walks draft_field_of result (field (view value.now) (field_names before.now))
         (text_of_namespace enclosing.now) drafts.old drafts.new }
 {
     if !value.is_object() {
         return Err(SchemaError::Unknown);
     }
-    if before.fields.len() >= MOST_FIELDS {
+    if before.len() >= MOST_FIELDS {
         return Err(SchemaError::TooLarge);
     }
     let name = field_name(alloc, value.get("name"), before)?;

@@ -14,7 +14,7 @@ pub returns-then-is_empty : goal.returns-then-is_empty
 returns-then-is_empty c =
     let parts = split-parts c.args.text.now c.in-Some.namespace.now c.in-Some.last.now c.in-Some.ensures.cases in
     let begins = dotted-empty c.args.text.now c.in-Some.namespace.now c.in-Some.last.now parts (sym c.is_empty.ensures ∙ c.if-is_empty.true) in
-    rw (dotted-full (arc_str_bytes c.args.enclosing.now.text) c.args.text.now c.in-Some.namespace.now c.in-Some.last.now parts, begins) (sym (c.args.drafts.now.known.begins_none c.in-Some.last.now))
+    rw (dotted-full (arc_str_bytes c.args.enclosing.now.text) c.args.text.now c.in-Some.namespace.now c.in-Some.last.now parts, begins) (sym (c.names_are_apart.ensures.begins_none c.in-Some.last.now))
 
 pub returns-else-is_empty : goal.returns-else-is_empty
 returns-else-is_empty c =

@@ -1,6 +1,5 @@
 use Rattle.std.proofs.Common.{sym, ◌∙◌}
 use Rattle.std.specs.Arc.{arc_str_bytes}
-use Rattle.schema_drafts.specs.Draft.{drafts_of}
 use Rattle.schema_drafts.specs.Head.{heads_of}
 use Rattle.avro_types.specs.Laws.Booleans.{is_nowhere}
 use Rattle.avro_types.specs.Laws.Dots.{namespace-inside}
@@ -26,7 +25,7 @@ pub returns-clause-numbered : goal.returns-clause-numbered
 returns-clause-numbered c =
     let enclosing = c.args.enclosing.now in
     rw (c.new-name.ensures, c.in_ok-namespace.ensures.cases, c.in_ok-from_str.ensures.ok, namespace-inside (arc_str_bytes enclosing.text) c.args.last.now c.requires.undotted)
-    (sym (namespaces-numbered (heads_of (drafts_of c.args.drafts.now.nodes.items)) enclosing.number (arc_str_bytes enclosing.text) c.requires.known))
+    (sym (namespaces-numbered (heads_of c.args.drafts.now) enclosing.number (arc_str_bytes enclosing.text) c.requires.known))
 
 pub returns-clause-new : goal.returns-clause-new
 returns-clause-new c =

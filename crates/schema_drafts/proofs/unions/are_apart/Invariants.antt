@@ -1,5 +1,4 @@
 use Rattle.std.proofs.Common.{◌≡◌, take}
-use Rattle.schema_drafts.specs.Draft.{drafts_of}
 use Rattle.schema_drafts.specs.Head.{heads_of}
 use Rattle.schema_drafts.specs.Index.{AreNamedMembers}
 use Rattle.schema_drafts.proofs.Heads.{apart_from}
@@ -7,5 +6,5 @@ use Rattle.schema_drafts.proofs.unions.are_apart.Given as goal
 
 abbrev pub invariant-loop-position : goal.invariant-loop-position
 invariant-loop-position l =
-    AreNamedMembers l.named (take l.position l.members) (heads_of (drafts_of l.drafts.nodes.items))
-    × (apart_from (heads_of (drafts_of l.drafts.nodes.items)) l.members l.position ≡ apart_from (heads_of (drafts_of l.drafts.nodes.items)) l.members 0)
+    AreNamedMembers l.named (take l.position l.members) (heads_of l.drafts)
+    × (apart_from (heads_of l.drafts) l.members l.position ≡ apart_from (heads_of l.drafts) l.members 0)

@@ -1,4 +1,4 @@
-use Rattle.std.proofs.Common.{rules, codes, string_bytes, ◌≤◌, ◌<◌, ◌≡◌, ◌∙◌, sym, ap, refl, arith, option_map, length, map, []}
+use Rattle.std.proofs.Common.{rules, codes, ◌≤◌, ◌<◌, ◌≡◌, ◌∙◌, sym, ap, refl, arith, option_map, length, map, []}
 use Rattle.schema_drafts.specs.Draft.{field_names}
 use Rattle.std.specs.Arc.{arc_str_bytes}
 use Rattle.std.proofs.lemmas.Result.{err_from_is_err_and}
@@ -8,7 +8,7 @@ use Rattle.serde_json.specs.declared.value.Value.{the_lemmas}
 use Rattle.serde_json.proofs.Views.{view-Array, view-Object}
 use Rattle.avro_types.specs.declared.limits.TheConstants.{MOST_FIELDS, MOST_NODES}
 use Rattle.schema_walk.specs.Contract.{holder_walk, object_walk}
-use Rattle.schema_drafts.specs.Draft.{Whole, RecordDraft, draft_field_of, drafts_of}
+use Rattle.schema_drafts.specs.Draft.{Whole, RecordDraft, draft_field_of}
 use Rattle.schema_drafts.specs.Head.{Named}
 use Rattle.avro_types.specs.Node.{UnionNode, names_of}
 use Rattle.schema_walk.specs.Walk.{walk}
@@ -20,8 +20,7 @@ use Rattle.schema_walk.specs.Holder.{holder_node}
 use Rattle.schema_walk.proofs.Holders.{holder-head, holder-unnamed}
 use Rattle.schema_walk.proofs.Members.{walk-scalar, walk-object, field-other, fields-none, fields-some}
 use Rattle.schema_walk.proofs.Records.{run-record, record-done, record-failed, pushed-record}
-use Rattle.schema_drafts.proofs.DraftLists.{drafts_of-set}
-use Rattle.schema_walk.proofs.Runs.{run-if_room, run-no_room, run-keeps, run-fault, closed, unclosed, pushed}
+use Rattle.schema_walk.proofs.Runs.{run-if_room, run-no_room, run-keeps, run-fault, closed, unclosed}
 use Rattle.schema_walk.proofs.NamespaceKept.{enclosing-pushed, enclosing-walked}
 use Rattle.schema_walk.proofs.walking.+walk.Goals as goal
 
@@ -105,76 +104,76 @@ pub walk_holder-returns-in_err-node : goal.walk_holder-returns-in_err-node
 unfolding holder_walk
 walk_holder-returns-in_err-node t c =
     let p = err_from_is_err_and c.from_residual.result c.from_residual.ensures.1 in
-    rw (p.1, p.2, c.in_err-node.ensures.full) (λ _. run-no_room _ (arc_str_bytes c.args.enclosing.now.text) c.args.drafts.now.nodes.items c.in_err-node.ensures.none)
+    rw (p.1, p.2, c.in_err-node.ensures.full) (λ _. run-no_room _ (arc_str_bytes c.args.enclosing.now.text) c.args.drafts.now c.in_err-node.ensures.none)
 
 pub walk_holder-push-requires : goal.walk_holder-push-requires
 walk_holder-push-requires t c = rw c.kind.ensures (holder-unnamed c.args.holder 0)
 
 pub walk_holder-walk_at-requires : goal.walk_holder-walk_at-requires
-walk_holder-walk_at-requires t c = (omega arith, enclosing-pushed c.args.enclosing.now c.args.drafts.now.nodes.items c.push.new.self.nodes.items _ c.requires.known c.in_ok-push.ensures)
+walk_holder-walk_at-requires t c = (omega arith, enclosing-pushed c.args.enclosing.now c.args.drafts.now c.push.new.self _ c.requires.known c.in_ok-push.ensures)
 
 pub walk_holder-returns-in_err-inner : goal.walk_holder-returns-in_err-inner
 unfolding holder_walk
 walk_holder-returns-in_err-inner t c =
     let p = err_from_is_err_and c.from_residual-in_err-inner.result c.from_residual-in_err-inner.ensures.1 in
-    let there = rw c.kind.ensures at (pushed c.args.drafts.now.nodes.items c.push.new.self.nodes.items _ c.in_ok-push.ensures) in
-    let room : length c.args.drafts.now.nodes.items < MOST_NODES = omega (arith, c.in_ok-node.ensures.node, c.in_ok-node.ensures.room) in
+    let there = rw c.kind.ensures at c.in_ok-push.ensures in
+    let room : length c.args.drafts.now < MOST_NODES = omega (arith, c.in_ok-node.ensures.node, c.in_ok-node.ensures.room) in
     rw (p.1, p.2)
-    (λ known. run-if_room _ (arc_str_bytes c.args.enclosing.now.text) c.args.drafts.now.nodes.items room ∙ unclosed (λ n. Whole (holder_node c.args.holder n)) (Whole (holder_node c.args.holder 0)) _ (arc_str_bytes c.args.enclosing.now.text) c.args.drafts.now.nodes.items _ (rw there at (c.in_err-inner.ensures known)))
+    (λ known. run-if_room _ (arc_str_bytes c.args.enclosing.now.text) c.args.drafts.now room ∙ unclosed (λ n. Whole (holder_node c.args.holder n)) (Whole (holder_node c.args.holder 0)) _ (arc_str_bytes c.args.enclosing.now.text) c.args.drafts.now _ (rw there at (c.in_err-inner.ensures known)))
 
 pub walk_holder-set-requires : goal.walk_holder-set-requires
 walk_holder-set-requires t c =
-    let there = rw c.kind.ensures at (pushed c.args.drafts.now.nodes.items c.push.new.self.nodes.items _ c.in_ok-push.ensures) in
-    let n : c.in_ok-node.node ≡ length c.args.drafts.now.nodes.items = c.in_ok-node.ensures.node in
-    rw (n, c.kind-2.ensures, holder-head c.args.holder c.in_ok-inner.inner 0) (run-keeps _ (arc_str_bytes c.args.enclosing.now.text) c.args.drafts.now.nodes.items (Whole (holder_node c.args.holder 0)) _ _ (rw there at c.in_ok-inner.ensures))
+    let there = rw c.kind.ensures at c.in_ok-push.ensures in
+    let n : c.in_ok-node.node ≡ length c.args.drafts.now = c.in_ok-node.ensures.node in
+    rw (n, c.kind-2.ensures, holder-head c.args.holder c.in_ok-inner.inner 0) (run-keeps _ (arc_str_bytes c.args.enclosing.now.text) c.args.drafts.now (Whole (holder_node c.args.holder 0)) _ _ (rw there at c.in_ok-inner.ensures))
 
 pub walk_holder-returns : goal.walk_holder-returns
 unfolding holder_walk
 walk_holder-returns t c =
-    let there = rw c.kind.ensures at (pushed c.args.drafts.now.nodes.items c.push.new.self.nodes.items _ c.in_ok-push.ensures) in
-    let room : length c.args.drafts.now.nodes.items < MOST_NODES = omega (arith, c.in_ok-node.ensures.node, c.in_ok-node.ensures.room) in
-    let n : c.in_ok-node.node ≡ length c.args.drafts.now.nodes.items = c.in_ok-node.ensures.node in
-    rw (c.set.ensures, n, drafts_of-set c.walk_at.new.drafts.nodes.items (length c.args.drafts.now.nodes.items) _, c.kind-2.ensures)
-    (run-if_room _ (arc_str_bytes c.args.enclosing.now.text) c.args.drafts.now.nodes.items room ∙ closed (λ n. Whole (holder_node c.args.holder n)) (Whole (holder_node c.args.holder 0)) _ (arc_str_bytes c.args.enclosing.now.text) c.args.drafts.now.nodes.items _ _ (rw there at c.in_ok-inner.ensures))
+    let there = rw c.kind.ensures at c.in_ok-push.ensures in
+    let room : length c.args.drafts.now < MOST_NODES = omega (arith, c.in_ok-node.ensures.node, c.in_ok-node.ensures.room) in
+    let n : c.in_ok-node.node ≡ length c.args.drafts.now = c.in_ok-node.ensures.node in
+    rw (c.set.ensures, n, c.kind-2.ensures)
+    (run-if_room _ (arc_str_bytes c.args.enclosing.now.text) c.args.drafts.now room ∙ closed (λ n. Whole (holder_node c.args.holder n)) (Whole (holder_node c.args.holder 0)) _ (arc_str_bytes c.args.enclosing.now.text) c.args.drafts.now _ _ (rw there at c.in_ok-inner.ensures))
 
 -- ---- a union
 
 pub walk_union-returns-in_err-node : goal.walk_union-returns-in_err-node
 walk_union-returns-in_err-node t c =
     let p = err_from_is_err_and c.from_residual.result c.from_residual.ensures.1 in
-    rw (p.1, p.2, c.in_err-node.ensures.full) (λ _. run-no_room _ (arc_str_bytes c.args.enclosing.now.text) c.args.drafts.now.nodes.items c.in_err-node.ensures.none)
+    rw (p.1, p.2, c.in_err-node.ensures.full) (λ _. run-no_room _ (arc_str_bytes c.args.enclosing.now.text) c.args.drafts.now c.in_err-node.ensures.none)
 
 pub walk_union-walk_members-requires : goal.walk_union-walk_members-requires
-walk_union-walk_members-requires t c = (omega arith, enclosing-pushed c.args.enclosing.now c.args.drafts.now.nodes.items c.push.new.self.nodes.items _ c.requires.known c.in_ok-push.ensures)
+walk_union-walk_members-requires t c = (omega arith, enclosing-pushed c.args.enclosing.now c.args.drafts.now c.push.new.self _ c.requires.known c.in_ok-push.ensures)
 
 pub walk_union-returns-in_err-members : goal.walk_union-returns-in_err-members
 walk_union-returns-in_err-members t c =
     let p = err_from_is_err_and c.from_residual-in_err-members.result c.from_residual-in_err-members.ensures.1 in
-    let there = pushed_union c.args.drafts.now.nodes.items c.push.new.self.nodes.items c.new.result c.in_ok-push.ensures c.new.ensures.items in
-    let room : length c.args.drafts.now.nodes.items < MOST_NODES = omega (arith, c.in_ok-node.ensures.node, c.in_ok-node.ensures.room) in
-    rw (p.1, p.2) (λ known. union-failed _ (arc_str_bytes c.args.enclosing.now.text) c.args.drafts.now.nodes.items room _ (rw there at (c.in_err-members.ensures known)))
+    let there = pushed_union c.args.drafts.now c.push.new.self c.new.result.items c.in_ok-push.ensures c.new.ensures.items in
+    let room : length c.args.drafts.now < MOST_NODES = omega (arith, c.in_ok-node.ensures.node, c.in_ok-node.ensures.room) in
+    rw (p.1, p.2) (λ known. union-failed _ (arc_str_bytes c.args.enclosing.now.text) c.args.drafts.now room _ (rw there at (c.in_err-members.ensures known)))
 
 pub walk_union-returns-then-not-branch : goal.walk_union-returns-then-not-branch
 walk_union-returns-then-not-branch t c =
-    let there = pushed_union c.args.drafts.now.nodes.items c.push.new.self.nodes.items c.new.result c.in_ok-push.ensures c.new.ensures.items in
-    let room : length c.args.drafts.now.nodes.items < MOST_NODES = omega (arith, c.in_ok-node.ensures.node, c.in_ok-node.ensures.room) in
+    let there = pushed_union c.args.drafts.now c.push.new.self c.new.result.items c.in_ok-push.ensures c.new.ensures.items in
+    let room : length c.args.drafts.now < MOST_NODES = omega (arith, c.in_ok-node.ensures.node, c.in_ok-node.ensures.room) in
     let bad = rw c.deref.ensures.value at (sym c.if-not-branch.true ∙ c.in_ok-are_apart.ensures) in
-    λ _. union-bad _ (arc_str_bytes c.args.enclosing.now.text) c.args.drafts.now.nodes.items room _ _ (rw there at c.in_ok-members.ensures) bad
+    λ _. union-bad _ (arc_str_bytes c.args.enclosing.now.text) c.args.drafts.now room _ _ (rw there at c.in_ok-members.ensures) bad
 
 pub walk_union-set-requires : goal.walk_union-set-requires
 walk_union-set-requires t c =
-    let there = pushed_union c.args.drafts.now.nodes.items c.push.new.self.nodes.items c.new.result c.in_ok-push.ensures c.new.ensures.items in
-    let n : c.in_ok-node.node ≡ length c.args.drafts.now.nodes.items = c.in_ok-node.ensures.node in
-    rw n (run-keeps _ (arc_str_bytes c.args.enclosing.now.text) c.args.drafts.now.nodes.items (Whole (UnionNode [])) _ _ (rw there at c.in_ok-members.ensures))
+    let there = pushed_union c.args.drafts.now c.push.new.self c.new.result.items c.in_ok-push.ensures c.new.ensures.items in
+    let n : c.in_ok-node.node ≡ length c.args.drafts.now = c.in_ok-node.ensures.node in
+    rw n (run-keeps _ (arc_str_bytes c.args.enclosing.now.text) c.args.drafts.now (Whole (UnionNode [])) _ _ (rw there at c.in_ok-members.ensures))
 
 pub walk_union-returns : goal.walk_union-returns
 walk_union-returns t c =
-    let there = pushed_union c.args.drafts.now.nodes.items c.push.new.self.nodes.items c.new.result c.in_ok-push.ensures c.new.ensures.items in
-    let room : length c.args.drafts.now.nodes.items < MOST_NODES = omega (arith, c.in_ok-node.ensures.node, c.in_ok-node.ensures.room) in
+    let there = pushed_union c.args.drafts.now c.push.new.self c.new.result.items c.in_ok-push.ensures c.new.ensures.items in
+    let room : length c.args.drafts.now < MOST_NODES = omega (arith, c.in_ok-node.ensures.node, c.in_ok-node.ensures.room) in
     let good = rw c.deref.ensures.value at (sym c.if-not-branch.false ∙ c.in_ok-are_apart.ensures) in
-    let n : c.in_ok-node.node ≡ length c.args.drafts.now.nodes.items = c.in_ok-node.ensures.node in
-    rw (c.set.ensures, n, drafts_of-set c.walk_members.new.drafts.nodes.items (length c.args.drafts.now.nodes.items) _)
-    (union-done _ (arc_str_bytes c.args.enclosing.now.text) c.args.drafts.now.nodes.items room _ _ (rw there at c.in_ok-members.ensures) good)
+    let n : c.in_ok-node.node ≡ length c.args.drafts.now = c.in_ok-node.ensures.node in
+    rw (c.set.ensures, n)
+    (union-done _ (arc_str_bytes c.args.enclosing.now.text) c.args.drafts.now room _ _ (rw there at c.in_ok-members.ensures) good)
 
 pub walk_members-walk-requires : goal.walk_members-walk-requires
 walk_members-walk-requires t c =
@@ -185,33 +184,33 @@ pub walk_members-returns-in_err-member : goal.walk_members-returns-in_err-member
 walk_members-returns-in_err-member t c =
     let p = err_from_is_err_and c.from_residual.result c.from_residual.ensures.1 in
     let l = c.loop-item in
-    rw (p.1, p.2) (λ known. sym l.invariant.1 ∙ members-fail (arc_str_bytes c.args.enclosing.now.text) c.args.items.now l.item-index c.item-item.result (omega arith) c.item-item.is l.members.items (drafts_of l.drafts.nodes.items) _ (c.in_err-member.ensures known))
+    rw (p.1, p.2) (λ known. sym l.invariant.1 ∙ members-fail (arc_str_bytes c.args.enclosing.now.text) c.args.items.now l.item-index c.item-item.result (omega arith) c.item-item.is l.members.items l.drafts _ (c.in_err-member.ensures known))
 
 pub walk_members-loop-item-preserved : goal.walk_members-loop-item-preserved
 walk_members-loop-item-preserved t c =
     let l = c.loop-item in (
-      enclosing-walked _ _ c.args.enclosing.now l.drafts.nodes.items _ _ l.invariant.0 c.in_ok-member.ensures,
+      enclosing-walked _ _ c.args.enclosing.now l.drafts _ _ l.invariant.0 c.in_ok-member.ensures,
       rw c.in_ok-push.ensures.items
-          (sym (members-on (arc_str_bytes c.args.enclosing.now.text) c.args.items.now l.item-index c.item-item.result (omega arith) c.item-item.is l.members.items (drafts_of l.drafts.nodes.items) _ _ c.in_ok-member.ensures) ∙ l.invariant.1),
+          (sym (members-on (arc_str_bytes c.args.enclosing.now.text) c.args.items.now l.item-index c.item-item.result (omega arith) c.item-item.is l.members.items l.drafts _ _ c.in_ok-member.ensures) ∙ l.invariant.1),
     )
 
 pub walk_members-returns : goal.walk_members-returns
 walk_members-returns t c =
     let l = c.loop-item in
-    sym l.invariant.1 ∙ members-end (arc_str_bytes c.args.enclosing.now.text) c.args.items.now l.item-index (omega arith) l.members.items (drafts_of l.drafts.nodes.items)
+    sym l.invariant.1 ∙ members-end (arc_str_bytes c.args.enclosing.now.text) c.args.items.now l.item-index (omega arith) l.members.items l.drafts
 
 -- ---- a record
 
 pub walk_record-returns-in_err-node : goal.walk_record-returns-in_err-node
 walk_record-returns-in_err-node t c =
     let p = err_from_is_err_and c.from_residual.result c.from_residual.ensures.1 in
-    rw (p.1, p.2, c.in_err-node.ensures.full) (λ _. run-no_room _ (arc_str_bytes c.args.enclosing.now.text) c.args.drafts.now.nodes.items c.in_err-node.ensures.none)
+    rw (p.1, p.2, c.in_err-node.ensures.full) (λ _. run-no_room _ (arc_str_bytes c.args.enclosing.now.text) c.args.drafts.now c.in_err-node.ensures.none)
 
 pub walk_record-returns-in_err-new : goal.walk_record-returns-in_err-new
 walk_record-returns-in_err-new t c =
     let p = err_from_is_err_and c.from_residual-in_err-new.result c.from_residual-in_err-new.ensures.1 in
-    let room : length c.args.drafts.now.nodes.items < MOST_NODES = omega (arith, c.in_ok-node.ensures.node, c.in_ok-node.ensures.room) in
-    rw (p.1, p.2) (λ known. run-record _ _ _ _ (arc_str_bytes c.args.enclosing.now.text) c.args.drafts.now.nodes.items room ∙ rw (c.in_err-new.ensures.names known) refl)
+    let room : length c.args.drafts.now < MOST_NODES = omega (arith, c.in_ok-node.ensures.node, c.in_ok-node.ensures.room) in
+    rw (p.1, p.2) (λ known. run-record _ _ _ _ (arc_str_bytes c.args.enclosing.now.text) c.args.drafts.now room ∙ rw (c.in_err-new.ensures.names known) refl)
 
 pub walk_record-walk_fields-requires : goal.walk_record-walk_fields-requires
 walk_record-walk_fields-requires t c =
@@ -221,11 +220,11 @@ walk_record-walk_fields-requires t c =
 pub walk_record-returns-in_err-fields : goal.walk_record-returns-in_err-fields
 walk_record-returns-in_err-fields t c =
     let p = err_from_is_err_and c.from_residual-in_err-fields.result c.from_residual-in_err-fields.ensures.1 in
-    let there = pushed-record c.args.drafts.now.nodes.items c.define.new.self.nodes.items c.in_ok-new.new.name c.in_ok-copy.field-0 c.new.result c.new-2.result c.in_ok-number.ensures.nodes c.in_ok-copy.ensures c.new.ensures.items c.new-2.ensures.items in
-    let room : length c.args.drafts.now.nodes.items < MOST_NODES = omega (arith, c.in_ok-node.ensures.node, c.in_ok-node.ensures.room) in
+    let there = pushed-record c.args.drafts.now c.define.new.self c.in_ok-new.new.name c.in_ok-copy.field-0 c.new.result.items (map draft_field_of c.new-2.result.items) c.in_ok-number.ensures.nodes c.in_ok-copy.ensures c.new.ensures.items (ap (map draft_field_of) c.new-2.ensures.items) in
+    let room : length c.args.drafts.now < MOST_NODES = omega (arith, c.in_ok-node.ensures.node, c.in_ok-node.ensures.room) in
     let named = c.in_ok-new.ensures.names in
     rw (p.1, p.2, ← c.get.ensures)
-    (λ known. record-failed _ _ _ _ (arc_str_bytes c.args.enclosing.now.text) c.args.drafts.now.nodes.items room _ named _ (rw (c.in_ok-own.ensures.text, there) at (c.in_err-fields.ensures known)))
+    (λ known. record-failed _ _ _ _ (arc_str_bytes c.args.enclosing.now.text) c.args.drafts.now room _ named _ (rw (c.in_ok-own.ensures.text, there) at (c.in_err-fields.ensures known)))
 
 pub walk_record-define-requires : goal.walk_record-define-requires
 walk_record-define-requires t c = record {
@@ -236,18 +235,18 @@ walk_record-define-requires t c = record {
 
 pub walk_record-set-requires : goal.walk_record-set-requires
 walk_record-set-requires t c =
-    let there = pushed-record c.args.drafts.now.nodes.items c.define.new.self.nodes.items c.in_ok-new.new.name c.in_ok-copy.field-0 c.new.result c.new-2.result c.in_ok-number.ensures.nodes c.in_ok-copy.ensures c.new.ensures.items c.new-2.ensures.items in
-    let n : c.in_ok-node.node ≡ length c.args.drafts.now.nodes.items = c.in_ok-node.ensures.node in
-    rw n (run-keeps _ _ c.args.drafts.now.nodes.items (RecordDraft (names_of c.in_ok-new.new.name []) []) _ _ (rw (c.in_ok-own.ensures.text, there) at c.in_ok-fields.ensures))
+    let there = pushed-record c.args.drafts.now c.define.new.self c.in_ok-new.new.name c.in_ok-copy.field-0 c.new.result.items (map draft_field_of c.new-2.result.items) c.in_ok-number.ensures.nodes c.in_ok-copy.ensures c.new.ensures.items (ap (map draft_field_of) c.new-2.ensures.items) in
+    let n : c.in_ok-node.node ≡ length c.args.drafts.now = c.in_ok-node.ensures.node in
+    rw n (run-keeps _ _ c.args.drafts.now (RecordDraft (names_of c.in_ok-new.new.name []) []) _ _ (rw (c.in_ok-own.ensures.text, there) at c.in_ok-fields.ensures))
 
 pub walk_record-returns : goal.walk_record-returns
 walk_record-returns t c =
-    let there = pushed-record c.args.drafts.now.nodes.items c.define.new.self.nodes.items c.in_ok-new.new.name c.in_ok-copy.field-0 c.new.result c.new-2.result c.in_ok-number.ensures.nodes c.in_ok-copy.ensures c.new.ensures.items c.new-2.ensures.items in
-    let room : length c.args.drafts.now.nodes.items < MOST_NODES = omega (arith, c.in_ok-node.ensures.node, c.in_ok-node.ensures.room) in
+    let there = pushed-record c.args.drafts.now c.define.new.self c.in_ok-new.new.name c.in_ok-copy.field-0 c.new.result.items (map draft_field_of c.new-2.result.items) c.in_ok-number.ensures.nodes c.in_ok-copy.ensures c.new.ensures.items (ap (map draft_field_of) c.new-2.ensures.items) in
+    let room : length c.args.drafts.now < MOST_NODES = omega (arith, c.in_ok-node.ensures.node, c.in_ok-node.ensures.room) in
     let named = c.in_ok-new.ensures.names in
-    let n : c.in_ok-node.node ≡ length c.args.drafts.now.nodes.items = c.in_ok-node.ensures.node in
-    rw (c.set.ensures, n, drafts_of-set c.walk_fields.new.drafts.nodes.items (length c.args.drafts.now.nodes.items) _, ← c.get.ensures)
-    (record-done _ _ _ _ (arc_str_bytes c.args.enclosing.now.text) c.args.drafts.now.nodes.items room _ named _ _ (rw (c.in_ok-own.ensures.text, there) at c.in_ok-fields.ensures))
+    let n : c.in_ok-node.node ≡ length c.args.drafts.now = c.in_ok-node.ensures.node in
+    rw (c.set.ensures, n, ← c.get.ensures)
+    (record-done _ _ _ _ (arc_str_bytes c.args.enclosing.now.text) c.args.drafts.now room _ named _ _ (rw (c.in_ok-own.ensures.text, there) at c.in_ok-fields.ensures))
 
 -- ---- its fields
 
@@ -270,42 +269,42 @@ pub walk_listed-returns-in_err-field : goal.walk_listed-returns-in_err-field
 walk_listed-returns-in_err-field t c =
     let p = err_from_is_err_and c.from_residual.result c.from_residual.ensures.1 in
     let l = c.loop-item in
-    rw (p.1, p.2) (λ known. sym l.invariant.1 ∙ fields-fail (arc_str_bytes c.args.enclosing.now.text) c.args.items.now l.item-index c.item-item.result (omega arith) c.item-item.is (map draft_field_of l.list.fields.items) (field_names l.list.fields.items) (drafts_of l.drafts.nodes.items) _
+    rw (p.1, p.2) (λ known. sym l.invariant.1 ∙ fields-fail (arc_str_bytes c.args.enclosing.now.text) c.args.items.now l.item-index c.item-item.result (omega arith) c.item-item.is l.list (field_names l.list) l.drafts _
     (c.in_err-field.ensures known))
 
 pub walk_listed-loop-item-preserved : goal.walk_listed-loop-item-preserved
 walk_listed-loop-item-preserved t c =
     let l = c.loop-item in
     let f = c.in_ok-field.field in (
-      enclosing-walked _ _ c.args.enclosing.now l.drafts.nodes.items _ _ l.invariant.0 c.in_ok-field.ensures,
-      rw (c.in_ok-push.ensures, map-push draft_field_of l.list.fields.items f, map-push (λ g. string_bytes g.name) l.list.fields.items f)
-          (sym (fields-on (arc_str_bytes c.args.enclosing.now.text) c.args.items.now l.item-index c.item-item.result (omega arith) c.item-item.is (map draft_field_of l.list.fields.items) (field_names l.list.fields.items) (drafts_of l.drafts.nodes.items) _ _ c.in_ok-field.ensures) ∙ l.invariant.1),
+      enclosing-walked _ _ c.args.enclosing.now l.drafts _ _ l.invariant.0 c.in_ok-field.ensures,
+      rw (c.in_ok-push.ensures, map-push (λ g. g.name) l.list (draft_field_of f))
+          (sym (fields-on (arc_str_bytes c.args.enclosing.now.text) c.args.items.now l.item-index c.item-item.result (omega arith) c.item-item.is l.list (field_names l.list) l.drafts _ _ c.in_ok-field.ensures) ∙ l.invariant.1),
     )
 
 pub walk_listed-returns : goal.walk_listed-returns
 walk_listed-returns t c =
     let l = c.loop-item in
-    sym l.invariant.1 ∙ fields-end (arc_str_bytes c.args.enclosing.now.text) c.args.items.now l.item-index (omega arith) (map draft_field_of l.list.fields.items) (field_names l.list.fields.items) (drafts_of l.drafts.nodes.items)
+    rw c.into_fields.ensures (sym l.invariant.1 ∙ fields-end (arc_str_bytes c.args.enclosing.now.text) c.args.items.now l.item-index (omega arith) l.list (field_names l.list) l.drafts)
 
 -- ---- a field
 
 pub walk_field-returns-then-not-is_object : goal.walk_field-returns-then-not-is_object
-walk_field-returns-then-not-is_object t c = λ _. rw (field-other (view c.args.value.now) (field_names c.args.before.now.fields.items) c.if-not-is_object.ensures) (run-fault _ _ _)
+walk_field-returns-then-not-is_object t c = λ _. rw (field-other (view c.args.value.now) (field_names c.args.before.now) c.if-not-is_object.ensures) (run-fault _ _ _)
 
 pub walk_field-returns-then-len-ge-MOST_FIELDS : goal.walk_field-returns-then-len-ge-MOST_FIELDS
-walk_field-returns-then-len-ge-MOST_FIELDS t c = λ _. run-many (view c.args.value.now) c.args.before.now.fields.items (arc_str_bytes c.args.enclosing.now.text) _ c.if-not-is_object.ensures (let many : MOST_FIELDS ≤ length c.args.before.now.fields.items = omega arith in many)
+walk_field-returns-then-len-ge-MOST_FIELDS t c = λ _. run-many (view c.args.value.now) c.args.before.now (arc_str_bytes c.args.enclosing.now.text) _ c.if-not-is_object.ensures (let many : MOST_FIELDS ≤ length c.args.before.now = omega arith in many)
 
 pub walk_field-returns-in_err-name : goal.walk_field-returns-in_err-name
 walk_field-returns-in_err-name t c =
     let p = err_from_is_err_and c.from_residual.result c.from_residual.ensures.1 in
-    let room : length c.args.before.now.fields.items < MOST_FIELDS = omega arith in
-    rw (p.1, p.2) (λ known. run-field (view c.args.value.now) c.args.before.now.fields.items (arc_str_bytes c.args.enclosing.now.text) _ c.if-not-is_object.ensures room ∙ rw (← c.get.ensures, c.in_err-name.ensures known) refl)
+    let room : length c.args.before.now < MOST_FIELDS = omega arith in
+    rw (p.1, p.2) (λ known. run-field (view c.args.value.now) c.args.before.now (arc_str_bytes c.args.enclosing.now.text) _ c.if-not-is_object.ensures room ∙ rw (← c.get.ensures, c.in_err-name.ensures known) refl)
 
 pub walk_field-returns-in_err-aliases : goal.walk_field-returns-in_err-aliases
 walk_field-returns-in_err-aliases t c =
     let p = err_from_is_err_and c.from_residual-in_err-aliases.result c.from_residual-in_err-aliases.ensures.1 in
-    let room : length c.args.before.now.fields.items < MOST_FIELDS = omega arith in
-    rw (p.1, p.2) (λ known. run-field (view c.args.value.now) c.args.before.now.fields.items (arc_str_bytes c.args.enclosing.now.text) _ c.if-not-is_object.ensures room ∙ rw (← c.get.ensures, c.in_ok-name.ensures, ← c.get-2.ensures, c.in_err-aliases.ensures known) refl)
+    let room : length c.args.before.now < MOST_FIELDS = omega arith in
+    rw (p.1, p.2) (λ known. run-field (view c.args.value.now) c.args.before.now (arc_str_bytes c.args.enclosing.now.text) _ c.if-not-is_object.ensures room ∙ rw (← c.get.ensures, c.in_ok-name.ensures, ← c.get-2.ensures, c.in_err-aliases.ensures known) refl)
 
 pub walk_field-walk_at-requires : goal.walk_field-walk_at-requires
 walk_field-walk_at-requires t c =
@@ -315,11 +314,11 @@ walk_field-walk_at-requires t c =
 pub walk_field-returns-in_err-node : goal.walk_field-returns-in_err-node
 walk_field-returns-in_err-node t c =
     let p = err_from_is_err_and c.from_residual-in_err-node.result c.from_residual-in_err-node.ensures.1 in
-    let room : length c.args.before.now.fields.items < MOST_FIELDS = omega arith in
-    rw (p.1, p.2) (λ known. run-field (view c.args.value.now) c.args.before.now.fields.items (arc_str_bytes c.args.enclosing.now.text) _ c.if-not-is_object.ensures room ∙ rw (← c.get.ensures, c.in_ok-name.ensures, ← c.get-2.ensures, c.in_ok-aliases.ensures, ← c.get-3.ensures, c.in_err-node.ensures known) refl)
+    let room : length c.args.before.now < MOST_FIELDS = omega arith in
+    rw (p.1, p.2) (λ known. run-field (view c.args.value.now) c.args.before.now (arc_str_bytes c.args.enclosing.now.text) _ c.if-not-is_object.ensures room ∙ rw (← c.get.ensures, c.in_ok-name.ensures, ← c.get-2.ensures, c.in_ok-aliases.ensures, ← c.get-3.ensures, c.in_err-node.ensures known) refl)
 
 pub walk_field-returns : goal.walk_field-returns
 walk_field-returns t c =
-    let room : length c.args.before.now.fields.items < MOST_FIELDS = omega arith in
-    run-field (view c.args.value.now) c.args.before.now.fields.items (arc_str_bytes c.args.enclosing.now.text) _ c.if-not-is_object.ensures room
+    let room : length c.args.before.now < MOST_FIELDS = omega arith in
+    run-field (view c.args.value.now) c.args.before.now (arc_str_bytes c.args.enclosing.now.text) _ c.if-not-is_object.ensures room
     ∙ rw (← c.get.ensures, c.in_ok-name.ensures, ← c.get-2.ensures, c.in_ok-aliases.ensures, ← c.get-3.ensures, c.in_ok-node.ensures, ← c.get-4.ensures) refl

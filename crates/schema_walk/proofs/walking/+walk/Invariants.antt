@@ -1,10 +1,10 @@
-use Rattle.std.proofs.Common.{◌≡◌, ◌+◌, ◌*◌, drop, map, []}
+use Rattle.std.proofs.Common.{◌≡◌, ◌+◌, ◌*◌, drop, []}
 use Rattle.std.specs.Arc.{arc_str_bytes}
 use Rattle.serde_json.specs.Data.{depth, items_depth}
 use Rattle.serde_json.specs.View.{view, items_view}
 use Rattle.schema_drafts.specs.Draft.{field_names}
 use Rattle.schema_walk.specs.Contract.{run}
-use Rattle.schema_drafts.specs.Draft.{data_at, draft_field_of, drafts_of}
+use Rattle.schema_drafts.specs.Draft.{data_at}
 use Rattle.schema_drafts.specs.Index.{IsNamespaceOf}
 use Rattle.schema_walk.specs.Walk.{fields_after, members}
 use Rattle.schema_walk.proofs.FieldList.{behind}
@@ -44,12 +44,12 @@ decreases-walk_field l = 8 * depth (view l.value.now) + 7
 
 abbrev pub invariant-walk_members-loop-item : goal.invariant-walk_members-loop-item
 invariant-walk_members-loop-item l =
-    IsNamespaceOf l.enclosing l.drafts.nodes.items
-    × (behind l.members.items (run (members (items_view (drop l.item-index l.items))) (arc_str_bytes l.enclosing.text) (drafts_of l.drafts.nodes.items))
-    ≡ run (members (items_view l.items)) (arc_str_bytes l.enclosing.text) (drafts_of l.initial.drafts.nodes.items))
+    IsNamespaceOf l.enclosing l.drafts
+    × (behind l.members.items (run (members (items_view (drop l.item-index l.items))) (arc_str_bytes l.enclosing.text) l.drafts)
+    ≡ run (members (items_view l.items)) (arc_str_bytes l.enclosing.text) l.initial.drafts)
 
 abbrev pub invariant-walk_listed-loop-item : goal.invariant-walk_listed-loop-item
 invariant-walk_listed-loop-item l =
-    IsNamespaceOf l.enclosing l.drafts.nodes.items
-    × (behind (map draft_field_of l.list.fields.items) (run (fields_after (items_view (drop l.item-index l.items)) (field_names l.list.fields.items)) (arc_str_bytes l.enclosing.text) (drafts_of l.drafts.nodes.items))
-    ≡ run (fields_after (items_view l.items) []) (arc_str_bytes l.enclosing.text) (drafts_of l.initial.drafts.nodes.items))
+    IsNamespaceOf l.enclosing l.drafts
+    × (behind l.list (run (fields_after (items_view (drop l.item-index l.items)) (field_names l.list)) (arc_str_bytes l.enclosing.text) l.drafts)
+    ≡ run (fields_after (items_view l.items) []) (arc_str_bytes l.enclosing.text) l.initial.drafts)

@@ -1,30 +1,33 @@
-use Rattle.std.proofs.Common.{◌≡◌, Some, length, rules, string_bytes, sym, ap, refl, subst, ◌∙◌}
+use Rattle.std.proofs.Common.{◌≡◌, ◌∷◌, [], Some, length, rules, string_bytes, sym, ap, refl, subst, ◌∙◌}
 use Rattle.std.specs.BTreeMap.{UpdatesBy}
 use Rattle.std.specs.Ordering.{nat_cmp}
 use Rattle.std.specs.Cmp.Lexicographic.{slice_cmp}
 use Rattle.std.specs.String.{string_cmp}
-use Rattle.schema_drafts.specs.Draft.{drafts_of}
+use Rattle.schema_drafts.specs.Draft.{draft_of, drafts_of}
 use Rattle.schema_drafts.specs.Head.{Named, heads_of}
 use Rattle.avro_types.specs.FullNames.{namespace_of, unqualified}
 use Rattle.avro_types.specs.Laws.NameParts.{name-undotted, parts-ruled}
+use Rattle.schema_drafts.proofs.DraftLists.{drafts_of-append, length-drafts_of}
 use Rattle.schema_drafts.proofs.NewIndex.{index-first, fresh-first, pushed-all}
 use Rattle.schema_drafts.proofs.drafts.Drafts.define_first.Goals as goal
 
 pub invariant_of-self-in-Ok : goal.invariant_of-self-in-Ok
 invariant_of-self-in-Ok c =
-    let d = c.args.self.now in
+    let d = c.self.inside in
+    let ns = drafts_of d.nodes.items in
     let name = c.args.name.now in
     let namespace = namespace_of name in
     let last = unqualified name in
     let parts = c.has_two_parts.ensures.parts in
     let none = name-undotted last parts.last_is in
-    let new = c.requires.first in
+    let new = rw (← c.self.view_is) at c.requires.first in
     let key : string_bytes c.in_ok-from_str.field-0 ≡ last = c.in_ok-from_str.ensures.ok ∙ c.last.ensures in
     let enclosing : string_bytes c.in_ok-namespace.namespace ≡ namespace = c.in_ok-namespace.ensures.ok ∙ c.namespace.ensures in
-    record {
-      known = rw c.in_ok-push.ensures.items (index-first namespace last none (parts-ruled namespace last parts) d.nodes.items c.push-2.new.self.items c.args.draft (c.requires.named ∙ ap Named (sym c.has_two_parts.ensures.joined)) (fresh-first namespace last none (heads_of (drafts_of d.nodes.items)) new) (pushed-all _ _ _ _ _ c.push-2.ensures.items c.is_err.ensures.negation c.if-is_err.false)
-          d.numbers d.scopes.items d.known new c.insert-2.new.self c.new-scope.result c.insert.new.self c.len-number.result c.len-node.result (λ s. rw c.new-scope.ensures.empty refl)
-          (let n : c.len-node.result ≡ length d.nodes.items = search rules in n) (let n : c.len-number.result ≡ length d.scopes.items = search rules in n)
-          (subst (λ l. UpdatesBy string_cmp (λ k. slice_cmp nat_cmp l (string_bytes k)) c.new-scope.result c.insert.new.self (Some c.len-node.result)) key c.in_ok-insert.ensures.updates)
-          (subst (λ l. UpdatesBy string_cmp (λ k. slice_cmp nat_cmp l (string_bytes k)) d.numbers c.insert-2.new.self (Some c.len-number.result)) enclosing c.in-Ok.ensures.updates));
-    }
+    let n : c.len-node.result ≡ length d.nodes.items = search rules in
+    let count : c.len-number.result ≡ length d.scopes.items = search rules in
+    let all = pushed-all _ _ _ _ _ c.push-2.ensures.items c.is_err.ensures.negation c.if-is_err.false in
+    rw c.in_ok-push.ensures.items (index-first namespace last none (parts-ruled namespace last parts) ns (drafts_of c.push-2.new.self.items) (draft_of c.args.draft) (c.requires.named ∙ ap Named (sym c.has_two_parts.ensures.joined))
+    (fresh-first namespace last none (heads_of ns) new) (ap drafts_of all ∙ drafts_of-append d.nodes.items (c.args.draft ∷ [])) d.numbers d.scopes.items c.self.invariant new c.insert-2.new.self c.new-scope.result c.insert.new.self c.len-number.result c.len-node.result
+    (λ s. rw c.new-scope.ensures.empty refl) (n ∙ sym (length-drafts_of d.nodes.items)) count
+    (subst (λ l. UpdatesBy string_cmp (λ k. slice_cmp nat_cmp l (string_bytes k)) c.new-scope.result c.insert.new.self (Some c.len-node.result)) key c.in_ok-insert.ensures.updates)
+    (subst (λ l. UpdatesBy string_cmp (λ k. slice_cmp nat_cmp l (string_bytes k)) d.numbers c.insert-2.new.self (Some c.len-number.result)) enclosing c.in-Ok.ensures.updates))

@@ -1,6 +1,21 @@
-use Rattle.schema_drafts.specs.declared.draft.Draft.TheVariants as drafts
+use Rattle.std.proofs.Common.{ap, ◌∙◌}
+use Rattle.schema_drafts.specs.declared.draft.Draft.TheVariants as rust
+use Rattle.schema_drafts.proofs.DraftLists.{drafts_of-append, drafts_of-pushed}
+use Rattle.schema_drafts.specs.Draft.{draft_of, drafts_of}
 use Rattle.schema_drafts.proofs.IndexSteps.{index-pushed}
 use Rattle.schema_drafts.proofs.drafts.Drafts.push.Goals as goal
 
 pub invariant_of-self : goal.invariant_of-self
-invariant_of-self c = record { known = index-pushed c.args.self.now.numbers c.args.self.now.scopes.items c.args.self.now.nodes.items c.push.new.self.items (drafts.Whole c.args.kind) _ c.args.self.now.known c.requires c.push.ensures.items }
+invariant_of-self c =
+    let d = c.self.inside in
+    let k = rust.Whole c.args.kind in
+    index-pushed d.numbers d.scopes.items (drafts_of d.nodes.items) (drafts_of c.push.new.self.items) (draft_of k) _ c.self.invariant c.requires (drafts_of-pushed _ d.nodes.items c.push.new.self.items k c.push.ensures.items)
+
+pub invariant_of-self-2 : goal.invariant_of-self-2
+invariant_of-self-2 c =
+    let d = c.self.inside in
+    let k = rust.Whole c.args.kind in
+    index-pushed d.numbers d.scopes.items (drafts_of d.nodes.items) (drafts_of c.push.new.self.items) (draft_of k) _ c.self.invariant c.requires (drafts_of-pushed _ d.nodes.items c.push.new.self.items k c.push.ensures.items)
+
+pub returns : goal.returns
+returns c = rw (← c.self.view_is) (ap drafts_of c.in_ok-push.ensures.items ∙ drafts_of-append c.self.inside.nodes.items _)

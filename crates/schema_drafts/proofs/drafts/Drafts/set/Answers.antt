@@ -1,5 +1,13 @@
+use Rattle.schema_drafts.specs.Draft.{draft_of, drafts_of}
+use Rattle.schema_drafts.proofs.DraftLists.{drafts_of-set}
 use Rattle.schema_drafts.proofs.IndexSteps.{index-set}
 use Rattle.schema_drafts.proofs.drafts.Drafts.set.Goals as goal
 
 pub invariant_of-self : goal.invariant_of-self
-invariant_of-self c = record { known = index-set c.args.self.now.numbers c.args.self.now.scopes.items c.args.self.now.nodes.items c.args.node c.args.draft c.args.self.now.known c.requires }
+invariant_of-self c =
+    let d = c.self.inside in
+    let same = rw (← c.self.view_is) at c.requires in
+    rw (drafts_of-set d.nodes.items c.args.node c.args.draft) (index-set d.numbers d.scopes.items (drafts_of d.nodes.items) c.args.node (draft_of c.args.draft) c.self.invariant same)
+
+pub returns : goal.returns
+returns c = rw (← c.self.view_is) (drafts_of-set c.self.inside.nodes.items c.args.node c.args.draft)

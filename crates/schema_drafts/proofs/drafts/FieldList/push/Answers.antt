@@ -1,8 +1,11 @@
-use Rattle.std.proofs.Common.{string_bytes}
+use Rattle.std.proofs.Common.{ap, map, string_bytes, ◌∙◌}
+use Rattle.schema_drafts.specs.Draft.{draft_field_of}
+use Rattle.schema_drafts.proofs.DraftLists.{map-push}
 use Rattle.schema_drafts.proofs.Index.{names-behind}
 use Rattle.schema_drafts.proofs.drafts.FieldList.push.Goals as goal
 
 pub invariant_of-self-in-Ok : goal.invariant_of-self-in-Ok
-invariant_of-self-in-Ok c = record {
-  known = names-behind (string_bytes c.in_ok-name.name) c.args.self.now.names c.insert.new.self c.args.self.now.fields.items c.push.new.self.items c.args.field c.args.self.now.known c.in_ok-push.ensures.items c.in_ok-name.ensures.cases c.in-Ok.ensures.updates;
-}
+invariant_of-self-in-Ok c =
+    let l = c.self.inside in
+    let all = ap (map draft_field_of) c.in_ok-push.ensures.items ∙ map-push draft_field_of l.fields.items c.args.field in
+    names-behind (string_bytes c.in_ok-name.name) l.names c.insert.new.self (map draft_field_of l.fields.items) (map draft_field_of c.push.new.self.items) (draft_field_of c.args.field) c.self.invariant all c.in_ok-name.ensures.cases c.in-Ok.ensures.updates

@@ -1,0 +1,15 @@
+pub mod Lines
+pub mod Parts
+pub mod Numbers
+pub mod Reading
+pub mod Each
+pub mod Places
+pub mod Totals
+pub mod Joined
+pub mod Fit
+pub mod Said
+pub mod Taken
+pub mod Whole
+pub mod Parted
+pub mod Spelled
+pub mod Again

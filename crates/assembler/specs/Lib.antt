@@ -1,0 +1,5 @@
+pub mod Listing
+pub mod Words
+pub mod Things
+pub mod Assembling
+pub mod Draft

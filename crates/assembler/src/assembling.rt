@@ -1,0 +1,67 @@
+ghost use Rattle.std.specs.Prelude.{◌≡◌, IfOk, Ok};
+ghost use Rattle.isa.specs.Program.{Program as Parted};
+ghost use Rattle.isa.specs.Range.{IsProgram};
+ghost use Rattle.assembler.specs.Assembling.{Gives, assembled, nothing, with_header, with_lines};
+ghost use Rattle.assembler.specs.Listing.{HasBytes, listing_of};
+ghost use Rattle.assembler.specs.Words.{parts};
+
+use crate::draft::{Draft, fault};
+use crate::fault::{AsmError, AsmErrorKind};
+use crate::words::{is_text, split_line};
+use isa::Program;
+use std::alloc::Global;
+
+/// What the lines after the header say.
+fn draft_of_lines(alloc: Global, text: &[u8]) -> Result<Draft, AsmError>
+    ensures { Gives (λ d. d) result (with_lines 2 nothing (parts 10 text.now)) }
+{
+    let mut draft = Draft::new(alloc);
+    let mut rest = text;
+    let mut at = 2;
+    while let Some((line, after)) = split_line(rest) {
+        draft.take(alloc, at, line)?;
+        rest = after;
+        at += 1;
+    }
+    if !rest.is_empty() {
+        return Err(fault(AsmErrorKind::BadLine, at));
+    }
+    Ok(draft)
+}
+
+/// What a listing says.
+#[tactic(auto, unfolding(crate::specs::Assembling::with_header))]
+fn draft_of(alloc: Global, text: &[u8]) -> Result<Draft, AsmError>
+    ensures { Gives (λ d. d) result (with_header (parts 10 text.now)) }
+{
+    let (header, lines) = match split_line(text) {
+        Some(parts) => parts,
+        None if is_text(text, "avro program 1") => return Err(fault(AsmErrorKind::BadLine, 1)),
+        None => return Err(fault(AsmErrorKind::BadHeader, 1)),
+    };
+    if !is_text(header, "avro program 1") {
+        return Err(fault(AsmErrorKind::BadHeader, 1));
+    }
+    draft_of_lines(alloc, lines)
+}
+
+/// The program that a text says, or else the first fault.
+#[tactic(auto, unfolding(crate::specs::Assembling::assembled))]
+fn assemble_whole(alloc: Global, text: &[u8]) -> Result<Program, AsmError>
+    ensures { Gives (λ x. x) result (assembled text.now) }
+{
+    let draft = draft_of(alloc, text)?;
+    draft.judge()
+}
+
+/// The program whose listing a text is, or else the first fault.
+pub fn assemble(alloc: Global, text: &[u8]) -> Result<Program, AsmError>
+    // What is assembled has this text as its listing.
+    ensures found { IfOk result (λ P. text.now ≡ listing_of P) }
+    // The listing of a program is assembled, unless memory runs out.
+    ensures only { (P : Parted) → IsProgram P → HasBytes P → text.now ≡ listing_of P → Gives (λ x. x) result (Ok P) }
+    // Which fault it is.
+    ensures exact { Gives (λ x. x) result (assembled text.now) }
+{
+    assemble_whole(alloc, text)
+}

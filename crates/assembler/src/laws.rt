@@ -1,0 +1,10 @@
+ghost use Rattle.std.specs.Prelude.{◌≡◌};
+ghost use Rattle.isa.specs.Program.{Program};
+ghost use Rattle.isa.specs.Range.{IsProgram};
+ghost use Rattle.assembler.specs.Listing.{HasBytes, listing_of};
+
+/// The law that no two programs share a listing.
+pub fn listing_is_of_one_program()
+    ensures { (P Q : Program) → IsProgram P → IsProgram Q → HasBytes P → HasBytes Q
+        → listing_of P ≡ listing_of Q → P ≡ Q }
+{}

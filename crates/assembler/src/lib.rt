@@ -1,0 +1,15 @@
+//! The listings of programs: their text.
+#![tactic(auto)]
+
+mod assembling;
+mod draft;
+mod fault;
+mod laws;
+mod listing;
+mod things;
+mod words;
+
+pub use assembling::assemble;
+pub use fault::{AsmError, AsmErrorKind, AsmFault};
+pub use laws::listing_is_of_one_program;
+pub use listing::disassemble;

@@ -1,0 +1,144 @@
+ghost use Rattle.std.specs.Prelude.{◌≡◌, ℕ, List, Option, IfOk, option_map};
+ghost use Rattle.assembler.specs.Things.{at_end, bytes_in, constant_in, each_in, entry_in, first_number, instr_in, miss_in, operand_in};
+ghost use Rattle.assembler.specs.Words.{later, number_in};
+
+use crate::words::{kind_named, next_word, number_of, operation_named};
+use hex::FromHexError;
+use isa::{Entry, Instr, Shape};
+use outcome::Mismatch;
+use std::alloc::{AllocError, Global};
+
+/// The first number after a space, and what follows it.
+#[tactic(auto, unfolding(crate::specs::Things::first_number))]
+pub(crate) fn first_number(rest: &[u8]) -> Option<(u32, &[u8])>
+    ensures { option_map (λ p. (p.0, later p.1.now)) result ≡ first_number (later rest.now) }
+{
+    let (word, rest) = next_word(rest)?;
+    let number = number_of(word)?;
+    Some((number, rest))
+}
+
+/// The bytes whose lower-case hex a word is: one at least.
+#[tactic(auto, unfolding(crate::specs::Things::bytes_in))]
+fn bytes_of(alloc: Global, word: &[u8]) -> Result<Option<Vec<u8>>, AllocError>
+    ensures { IfOk result (λ found. option_map (λ bytes. bytes.items) found ≡ bytes_in word.now) }
+{
+    let bytes = match hex::decode(alloc, word) {
+        Ok(bytes) => bytes,
+        Err(FromHexError::OutOfMemory) => return Err(AllocError),
+        Err(_) => return Ok(None),
+    };
+    let again = hex::encode(alloc, bytes.as_slice())?;
+    if bytes.is_empty() || again.as_bytes() != word {
+        return Ok(None);
+    }
+    Ok(Some(bytes))
+}
+
+/// The constant that the words of a line say.
+#[tactic(auto, unfolding(crate::specs::Things::constant_in))]
+pub(crate) fn constant_of(alloc: Global, rest: &[u8]) -> Result<Option<Vec<u8>>, AllocError>
+    ensures { IfOk result (λ found. option_map (λ bytes. bytes.items) found ≡ constant_in (later rest.now)) }
+{
+    let Some((word, rest)) = next_word(rest) else {
+        return Ok(None);
+    };
+    let found = bytes_of(alloc, word)?;
+    match next_word(rest) {
+        Some(_) => Ok(None),
+        None => Ok(found),
+    }
+}
+
+/// What one word says.
+pub(crate) trait Word: Copy {
+    ghost said: { List ℕ → Option Self };
+
+    fn of_word(word: &[u8]) -> Option<Self>
+        ensures { result ≡ said word.now };
+}
+
+impl Word for u32 {
+    ghost said = { number_in };
+
+    fn of_word(word: &[u8]) -> Option<u32> {
+        number_of(word)
+    }
+}
+
+impl Word for Entry {
+    ghost said = { entry_in };
+
+    #[tactic(auto, unfolding(crate::specs::Things::entry_in))]
+    fn of_word(word: &[u8]) -> Option<Entry> {
+        match word {
+            [] => None,
+            [b'!', miss @ ..] => Some(Entry::Miss(number_of(miss)?)),
+            _ => Some(Entry::Position(number_of(word)?)),
+        }
+    }
+}
+
+/// What each of the words of a line says.
+pub(crate) fn list_of<T: Word>(alloc: Global, words: &[u8]) -> Result<Option<Vec<T>>, AllocError>
+    ensures { IfOk result (λ found. option_map (λ list. list.items) found ≡ each_in T.said (later words.now)) }
+{
+    let mut list = Vec::new(alloc);
+    let mut rest = words;
+    while let Some((word, after)) = next_word(rest) {
+        let Some(thing) = T::of_word(word) else {
+            return Ok(None);
+        };
+        list.push(thing)?;
+        rest = after;
+    }
+    Ok(Some(list))
+}
+
+/// A thing, where no word is left.
+fn at_end<T: Copy>(thing: T, rest: &[u8]) -> Option<T>
+    ensures { result ≡ at_end thing (later rest.now) }
+{
+    match next_word(rest) {
+        Some(_) => None,
+        None => Some(thing),
+    }
+}
+
+/// The miss that the words of a line say.
+#[tactic(auto, unfolding(crate::specs::Things::miss_in))]
+pub(crate) fn miss_of(rest: &[u8]) -> Option<Mismatch>
+    ensures { result ≡ miss_in (later rest.now) }
+{
+    let (word, rest) = next_word(rest)?;
+    let kind = kind_named(word)?;
+    let (writer_node, rest) = first_number(rest)?;
+    let (reader_node, rest) = first_number(rest)?;
+    let miss = Mismatch {
+        kind,
+        writer_node: writer_node as usize,
+        reader_node: reader_node as usize,
+    };
+    at_end(miss, rest)
+}
+
+/// The operand that an operation has, or else 0, and what follows it.
+fn operand_of(shape: Shape, rest: &[u8]) -> Option<(u32, &[u8])>
+    ensures { option_map (λ p. (p.0, later p.1.now)) result ≡ operand_in shape (later rest.now) }
+{
+    match shape {
+        Shape::Nothing => Some((0, rest)),
+        Shape::Short | Shape::Long | Shape::Address => first_number(rest),
+    }
+}
+
+/// The instruction that the words of a line say.
+#[tactic(auto, unfolding(crate::specs::Things::instr_in))]
+pub(crate) fn instr_of(rest: &[u8]) -> Option<Instr>
+    ensures { result ≡ instr_in (later rest.now) }
+{
+    let (word, rest) = next_word(rest)?;
+    let operation = operation_named(word)?;
+    let (operand, rest) = operand_of(operation.shape(), rest)?;
+    at_end(operation.with(operand), rest)
+}

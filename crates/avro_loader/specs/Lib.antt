@@ -1,0 +1,3 @@
+pub mod Image
+pub mod Reading
+pub mod Loading

@@ -1,0 +1,10 @@
+ghost use Rattle.std.specs.Prelude.{◌≡◌, ℕ, List};
+ghost use Rattle.isa.specs.Program.{Program};
+ghost use Rattle.isa.specs.Range.{IsProgram};
+ghost use Rattle.avro_loader.specs.Image.{IsImage};
+
+/// The law that no two programs share an image, of either version.
+pub fn image_is_of_one_program()
+    ensures { (P Q : Program) (bytes : List ℕ) → IsProgram P → IsProgram Q
+        → IsImage P bytes → IsImage Q bytes → P ≡ Q }
+{}

@@ -1,0 +1,138 @@
+ghost use Rattle.std.specs.Prelude.{◌≡◌, ℕ, List, length, IfOk, Ok};
+ghost use Rattle.isa.specs.Program.{Program as Parted, program_of};
+ghost use Rattle.isa.specs.Range.{IsProgram};
+ghost use Rattle.avro_loader.specs.Image.{IsImage, image_of};
+ghost use Rattle.avro_loader.specs.Loading.{in_range, loaded, loaded_as, migrated, opened, sections_at, starts_of, version_at};
+ghost use Rattle.avro_loader.specs.Reading.{Gives};
+ghost use Rattle.isa.specs.Judging.{judged};
+
+use crate::fault::{ImageFault, LoadError};
+use crate::places::{Sections, from_wrong};
+use crate::reading::{
+    section_of, section_of_code, section_of_constants, section_of_tables, u32_at,
+};
+use crate::saving::save;
+use crate::version::{Format, Version};
+use isa::{MOST_TABLES, Parts, Program, ProgramError};
+use std::alloc::Global;
+
+/// The number that every image begins with: the letters AVRP.
+pub const MAGIC: u32 = 0x4156_5250;
+
+/// The version that a byte tells, and the bytes after it.
+fn version_of(bytes: &[u8]) -> Result<(Version, &[u8]), LoadError>
+    ensures { Gives (λ x. (x.0, x.1.now)) result (version_at bytes.now) }
+{
+    match bytes {
+        [] => Err(LoadError::Fault(ImageFault::Truncated)),
+        [1, rest @ ..] => Ok((Version::One, rest)),
+        [2, rest @ ..] => Ok((Version::Two, rest)),
+        [_, ..] => Err(LoadError::Fault(ImageFault::BadVersion)),
+    }
+}
+
+/// The version of an image, and the bytes after it.
+#[tactic(auto, unfolding(crate::specs::Loading::opened))]
+fn open(bytes: &[u8]) -> Result<(Version, &[u8]), LoadError>
+    ensures { Gives (λ x. (x.0, x.1.now)) result (opened bytes.now) }
+{
+    let (magic, rest) = u32_at(bytes)?;
+    if magic != MAGIC {
+        return Err(LoadError::Fault(ImageFault::BadMagic));
+    }
+    version_of(rest)
+}
+
+/// What the sections hold and where they begin, and the bytes after them.
+#[tactic(auto, unfolding(crate::specs::Loading::sections_at))]
+fn sections_of(
+    alloc: Global,
+    format: Format,
+    bytes: &[u8],
+) -> Result<(Parts, Sections<'_>, &[u8]), LoadError>
+    ensures { Gives (λ x. ((program_of x.0, starts_of x.1), x.2.now)) result (sections_at format bytes.now) }
+{
+    let (constants, maps_from) = section_of_constants(alloc, format, bytes)?;
+    let (maps, jumps_from) = section_of_tables(alloc, format, maps_from)?;
+    let (jumps, misses_from) = section_of_tables(alloc, format, jumps_from)?;
+    let (misses, code_from) = section_of(alloc, format, MOST_TABLES, misses_from)?;
+    let (code, rest) = section_of_code(alloc, format, code_from)?;
+    let parts = Parts {
+        code,
+        constants,
+        maps,
+        jumps,
+        misses,
+    };
+    let starts = Sections {
+        maps: maps_from,
+        jumps: jumps_from,
+        misses: misses_from,
+        code: code_from,
+    };
+    Ok((parts, starts, rest))
+}
+
+/// A program of parts, or else the place of what is out of range.
+fn program_of_parts(
+    alloc: Global,
+    format: Format,
+    starts: Sections<'_>,
+    parts: Parts,
+) -> Result<Program, LoadError>
+    ensures { Gives (λ x. x) result (in_range format (starts_of starts.entry) (judged (program_of parts))) }
+{
+    match Program::new(parts) {
+        Ok(program) => Ok(program),
+        Err(error) => {
+            let left = from_wrong(alloc, format, starts, error)?;
+            Err(LoadError::Fault(ImageFault::OutOfRange(format.place(left))))
+        }
+    }
+}
+
+/// The program whose sections these bytes are.
+#[tactic(auto, unfolding(crate::specs::Loading::loaded_as))]
+fn load_as(alloc: Global, format: Format, bytes: &[u8]) -> Result<Program, LoadError>
+    ensures { Gives (λ x. x) result (loaded_as format bytes.now) }
+{
+    let (parts, starts, rest) = sections_of(alloc, format, bytes)?;
+    if !rest.is_empty() {
+        return Err(LoadError::Fault(ImageFault::Trailing(format.place(rest))));
+    }
+    program_of_parts(alloc, format, starts, parts)
+}
+
+/// The program that an image of either version tells, or else the first fault.
+#[tactic(auto, unfolding(crate::specs::Loading::loaded))]
+fn load_whole(alloc: Global, bytes: &[u8]) -> Result<Program, LoadError>
+    ensures { Gives (λ x. x) result (loaded bytes.now) }
+{
+    let (version, rest) = open(bytes)?;
+    let format = Format {
+        version,
+        len: bytes.len(),
+    };
+    load_as(alloc, format, rest)
+}
+
+/// The program whose image these bytes are, in either version, or else the first fault.
+pub fn load(alloc: Global, bytes: &[u8]) -> Result<Program, LoadError>
+    // What is loaded has these bytes as its image.
+    ensures found { IfOk result (λ P. IsImage P bytes.now) }
+    // The image of a program is loaded, unless memory runs out.
+    ensures only { (P : Parted) → IsProgram P → IsImage P bytes.now → Gives (λ x. x) result (Ok P) }
+    // Which fault it is.
+    ensures exact { Gives (λ x. x) result (loaded bytes.now) }
+{
+    load_whole(alloc, bytes)
+}
+
+/// The image of version 2 of the program whose image these bytes are, or else the first fault.
+pub fn migrate(alloc: Global, bytes: &[u8]) -> Result<Vec<u8>, LoadError>
+    ensures found { IfOk result (λ made. (P : Parted) × IsImage P bytes.now × (made.items ≡ image_of P)) }
+    ensures exact { Gives (λ made. made.items) result (migrated bytes.now) }
+{
+    let program = load(alloc, bytes)?;
+    Ok(save(alloc, &program)?)
+}

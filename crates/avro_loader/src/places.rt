@@ -1,0 +1,77 @@
+ghost use Rattle.std.specs.Prelude.{◌≡◌};
+ghost use Rattle.isa.specs.declared.limits.TheConstants.{MOST_ENTRIES};
+ghost use Rattle.avro_loader.specs.Loading.{after, from_wrong, starts_of};
+ghost use Rattle.avro_loader.specs.Reading.{Gives, section_at};
+
+use crate::fault::LoadError;
+use crate::reading::{tables_of, things_of, u32_at};
+use crate::thing::Thing;
+use crate::version::Format;
+use isa::{Entry, Instr, Lists, ProgramError};
+use outcome::Mismatch;
+use std::alloc::Global;
+
+/// The bytes of an image from each of its sections on.
+#[derive(Clone, Copy, Debug)]
+pub struct Sections<'a> {
+    pub maps: &'a [u8],
+    pub jumps: &'a [u8],
+    pub misses: &'a [u8],
+    pub code: &'a [u8],
+}
+
+/// The bytes after a count and so many things.
+#[tactic(auto, unfolding(crate::specs::Loading::after))]
+fn after<'a, T: Thing>(
+    alloc: Global,
+    format: Format,
+    number: usize,
+    bytes: &'a [u8],
+) -> Result<&'a [u8], LoadError>
+    ensures { Gives (λ left. left.now) result (after (T.thing_at format) number bytes.now) }
+{
+    let (_count, rest) = u32_at(bytes)?;
+    let (_things, left): (Vec<T>, &[u8]) = things_of(alloc, format, number, rest)?;
+    Ok(left)
+}
+
+/// The bytes after a count and so many tables.
+#[tactic(auto, unfolding(crate::specs::Loading::after))]
+fn after_tables<'a, T: Thing>(
+    alloc: Global,
+    format: Format,
+    number: usize,
+    bytes: &'a [u8],
+) -> Result<&'a [u8], LoadError>
+    ensures { Gives (λ left. left.now) result
+        (after (section_at format MOST_ENTRIES (T.thing_at format)) number bytes.now) }
+{
+    let (_count, rest) = u32_at(bytes)?;
+    let (_tables, left): (Lists<T>, &[u8]) = tables_of(alloc, format, number, rest)?;
+    Ok(left)
+}
+
+/// The bytes from the thing on that is out of range.
+#[tactic(auto, unfolding(crate::specs::Loading::from_wrong))]
+pub(crate) fn from_wrong<'a>(
+    alloc: Global,
+    format: Format,
+    starts: Sections<'a>,
+    error: ProgramError,
+) -> Result<&'a [u8], LoadError>
+    ensures { Gives (λ left. left.now) result (from_wrong format (starts_of starts.entry) error) }
+{
+    match error {
+        ProgramError::Entry(map, entry) => {
+            let left = after_tables::<Entry>(alloc, format, map, starts.maps)?;
+            after::<Entry>(alloc, format, entry, left)
+        }
+        ProgramError::Address(table, address) => {
+            let left = after_tables::<u32>(alloc, format, table, starts.jumps)?;
+            after::<u32>(alloc, format, address, left)
+        }
+        ProgramError::Miss(miss) => after::<Mismatch>(alloc, format, miss, starts.misses),
+        ProgramError::Instr(address) => after::<Instr>(alloc, format, address, starts.code),
+        ProgramError::NoCode | ProgramError::TooLarge | ProgramError::EmptyConstant(_) => Ok(&[]),
+    }
+}

@@ -1,0 +1,55 @@
+ghost use Rattle.std.specs.Prelude.{◌≡◌, ◌++◌, OnOk, IfOk};
+ghost use Rattle.avro_loader.specs.Image.{constant, image_of, section};
+
+use crate::thing::{Thing, put_long};
+use isa::{Lists, Program};
+use std::alloc::{AllocError, Global};
+
+/// A section of things.
+fn put_section<T: Thing>(out: &mut Vec<u8>, things: &[T]) -> Result<(), AllocError>
+    ensures { OnOk result (out.new.items ≡ out.old.items ++ section T.spelled things.now) }
+{
+    put_long(out, things.len())?;
+    for thing in things {
+        thing.put(out)?;
+    }
+    Ok(())
+}
+
+/// A section of tables.
+fn put_tables<T: Thing>(out: &mut Vec<u8>, tables: &Lists<T>) -> Result<(), AllocError>
+    ensures { OnOk result (out.new.items ≡ out.old.items ++ section (section T.spelled) tables.now) }
+{
+    put_long(out, tables.len())?;
+    for number in 0..tables.len() {
+        put_section(out, tables.list(number))?;
+    }
+    Ok(())
+}
+
+/// The section of constants.
+fn put_constants(out: &mut Vec<u8>, constants: &Lists<u8>) -> Result<(), AllocError>
+    ensures { OnOk result (out.new.items ≡ out.old.items ++ section constant constants.now) }
+{
+    put_long(out, constants.len())?;
+    for number in 0..constants.len() {
+        let constant = constants.list(number);
+        put_long(out, constant.len())?;
+        out.extend_from_slice(constant)?;
+    }
+    Ok(())
+}
+
+/// The image of a program, in version 2.
+pub fn save(alloc: Global, program: &Program) -> Result<Vec<u8>, AllocError>
+    ensures { IfOk result (λ made. made.items ≡ image_of program.now) }
+{
+    let mut out = Vec::new(alloc);
+    out.extend_from_slice(b"AVRP\x02")?;
+    put_constants(&mut out, program.constants())?;
+    put_tables(&mut out, program.maps())?;
+    put_tables(&mut out, program.jumps())?;
+    put_section(&mut out, program.misses())?;
+    put_section(&mut out, program.code())?;
+    Ok(out)
+}

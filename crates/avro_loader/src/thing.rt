@@ -1,0 +1,190 @@
+ghost use Rattle.std.specs.Prelude.{◌≡◌, ◌++◌, ℕ, List, OnOk, IfSome, Some, None};
+ghost use Rattle.std.specs.Int.{w16, w32};
+ghost use Rattle.avro_loader.specs.declared.version.Format.{Format};
+ghost use Rattle.avro_loader.specs.declared.version.Version.TheVariants.{Two};
+ghost use Rattle.avro_loader.specs.Image.{address, entry, miss, instr, kind_code, short, long, operand};
+ghost use Rattle.avro_loader.specs.Reading.{Gives, Read, address_at, entry_at, miss_at, instr_at, operand_at, kind_at};
+
+use crate::fault::{ImageFault, LoadError};
+use crate::reading::{address_of, u16_at, u32_at};
+use crate::version::Format;
+use isa::{Entry, Instr, Operation, Shape};
+use outcome::{Mismatch, MismatchKind};
+use std::alloc::AllocError;
+
+/// What stands in a section so many times.
+pub(crate) trait Thing: Copy {
+    /// One that stands at the front of bytes, and the bytes after it.
+    ghost thing_at: { Format → List ℕ → Read Self };
+
+    /// Its bytes in version 2.
+    ghost spelled: { Self → List ℕ };
+
+    fn read<'a>(format: Format, bytes: &'a [u8]) -> Result<(Self, &'a [u8]), LoadError>
+        ensures { Gives (λ x. (x.0, x.1.now)) result (thing_at format bytes.now) };
+
+    fn put(self, out: &mut Vec<u8>) -> Result<(), AllocError>
+        ensures { OnOk result (out.new.items ≡ out.old.items ++ spelled self) };
+}
+
+/// A number in its lowest 2 bytes.
+fn put_short(out: &mut Vec<u8>, number: usize) -> Result<(), AllocError>
+    ensures { OnOk result (out.new.items ≡ out.old.items ++ short number) }
+{
+    let [_, _, _, _, _, _, high, low] = number.to_be_bytes();
+    out.extend_from_slice(&[high, low])
+}
+
+/// A number in its lowest 4 bytes.
+pub(crate) fn put_long(out: &mut Vec<u8>, number: usize) -> Result<(), AllocError>
+    ensures { OnOk result (out.new.items ≡ out.old.items ++ long number) }
+{
+    let [_, _, _, _, a, b, c, d] = number.to_be_bytes();
+    out.extend_from_slice(&[a, b, c, d])
+}
+
+impl Thing for u32 {
+    ghost thing_at = { address_at };
+
+    ghost spelled = { address Two };
+
+    fn read<'a>(format: Format, bytes: &'a [u8]) -> Result<(u32, &'a [u8]), LoadError> {
+        address_of(format, bytes)
+    }
+
+    fn put(self, out: &mut Vec<u8>) -> Result<(), AllocError> {
+        put_long(out, self as usize)
+    }
+}
+
+impl Thing for Entry {
+    ghost thing_at = { entry_at };
+
+    ghost spelled = { entry };
+
+    #[tactic(auto, unfolding(crate::specs::Reading::entry_at))]
+    fn read<'a>(format: Format, bytes: &'a [u8]) -> Result<(Entry, &'a [u8]), LoadError> {
+        match bytes {
+            [] => Err(LoadError::Fault(ImageFault::Truncated)),
+            [0, rest @ ..] => {
+                let (position, rest) = u16_at(rest)?;
+                Ok((Entry::Position(position), rest))
+            }
+            [1, rest @ ..] => {
+                let (miss, rest) = u16_at(rest)?;
+                Ok((Entry::Miss(miss), rest))
+            }
+            [_, ..] => Err(LoadError::Fault(ImageFault::BadByte(format.place(bytes)))),
+        }
+    }
+
+    fn put(self, out: &mut Vec<u8>) -> Result<(), AllocError> {
+        match self {
+            Entry::Position(position) => {
+                out.push(0)?;
+                put_short(out, position as usize)
+            }
+            Entry::Miss(miss) => {
+                out.push(1)?;
+                put_short(out, miss as usize)
+            }
+        }
+    }
+}
+
+/// The kind of a miss that a byte tells.
+fn kind_of(byte: u8) -> Option<MismatchKind>
+    ensures { result ≡ kind_at byte }
+{
+    match byte {
+        1 => Some(MismatchKind::NoMatch),
+        2 => Some(MismatchKind::NoBranch),
+        3 => Some(MismatchKind::NoSymbol),
+        4 => Some(MismatchKind::NoDefault),
+        5 => Some(MismatchKind::BytesNotText),
+        _ => None,
+    }
+}
+
+/// The byte that tells a kind of a miss.
+fn code_of_kind(kind: MismatchKind) -> u8
+    ensures { result ≡ kind_code kind }
+{
+    match kind {
+        MismatchKind::NoMatch => 1,
+        MismatchKind::NoBranch => 2,
+        MismatchKind::NoSymbol => 3,
+        MismatchKind::NoDefault => 4,
+        MismatchKind::BytesNotText => 5,
+    }
+}
+
+impl Thing for Mismatch {
+    ghost thing_at = { miss_at };
+
+    ghost spelled = { miss };
+
+    #[tactic(auto, unfolding(crate::specs::Reading::miss_at))]
+    fn read<'a>(format: Format, bytes: &'a [u8]) -> Result<(Mismatch, &'a [u8]), LoadError> {
+        let [first, rest @ ..] = bytes else {
+            return Err(LoadError::Fault(ImageFault::Truncated));
+        };
+        let Some(kind) = kind_of(*first) else {
+            return Err(LoadError::Fault(ImageFault::BadByte(format.place(bytes))));
+        };
+        let (writer_node, rest) = u16_at(rest)?;
+        let (reader_node, rest) = u16_at(rest)?;
+        let miss = Mismatch {
+            kind,
+            writer_node: writer_node as usize,
+            reader_node: reader_node as usize,
+        };
+        Ok((miss, rest))
+    }
+
+    fn put(self, out: &mut Vec<u8>) -> Result<(), AllocError> {
+        out.push(code_of_kind(self.kind))?;
+        put_short(out, self.writer_node)?;
+        put_short(out, self.reader_node)
+    }
+}
+
+/// The operand of an operation, and the bytes after it.
+fn operand_of(format: Format, shape: Shape, bytes: &[u8]) -> Result<(u32, &[u8]), LoadError>
+    ensures { Gives (λ x. (x.0, x.1.now)) result (operand_at format shape bytes.now) }
+{
+    match shape {
+        Shape::Nothing => Ok((0, bytes)),
+        Shape::Short => u16_at(bytes),
+        Shape::Long => u32_at(bytes),
+        Shape::Address => address_of(format, bytes),
+    }
+}
+
+impl Thing for Instr {
+    ghost thing_at = { instr_at };
+
+    ghost spelled = { instr Two };
+
+    #[tactic(auto, unfolding(crate::specs::Reading::instr_at))]
+    fn read<'a>(format: Format, bytes: &'a [u8]) -> Result<(Instr, &'a [u8]), LoadError> {
+        let [first, rest @ ..] = bytes else {
+            return Err(LoadError::Fault(ImageFault::Truncated));
+        };
+        let Some(operation) = Operation::at_code(*first) else {
+            return Err(LoadError::Fault(ImageFault::BadByte(format.place(bytes))));
+        };
+        let (operand, rest) = operand_of(format, operation.shape(), rest)?;
+        Ok((operation.with(operand), rest))
+    }
+
+    fn put(self, out: &mut Vec<u8>) -> Result<(), AllocError> {
+        let operation = self.operation();
+        out.push(operation.code())?;
+        match operation.shape() {
+            Shape::Nothing => Ok(()),
+            Shape::Short => put_short(out, self.operand() as usize),
+            Shape::Long | Shape::Address => put_long(out, self.operand() as usize),
+        }
+    }
+}

@@ -1,0 +1,200 @@
+//! Images of both versions: those of a program, and what is told of bytes that are no image.
+
+use avro_loader::{ImageFault, LoadError, load, migrate, save};
+use isa::{Entry, Instr, Program};
+use outcome::{Mismatch, MismatchKind};
+use std::alloc::{AllocError, Global};
+
+/// The image of a record of a long and a string to itself, in version 1.
+const IMAGE_1: &str = "4156525001 00000000 00000000 00000000 00000000 00000009 \
+    1c0002 1f 110002 120000 03 120001 05 13 1d";
+
+/// The same, in version 2.
+const IMAGE_2: &str = "4156525002 00000000 00000000 00000000 00000000 00000009 \
+    1c00000002 1f 110002 120000 03 120001 05 13 1d";
+
+/// An image that has a thing of each kind: a constant, a map, a jump table, a miss and a code.
+const IMAGE_OF_ALL: &str = "4156525002 00000001 00000002 02ff 00000001 00000002 00 0003 01 0000 \
+    00000001 00000002 00000000 00000005 00000001 03 0001 0002 \
+    00000006 080000 1a0000 100000 1b0000 0700000010 1f";
+
+/// The image of a code that passes over an enum of three symbols, whose operand has 4 bytes.
+const IMAGE_OF_ENUM: &str = "4156525002 00000000 00000000 00000000 00000000 00000002 0f00000003 1f";
+
+/// The digit that a letter is, or 16.
+fn digit(letter: u8) -> u8 {
+    match letter {
+        b'0'..=b'9' => letter - b'0',
+        b'a'..=b'f' => letter - b'a' + 10,
+        _ => 16,
+    }
+}
+
+/// The bytes of hexadecimal digits, two for each, with anything between them.
+fn bytes(alloc: Global, text: &str) -> Result<Vec<u8>, AllocError> {
+    let mut bytes = Vec::new(alloc);
+    let mut high = None;
+    for letter in text.as_bytes() {
+        let low = digit(*letter);
+        if low < 16 {
+            match high {
+                None => high = Some(low),
+                Some(value) => {
+                    bytes.push((value & 15) * 16 + low)?;
+                    high = None;
+                }
+            }
+        }
+    }
+    Ok(bytes)
+}
+
+/// The first fault of bytes.
+fn fault_of(alloc: Global, bytes: &[u8]) -> Option<ImageFault> {
+    match load(alloc, bytes) {
+        Err(LoadError::Fault(fault)) => Some(fault),
+        _ => None,
+    }
+}
+
+/// The first fault of the image of version 1, with another byte at a place.
+fn fault_with(
+    alloc: Global,
+    image: &str,
+    at: usize,
+    byte: u8,
+) -> Result<Option<ImageFault>, AllocError> {
+    let mut changed = bytes(alloc, image)?;
+    if at < changed.len() {
+        changed[at] = byte;
+    }
+    Ok(fault_of(alloc, &changed))
+}
+
+#[test]
+fn both_versions_are_loaded_and_saved_as_the_second(rt: HostRuntime) {
+    let alloc = rt.alloc();
+    let first = bytes(alloc, IMAGE_1).expect(&rt, "memory");
+    let second = bytes(alloc, IMAGE_2).expect(&rt, "memory");
+    assert!(rt; first.len() == 42 && second.len() == 44);
+    let code = [
+        Instr::Call(2),
+        Instr::Halt,
+        Instr::Record(2),
+        Instr::Slot(0),
+        Instr::Long,
+        Instr::Slot(1),
+        Instr::Text,
+        Instr::EndRecord,
+        Instr::Return,
+    ];
+    let old: Program = load(alloc, &first).expect(&rt, "an image");
+    assert!(rt; old.code() == code.as_slice());
+    let new = load(alloc, &second).expect(&rt, "an image");
+    assert!(rt; new.code() == code.as_slice());
+    assert!(rt; save(alloc, &old).expect(&rt, "memory").as_slice() == second.as_slice());
+    assert!(rt; migrate(alloc, &first).expect(&rt, "an image").as_slice() == second.as_slice());
+    assert!(rt; migrate(alloc, &second).expect(&rt, "an image").as_slice() == second.as_slice());
+}
+
+#[test]
+fn things_of_each_kind_are_loaded_and_saved(rt: HostRuntime) {
+    let alloc = rt.alloc();
+    let image = bytes(alloc, IMAGE_OF_ALL).expect(&rt, "memory");
+    let program = load(alloc, &image).expect(&rt, "an image");
+    assert!(rt; program.constants().get(0) == Some([2u8, 255].as_slice()));
+    assert!(rt; program.maps().get(0) == Some([Entry::Position(3), Entry::Miss(0)].as_slice()));
+    assert!(rt; program.jumps().get(0) == Some([0u32, 5].as_slice()));
+    let miss = Mismatch {
+        kind: MismatchKind::NoSymbol,
+        writer_node: 1,
+        reader_node: 2,
+    };
+    assert!(rt; program.misses() == [miss].as_slice());
+    assert!(rt; save(alloc, &program).expect(&rt, "memory").as_slice() == image.as_slice());
+}
+
+#[test]
+fn an_enum_has_four_bytes_for_its_symbols(rt: HostRuntime) {
+    let alloc = rt.alloc();
+    let image = bytes(alloc, IMAGE_OF_ENUM).expect(&rt, "memory");
+    let program = load(alloc, &image).expect(&rt, "an image");
+    let code = [Instr::SkipEnum(3), Instr::Halt];
+    assert!(rt; program.code() == code.as_slice());
+    assert!(rt; save(alloc, &program).expect(&rt, "memory").as_slice() == image.as_slice());
+}
+
+#[test]
+fn faults_are_told_in_reading_order(rt: HostRuntime) {
+    let alloc = rt.alloc();
+    let cases = [
+        (0, 0u8, ImageFault::BadMagic),
+        (4, 3, ImageFault::BadVersion),
+        (5, 1, ImageFault::TooLarge(5)),
+        (25, 0x20, ImageFault::BadByte(25)),
+        (25, 0, ImageFault::BadByte(25)),
+        (27, 9, ImageFault::OutOfRange(25)),
+        (24, 0, ImageFault::NoCode),
+        (24, 8, ImageFault::Trailing(41)),
+        (24, 10, ImageFault::Truncated),
+    ];
+    for (at, byte, fault) in cases {
+        let found = fault_with(alloc, IMAGE_1, at, byte).expect(&rt, "memory");
+        assert!(rt; found == Some(fault));
+    }
+}
+
+#[test]
+fn faults_of_tables_are_told_at_their_places(rt: HostRuntime) {
+    let alloc = rt.alloc();
+    let cases = [
+        (12, 0u8, ImageFault::BadByte(9)),
+        (10, 0xff, ImageFault::TooLarge(9)),
+        (23, 2, ImageFault::BadByte(23)),
+        (24, 0x10, ImageFault::OutOfRange(23)),
+        (28, 1, ImageFault::OutOfRange(26)),
+        (44, 6, ImageFault::OutOfRange(41)),
+        (49, 6, ImageFault::BadByte(49)),
+        (50, 4, ImageFault::OutOfRange(49)),
+        (60, 1, ImageFault::OutOfRange(58)),
+    ];
+    for (at, byte, fault) in cases {
+        let found = fault_with(alloc, IMAGE_OF_ALL, at, byte).expect(&rt, "memory");
+        assert!(rt; found == Some(fault));
+    }
+}
+
+#[test]
+fn every_front_is_truncated_and_nothing_follows(rt: HostRuntime) {
+    let alloc = rt.alloc();
+    for text in [IMAGE_1, IMAGE_2, IMAGE_OF_ALL] {
+        let mut image = bytes(alloc, text).expect(&rt, "memory");
+        for len in 0..image.len() {
+            assert!(rt; fault_of(alloc, &image[..len]) == Some(ImageFault::Truncated));
+        }
+        image.push(0).expect(&rt, "memory");
+        assert!(rt; fault_of(alloc, &image) == Some(ImageFault::Trailing(image.len() - 1)));
+    }
+}
+
+#[test]
+fn bytes_that_are_loaded_are_an_image(rt: HostRuntime) {
+    let alloc = rt.alloc();
+    for text in [IMAGE_1, IMAGE_2, IMAGE_OF_ALL] {
+        let image = bytes(alloc, text).expect(&rt, "memory");
+        for at in 0..image.len() {
+            for byte in 0..=255u8 {
+                let mut changed = image.clone().expect(&rt, "memory");
+                changed[at] = byte;
+                if let Ok(program) = load(alloc, &changed) {
+                    let saved = save(alloc, &program).expect(&rt, "memory");
+                    assert!(rt; changed[4] == 1 || saved.as_slice() == changed.as_slice());
+                    assert!(rt;
+                        migrate(alloc, &changed).expect(&rt, "an image").as_slice()
+                            == saved.as_slice()
+                    );
+                }
+            }
+        }
+    }
+}

@@ -1,0 +1,9 @@
+mod Stretches
+mod Turns
+pub mod Judged
+mod Longer
+mod Held
+mod Proper
+mod RowLaws
+mod Worked
+pub mod Operations

@@ -1,0 +1,135 @@
+ghost use Rattle.std.specs.Prelude.{◌≡◌, ◌≤◌, ◌<◌, ◌++◌, ◌∷◌, [], List, length, map, option_map, slice_get, slice_index_or, nat_le, Some, OnOk, OnErr};
+ghost use Rattle.isa.specs.Judging.{are_within, first_empty};
+ghost use Rattle.isa.specs.Lists.{total_length};
+
+use std::alloc::{AllocError, Global};
+use std::marker::Model;
+
+/// Where a list lies among the items.
+#[derive(Clone, Copy, Debug)]
+pub struct Stretch {
+    from: usize,
+    to: usize,
+}
+
+/// A list of lists, in one piece of memory. Lists may share their items. Callers see it as the lists.
+#[derive(Debug, Drop)]
+pub struct Lists<T> {
+    items: Vec<T>,
+    stretches: Vec<Stretch>,
+}
+
+impl<T> Model for Lists<T> {
+    ghost use Rattle.std.specs.Prelude.{List};
+    ghost use Rattle.isa.specs.Lists.{AreWithin, lists_in};
+
+    ghost Value = { List (List T) };
+
+    ghost view = { λ s. lists_in s.items.items s.stretches.items };
+
+    ghost invariant = { λ s. AreWithin s.items.items s.stretches.items };
+}
+
+impl<T: Copy> Lists<T> {
+    /// No list.
+    pub fn new(alloc: Global) -> Lists<T>
+        ensures { result ≡ [] }
+    {
+        Lists {
+            items: Vec::new(alloc),
+            stretches: Vec::new(alloc),
+        }
+    }
+
+    /// How many lists there are.
+    pub fn len(&self) -> usize
+        ensures { result ≡ length self.now }
+    {
+        self.stretches.len()
+    }
+
+    /// The list of a number.
+    pub fn get(&self, number: usize) -> Option<&[T]>
+        ensures { option_map (λ list. list.now) result ≡ slice_get self.now number }
+    {
+        match self.stretches.get(number) {
+            Some(stretch) => Some(&self.items[stretch.from..stretch.to]),
+            None => None,
+        }
+    }
+
+    /// The list of a number that there is.
+    pub fn list(&self, number: usize) -> &[T]
+        requires { number < length self.now }
+        ensures { slice_get self.now number ≡ Some result.now }
+    {
+        let stretch = self.stretches[number];
+        &self.items[stretch.from..stretch.to]
+    }
+
+    /// One list more, after the others.
+    pub fn push(&mut self, list: &[T]) -> Result<(), AllocError>
+        ensures pushed { OnOk result (self.new ≡ self.old ++ list.now ∷ []) }
+        ensures refused { OnErr result (self.new ≡ self.old) }
+    {
+        self.stretches.try_reserve(1)?;
+        let from = self.items.len();
+        self.items.extend_from_slice(list)?;
+        let to = self.items.len();
+        self.stretches.push(Stretch { from, to })?;
+        Ok(())
+    }
+
+    /// The list of a number once more, after the others. It takes the room of none.
+    pub fn push_again(&mut self, number: usize) -> Result<(), AllocError>
+        requires { number < length self.old }
+        ensures pushed { OnOk result (self.new ≡ self.old ++ slice_index_or self.old number [] ∷ []) }
+        ensures refused { OnErr result (self.new ≡ self.old) }
+    {
+        let stretch = self.stretches[number];
+        self.stretches.push(stretch)?;
+        Ok(())
+    }
+
+    /// The first list that has nothing in it.
+    #[tactic(auto, using(crate::proofs::Turns::empty_here, crate::proofs::Turns::empty_later))]
+    pub fn first_empty(&self) -> Option<usize>
+        ensures { result ≡ first_empty self.now }
+    {
+        for number in 0..self.len() {
+            if self.list(number).is_empty() {
+                return Some(number);
+            }
+        }
+        None
+    }
+
+    /// Whether each list has so many items at most.
+    #[tactic(auto, using(crate::proofs::Turns::long_here, crate::proofs::Turns::short_here))]
+    pub fn are_within(&self, most: usize) -> bool
+        ensures { result ≡ are_within most self.now }
+    {
+        for number in 0..self.len() {
+            if self.list(number).len() > most {
+                return false;
+            }
+        }
+        true
+    }
+
+    /// Whether all lists together have so many items at most, shared ones counted each time.
+    #[tactic(auto, using(crate::proofs::Turns::total_here))]
+    pub fn total_is_within(&self, most: usize) -> bool
+        ensures { result ≡ nat_le (total_length self.now) most }
+    {
+        let mut left = most;
+        for number in 0..self.len() {
+            let len = self.list(number).len();
+            if len > left {
+                return false;
+            }
+            left -= len;
+        }
+        true
+    }
+}

@@ -1,0 +1,17 @@
+use crate::entry::Entry;
+use crate::instr::Instr;
+use crate::lists::Lists;
+use outcome::Mismatch;
+
+/// What a program is made of.
+#[derive(Debug, Drop)]
+pub struct Parts {
+    pub code: Vec<Instr>,
+    /// The bytes that are put.
+    pub constants: Lists<u8>,
+    /// What each symbol of a writer's enum becomes.
+    pub maps: Lists<Entry>,
+    /// Where each member of a writer's union goes on.
+    pub jumps: Lists<u32>,
+    pub misses: Vec<Mismatch>,
+}

@@ -1,0 +1,25 @@
+mod Examples
+pub mod Numbers
+pub mod Placed
+pub mod Numbering
+pub mod SkipStanding
+pub mod WriteStanding
+pub mod DefaultsStanding
+pub mod Sections
+pub mod Closed
+pub mod Linked
+pub mod Good
+pub mod Levels
+pub mod GoodSkips
+pub mod GoodWrites
+pub mod GoodSections
+pub mod Callers
+pub mod Rounds
+pub mod Whole
+pub mod Ranges
+pub mod InRange
+pub mod Apart
+pub mod Finding
+pub mod Limits
+pub mod Going
+pub mod Growing

@@ -1,0 +1,9 @@
+pub mod Lines
+pub mod Skipping
+pub mod Writing
+pub mod Numbering
+pub mod Code
+pub mod SkipStands
+pub mod Stands
+pub mod Linking
+pub mod Limits

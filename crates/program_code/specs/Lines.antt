@@ -1,0 +1,60 @@
+-- Lines of a program's code: instructions whose numbers and addresses the whole program decides. All of this is this project's own.
+use Rattle.std.specs.Prelude.{ℕ, ◌+◌, List, [], ◌∷◌, ◌++◌, length}
+use Rattle.outcome.specs.declared.mismatch.Mismatch.{Mismatch}
+use Rattle.outcome.specs.declared.mismatch.MismatchKind.{MismatchKind}
+use Rattle.isa.specs.declared.instr.Instr.{Instr}
+use Rattle.isa.specs.declared.instr.Instr.TheVariants as op
+
+-- a part of the code
+pub data Section : Type 0 where
+  -- X(0, 0), HALT
+  Main : Section
+  -- the routine of a writer's record w and a reader's record r
+  Write : (w r : ℕ) → Section
+  -- the routine that skips a writer's record w
+  Skip : (w : ℕ) → Section
+
+-- what a symbol becomes
+pub data Target : Type 0 where
+  To : (position : ℕ) → Target
+  Lacks : (m : Mismatch) → Target
+
+pub data Line : Type 0 where
+  -- an instruction whose operand is known
+  Op : (i : Instr) → Line
+  -- PUT, MISS, BYTESTEXT, ENUM and CALL, with what they name
+  Put : (bytes : List ℕ) → Line
+  Miss : (m : Mismatch) → Line
+  BytesText : (m : Mismatch) → Line
+  Enum : (targets : List Target) → Line
+  Call : (s : Section) → Line
+  -- NEXT, SNEXT or JUMP to an address so far ahead
+  Ahead : (go : ℕ → Instr) → (far : ℕ) → Line
+  -- JUMP so far back
+  Back : (far : ℕ) → Line
+  -- BRANCH to addresses so far ahead
+  Branch : (fars : List ℕ) → Line
+  -- no code: a node that is none of the schema's, or whose arrays, maps and unions hold each other without end
+  Lost : Line
+
+abbrev pub miss : MismatchKind → ℕ → ℕ → Mismatch
+miss kind w r = record { kind = kind; writer_node = w; reader_node = r }
+
+-- L: NEXT e; body; JUMP L; e:
+abbrev pub looped : (ℕ → Instr) → List Line → List Line
+looped next body = Ahead next (length body + 2) ∷ (body ++ Back (length body + 1) ∷ [])
+
+-- codes, after each but the last a JUMP to where the last ends
+abbrev pub one_of : List (List Line) → List Line
+one_of [] = []
+one_of (code ∷ []) = code
+one_of (code ∷ other ∷ codes) = code ++ Ahead op.Jump (length (one_of (other ∷ codes)) + 1) ∷ one_of (other ∷ codes)
+
+-- where each begins
+abbrev pub begins : ℕ → List (List Line) → List ℕ
+begins far [] = []
+begins far (code ∷ codes) = far ∷ begins (far + length code + 1) codes
+
+-- BRANCH t; one code for each member
+abbrev pub branched : List (List Line) → List Line
+branched codes = Branch (begins 1 codes) ∷ one_of codes

@@ -1,0 +1,6 @@
+//! The program of a pair of schemas.
+#![tactic(auto)]
+
+mod laws;
+
+pub use laws::{no_program_only_past_a_limit, program_is_in_range, program_is_linked};
