@@ -9,7 +9,7 @@ ghost use Rattle.commands.specs.declared.status.Status.TheVariants.{BadTraffic, 
 mod tests;
 
 use clap::error::ErrorKind;
-use clap::{ArgMatches, Command};
+use clap::{Arg, ArgAction, ArgMatches, Command};
 use commands::{RunError, Status, Verb, run};
 use std::alloc::{AllocError, Global};
 use std::io;
@@ -21,16 +21,27 @@ fn command_line<'a>(alloc: Global) -> Result<Command<'a>, AllocError> {
     let transcode = Command::new(alloc, "transcode").about(
         "Transcodes payloads from a writer's schema to a reader's",
     );
+    let image = Arg::new(alloc, "image")
+        .long("image")
+        .action(ArgAction::SetTrue)
+        .help("Prints the image in one line of hexadecimal, in place of the listing");
+    let compile = Command::new(alloc, "compile")
+        .about("Prints the program that transcodes from a writer's schema to a reader's")
+        .arg(image)?;
     Command::new(alloc, "avrogate")
         .about("Transcodes Avro data between standard input and standard output")
         .subcommand_required(true)
-        .subcommand(transcode)
+        .subcommand(transcode)?
+        .subcommand(compile)
 }
 
 /// What the words ask for.
 fn verb_of(matches: &ArgMatches<'_>) -> Option<Verb> {
     match matches.subcommand() {
         Some(("transcode", _)) => Some(Verb::Transcode),
+        Some(("compile", words)) => Some(Verb::Compile {
+            image: words.get_flag("image"),
+        }),
         _ => None,
     }
 }

@@ -6,12 +6,25 @@ use std::test::Fail;
 
 #[test]
 fn reads_the_command_line(rt: HostRuntime) -> Result<(), Fail> {
-    let verb = command_line(rt.alloc())?.try_get_matches_from(&["avrogate", "transcode"])?;
-    assert_eq!(rt; verb_of(&verb), Some(Verb::Transcode));
-    let table: [(&[&str], i32); 4] = [
+    let verbs: [(&[&str], Verb); 3] = [
+        (&["avrogate", "transcode"], Verb::Transcode),
+        (&["avrogate", "compile"], Verb::Compile { image: false }),
+        (
+            &["avrogate", "compile", "--image"],
+            Verb::Compile { image: true },
+        ),
+    ];
+    for (words, verb) in verbs {
+        let read = command_line(rt.alloc())?.try_get_matches_from(words)?;
+        assert_eq!(rt; verb_of(&read), Some(verb), "at {words:?}");
+    }
+    let table: [(&[&str], i32); 7] = [
         (&["avrogate"], 2),
-        (&["avrogate", "compile"], 2),
+        (&["avrogate", "replay"], 2),
         (&["avrogate", "transcode", "more"], 2),
+        (&["avrogate", "transcode", "--image"], 2),
+        (&["avrogate", "compile", "more"], 2),
+        (&["avrogate", "compile", "--image", "--image"], 2),
         (&["avrogate", "--help"], 0),
     ];
     for (words, code) in table {

@@ -1,5 +1,5 @@
 pub mod Answers
 pub mod OneOutput
-pub mod Schemas
+pub mod SchemaLines
 pub mod Split
 pub mod Traffic

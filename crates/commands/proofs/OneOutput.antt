@@ -1,15 +1,21 @@
 -- Each input has just one output: line by line, since each payload has just one outcome.
-use Rattle.std.proofs.Common.{◌≡◌, ℕ, Bool, true, false, List, [], ◌∷◌, ◌++◌, length, Option, Some, None, Result, Ok, Err, MatchBool, MatchOption, nat_lt, drop, codes, refl, sym, ap, ◌∙◌}
+use Rattle.std.proofs.Common.{◌≡◌, ℕ, Bool, true, false, List, [], ◌∷◌, ◌++◌, length, Option, Some, None, Result, Ok, Err, MatchBool, MatchOption, MatchResult, nat_lt, drop, codes, refl, sym, ap, ◌∙◌}
 use Rattle.avro_types.specs.Node.{Node}
-use Rattle.schema_drafts.specs.declared.error.SchemaError.{SchemaError}
+use Rattle.isa.specs.Program.{Program}
+use Rattle.program_code.specs.Code.{code_of}
 use Rattle.outcome.specs.Outcome.{Outcome}
 use Rattle.outcome.specs.declared.limits.TheConstants.{MOST_PAYLOAD}
 use Rattle.resolver.specs.Outcome.{IsOutcome}
 use Rattle.commands.specs.Answer.{IsAnswer, IsAnswers, IsPayloadAnswer, line_of}
 use Rattle.commands.specs.Lines.{lines}
-use Rattle.commands.specs.Output.{HasOneOutput, HasOutput, IsReport, bad_schema, line_at, schema_of_line}
+use Rattle.commands.specs.Output.{HasOneOutput, HasOutput, IsOutputOf, text_of_program}
 use Rattle.commands.specs.Payload.{payload_of}
-use Rattle.commands.specs.declared.command.Verb.TheVariants.{Transcode}
+use Rattle.commands.specs.Refusal.{IsRefused, text_of}
+use Rattle.commands.specs.Schemas.{schemas_of}
+use Rattle.commands.specs.declared.command.Verb.{Verb}
+use Rattle.commands.specs.declared.command.Verb.TheVariants.{Compile, Transcode}
+use Rattle.commands.specs.declared.refusal.Refusal.{Refusal}
+use Rattle.commands.specs.declared.refusal.Refusal.TheVariants.{ProgramTooLarge}
 use Rattle.commands.specs.declared.status.Status.{Status}
 use Rattle.commands.specs.declared.status.Status.TheVariants.{Answered, Refused}
 
@@ -18,6 +24,12 @@ SomeOutcome = (W R : List Node) (payload : List ℕ) → (o : Outcome) × IsOutc
 
 abbrev OneOutcome : Type 0
 OneOutcome = (W R : List Node) (payload : List ℕ) (a b : Outcome) → IsOutcome W R payload a → IsOutcome W R payload b → a ≡ b
+
+abbrev IsCompiled : Bool → List ℕ → Status → Option Program → Type 0
+IsCompiled image output status o = MatchOption o (IsRefused ProgramTooLarge output status) (λ P. (output ≡ text_of_program image P) × (status ≡ Answered))
+
+abbrev IsOutputFor : Verb → List (List ℕ) → List ℕ → Status → Result (List Node × List Node) Refusal → Type 0
+IsOutputFor verb later output status r = MatchResult r (λ pair. IsOutputOf verb pair.0 pair.1 later output status) (λ refusal. IsRefused refusal output status)
 
 -- ---- there is one
 
@@ -44,13 +56,21 @@ module _ (some : SomeOutcome) (W R : List Node) where
       let rest = some_answers later in
       (here.0 ++ 10 ∷ rest.0, (here.0, rest.0, here.1, rest.1, refl))
 
-some_report : SomeOutcome → (w r : Result (List Node) SchemaError) (payloads : List (List ℕ)) → (output : List ℕ) × (status : Status) × IsReport w r payloads output status
-some_report some (Err e) r payloads = (bad_schema 1 e, Refused, (refl, refl))
-some_report some (Ok W) (Err e) payloads = (bad_schema 2 e, Refused, (refl, refl))
-some_report some (Ok W) (Ok R) payloads = let o = some_answers some W R payloads in (o.0, Answered, (o.1, refl))
+module _ (some : SomeOutcome) (W R : List Node) (later : List (List ℕ)) where
+  some_of : (verb : Verb) → (output : List ℕ) × (status : Status) × IsOutputOf verb W R later output status
+  some_of Transcode = let o = some_answers some W R later in (o.0, Answered, (o.1, refl))
+  some_of (Compile image) = at (code_of W R)
+    where
+      at : (o : Option Program) → (output : List ℕ) × (status : Status) × IsCompiled image output status o
+      at None = (text_of ProgramTooLarge ++ 10 ∷ [], Refused, (refl, refl))
+      at (Some P) = (text_of_program image P, Answered, (refl, refl))
 
 pub some_output : SomeOutcome → HasOutput
-some_output some Transcode input = some_report some (schema_of_line (line_at (lines input) 0)) (schema_of_line (line_at (lines input) 1)) (drop 2 (lines input))
+some_output some verb input = at (schemas_of (lines input))
+  where
+    at : (r : Result (List Node × List Node) Refusal) → (output : List ℕ) × (status : Status) × IsOutputFor verb (drop 2 (lines input)) output status r
+    at (Err refusal) = (text_of refusal ++ 10 ∷ [], Refused, (refl, refl))
+    at (Ok pair) = some_of some pair.0 pair.1 (drop 2 (lines input)) verb
 
 -- ---- and no other
 
@@ -78,10 +98,18 @@ module _ (one : OneOutcome) (W R : List Node) where
       let rest = one_answers later p.1 q.1 p.3 q.3 in
       p.4 ∙ ap (λ (x : List ℕ). x ++ 10 ∷ p.1) here ∙ ap (λ (x : List ℕ). q.0 ++ 10 ∷ x) rest ∙ sym q.4
 
-one_report : OneOutcome → (w r : Result (List Node) SchemaError) (payloads : List (List ℕ)) (a b : List ℕ) (s t : Status) → IsReport w r payloads a s → IsReport w r payloads b t → (a ≡ b) × (s ≡ t)
-one_report one (Err e) r payloads a b s t p q = (p.0 ∙ sym q.0, p.1 ∙ sym q.1)
-one_report one (Ok W) (Err e) payloads a b s t p q = (p.0 ∙ sym q.0, p.1 ∙ sym q.1)
-one_report one (Ok W) (Ok R) payloads a b s t p q = (one_answers one W R payloads a b p.0 q.0, p.1 ∙ sym q.1)
+module _ (one : OneOutcome) (W R : List Node) (later : List (List ℕ)) (a b : List ℕ) (s t : Status) where
+  one_of : (verb : Verb) → IsOutputOf verb W R later a s → IsOutputOf verb W R later b t → (a ≡ b) × (s ≡ t)
+  one_of Transcode p q = (one_answers one W R later a b p.0 q.0, p.1 ∙ sym q.1)
+  one_of (Compile image) p q = at (code_of W R) p q
+    where
+      at : (o : Option Program) → IsCompiled image a s o → IsCompiled image b t o → (a ≡ b) × (s ≡ t)
+      at None p q = (p.0 ∙ sym q.0, p.1 ∙ sym q.1)
+      at (Some P) p q = (p.0 ∙ sym q.0, p.1 ∙ sym q.1)
 
 pub one_output : OneOutcome → HasOneOutput
-one_output one Transcode input a b s t p q = one_report one (schema_of_line (line_at (lines input) 0)) (schema_of_line (line_at (lines input) 1)) (drop 2 (lines input)) a b s t p q
+one_output one verb input a b s t = at (schemas_of (lines input))
+  where
+    at : (r : Result (List Node × List Node) Refusal) → IsOutputFor verb (drop 2 (lines input)) a s r → IsOutputFor verb (drop 2 (lines input)) b t r → (a ≡ b) × (s ≡ t)
+    at (Err refusal) p q = (p.0 ∙ sym q.0, p.1 ∙ sym q.1)
+    at (Ok pair) p q = one_of one pair.0 pair.1 (drop 2 (lines input)) a b s t verb p q

@@ -1,10 +1,15 @@
-ghost use Rattle.std.specs.Prelude.{◌≡◌, IfOk, string_bytes};
+ghost use Rattle.std.specs.Prelude.{◌≡◌, ◌≢◌, ◌++◌, ◌∷◌, [], IfErr, IfOk, string_bytes};
 ghost use Rattle.std.specs.Io.KnownBytes.{Keeps};
 ghost use Rattle.commands.specs.Output.{IsOutput};
+ghost use Rattle.commands.specs.Refusal.{text_of};
 ghost use Rattle.commands.specs.Traffic.{Answers, BeginsToAnswer};
+ghost use Rattle.commands.specs.declared.status.Status.TheVariants.{Answered, Refused};
 
+use crate::compile::compile;
 use crate::input::read_all;
 use crate::output::write_whole;
+use crate::refusal::Refusal;
+use crate::schemas::schemas_of;
 use crate::status::Status;
 use crate::transcode::transcode;
 use std::alloc::{AllocError, AllocFailed, Global};
@@ -16,6 +21,8 @@ use thiserror::Error;
 pub enum Verb {
     /// Answers each payload with what the reader makes of it.
     Transcode,
+    /// Answers the program of the schemas: its listing, or its image.
+    Compile { image: bool },
 }
 
 /// Why a run was broken off.
@@ -49,12 +56,27 @@ impl<T: Drop> From<AllocFailed<T>> for RunError {
     }
 }
 
+/// The output for an input that is answered.
+fn answered(alloc: Global, verb: &Verb, input: &[u8]) -> Result<String, Refusal>
+    ensures ok { IfOk result (λ output. IsOutput verb.now input.now (string_bytes output) Answered) }
+    ensures err { IfErr result (λ e. e ≢ Refusal.NoMemory →
+        IsOutput verb.now input.now (text_of e ++ 10 ∷ []) Refused) }
+{
+    let schemas = schemas_of(alloc, input)?;
+    let (writer, reader) = (schemas.writer.nodes(), schemas.reader.nodes());
+    match verb {
+        Verb::Transcode => Ok(transcode(alloc, writer, reader, schemas.later)?),
+        Verb::Compile { image } => compile(alloc, writer, reader, *image),
+    }
+}
+
 /// The output for an input, and the status.
 fn output_of(alloc: Global, verb: &Verb, input: &[u8]) -> Result<(String, Status), AllocError>
     ensures { IfOk result (λ r. IsOutput verb.now input.now (string_bytes r.0) r.1) }
 {
-    match verb {
-        Verb::Transcode => transcode(alloc, input),
+    match answered(alloc, verb, input) {
+        Ok(output) => Ok((output, Status::Answered)),
+        Err(refusal) => Ok((refusal.line(alloc)?, Status::Refused)),
     }
 }
 
@@ -67,7 +89,8 @@ pub fn run<R: Read, W: Write>(
     reader: &mut R,
     writer: &mut W,
 ) -> Result<u8, RunError>
-    ensures ok { IfOk result (Answers verb.now (R.remaining reader.old) (W.contents writer.old) (W.contents writer.new)) }
+    ensures ok { IfOk result (Answers verb.now (R.remaining reader.old) (W.contents writer.old)
+        (W.contents writer.new)) }
     ensures read { result ≡ Err RunError.Read → Keeps (W.contents writer.old) (W.contents writer.new) }
     ensures memory { result ≡ Err RunError.NoMemory → Keeps (W.contents writer.old) (W.contents writer.new) }
     ensures write { result ≡ Err RunError.Write →

@@ -3,11 +3,14 @@
 
 mod answer;
 mod command;
+mod compile;
 mod input;
 mod laws;
 mod lines;
 mod output;
 mod payload;
+mod refusal;
+mod schemas;
 mod status;
 mod transcode;
 

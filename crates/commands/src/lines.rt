@@ -1,6 +1,6 @@
 ghost use Rattle.std.specs.Prelude.{◌≡◌, ◌<◌, [], ◌∷◌, drop, length, MatchOption};
 ghost use Rattle.commands.specs.Lines.{lines};
-ghost use Rattle.commands.specs.Output.{line_at};
+ghost use Rattle.commands.specs.Schemas.{line_at};
 
 use memchr::memchr;
 

@@ -2,6 +2,10 @@
 #![tactic(auto)]
 
 #[cfg(test)]
+mod compile_tests;
+#[cfg(test)]
+mod devices;
+#[cfg(test)]
 mod rows;
 #[cfg(test)]
 mod run_tests;

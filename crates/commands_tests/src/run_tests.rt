@@ -1,9 +1,8 @@
 //! What is written for an input, and devices that fail.
 
+use crate::devices::{Drip, NEVER, Trickle, assert_writes};
 use crate::rows::ROWS;
 use commands::{RunError, Verb, input_has_one_output, run};
-use std::alloc::AllocError;
-use std::io::{self, ErrorKind, Read, Write};
 use std::process::Abort;
 use std::test::Fail;
 
@@ -19,89 +18,9 @@ const EMPTY: &str = "{\"type\":\"record\",\"name\":\"T\",\"fields\":[]}";
 const FAR: &str =
     "{\"type\":\"record\",\"name\":\"T\",\"fields\":[{\"name\":\"f\",\"type\":{\"type\":\"fixed\",\"name\":\"F\",\"size\":299}},{\"name\":\"s\",\"type\":\"string\"}]}";
 
-/// A number of a call that is never reached.
-const NEVER: usize = usize::MAX;
-
-/// A reader of memory that gives a byte at a time, fails at one call, and is interrupted at each third one.
-#[derive(Drop)]
-struct Trickle<'a> {
-    left: &'a [u8],
-    calls: usize,
-    fails_at: usize,
-}
-
-impl Read for Trickle<'_> {
-    fn read(&mut self, buf: &mut [u8]) -> io::Result<usize> {
-        let call = self.calls;
-        self.calls = call.wrapping_add(1);
-        if call == self.fails_at {
-            return Err(io::Error::from(ErrorKind::Other));
-        }
-        if call % 3 == 1 {
-            return Err(io::Error::from(ErrorKind::Interrupted));
-        }
-        let Some((first, others)) = self.left.split_first() else {
-            return Ok(0);
-        };
-        let Some(place) = buf.first_mut() else {
-            return Ok(0);
-        };
-        *place = *first;
-        self.left = others;
-        Ok(1)
-    }
-}
-
-/// A writer to memory that takes a byte at a time, fails at one call, a flush too, and is interrupted at each third one.
-#[derive(Drop)]
-struct Drip {
-    taken: Vec<u8>,
-    /// How many of them a flush has passed on.
-    passed_on: usize,
-    calls: usize,
-    fails_at: usize,
-}
-
-impl Write for Drip {
-    fn write(&mut self, buf: &[u8]) -> io::Result<usize> {
-        let call = self.calls;
-        self.calls = call.wrapping_add(1);
-        if call == self.fails_at {
-            return Err(io::Error::from(ErrorKind::Other));
-        }
-        if call % 3 == 1 {
-            return Err(io::Error::from(ErrorKind::Interrupted));
-        }
-        let Some(first) = buf.first() else {
-            return Ok(0);
-        };
-        self.taken.push(*first).map_err(AllocError::from)?;
-        Ok(1)
-    }
-
-    fn flush(&mut self) -> io::Result<()> {
-        let call = self.calls;
-        self.calls = call.wrapping_add(1);
-        if call == self.fails_at {
-            return Err(io::Error::from(ErrorKind::Other));
-        }
-        self.passed_on = self.taken.len();
-        Ok(())
-    }
-}
-
-/// Whether a run on an input writes an output and ends with a status, the second time where memory ran out the first.
+/// Whether `transcode` writes an output for an input and ends with a status.
 fn assert_answers(rt: &(impl Abort + AllocGlobal), input: &[u8], output: &[u8], status: u8) {
-    let mut reader = input;
-    let mut written = Vec::new(rt.alloc());
-    let mut done = run(rt.alloc(), &Verb::Transcode, &mut reader, &mut written);
-    if done == Err(RunError::NoMemory) {
-        assert!(rt; written.is_empty());
-        reader = input;
-        done = run(rt.alloc(), &Verb::Transcode, &mut reader, &mut written);
-    }
-    assert!(rt; done == Ok(status));
-    assert!(rt; written.as_slice() == output);
+    assert_writes(rt, &Verb::Transcode, input, output, status);
 }
 
 #[test]

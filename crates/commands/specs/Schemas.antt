@@ -1,0 +1,27 @@
+-- The schemas of an input. The lines are this project's own.
+use Rattle.std.specs.Prelude.{ℕ, List, [], slice_index_or, if◌then◌else◌, Result, Ok, Err}
+use Rattle.std.specs.Str.{is_utf8}
+use Rattle.avro_types.specs.Node.{Node}
+use Rattle.avro_schema.specs.Schema.{schema_of}
+use Rattle.schema_drafts.specs.declared.error.SchemaError.{SchemaError}
+use Rattle.schema_drafts.specs.declared.error.SchemaError.TheVariants.{NotJson}
+use Rattle.commands.specs.declared.refusal.Refusal.{Refusal}
+use Rattle.commands.specs.declared.refusal.Refusal.TheVariants.{BadSchema}
+
+-- the nodes of a schema line, or its first fault: bytes that are no UTF-8 are no JSON
+abbrev pub schema_of_line : List ℕ → Result (List Node) SchemaError
+schema_of_line line = if is_utf8 line then schema_of line else Err NotJson
+
+-- a line of the input, which is the empty text where it is missing
+abbrev pub line_at : List (List ℕ) → ℕ → List ℕ
+line_at inputs i = slice_index_or inputs i []
+
+-- where either may be bad, the writer's is told first
+abbrev pub both : Result (List Node) SchemaError → Result (List Node) SchemaError → Result (List Node × List Node) Refusal
+both (Err error) reader = Err (BadSchema 1 error)
+both (Ok W) (Err error) = Err (BadSchema 2 error)
+both (Ok W) (Ok R) = Ok (W, R)
+
+-- line 1 is the writer's schema, line 2 the reader's
+abbrev pub schemas_of : List (List ℕ) → Result (List Node × List Node) Refusal
+schemas_of inputs = both (schema_of_line (line_at inputs 0)) (schema_of_line (line_at inputs 1))

@@ -1,0 +1,54 @@
+ghost use Rattle.std.specs.Prelude.{◌≡◌, ◌++◌, ◌⊎◌, ◌∷◌, [], string_bytes, IfOk, IfErr, Some, None};
+ghost use Rattle.hex.specs.Hex.{encode_lower};
+ghost use Rattle.avro_loader.specs.Image.{image_of};
+ghost use Rattle.isa.specs.Program.{Program};
+ghost use Rattle.program_code.specs.Code.{code_of};
+ghost use Rattle.commands.specs.Output.{text_of_program};
+
+use crate::refusal::Refusal;
+use assembler::disassemble;
+use avro_loader::save;
+use avro_types::Nodes;
+use isa::Program;
+use program_compiler::CompileError;
+use std::alloc::{AllocError, Global};
+
+/// The image of a program, in one line of hexadecimal.
+fn image_line(alloc: Global, program: &Program) -> Result<String, AllocError>
+    ensures { IfOk result (λ line. string_bytes line ≡ encode_lower (image_of program.now) ++ 10 ∷ []) }
+{
+    let image = save(alloc, program)?;
+    let mut line = hex::encode(alloc, &image)?;
+    line.push_str("\n")?;
+    Ok(line)
+}
+
+/// The text of a program: its listing, or its image.
+fn text_of_program(alloc: Global, program: &Program, image: bool) -> Result<String, AllocError>
+    ensures { IfOk result (λ text. string_bytes text ≡ text_of_program image program.now) }
+{
+    if image {
+        image_line(alloc, program)
+    } else {
+        disassemble(alloc, program)
+    }
+}
+
+/// The text of the program of a pair of schemas.
+pub(crate) fn compile(
+    alloc: Global,
+    writer: &Nodes,
+    reader: &Nodes,
+    image: bool,
+) -> Result<String, Refusal>
+    ensures ok { IfOk result (λ text. (P : Program) × (code_of writer.now reader.now ≡ Some P)
+        × (string_bytes text ≡ text_of_program image P)) }
+    ensures err { IfErr result (λ e. (e ≡ Refusal.NoMemory)
+        ⊎ ((e ≡ Refusal.ProgramTooLarge) × (code_of writer.now reader.now ≡ None))) }
+{
+    match program_compiler::compile(alloc, writer, reader) {
+        Ok(program) => Ok(text_of_program(alloc, &program, image)?),
+        Err(CompileError::ProgramTooLarge) => Err(Refusal::ProgramTooLarge),
+        Err(CompileError::NoMemory) => Err(Refusal::NoMemory),
+    }
+}

@@ -1,0 +1,144 @@
+-- The parts of the program of all lines.
+use Rattle.std.proofs.Common.{◌≡◌, ℕ, suc, ◌+◌, ◌<◌, ◌≤◌, drop, get_or, Bool, true, false, List, [], ◌∷◌, length, map, Result, Ok, Err, refl, sym, ap, subst, ◌∙◌, arith}
+use Rattle.std.specs.Prelude.{if◌then◌else◌}
+use Rattle.std.specs.List.{AllByRecursion}
+use Rattle.std.specs.Global.{Vec}
+use Rattle.std.specs.Str.{bytes_eq}
+use Rattle.avro_types.specs.Node.{Node}
+use Rattle.isa.specs.declared.entry.Entry.{Entry}
+use Rattle.isa.specs.declared.instr.Instr.{Instr}
+use Rattle.isa.specs.declared.limits.TheConstants.{MOST_CONSTANT_BYTES, MOST_INSTRS, MOST_TABLES}
+use Rattle.isa.specs.Lists.{total_length}
+use Rattle.isa.specs.Program.{Program}
+use Rattle.isa.specs.Range.{IsProgram}
+use Rattle.outcome.specs.declared.limits.TheConstants.{MOST_OUTPUT}
+use Rattle.outcome.specs.declared.mismatch.Mismatch.{Mismatch}
+use Rattle.program_code.specs.Code.{are_whole, is_lost}
+use Rattle.program_code.specs.Lines.{Line, Section}
+use Rattle.program_code.specs.Numbering.{code_from, constants_in, constants_of, entry_of, has, jumps_from, maps_of, misses_in, named_in, numbered}
+use Rattle.program_code.proofs.Numbers.{added, bytes_is, bytes_refl}
+use Rattle.program_code.proofs.Ranges.{code_length}
+use Rattle.program_lines.specs.declared.error.CompileError.{CompileError}
+use Rattle.program_lines.specs.declared.error.CompileError.TheVariants.{ProgramTooLarge, NoMemory}
+use Rattle.program_lines.specs.declared.lines.Line as rust
+use Rattle.program_lines.specs.Lines.{line_of, lines_in}
+use Rattle.program_compiler.specs.Parts.{AreWide, Assembles, FitNowhere, IsLong, LinksAll}
+use Rattle.program_compiler.proofs.Jumps.{lines_left}
+
+module _ (W R : List Node) (lines : List rust.Line) (i : ℕ) (line : rust.Line) (lost : Bool) (lt : i < length lines) (is : line ≡ get_or lines i line) (told : lost ≡ is_lost (line_of W R line)) where
+  whole_here : are_whole (lines_in W R (drop i lines)) ≡ (if lost then false else are_whole (lines_in W R (drop (i + 1) lines)))
+  whole_here = ap are_whole (lines_left W R lines i line lt is) ∙ ap (λ b. if b then false else are_whole (lines_in W R (drop (i + 1) lines))) (sym told)
+
+  pub line_is_lost : lost ≡ true → are_whole (lines_in W R (drop i lines)) ≡ are_whole (lines_in W R lines) → false ≡ are_whole (lines_in W R lines)
+  line_is_lost e so_far = sym (whole_here ∙ ap (λ b. if b then false else are_whole (lines_in W R (drop (i + 1) lines))) e) ∙ so_far
+
+  pub line_is_whole : lost ≡ false → are_whole (lines_in W R (drop i lines)) ≡ are_whole (lines_in W R lines) → are_whole (lines_in W R (drop (i + 1) lines)) ≡ are_whole (lines_in W R lines)
+  line_is_whole e so_far = sym (whole_here ∙ ap (λ b. if b then false else are_whole (lines_in W R (drop (i + 1) lines))) e) ∙ so_far
+
+-- ---- a constant is no longer than all are together
+
+there_is_short : (c : List ℕ) (xs : List (List ℕ)) → has bytes_eq c xs ≡ true → length c ≤ total_length xs
+there_is_short c [] h = absurd (let no : ⊥ = cc in no)
+there_is_short c (x ∷ xs) h = go (bytes_eq c x) refl (there_is_short c xs) h
+  where
+    go : (b : Bool) → bytes_eq c x ≡ b → (has bytes_eq c xs ≡ true → length c ≤ total_length xs) → (if b then true else has bytes_eq c xs) ≡ true → length c ≤ length x + total_length xs
+    go true e ih h = let same : length c ≡ length x = ap length (bytes_is c x e) in omega (arith, same)
+    go false e ih h = let le = ih h in omega (arith, le)
+
+all_short : (most : ℕ) (cs xs : List (List ℕ)) → total_length xs ≤ most → AllByRecursion (λ c. has bytes_eq c xs ≡ true) cs → AllByRecursion (λ c. length c ≤ most) cs
+all_short most [] xs le h = tt
+all_short most (c ∷ cs) xs le h = let short = there_is_short c xs h.0 in (omega (arith, le, short), all_short most cs xs le h.1)
+
+pub lines_long : (W R : List Node) (ls : List rust.Line) → length (lines_in W R ls) ≡ length ls
+lines_long W R [] = refl
+lines_long W R (l ∷ ls) = ap suc (lines_long W R ls)
+
+-- ---- where a limit is passed, the lines have no program
+
+module _ (starts : Section → ℕ) (ls : List Line) where
+  constants_short : IsProgram (numbered starts ls) → AllByRecursion (λ c. length c ≤ MOST_OUTPUT) (named_in constants_of ls)
+  constants_short prog =
+      let bytes : total_length (constants_in ls) ≤ MOST_CONSTANT_BYTES = prog.within.bytes in
+      all_short MOST_OUTPUT (named_in constants_of ls) (constants_in ls) (omega (arith, bytes)) (added bytes_eq bytes_refl (named_in constants_of ls) []).1
+
+  pub none_long : IsLong (named_in constants_of ls) → IsProgram (numbered starts ls) → ⊥
+  none_long long prog = long (constants_short prog)
+
+  pub none_wide : AreWide (jumps_from 0 ls) → IsProgram (numbered starts ls) → ⊥
+  none_wide wide prog =
+      let few : length (code_from starts (constants_in ls) (misses_in ls) 0 0 0 ls) ≤ MOST_INSTRS = prog.within.code in
+      wide (length (code_from starts (constants_in ls) (misses_in ls) 0 0 0 ls)) (omega (arith, few)) prog.addresses
+
+  pub none_fits : FitNowhere (named_in constants_of ls) (code_from starts (constants_in ls) (misses_in ls) 0 0 0 ls) → IsProgram (numbered starts ls) → ⊥
+  none_fits nowhere prog = nowhere (numbered starts ls) prog.within prog.instrs (constants_short prog)
+
+  pub none_missing : (n : ℕ) → n ≡ length (misses_in ls) → MOST_TABLES < n → IsProgram (numbered starts ls) → ⊥
+  none_missing n e many prog = let few : length (misses_in ls) ≤ MOST_TABLES = prog.within.misses in omega (arith, few, many, e)
+
+  pub none_many : MOST_INSTRS < length ls → IsProgram (numbered starts ls) → ⊥
+  none_many many prog =
+      let few : length (code_from starts (constants_in ls) (misses_in ls) 0 0 0 ls) ≤ MOST_INSTRS = prog.within.code in
+      let long = code_length starts (constants_in ls) (misses_in ls) 0 0 0 ls in
+      omega (arith, few, long, many)
+
+five : {code other_code : List Instr} {cs other_cs : List (List ℕ)} {maps other_maps : List (List Entry)} {jumps other_jumps : List (List ℕ)} {ms other_ms : List Mismatch}
+    → code ≡ other_code → cs ≡ other_cs → maps ≡ other_maps → jumps ≡ other_jumps → ms ≡ other_ms
+    → ◌≡◌ {A = Program} (record { code = code; constants = cs; maps = maps; jumps = jumps; misses = ms }) (record { code = other_code; constants = other_cs; maps = other_maps; jumps = other_jumps; misses = other_ms })
+five {code} {other_code} {cs} {other_cs} {maps} {other_maps} {jumps} {other_jumps} {ms} {other_ms} a b c d e =
+    ap (λ x. record { code = x; constants = cs; maps = maps; jumps = jumps; misses = ms }) a
+    ∙ ap (λ x. record { code = other_code; constants = x; maps = maps; jumps = jumps; misses = ms }) b
+    ∙ ap (λ x. record { code = other_code; constants = other_cs; maps = x; jumps = jumps; misses = ms }) c
+    ∙ ap (λ x. record { code = other_code; constants = other_cs; maps = other_maps; jumps = x; misses = ms }) d
+    ∙ ap (λ x. record { code = other_code; constants = other_cs; maps = other_maps; jumps = other_jumps; misses = x }) e
+
+different : false ≡ true → ⊥
+different h = let wrong : ⊥ = cc in wrong
+
+-- ---- of the lines that were gone over, which are all of the listing
+
+module _ (starts : Section → ℕ) (W R : List Node) (lines all : List rust.Line) (same : lines ≡ all) where
+  pub whole_of : (b : Bool) → b ≡ are_whole (lines_in W R lines) → b ≡ true → are_whole (lines_in W R all) ≡ true
+  whole_of b told e = ap (λ l. are_whole (lines_in W R l)) (sym same) ∙ sym told ∙ e
+
+  pub not_whole : (b : Bool) → b ≡ are_whole (lines_in W R lines) → b ≡ false → are_whole (lines_in W R all) ≡ true → ⊥
+  not_whole b told e whole = different (sym e ∙ told ∙ ap (λ l. are_whole (lines_in W R l)) same ∙ whole)
+
+  pub many_lines : MOST_INSTRS < length lines → IsProgram (numbered starts (lines_in W R all)) → ⊥
+  many_lines many prog =
+      let e : length lines ≡ length all = ap length same in
+      let long = lines_long W R all in
+      none_many starts (lines_in W R all) (omega (arith, many, e, long)) prog
+
+  pub long_lines : IsLong (named_in constants_of (lines_in W R lines)) → IsProgram (numbered starts (lines_in W R all)) → ⊥
+  long_lines long prog = none_long starts (lines_in W R all) (subst (λ l. IsLong (named_in constants_of (lines_in W R l))) same long) prog
+
+  pub wide_lines : AreWide (jumps_from 0 (lines_in W R lines)) → IsProgram (numbered starts (lines_in W R all)) → ⊥
+  wide_lines wide prog = none_wide starts (lines_in W R all) (subst (λ l. AreWide (jumps_from 0 (lines_in W R l))) same wide) prog
+
+  module _ (cs : List (List ℕ)) (ms : List Mismatch) (constants : cs ≡ constants_in (lines_in W R lines)) (misses : ms ≡ misses_in (lines_in W R lines)) where
+    all_constants : cs ≡ constants_in (lines_in W R all)
+    all_constants = constants ∙ ap (λ l. constants_in (lines_in W R l)) same
+
+    all_misses : ms ≡ misses_in (lines_in W R all)
+    all_misses = misses ∙ ap (λ l. misses_in (lines_in W R l)) same
+
+    same_code : code_from starts cs ms 0 0 0 (lines_in W R all) ≡ code_from starts (constants_in (lines_in W R all)) (misses_in (lines_in W R all)) 0 0 0 (lines_in W R all)
+    same_code = ap (λ x. code_from starts x ms 0 0 0 (lines_in W R all)) all_constants ∙ ap (λ y. code_from starts (constants_in (lines_in W R all)) y 0 0 0 (lines_in W R all)) all_misses
+
+    pub none_assembled : (e : CompileError) (result : Result (Vec Instr) CompileError) → result ≡ Err e → LinksAll (lines_in W R all) (code_from starts cs ms 0 0 0 (lines_in W R all)) result → Assembles (lines_in W R all) (numbered starts (lines_in W R all)) (Err e)
+    none_assembled ProgramTooLarge result is h =
+        let here : FitNowhere (named_in constants_of (lines_in W R all)) (code_from starts cs ms 0 0 0 (lines_in W R all)) = subst (LinksAll (lines_in W R all) (code_from starts cs ms 0 0 0 (lines_in W R all))) is h in
+        λ whole prog. none_fits starts (lines_in W R all) (subst (FitNowhere (named_in constants_of (lines_in W R all))) same_code here) prog
+    none_assembled NoMemory result is h = tt
+
+    pub linked_parts : (code : Vec Instr) (maps : List (List Entry)) (jumps : List (List ℕ)) (listed : List (List ℕ)) (listed_misses : List Mismatch) (result : Result (Vec Instr) CompileError) → result ≡ Ok code
+        → LinksAll (lines_in W R all) (code_from starts cs ms 0 0 0 (lines_in W R all)) result → maps ≡ map (map (entry_of ms)) (named_in maps_of (lines_in W R lines)) → jumps ≡ jumps_from 0 (lines_in W R lines) → listed ≡ cs → listed_misses ≡ ms
+        → ◌≡◌ {A = Program} (record { code = code.items; constants = listed; maps = maps; jumps = jumps; misses = listed_misses }) (numbered starts (lines_in W R all))
+    linked_parts code maps jumps listed listed_misses result is h em ej el en =
+        let here : code.items ≡ code_from starts cs ms 0 0 0 (lines_in W R all) = subst (LinksAll (lines_in W R all) (code_from starts cs ms 0 0 0 (lines_in W R all))) is h in
+        let to_code = here ∙ same_code in
+        let to_constants = el ∙ all_constants in
+        let to_misses = en ∙ all_misses in
+        let to_jumps = ej ∙ ap (λ l. jumps_from 0 (lines_in W R l)) same in
+        let to_maps = em ∙ ap (λ y. map (map (entry_of y)) (named_in maps_of (lines_in W R lines))) all_misses ∙ ap (λ l. map (map (entry_of (misses_in (lines_in W R all)))) (named_in maps_of (lines_in W R l))) same in
+        five to_code to_constants to_maps to_jumps to_misses

@@ -1,0 +1,77 @@
+-- Jump tables and maps, a line at a time.
+use Rattle.std.proofs.Common.{◌≡◌, ℕ, zero, suc, ◌+◌, ◌^◌, ◌<◌, ◌≤◌, drop, get_or, List, [], ◌∷◌, ◌++◌, length, map, refl, sym, ap, subst, ◌∙◌, arith, append_assoc}
+use Rattle.std.specs.Prelude.{MatchOption, Option, None}
+use Rattle.std.specs.List.{AllByRecursion}
+use Rattle.std.proofs.Math.Seq.{drop-cons}
+use Rattle.std.proofs.lemmas.List.{map-append}
+use Rattle.avro_types.specs.Node.{Node}
+use Rattle.isa.specs.declared.entry.Entry.{Entry}
+use Rattle.outcome.specs.declared.mismatch.Mismatch.{Mismatch}
+use Rattle.program_code.specs.Numbering.{entry_of, jumps_from, jumps_of, maps_of, named_in}
+use Rattle.program_code.proofs.Numbering.{all_front, all_back}
+use Rattle.std.specs.Global.{Vec}
+use Rattle.program_lines.specs.declared.lines.Line as rust
+use Rattle.program_lines.specs.declared.lines.Line.TheVariants as variants
+use Rattle.program_lines.specs.Lines.{line_of, lines_in}
+use Rattle.program_compiler.specs.Parts.{AreWide, IsWide}
+
+module _ (W R : List Node) (lines : List rust.Line) (i : ℕ) (line : rust.Line) (lt : i < length lines) (is : line ≡ get_or lines i line) where
+  -- the lines from one on are that one and those after it
+  pub lines_left : lines_in W R (drop i lines) ≡ line_of W R line ∷ lines_in W R (drop (i + 1) lines)
+  lines_left =
+      let e : suc i ≡ i + 1 = omega arith in
+      ap (lines_in W R) (drop-cons lines i line lt) ∙ ap (λ l. line_of W R l ∷ lines_in W R (drop (suc i) lines)) (sym is) ∙ ap (λ k. line_of W R line ∷ lines_in W R (drop k lines)) e
+
+  pub jumps_on : (old new whole : List (List ℕ)) → new ≡ old ++ jumps_of i (line_of W R line) → old ++ jumps_from i (lines_in W R (drop i lines)) ≡ whole → new ++ jumps_from (i + 1) (lines_in W R (drop (i + 1) lines)) ≡ whole
+  jumps_on old new whole h so_far =
+      ap (λ l. l ++ jumps_from (i + 1) (lines_in W R (drop (i + 1) lines))) h
+      ∙ append_assoc old (jumps_of i (line_of W R line)) (jumps_from (i + 1) (lines_in W R (drop (i + 1) lines)))
+      ∙ ap (λ ls. old ++ jumps_from i ls) (sym lines_left)
+      ∙ so_far
+
+  pub jumps_wide : (old whole : List (List ℕ)) → AreWide (jumps_of i (line_of W R line)) → old ++ jumps_from i (lines_in W R (drop i lines)) ≡ whole → AreWide whole
+  jumps_wide old whole wide so_far most le all =
+      let left = all_back (AllByRecursion (λ n. n < most)) old (jumps_from i (lines_in W R (drop i lines))) (subst (AllByRecursion (AllByRecursion (λ n. n < most))) (sym so_far) all) in
+      let here = subst (λ ls. AllByRecursion (AllByRecursion (λ n. n < most)) (jumps_from i ls)) lines_left left in
+      wide most le (all_front (AllByRecursion (λ n. n < most)) (jumps_of i (line_of W R line)) (jumps_from (i + 1) (lines_in W R (drop (i + 1) lines))) here)
+
+  pub maps_on : (ms : List Mismatch) (old new whole : List (List Entry)) → new ≡ old ++ map (map (entry_of ms)) (maps_of (line_of W R line)) → old ++ map (map (entry_of ms)) (named_in maps_of (lines_in W R (drop i lines))) ≡ whole → new ++ map (map (entry_of ms)) (named_in maps_of (lines_in W R (drop (i + 1) lines))) ≡ whole
+  maps_on ms old new whole h so_far =
+      let rest = named_in maps_of (lines_in W R (drop (i + 1) lines)) in
+      ap (λ l. l ++ map (map (entry_of ms)) rest) h
+      ∙ append_assoc old (map (map (entry_of ms)) (maps_of (line_of W R line))) (map (map (entry_of ms)) rest)
+      ∙ ap (λ l. old ++ l) (sym (map-append (map (entry_of ms)) (maps_of (line_of W R line)) rest))
+      ∙ ap (λ ls. old ++ map (map (entry_of ms)) (named_in maps_of ls)) (sym lines_left)
+      ∙ so_far
+
+pub get_same : (xs : List ℕ) (i d e : ℕ) → i < length xs → get_or xs i d ≡ get_or xs i e
+get_same [] i d e lt = absurd (omega (arith, lt))
+get_same (x ∷ xs) zero d e lt = refl
+get_same (x ∷ xs) (suc i) d e lt = get_same xs i d e (omega (arith, lt))
+
+-- one address more
+pub address_on : (pc : ℕ) (fars : List ℕ) (i far a : ℕ) (old new whole : List ℕ) → i < length fars → far ≡ get_or fars i far → a ≡ pc + far → new ≡ old ++ a ∷ [] → old ++ map (λ f. pc + f) (drop i fars) ≡ whole → new ++ map (λ f. pc + f) (drop (i + 1) fars) ≡ whole
+address_on pc fars i far a old new whole lt is ea h so_far =
+    let e : i + 1 ≡ suc i = omega arith in
+    ap (λ k. new ++ map (λ f. pc + f) (drop k fars)) e
+    ∙ ap (λ (l : List ℕ). l ++ map (λ f. pc + f) (drop (suc i) fars)) (h ∙ ap (λ (x : ℕ). old ++ x ∷ []) (ea ∙ ap (λ f. pc + f) is))
+    ∙ append_assoc old ((pc + get_or fars i far) ∷ []) (map (λ f. pc + f) (drop (suc i) fars))
+    ∙ sym (ap (λ l. old ++ map (λ f. pc + f) l) (drop-cons fars i far lt))
+    ∙ so_far
+
+pub address_wide : (pc : ℕ) (fars : List ℕ) (i far : ℕ) (old whole : List ℕ) → i < length fars → far ≡ get_or fars i far → 2 ^ 32 ≤ pc + far → old ++ map (λ f. pc + f) (drop i fars) ≡ whole → IsWide whole
+address_wide pc fars i far old whole lt is wide so_far most le all =
+    let left = all_back (λ n. n < most) old (map (λ f. pc + f) (drop i fars)) (subst (AllByRecursion (λ n. n < most)) (sym so_far) all) in
+    let here = subst (λ l. AllByRecursion (λ n. n < most) (map (λ f. pc + f) l)) (drop-cons fars i far lt) left in
+    let low : pc + far < most = subst (λ f. pc + f < most) (sym is) here.0 in
+    omega (arith, wide, le, low)
+
+-- a branch's addresses
+pub branch_wide : (pc : ℕ) (W R : List Node) (line : rust.Line) (fars : Vec ℕ) → line ≡ variants.Branch fars → IsWide (map (λ f. pc + f) fars.items) → AreWide (jumps_of pc (line_of W R line))
+branch_wide pc W R line fars e wide = subst (λ l. AreWide (jumps_of pc (line_of W R l))) (sym e) (λ most le all. wide most le all.0)
+
+pub branch_on : (pc : ℕ) (W R : List Node) (line : rust.Line) (fars : Vec ℕ) (old new : List (List ℕ)) (addresses : List ℕ) → line ≡ variants.Branch fars → addresses ≡ map (λ f. pc + f) fars.items → new ≡ old ++ addresses ∷ [] → new ≡ old ++ jumps_of pc (line_of W R line)
+branch_on pc W R line fars old new addresses e ea h = h ∙ ap (λ a. old ++ a ∷ []) ea ∙ ap (λ l. old ++ jumps_of pc (line_of W R l)) (sym e)
+
+pub at_none : {T : Type 0} (o : Option T) (P : Type 0) (Q : T → Type 0) → o ≡ None → MatchOption o P Q → P
+at_none o P Q e h = subst (λ o. MatchOption o P Q) e h

@@ -1,0 +1,5 @@
+pub mod Tables
+pub mod Jumps
+pub mod Linked
+pub mod Assembled
+pub mod Compiled

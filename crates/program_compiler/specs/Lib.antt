@@ -1,0 +1,4 @@
+pub mod Compiling
+pub mod Tables
+pub mod Parts
+pub mod Linking

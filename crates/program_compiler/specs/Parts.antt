@@ -1,0 +1,60 @@
+-- The parts of a program, each of the lines, and when there is none since a number of it is too large.
+use Rattle.std.specs.Prelude.{◌≡◌, ◌<◌, ◌≤◌, ◌^◌, ℕ, true, List, [], ◌∷◌, length, Option, MatchOption, Result, Ok, Err}
+use Rattle.std.specs.Global.{Vec}
+use Rattle.std.specs.List.{AllByRecursion}
+use Rattle.std.specs.Str.{bytes_eq}
+use Rattle.outcome.specs.declared.limits.TheConstants.{MOST_OUTPUT}
+use Rattle.isa.specs.declared.instr.Instr.{Instr}
+use Rattle.isa.specs.declared.parts.Parts.{Parts}
+use Rattle.isa.specs.Program.{Program, program_of}
+use Rattle.program_code.specs.Code.{are_whole}
+use Rattle.isa.specs.Range.{InstrIsInRange, IsProgram, IsWithinLimits, sizes_of}
+use Rattle.program_code.specs.Lines.{Line}
+use Rattle.program_code.specs.Numbering.{adding, constants_of, named_in}
+use Rattle.program_lines.specs.declared.error.CompileError.{CompileError}
+use Rattle.program_lines.specs.declared.error.CompileError.TheVariants.{ProgramTooLarge, NoMemory}
+
+-- a number as an operand, or none where it takes more than 32 bits
+abbrev pub Narrows : Option ℕ → ℕ → Type 0
+Narrows result n = MatchOption result (2 ^ 32 ≤ n) (λ m. m ≡ n)
+
+-- some of them passes 32 bits
+abbrev pub IsWide : List ℕ → Type 0
+IsWide ns = (most : ℕ) → most ≤ 2 ^ 32 → AllByRecursion (λ n. n < most) ns → ⊥
+
+abbrev pub AreWide : List (List ℕ) → Type 0
+AreWide lists = (most : ℕ) → most ≤ 2 ^ 32 → AllByRecursion (AllByRecursion (λ n. n < most)) lists → ⊥
+
+-- some constant has too many bytes
+abbrev pub IsLong : List (List ℕ) → Type 0
+IsLong lists = AllByRecursion (λ b. length b ≤ MOST_OUTPUT) lists → ⊥
+
+-- constants with others after them, each once, or none where one of those is too long
+abbrev pub Notes : Option (List (List ℕ)) → List (List ℕ) → List (List ℕ) → Type 0
+Notes result constants others = MatchOption result (IsLong others) (λ more. more ≡ adding bytes_eq constants others)
+
+-- no program within the limits has these instructions and these lines' constants
+abbrev pub FitNowhere : List (List ℕ) → List Instr → Type 0
+FitNowhere constants code = (P : Program) → IsWithinLimits P → AllByRecursion (InstrIsInRange (sizes_of P)) code
+    → AllByRecursion (λ b. length b ≤ MOST_OUTPUT) constants → ⊥
+
+-- an instruction, unless no program within the limits has it and these constants
+abbrev pub LinksTo : List (List ℕ) → Instr → Result Instr CompileError → Type 0
+LinksTo constants instr (Ok i) = i ≡ instr
+LinksTo constants instr (Err ProgramTooLarge) = FitNowhere constants (instr ∷ [])
+LinksTo constants instr (Err NoMemory) = Unit {0}
+
+abbrev pub Links : Line → Instr → Result Instr CompileError → Type 0
+Links line instr result = LinksTo (constants_of line) instr result
+
+-- the code of lines
+abbrev pub LinksAll : List Line → List Instr → Result (Vec Instr) CompileError → Type 0
+LinksAll lines code (Ok v) = v.items ≡ code
+LinksAll lines code (Err ProgramTooLarge) = FitNowhere (named_in constants_of lines) code
+LinksAll lines code (Err NoMemory) = Unit {0}
+
+-- the parts of the program of all lines, or none where that is no program
+abbrev pub Assembles : List Line → Program → Result Parts CompileError → Type 0
+Assembles lines P (Ok parts) = (are_whole lines ≡ true) × (program_of parts ≡ P)
+Assembles lines P (Err ProgramTooLarge) = are_whole lines ≡ true → IsProgram P → ⊥
+Assembles lines P (Err NoMemory) = Unit {0}

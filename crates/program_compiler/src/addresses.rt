@@ -1,0 +1,79 @@
+ghost use Rattle.std.specs.Prelude.{◌≡◌, ◌+◌, ◌++◌, List, map, IfOk, MatchOption};
+ghost use Rattle.avro_types.specs.Node.{Node};
+ghost use Rattle.program_code.specs.Numbering.{jumps_from, jumps_of};
+ghost use Rattle.program_compiler.specs.Parts.{AreWide, IsWide, Narrows};
+ghost use Rattle.program_lines.specs.Lines.{line_of, lines_in};
+
+use isa::Lists;
+use program_lines::Line;
+use std::alloc::{AllocError, Global};
+
+/// A number as an operand, or none where it takes more than 32 bits.
+pub(crate) fn operand(number: usize) -> Option<u32>
+    ensures { Narrows result number }
+{
+    u32::try_from(number).ok()
+}
+
+/// The address so far ahead, or none where it takes more than 32 bits.
+pub(crate) fn ahead(pc: usize, far: usize) -> Option<u32>
+    ensures { Narrows result (pc + far) }
+{
+    match pc.checked_add(far) {
+        Some(address) => operand(address),
+        None => None,
+    }
+}
+
+/// The addresses so far ahead, or none where one takes more than 32 bits.
+fn all_ahead(alloc: Global, pc: usize, fars: &[usize]) -> Result<Option<Vec<u32>>, AllocError>
+    ensures { IfOk result (λ o. MatchOption o (IsWide (map (λ far. pc + far) fars.now)) (λ v. v.items ≡ map (λ far. pc + far) fars.now)) }
+{
+    let mut addresses = Vec::new(alloc);
+    for index in 0..fars.len() {
+        match ahead(pc, fars[index]) {
+            Some(address) => addresses.push(address)?,
+            None => return Ok(None),
+        }
+    }
+    Ok(Some(addresses))
+}
+
+/// Jump tables with that of a line, or none where an address takes more than 32 bits.
+fn noted(
+    alloc: Global,
+    jumps: Lists<u32>,
+    pc: usize,
+    line: &Line,
+) -> Result<Option<Lists<u32>>, AllocError>
+    ensures { IfOk result (λ o. (W R : List Node) → MatchOption o (AreWide (jumps_of pc (line_of W R line.now))) (λ more. more ≡ jumps ++ jumps_of pc (line_of W R line.now))) }
+{
+    match line {
+        Line::Branch(fars) => match all_ahead(alloc, pc, fars)? {
+            Some(addresses) => {
+                let mut more = jumps;
+                more.push(addresses.as_slice())?;
+                Ok(Some(more))
+            }
+            None => Ok(None),
+        },
+        _ => Ok(Some(jumps)),
+    }
+}
+
+/// The jump tables of lines, or none where an address takes more than 32 bits.
+pub(crate) fn gather_jumps(
+    alloc: Global,
+    lines: &[Line],
+) -> Result<Option<Lists<u32>>, AllocError>
+    ensures { IfOk result (λ o. (W R : List Node) → MatchOption o (AreWide (jumps_from 0 (lines_in W R lines.now))) (λ jumps. jumps ≡ jumps_from 0 (lines_in W R lines.now))) }
+{
+    let mut jumps = Lists::new(alloc);
+    for pc in 0..lines.len() {
+        match noted(alloc, jumps, pc, &lines[pc])? {
+            Some(more) => jumps = more,
+            None => return Ok(None),
+        }
+    }
+    Ok(Some(jumps))
+}

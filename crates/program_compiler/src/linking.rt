@@ -1,0 +1,163 @@
+ghost use Rattle.std.specs.Prelude.{◌≡◌, ◌+◌, ◌<◌, ◌≤◌, ◌∷◌, [], ℕ, List, length};
+ghost use Rattle.std.specs.Str.{bytes_eq};
+ghost use Rattle.avro_types.specs.Node.{Node};
+ghost use Rattle.isa.specs.declared.instr.Instr.TheVariants as op;
+ghost use Rattle.program_code.specs.Numbering.{code_from, jumps_of, maps_of, number};
+ghost use Rattle.program_code.specs.Numbering.{linked as instr_of};
+ghost use Rattle.program_compiler.specs.Linking.{instr_with};
+ghost use Rattle.program_compiler.specs.Parts.{Links, LinksAll, LinksTo, Narrows};
+ghost use Rattle.program_lines.specs.Lines.{line_of, lines_in};
+ghost use Rattle.program_lines.specs.Lines.{bytes_of as bytes_of_constant};
+ghost use Rattle.program_lines.specs.Walking.{start_at};
+
+use crate::addresses::{ahead, operand};
+use crate::constants::{Constants, bytes_of};
+use crate::misses::Misses;
+use avro_types::Nodes;
+use isa::{Instr, MOST_INSTRS};
+use program_lines::{CompileError, Constant, Go, Line, Listing};
+use std::alloc::Global;
+
+/// How many maps and jump tables the lines before have.
+#[derive(Clone, Copy)]
+struct Counts {
+    maps: usize,
+    jumps: usize,
+}
+
+/// What the lines name.
+#[derive(Clone, Copy)]
+pub(crate) struct Tables<'t> {
+    pub(crate) listing: &'t Listing,
+    pub(crate) constants: &'t Constants,
+    pub(crate) misses: &'t Misses,
+}
+
+/// An instruction with a number.
+#[derive(Clone, Copy)]
+enum Numbered {
+    Put,
+    Miss,
+    BytesText,
+    Enum,
+    Call,
+    Branch,
+    Go(Go),
+}
+
+impl Numbered {
+    /// The instruction with that number.
+    fn with(self, number: u32) -> Instr
+        ensures { result ≡ instr_with self number }
+    {
+        match self {
+            Numbered::Put => Instr::Put(number),
+            Numbered::Miss => Instr::Miss(number),
+            Numbered::BytesText => Instr::BytesText(number),
+            Numbered::Enum => Instr::Enum(number),
+            Numbered::Call => Instr::Call(number),
+            Numbered::Branch => Instr::Branch(number),
+            Numbered::Go(Go::Next) => Instr::Next(number),
+            Numbered::Go(Go::SkipNext) => Instr::SkipNext(number),
+            Numbered::Go(Go::Jump) => Instr::Jump(number),
+        }
+    }
+}
+
+/// The instruction with a number, if that is one of 32 bits.
+fn of_number(kind: Numbered, number: Option<u32>) -> Result<Instr, CompileError>
+    ensures { (constants : List (List ℕ)) (n : ℕ) → Narrows number n → LinksTo constants (instr_with kind n) result }
+{
+    match number {
+        Some(number) => Ok(kind.with(number)),
+        None => Err(CompileError::ProgramTooLarge),
+    }
+}
+
+/// The instruction that puts a constant.
+fn putting(
+    alloc: Global,
+    r: &Nodes,
+    constants: &Constants,
+    constant: Constant,
+) -> Result<Instr, CompileError>
+    ensures { LinksTo (bytes_of_constant r.now constant ∷ []) (op.Put (number bytes_eq (bytes_of_constant r.now constant) constants.now)) result }
+{
+    match bytes_of(alloc, r, constant)? {
+        Some(bytes) => of_number(Numbered::Put, operand(constants.number_of(&bytes))),
+        None => Err(CompileError::ProgramTooLarge),
+    }
+}
+
+/// The instruction of a line, if its operand is one of 32 bits and its constant has not too many bytes.
+fn linked(
+    alloc: Global,
+    r: &Nodes,
+    tables: &Tables,
+    pc: usize,
+    counts: Counts,
+    line: &Line,
+) -> Result<Instr, CompileError>
+    ensures { (W : List Node) → Links (line_of W r.now line.now) (instr_of (start_at tables.now.listing.now) tables.now.constants.now tables.now.misses.now pc counts.maps counts.jumps (line_of W r.now line.now)) result }
+{
+    match line {
+        Line::Op(instr) => Ok(*instr),
+        Line::Put(constant) => putting(alloc, r, tables.constants, *constant),
+        Line::Miss(miss) => of_number(Numbered::Miss, operand(tables.misses.number_of(*miss))),
+        Line::BytesText(miss) => {
+            of_number(Numbered::BytesText, operand(tables.misses.number_of(*miss)))
+        }
+        Line::Enum { .. } => of_number(Numbered::Enum, operand(counts.maps)),
+        Line::Call(section) => {
+            of_number(Numbered::Call, operand(tables.listing.start_of(*section)))
+        }
+        Line::Ahead(go, far) => of_number(Numbered::Go(*go), ahead(pc, *far)),
+        Line::Back(far) => of_number(Numbered::Go(Go::Jump), operand(pc.saturating_sub(*far))),
+        Line::Branch(_) => of_number(Numbered::Branch, operand(counts.jumps)),
+        Line::Lost => Ok(Instr::Halt),
+    }
+}
+
+/// The counts after one line more.
+fn counted(counts: Counts, line: &Line) -> Counts
+    requires maps { counts.maps < MOST_INSTRS }
+    requires jumps { counts.jumps < MOST_INSTRS }
+    ensures maps { (W R : List Node) → result.maps ≡ counts.maps + length (maps_of (line_of W R line.now)) }
+    ensures jumps { (W R : List Node) (pc : ℕ) → result.jumps ≡ counts.jumps + length (jumps_of pc (line_of W R line.now)) }
+    ensures more { (result.maps ≤ counts.maps + 1) × (result.jumps ≤ counts.jumps + 1) }
+{
+    match line {
+        Line::Enum { .. } => Counts {
+            maps: counts.maps + 1,
+            jumps: counts.jumps,
+        },
+        Line::Branch(_) => Counts {
+            maps: counts.maps,
+            jumps: counts.jumps + 1,
+        },
+        _ => counts,
+    }
+}
+
+/// The code of all lines.
+pub(crate) fn link(
+    alloc: Global,
+    r: &Nodes,
+    tables: &Tables,
+) -> Result<Vec<Instr>, CompileError>
+    requires { length tables.now.listing.now.lines ≤ MOST_INSTRS }
+    ensures { (W : List Node) → LinksAll (lines_in W r.now tables.now.listing.now.lines) (code_from (start_at tables.now.listing.now) tables.now.constants.now tables.now.misses.now 0 0 0 (lines_in W r.now tables.now.listing.now.lines)) result }
+{
+    let lines = tables.listing.lines();
+    let mut code = Vec::new(alloc);
+    let mut counts = Counts { maps: 0, jumps: 0 };
+    for pc in 0..lines.len() {
+        let line = &lines[pc];
+        match linked(alloc, r, tables, pc, counts, line) {
+            Ok(instr) => code.push(instr)?,
+            Err(error) => return Err(error),
+        }
+        counts = counted(counts, line);
+    }
+    Ok(code)
+}

@@ -1,0 +1,10 @@
+pub mod Appended
+pub mod Members
+pub mod Numbered
+pub mod RoutineSteps
+pub mod SectionSteps
+pub mod Starts
+pub mod Steps
+pub mod Unions
+pub mod Walked
+pub mod WriteSteps

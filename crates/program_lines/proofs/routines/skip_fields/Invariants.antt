@@ -1,0 +1,13 @@
+-- The lines so far, before those of the fields that are left, are all of them.
+use Rattle.std.proofs.Common.{◌≡◌, ◌++◌, drop, length}
+use Rattle.avro_types.specs.Node.{fields_of}
+use Rattle.avro_types.specs.WellFormed.{FieldsBelow}
+use Rattle.program_code.specs.Skipping.{skip_fields}
+use Rattle.program_lines.specs.Lines.{lines_in}
+use Rattle.program_lines.proofs.routines.skip_fields.Given as goal
+
+abbrev pub invariant-loop-field : goal.invariant-loop-field
+invariant-loop-field l = record {
+  so_far : lines_in l.w l.r l.lines.items ++ skip_fields l.w (fields_of (drop l.field-index l.fields)) ≡ lines_in l.w l.r l.fn.lines.items ++ skip_fields l.w (fields_of l.fields);
+  left : FieldsBelow (length l.w) (fields_of (drop l.field-index l.fields));
+}

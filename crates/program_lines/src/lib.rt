@@ -1,0 +1,15 @@
+//! The lines of a pair of schemas: the code of each section that is called for, before its numbers and addresses are known.
+#![tactic(auto)]
+
+mod blank;
+mod error;
+mod lines;
+mod routines;
+mod sections;
+mod skipping;
+mod walking;
+mod writing;
+
+pub use error::CompileError;
+pub use lines::{Constant, Go, Line, Section};
+pub use walking::{Listing, walk};

@@ -1,0 +1,249 @@
+ghost use Rattle.std.specs.Prelude.{◌≡◌, ◌++◌, ◌∷◌, ◌<◌, ◌≤◌, ℕ, List, [], Some, false, length, slice_get, slice_index_or, IfOk, OnOk};
+ghost use Rattle.avro_types.specs.Node.{Node, field_of, fields_of};
+ghost use Rattle.avro_types.specs.WellFormed.{FieldsBelow};
+ghost use Rattle.matching.specs.Options.{given};
+ghost use Rattle.matching.specs.Partners.{AreRoutes, IsRoute};
+ghost use Rattle.matching.specs.Partners.{has_partner as has_partner_of};
+ghost use Rattle.matching.specs.declared.pairing.Route.{Route};
+ghost use Rattle.program_code.specs.Lines.{Lost};
+ghost use Rattle.program_code.specs.Skipping.{skip_fields, skip_routine};
+ghost use Rattle.program_code.specs.Writing.{default_bytes, defaults_code, field_code, fields_code, put_in, section, write_routine};
+ghost use Rattle.resolver.specs.Resolution.{field_lists};
+ghost use Rattle.program_lines.specs.Lines.{default_of, fields_of_record, lines_in, section_of};
+
+use crate::blank::is_blank;
+use crate::lines::{Constant, Line, Section, put};
+use crate::skipping::skip;
+use crate::writing::write;
+use avro_types::{Field, Kind, MOST_FIELDS, Nodes};
+use isa::Instr;
+use matching::{Route, routes};
+use resolver::field_lists;
+use std::alloc::{AllocError, Global};
+
+/// Which of so many reader's fields have partners.
+fn have_partners(alloc: Global, routes: &[Route], many: usize) -> Result<Vec<bool>, AllocError>
+    ensures each { IfOk result (λ v. length v.items ≡ many) }
+    ensures mark { IfOk result (λ v. (j : ℕ) → j < many → slice_index_or v.items j false ≡ has_partner_of j routes.now) }
+{
+    let mut marks = vec![in alloc; false; many]?;
+    for route in routes {
+        if let Some(partner) = route.partner {
+            if partner.position < marks.len() {
+                marks[partner.position] = true;
+            }
+        }
+    }
+    Ok(marks)
+}
+
+/// Adds the lines of a reader's field, if it has no partner and its written default is not empty.
+fn put_default(
+    alloc: Global,
+    reader: usize,
+    position: usize,
+    has_partner: bool,
+    field: &Field,
+    lines: &mut Vec<Line>,
+) -> Result<(), AllocError>
+    requires { position < MOST_FIELDS }
+    ensures { OnOk result ((W R : List Node) (routes : List Route) → has_partner ≡ has_partner_of position routes
+        → slice_get (fields_of_record (slice_get R reader)) position ≡ Some (field_of field.now)
+        → lines_in W R lines.new.items ≡ lines_in W R lines.old.items ++ put_in position (default_bytes routes position (field_of field.now))) }
+{
+    if has_partner {
+        return Ok(());
+    }
+    let Some(default) = &field.default else {
+        return Ok(());
+    };
+    let blank = is_blank(alloc, default)?;
+    if blank {
+        return Ok(());
+    }
+    put(lines, Line::Op(Instr::Slot(position as u32)))?;
+    put(
+        lines,
+        Line::Put(Constant::Default {
+            reader,
+            field: position,
+        }),
+    )
+}
+
+/// Adds the lines of the reader's fields without a partner whose written defaults are not empty.
+fn put_defaults(
+    alloc: Global,
+    r: &Nodes,
+    reader: usize,
+    routes: &[Route],
+    rs: &[Field],
+    lines: &mut Vec<Line>,
+) -> Result<(), AllocError>
+    requires few { length rs.now ≤ MOST_FIELDS }
+    requires fields { fields_of_record (slice_get r.now reader) ≡ fields_of rs.now }
+    ensures { OnOk result ((W : List Node) → lines_in W r.now lines.new.items ≡ lines_in W r.now lines.old.items ++ defaults_code routes.now 0 (fields_of rs.now)) }
+{
+    let marks = have_partners(alloc, routes, rs.len())?;
+    for position in 0..rs.len() {
+        put_default(
+            alloc,
+            reader,
+            position,
+            marks[position],
+            &rs[position],
+            lines,
+        )?;
+    }
+    Ok(())
+}
+
+/// Adds the lines of a writer's field.
+fn put_field(
+    alloc: Global,
+    w: &Nodes,
+    r: &Nodes,
+    route: &Route,
+    lines: &mut Vec<Line>,
+) -> Result<(), AllocError>
+    requires { IsRoute (length w.now) (length r.now) MOST_FIELDS route.now }
+    ensures { OnOk result (lines_in w.now r.now lines.new.items ≡ lines_in w.now r.now lines.old.items ++ field_code w.now r.now route.now) }
+{
+    match route.partner {
+        Some(partner) => {
+            put(lines, Line::Op(Instr::Slot(partner.position as u32)))?;
+            write(alloc, w, r, route.node, partner.node, lines)
+        }
+        None => skip(alloc, w, r, route.node, lines),
+    }
+}
+
+/// Adds the lines of the writer's fields.
+fn put_fields(
+    alloc: Global,
+    w: &Nodes,
+    r: &Nodes,
+    routes: &[Route],
+    lines: &mut Vec<Line>,
+) -> Result<(), AllocError>
+    requires { AreRoutes (length w.now) (length r.now) MOST_FIELDS routes.now }
+    ensures { OnOk result (lines_in w.now r.now lines.new.items ≡ lines_in w.now r.now lines.old.items ++ fields_code w.now r.now routes.now) }
+{
+    for route in routes {
+        put_field(alloc, w, r, route, lines)?;
+    }
+    Ok(())
+}
+
+/// Adds the lines that skip a record's fields.
+fn skip_fields(
+    alloc: Global,
+    w: &Nodes,
+    r: &Nodes,
+    fields: &[Field],
+    lines: &mut Vec<Line>,
+) -> Result<(), AllocError>
+    requires { FieldsBelow (length w.now) (fields_of fields.now) }
+    ensures { OnOk result (lines_in w.now r.now lines.new.items ≡ lines_in w.now r.now lines.old.items ++ skip_fields w.now (fields_of fields.now)) }
+{
+    for field in fields {
+        skip(alloc, w, r, field.node, lines)?;
+    }
+    Ok(())
+}
+
+/// Adds the lines of the routine of two records.
+fn put_routine(
+    alloc: Global,
+    w: &Nodes,
+    r: &Nodes,
+    wn: usize,
+    rn: usize,
+    lines: &mut Vec<Line>,
+) -> Result<(), AllocError>
+    requires writer { wn < length w.now }
+    requires reader { rn < length r.now }
+    ensures { OnOk result (lines_in w.now r.now lines.new.items ≡ lines_in w.now r.now lines.old.items
+        ++ given (field_lists (slice_get w.now wn) (slice_get r.now rn)) (Lost ∷ []) (λ p. write_routine w.now r.now p.0 p.1)) }
+{
+    w.is_well_formed();
+    r.is_well_formed();
+    let Some((ws, rs)) = field_lists(w, wn, r, rn) else {
+        return put(lines, Line::Lost);
+    };
+    let routes = routes(alloc, ws, rs)?;
+    put(lines, Line::Op(Instr::Record(rs.len() as u32)))?;
+    put_fields(alloc, w, r, &routes, lines)?;
+    put_defaults(alloc, r, rn, &routes, rs, lines)?;
+    put(lines, Line::Op(Instr::EndRecord))?;
+    put(lines, Line::Op(Instr::Return))
+}
+
+/// Adds the lines of the routine that skips a record.
+fn put_skip_routine(
+    alloc: Global,
+    w: &Nodes,
+    r: &Nodes,
+    wn: usize,
+    lines: &mut Vec<Line>,
+) -> Result<(), AllocError>
+    requires { wn < length w.now }
+    ensures { OnOk result (lines_in w.now r.now lines.new.items ≡ lines_in w.now r.now lines.old.items ++ skip_routine w.now (slice_get w.now wn)) }
+{
+    let Kind::Record { fields, .. } = w.kind(wn) else {
+        return put(lines, Line::Lost);
+    };
+    put(lines, Line::Op(Instr::Enter))?;
+    skip_fields(alloc, w, r, fields, lines)?;
+    put(lines, Line::Op(Instr::Leave))?;
+    put(lines, Line::Op(Instr::Return))
+}
+
+/// Adds the lines of a section.
+fn put_section(
+    alloc: Global,
+    w: &Nodes,
+    r: &Nodes,
+    part: Section,
+    lines: &mut Vec<Line>,
+) -> Result<(), AllocError>
+    ensures { OnOk result (lines_in w.now r.now lines.new.items ≡ lines_in w.now r.now lines.old.items ++ section w.now r.now (section_of part)) }
+{
+    w.is_well_formed();
+    r.is_well_formed();
+    match part {
+        Section::Main => {
+            write(alloc, w, r, 0, 0, lines)?;
+            put(lines, Line::Op(Instr::Halt))
+        }
+        Section::Write(wn, rn) => {
+            if wn >= w.len() {
+                return put(lines, Line::Lost);
+            }
+            if rn >= r.len() {
+                return put(lines, Line::Lost);
+            }
+            put_routine(alloc, w, r, wn, rn, lines)
+        }
+        Section::Skip(wn) => {
+            if wn >= w.len() {
+                return put(lines, Line::Lost);
+            }
+            put_skip_routine(alloc, w, r, wn, lines)
+        }
+    }
+}
+
+/// The lines of a section.
+pub(crate) fn section(
+    alloc: Global,
+    w: &Nodes,
+    r: &Nodes,
+    part: Section,
+) -> Result<Vec<Line>, AllocError>
+    ensures { IfOk result (λ v. lines_in w.now r.now v.items ≡ section w.now r.now (section_of part)) }
+{
+    let mut lines = Vec::new(alloc);
+    put_section(alloc, w, r, part, &mut lines)?;
+    Ok(lines)
+}

@@ -1,0 +1,71 @@
+ghost use Rattle.std.specs.Prelude.{◌≡◌};
+ghost use Rattle.program_lines.specs.Lines.{section_of};
+ghost use Rattle.program_lines.specs.Walking.{Walks, start_at};
+
+use crate::error::CompileError;
+use crate::lines::{Line, Section, put_all};
+use crate::routines::section;
+use crate::sections::{Sections, note_calls};
+use avro_types::Nodes;
+use isa::MOST_INSTRS;
+use std::alloc::Global;
+use std::marker::Model;
+
+/// All sections that are called for, where each begins, and their lines. Callers see it as these.
+#[derive(Drop)]
+pub struct Listing {
+    sections: Sections,
+    starts: Vec<usize>,
+    lines: Vec<Line>,
+}
+
+impl Model for Listing {
+    ghost use Rattle.program_lines.specs.Walking.{Listed};
+
+    ghost Value = { Listed };
+
+    ghost view = { λ l. record { sections = l.sections; starts = l.starts.items; lines = l.lines.items } };
+}
+
+impl Listing {
+    /// The lines of all sections, one after the other.
+    pub fn lines(&self) -> &[Line]
+        ensures { result.now ≡ self.now.lines }
+    {
+        self.lines.as_slice()
+    }
+
+    /// Where a section begins, in lines from the first one, or how many lines there are where it is not called for.
+    pub fn start_of(&self, section: Section) -> usize
+        ensures { result ≡ start_at self.now (section_of section) }
+    {
+        let start = match self.sections.number_of(section) {
+            Some(number) => self.starts.get(number).copied(),
+            None => None,
+        };
+        start.unwrap_or(self.lines.len())
+    }
+}
+
+/// The sections of a pair of schemas, in the order of their first calls.
+pub fn walk(alloc: Global, w: &Nodes, r: &Nodes) -> Result<Listing, CompileError>
+    ensures { Walks w.now r.now result }
+{
+    let mut sections = Sections::new(alloc)?;
+    let mut starts = Vec::new(alloc);
+    let mut lines = Vec::new(alloc);
+    while let Some(next) = sections.get(starts.len()) {
+        if lines.len() >= MOST_INSTRS {
+            return Err(CompileError::ProgramTooLarge);
+        }
+        starts.push(lines.len())?;
+        let code = section(alloc, w, r, next)?;
+        note_calls(&mut sections, &code)?;
+        put_all(&mut lines, code)?;
+    }
+    Ok(Listing {
+        sections,
+        starts,
+        lines,
+    })
+}
