@@ -4,6 +4,15 @@ use isa::{Entry, Instr, Lists, Parts, Program, ProgramError};
 use outcome::{Mismatch, MismatchKind};
 use std::alloc::{AllocError, Global};
 
+/// A node of the writer, which matches none of the reader's.
+fn miss(reader_node: usize) -> Mismatch {
+    Mismatch {
+        kind: MismatchKind::NoMatch,
+        writer_node: 1_023,
+        reader_node,
+    }
+}
+
 /// The parts of a code with a constant, a map, a jump table and a miss.
 fn parts(alloc: Global, code: &[Instr]) -> Result<Parts, AllocError> {
     let mut constants = Lists::new(alloc);
@@ -12,13 +21,8 @@ fn parts(alloc: Global, code: &[Instr]) -> Result<Parts, AllocError> {
     maps.push(&[Entry::Position(4_095), Entry::Miss(0)])?;
     let mut jumps = Lists::new(alloc);
     jumps.push(&[0u32, 1])?;
-    let miss = Mismatch {
-        kind: MismatchKind::NoMatch,
-        writer_node: 1_023,
-        reader_node: 0,
-    };
     let mut misses = Vec::new(alloc);
-    misses.push(miss)?;
+    misses.push(miss(0))?;
     Ok(Parts {
         code: code.to_vec(alloc)?,
         constants,
@@ -38,7 +42,9 @@ fn lists<T: Copy>(alloc: Global, list: &[T], times: usize) -> Result<Lists<T>, A
     let mut lists = Lists::new(alloc);
     lists.push(list)?;
     for _time in 1..times {
-        lists.push_again(0)?;
+        if lists.len() > 0 {
+            lists.push_again(0)?;
+        }
     }
     Ok(lists)
 }
@@ -72,9 +78,10 @@ fn a_program_shows_its_parts(rt: HostRuntime) {
     assert!(rt; program.instr(1) == Some(Instr::Halt));
     assert!(rt; program.instr(2).is_none());
     assert!(rt; program.constants().get(0) == Some([2u8, 4].as_slice()));
-    assert!(rt; program.maps().list(0)[1] == Entry::Miss(0));
+    let entries = [Entry::Position(4_095), Entry::Miss(0)];
+    assert!(rt; program.maps().get(0) == Some(entries.as_slice()));
     assert!(rt; program.jumps().get(0) == Some([0u32, 1].as_slice()));
-    assert!(rt; program.misses()[0].writer_node == 1_023);
+    assert!(rt; program.misses() == [miss(0)].as_slice());
 }
 
 #[test]
@@ -126,19 +133,19 @@ fn operands_out_of_range_are_told_by_their_address(rt: HostRuntime) {
 fn tells_what_tables_have_out_of_range(rt: HostRuntime) {
     let code = [Instr::Jump(7), Instr::Halt];
     let mut all = parts(rt.alloc(), &code).expect(&rt, "memory");
-    all.misses[0].reader_node = 1_024;
+    all.misses.push(miss(1_024)).expect(&rt, "memory");
     all.jumps.push(&[1, 0, 2]).expect(&rt, "memory");
     all.maps
         .push(&[Entry::Position(0), Entry::Position(4_096)])
         .expect(&rt, "memory");
     assert!(rt; Program::new(all).err() == Some(ProgramError::Entry(1, 1)));
     let mut all = parts(rt.alloc(), &code).expect(&rt, "memory");
-    all.misses[0].reader_node = 1_024;
+    all.misses.push(miss(1_024)).expect(&rt, "memory");
     all.jumps.push(&[1, 0, 2]).expect(&rt, "memory");
     assert!(rt; Program::new(all).err() == Some(ProgramError::Address(1, 2)));
     let mut all = parts(rt.alloc(), &code).expect(&rt, "memory");
-    all.misses[0].reader_node = 1_024;
-    assert!(rt; Program::new(all).err() == Some(ProgramError::Miss(0)));
+    all.misses.push(miss(1_024)).expect(&rt, "memory");
+    assert!(rt; Program::new(all).err() == Some(ProgramError::Miss(1)));
     let all = parts(rt.alloc(), &code).expect(&rt, "memory");
     assert!(rt; Program::new(all).err() == Some(ProgramError::Instr(0)));
 }
