@@ -1,0 +1,9 @@
+mod Plain
+mod Follow
+mod Buffers
+mod Stores
+mod Holding
+mod LookUps
+mod Effects
+mod Opening
+mod Moving
