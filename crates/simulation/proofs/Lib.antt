@@ -7,3 +7,10 @@ mod LookUps
 mod Effects
 mod Opening
 mod Moving
+mod Rooms
+mod SkipLoop
+mod Passing
+mod SkipPlaces
+mod Skipping
+mod Writing
+mod WriteLoop
