@@ -14,3 +14,5 @@ mod SkipPlaces
 mod Skipping
 mod Writing
 mod WriteLoop
+mod Leaves
+mod Parts
