@@ -16,3 +16,5 @@ mod Writing
 mod WriteLoop
 mod Leaves
 mod Parts
+mod Routes
+mod Slots
