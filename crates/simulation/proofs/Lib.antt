@@ -18,3 +18,6 @@ mod Leaves
 mod Parts
 mod Routes
 mod Slots
+mod RecordSlots
+mod RecordFields
+mod RecordDefaults
