@@ -21,3 +21,5 @@ mod Slots
 mod RecordSlots
 mod RecordFields
 mod RecordDefaults
+mod Records
+mod WritePlaces
