@@ -23,3 +23,5 @@ mod RecordFields
 mod RecordDefaults
 mod Records
 mod WritePlaces
+mod Values
+mod Pairs
