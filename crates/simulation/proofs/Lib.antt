@@ -25,3 +25,5 @@ mod Records
 mod WritePlaces
 mod Values
 mod Pairs
+mod Counting
+mod Inside

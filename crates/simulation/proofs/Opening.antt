@@ -12,14 +12,14 @@ use Rattle.isa.specs.Table.{next, opens, pushed}
 use Rattle.simulation.proofs.Follow.{Follows, Leads, reads_then}
 use Rattle.simulation.proofs.Plain.{plain_row}
 
-abbrev opening : ℕ → Result Meter Fault → Decoding ℕ
+abbrev pub opening : ℕ → Result Meter Fault → Decoding ℕ
 opening at r = inside r (λ m. Complete at at m)
 
 inside_then : {B : Type 0} (r : Result Meter Fault) (at : ℕ) (f : Meter → Decoding B) → inside r f ≡ (opening at r >>= λ u to m. f m)
 inside_then (Ok m) at f = refl
 inside_then (Err e) at f = refl
 
-opening_is : (r : Result Meter Fault) (at a to : ℕ) (m : Meter) → opening at r ≡ Complete a to m → (r ≡ Ok m) × (to ≡ at)
+pub opening_is : (r : Result Meter Fault) (at a to : ℕ) (m : Meter) → opening at r ≡ Complete a to m → (r ≡ Ok m) × (to ≡ at)
 opening_is (Ok w) at a to m e = let x = complete_is e in (ap Ok x.2, sym x.1)
 opening_is (Err e) at a to m h = absurd cc
 
