@@ -27,3 +27,6 @@ mod Values
 mod Pairs
 mod Counting
 mod Inside
+mod Whole
+mod Runs
+mod Simulated
