@@ -5,13 +5,19 @@ use Rattle.matching.specs.Options.{given}
 use Rattle.isa.specs.Bounds.{IsBounded}
 use Rattle.isa.specs.Program.{Program}
 use Rattle.isa.specs.Row.{row_of}
-use Rattle.isa.specs.State.{End, State}
-use Rattle.simulation.specs.Alone.{rows_from}
-use Rattle.simulation.specs.Simulation.{RowsStay, RowsStayBounded}
+use Rattle.isa.specs.State.{End, State, start}
+use Rattle.simulation.specs.Alone.{RowsAreCounted, RunsGoOn, RunsStay, RunsStayInside, rows_from}
 use Rattle.simulation.proofs.Counting.{counted_as, row_adds_one, row_counted}
 use Rattle.simulation.proofs.Follow.{Takes, a_row, no_row}
 use Rattle.simulation.proofs.Inside.{row_inside}
 use Rattle.simulation.proofs.Plain.{plain_row}
+
+-- the laws of rows, as `isa` proves them
+abbrev pub RowsStay : Type 0
+RowsStay = (P : Program) (input more : List ℕ) (ended : Bool) (s new : State) → s.pos ≤ length input → row_of P input false s ≡ Some new → row_of P (input ++ more) ended s ≡ Some new
+
+abbrev pub RowsStayBounded : Type 0
+RowsStayBounded = (P : Program) (input : List ℕ) (ended : Bool) (s new : State) → row_of P input ended s ≡ Some new → IsBounded s → IsBounded new
 
 -- the first row, and those behind it
 pub record First (P : Program) (input : List ℕ) (ended : Bool) (n : ℕ) (s d : State) : Type 0 where
@@ -35,9 +41,18 @@ none_taken : (P : Program) (input : List ℕ) (ended : Bool) (s d : State) → r
 unfolding rows_from
 none_taken P input ended s d e = cc
 
+-- ---- rows behind rows
+
+rows_behind : (P : Program) (input : List ℕ) (ended : Bool) (n more : ℕ) (s d : State) → rows_from P input ended n s ≡ Some d → rows_from P input ended (n + more) s ≡ rows_from P input ended more d
+rows_behind P input ended zero more s d e = let same : 0 + more ≡ more = omega arith in ap (λ (k : ℕ). rows_from P input ended k s) same ∙ ap (rows_from P input ended more) (none_taken P input ended s d e)
+rows_behind P input ended (suc n) more s d e =
+    let x = first_of P input ended n s d e in
+    let same : suc n + more ≡ suc (n + more) = omega arith in
+    ap (λ (k : ℕ). rows_from P input ended k s) same ∙ row_first P input ended (n + more) s x.next x.row ∙ rows_behind P input ended n more x.next d x.rest
+
 -- ---- the count
 
-pub counts_rows : (P : Program) (input : List ℕ) (ended : Bool) (n : ℕ) (s d : State) → rows_from P input ended n s ≡ Some d → d.count ≡ s.count + n
+counts_rows : (P : Program) (input : List ℕ) (ended : Bool) (n : ℕ) (s d : State) → rows_from P input ended n s ≡ Some d → d.count ≡ s.count + n
 counts_rows P input ended zero s d e = omega (arith, ap (λ (x : State). x.count) (none_taken P input ended s d e))
 counts_rows P input ended (suc n) s d e =
     let x = first_of P input ended n s d e in
@@ -91,14 +106,36 @@ counted_inside : (P : Program) (p : List ℕ) (s t : State) (o : Option State) �
 counted_inside P p s t None r e i = absurd cc
 counted_inside P p s t (Some d) r e i = subst (λ (x : State). x.pos ≤ length p) (some_is e) (row_inside P p s d r i)
 
-pub row_stays_inside : RowsStay → (P : Program) (input : List ℕ) (s t : State) → s.pos ≤ length input → row_of P input false s ≡ Some t → t.pos ≤ length input
+row_stays_inside : RowsStay → (P : Program) (input : List ℕ) (s t : State) → s.pos ≤ length input → row_of P input false s ≡ Some t → t.pos ≤ length input
 row_stays_inside stays P input s t i r =
     let closed : row_of P input true s ≡ Some t = subst (λ (l : List ℕ). row_of P l true s ≡ Some t) (append-nil input) (stays P input [] true s t i r) in
     counted_inside P input s t (plain_row P input s) refl (sym (row_counted P input s.count s) ∙ closed) i
 
-pub rows_longer : RowsStay → (P : Program) (input more : List ℕ) (ended : Bool) (n : ℕ) (s d : State) → s.pos ≤ length input → rows_from P input false n s ≡ Some d → rows_from P (input ++ more) ended n s ≡ Some d
+rows_longer : RowsStay → (P : Program) (input more : List ℕ) (ended : Bool) (n : ℕ) (s d : State) → s.pos ≤ length input → rows_from P input false n s ≡ Some d → rows_from P (input ++ more) ended n s ≡ Some d
 unfolding rows_from
 rows_longer stays P input more ended zero s d i e = e
 rows_longer stays P input more ended (suc n) s d i e =
     let x = first_of P input false n s d e in
     row_first P (input ++ more) ended n s x.next (stays P input more ended s x.next i x.row) ∙ rows_longer stays P input more ended n x.next d (row_stays_inside stays P input s x.next i x.row) x.rest
+
+closed_inside : (P : Program) (input : List ℕ) (s t : State) → s.pos ≤ length input → row_of P input true s ≡ Some t → t.pos ≤ length input
+closed_inside P input s t i r = counted_inside P input s t (plain_row P input s) refl (sym (row_counted P input s.count s) ∙ r) i
+
+rows_inside : RowsStay → (P : Program) (input : List ℕ) (ended : Bool) (n : ℕ) (s d : State) → s.pos ≤ length input → rows_from P input ended n s ≡ Some d → d.pos ≤ length input
+rows_inside stays P input ended zero s d i e = subst (λ (x : State). x.pos ≤ length input) (none_taken P input ended s d e) i
+rows_inside stays P input true (suc n) s d i e = let x = first_of P input true n s d e in rows_inside stays P input true n x.next d (closed_inside P input s x.next i x.row) x.rest
+rows_inside stays P input false (suc n) s d i e = let x = first_of P input false n s d e in rows_inside stays P input false n x.next d (row_stays_inside stays P input s x.next i x.row) x.rest
+
+-- ---- the laws of runs alone
+
+pub rows_are_counted : RowsAreCounted
+rows_are_counted P input ended n s e = omega (arith, counts_rows P input ended n start s e)
+
+pub runs_go_on : RunsGoOn
+runs_go_on P input ended n more s e = rows_behind P input ended n more start s e
+
+pub runs_stay_inside : RowsStay → RunsStayInside
+runs_stay_inside stays P input ended n s e = rows_inside stays P input ended n start s (omega arith) e
+
+pub runs_stay : RowsStay → RunsStay
+runs_stay stays P input more ended n s e = rows_longer stays P input more ended n start s (omega arith) e

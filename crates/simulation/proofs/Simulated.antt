@@ -12,9 +12,9 @@ use Rattle.isa.specs.State.{End, Out, State, start}
 use Rattle.program_code.specs.Code.{code_of}
 use Rattle.program_code.specs.Linking.{BeginsIn, ProgramIsInRange, ProgramIsLinked}
 use Rattle.simulation.specs.Alone.{run_alone}
-use Rattle.simulation.specs.Simulation.{EachEndIsOutcome, EarlyEndIsOutcome, EndsWithOutcome, IsOutcomeOf, IsSimulated, RowsStay, RowsStayBounded}
+use Rattle.simulation.specs.Simulation.{EachEndIsOutcome, EarlyEndIsOutcome, EndsWithOutcome, IsOutcomeOf, IsSimulated}
 use Rattle.simulation.proofs.Counting.{counted_as}
-use Rattle.simulation.proofs.Runs.{one_end, rows_bounded, rows_longer, takes_rows}
+use Rattle.simulation.proofs.Runs.{RowsStay, RowsStayBounded, one_end, rows_bounded, runs_stay, takes_rows}
 use Rattle.simulation.proofs.Whole.{Finishes, whole}
 
 few_rows : (rows units instrs bytes : ℕ) → rows ≤ (units + 1) * instrs + bytes → units ≤ MOST_UNITS → instrs ≤ MOST_INSTRS → bytes ≤ MOST_PAYLOAD → rows < 2 ^ 64
@@ -53,4 +53,4 @@ module _ (W R : List Node) (formed : IsWellFormed W) (linked : ProgramIsLinked W
   each_end P payload n s end is r e = each_end_of P is payload n s end r e
 
   pub early_end : RowsStay → EarlyEndIsOutcome W R
-  early_end stays P input more n s end is r e = each_end_of P is (input ++ more) n s end (rows_longer stays P input more true n start s (omega arith) r) e
+  early_end stays P input more n s end is r e = each_end_of P is (input ++ more) n s end (runs_stay stays P input more true n s r) e

@@ -3,4 +3,4 @@
 
 mod laws;
 
-pub use laws::program_ends_with_the_outcome;
+pub use laws::{program_ends_with_the_outcome, runs_alone_are_counted_and_stay};
