@@ -1,5 +1,5 @@
 -- What a row does does not depend on the count, and each row adds 1 to it.
-use Rattle.std.proofs.Common.{replicate, ◌≡◌, ℕ, zero, suc, ◌+◌, ◌-◌, Bool, true, false, cond, List, [], ◌∷◌, length, take, drop, Option, Some, None, Result, refl, sym, ap, ◌∙◌, arith, slice_get, min}
+use Rattle.std.proofs.Common.{replicate, ◌≡◌, ℕ, zero, suc, ◌+◌, ◌-◌, Bool, true, false, cond, List, [], ◌∷◌, length, take, drop, Option, Some, None, Result, refl, ap, ◌∙◌, arith, slice_get, min}
 use Rattle.std.specs.Prelude.{nat_lt, option_map, slice_index_or}
 use Rattle.std.specs.Str.{is_utf8}
 use Rattle.avro_bytes.specs.declared.meter.Meter.{Meter}
@@ -27,7 +27,7 @@ use Rattle.isa.specs.declared.limits.TheConstants.{MOST_CALLS, MOST_PIECE}
 use Rattle.isa.specs.Program.{Program, constant_of, jumps_of, map_of}
 use Rattle.isa.specs.Row.{counted, kept, row, row_at, row_of, skipped}
 use Rattle.isa.specs.State.{Blocks, End, Frame, Out, Part, Rec, Skip, SkipBlocks, State, has_current, meter_of}
-use Rattle.isa.specs.Table.{Move, added, anything, begun, call, close_record, content, ends_part, entered, finished, fixed, gathered, halt, if_current, leave, moved, moves, next, next_of, only_text, opens, or_miss, passed, pushed, reads, return, select, skip_next_of, stop, trap, wait, with_frames}
+use Rattle.isa.specs.Table.{Move, added, anything, begun, close_record, content, ends_part, entered, finished, fixed, gathered, halt, if_current, leave, moved, moves, next, next_of, only_text, opens, or_miss, passed, pushed, reads, return, select, skip_next_of, stop, trap, wait, with_frames}
 use Rattle.simulation.proofs.Plain.{plain_row, unless_ended}
 
 -- with another count

@@ -1,5 +1,5 @@
 -- A run stays inside its payload.
-use Rattle.std.proofs.Common.{replicate, ◌≡◌, ℕ, zero, suc, ◌+◌, ◌-◌, ◌≤◌, Bool, true, false, cond, List, [], ◌∷◌, length, take, drop, Ok, Option, Some, None, Result, refl, sym, ap, ◌∙◌, subst, arith, lit<, slice_get, pos, min}
+use Rattle.std.proofs.Common.{replicate, ◌≡◌, ℕ, zero, suc, ◌+◌, ◌-◌, ◌≤◌, Bool, true, false, cond, List, [], ◌∷◌, length, take, drop, Option, Some, None, Result, refl, sym, subst, arith, lit<, slice_get, min}
 use Rattle.std.specs.Prelude.{nat_lt, slice_index_or}
 use Rattle.std.specs.Str.{is_utf8}
 use Rattle.avro_bytes.specs.declared.fault.Fault.{Fault}
@@ -30,7 +30,7 @@ use Rattle.isa.specs.declared.limits.TheConstants.{MOST_CALLS, MOST_PIECE}
 use Rattle.isa.specs.Program.{Program, jumps_of, map_of}
 use Rattle.isa.specs.Row.{kept, row, row_at, skipped}
 use Rattle.isa.specs.State.{Blocks, End, Frame, Part, Rec, Skip, SkipBlocks, State, has_current, meter_of}
-use Rattle.isa.specs.Table.{Move, added, anything, begun, call, close_record, content, ends_part, entered, finished, fixed, gathered, halt, if_current, leave, moved, moves, next, next_of, only_text, opens, or_miss, passed, pushed, reads, return, select, skip_next_of, wait, with_frames}
+use Rattle.isa.specs.Table.{Move, added, anything, begun, close_record, content, ends_part, entered, finished, fixed, gathered, halt, if_current, leave, moved, moves, next, next_of, only_text, opens, or_miss, passed, pushed, reads, return, select, skip_next_of, wait, with_frames}
 use Rattle.simulation.proofs.Follow.{Takes, a_row, no_row}
 use Rattle.simulation.proofs.Opening.{opening_is}
 use Rattle.simulation.proofs.Plain.{plain_row, unless_ended}

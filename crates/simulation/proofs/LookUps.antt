@@ -1,5 +1,5 @@
 -- What stands at a place of a list.
-use Rattle.std.proofs.Common.{◌≡◌, ℕ, zero, suc, ◌<◌, List, [], ◌∷◌, length, Some, None, refl, arith, slice_get}
+use Rattle.std.proofs.Common.{◌≡◌, ℕ, zero, suc, ◌<◌, List, [], ◌∷◌, length, Some, arith, slice_get}
 use Rattle.std.specs.Prelude.{slice_index_or}
 
 pub got : {A : Type 0} (xs : List A) (n : ℕ) (default a : A) → slice_get xs n ≡ Some a → slice_index_or xs n default ≡ a

@@ -1,5 +1,5 @@
 -- A row opens a record, an array or a map as decoding does.
-use Rattle.std.proofs.Common.{◌≡◌, ℕ, ◌+◌, ◌*◌, ◌≤◌, true, List, length, Ok, Err, Result, Some, refl, sym, ap, ◌∙◌, subst, arith}
+use Rattle.std.proofs.Common.{◌≡◌, ℕ, ◌+◌, ◌*◌, ◌≤◌, true, List, Ok, Err, Result, Some, refl, sym, ap, ◌∙◌, subst, arith}
 use Rattle.avro_bytes.specs.declared.fault.Fault.{Fault}
 use Rattle.avro_bytes.specs.declared.meter.Meter.{Meter}
 use Rattle.avro_bytes.specs.Decoding.{Decoding, Complete, ◌>>=◌, inside}
@@ -9,7 +9,7 @@ use Rattle.avro_bytes.specs.Laws.Meters.{blocks_were_opened, was_opened}
 use Rattle.isa.specs.Program.{Program}
 use Rattle.isa.specs.State.{Frame, State, meter_of}
 use Rattle.isa.specs.Table.{next, opens, pushed}
-use Rattle.simulation.proofs.Follow.{Follows, Leads, reads_then}
+use Rattle.simulation.proofs.Follow.{Follows, reads_then}
 use Rattle.simulation.proofs.Plain.{plain_row}
 
 abbrev pub opening : ℕ → Result Meter Fault → Decoding ℕ

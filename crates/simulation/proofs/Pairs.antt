@@ -1,11 +1,11 @@
 -- Code that stands for a pair of nodes writes what resolution makes of what decoding gives, at every depth.
-use Rattle.std.proofs.Common.{◌≡◌, ℕ, zero, suc, ◌+◌, ◌-◌, ◌*◌, ◌≤◌, ◌<◌, true, false, List, ◌∷◌, ◌++◌, length, Option, Some, None, Ok, Err, refl, sym, ap, ◌∙◌, subst, arith, slice_get, pos}
+use Rattle.std.proofs.Common.{◌≡◌, ℕ, zero, suc, ◌+◌, ◌-◌, ◌*◌, ◌≤◌, ◌<◌, false, List, ◌∷◌, ◌++◌, length, Option, Some, None, Ok, Err, refl, sym, ap, ◌∙◌, subst, arith, slice_get, pos}
 use Rattle.std.specs.Prelude.{slice_index_or}
 use Rattle.std.specs.Str.{is_utf8}
 use Rattle.avro_bytes.specs.declared.meter.Meter.{Meter}
 use Rattle.avro_bytes.specs.declared.fault.MalformedKind.TheVariants.{BadBranch, BadEnum}
 use Rattle.avro_bytes.specs.Blob.{content_at, fixed_at}
-use Rattle.avro_bytes.specs.Boolean.{boolean_at, boolean_byte}
+use Rattle.avro_bytes.specs.Boolean.{boolean_at}
 use Rattle.avro_bytes.specs.Decoding.{Complete, Failed, Need, map_decoding}
 use Rattle.avro_bytes.specs.Number.{int_limit, long_limit}
 use Rattle.avro_bytes.specs.NumberDecoding.{number_at}
@@ -15,7 +15,7 @@ use Rattle.avro_bytes.specs.Text.{text_at}
 use Rattle.avro_bytes.specs.Written.{after_length, in_block}
 use Rattle.avro_bytes.specs.Laws.Numbers.{number_some}
 use Rattle.avro_bytes.specs.Laws.Positions.{position_sound}
-use Rattle.avro_types.specs.Datum.{Datum, BooleanDatum, BytesDatum, FixedDatum, IntDatum, EnumDatum, LongDatum, TextDatum, UnionDatum, RecordDatum}
+use Rattle.avro_types.specs.Datum.{Datum, BooleanDatum, BytesDatum, FixedDatum, IntDatum, EnumDatum, LongDatum, TextDatum, UnionDatum}
 use Rattle.avro_types.specs.Node.{Node, NullNode, BooleanNode, IntNode, LongNode, BytesNode, TextNode, FixedNode, EnumNode, ArrayNode, MapNode, UnionNode, RecordNode}
 use Rattle.avro_types.specs.WellFormed.{IsWellFormed, is_union}
 use Rattle.avro_datum.specs.Decoding.{Decoder, array_of, kind_at, map_of, member_at, node_at, pair_at, plain_at, record_at, union_at}
@@ -39,7 +39,7 @@ use Rattle.simulation.proofs.Buffers.{emptied_length}
 use Rattle.simulation.proofs.Effects.{array_bytes, bytes_of, effects, item, map_bytes, value}
 use Rattle.simulation.proofs.Follow.{Follows, cost, follows_map, follows_row, follows_so, reads_then, row_then, stay}
 use Rattle.simulation.proofs.Holding.{becomes_so}
-use Rattle.simulation.proofs.Leaves.{as_text, boolean_writes, bytes_text_write, bytes_write, enum_writes, fixed_writes, int_writes, long_writes, put_writes, symbol_bytes, text_writes}
+use Rattle.simulation.proofs.Leaves.{boolean_writes, bytes_text_write, bytes_write, enum_writes, fixed_writes, int_writes, long_writes, put_writes, text_writes}
 use Rattle.simulation.proofs.LookUps.{got, got_below}
 use Rattle.simulation.proofs.Parts.{blocks_write, both_write}
 use Rattle.simulation.proofs.Passing.{Passed}

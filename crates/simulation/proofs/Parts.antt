@@ -10,7 +10,7 @@ use Rattle.resolver.specs.Resolution.{Resolved, ◌>>=◌}
 use Rattle.isa.specs.declared.instr.Instr.TheVariants as op
 use Rattle.isa.specs.Program.{Program}
 use Rattle.isa.specs.State.{Blocks, State, Store}
-use Rattle.simulation.proofs.Effects.{both, effects, in_one}
+use Rattle.simulation.proofs.Effects.{both, effects}
 use Rattle.simulation.proofs.Follow.{Follows, follows_map, follows_so, follows_then}
 use Rattle.simulation.proofs.Holding.{Becomes, becomes_after, marked_on}
 use Rattle.simulation.proofs.Opening.{blocks_open}

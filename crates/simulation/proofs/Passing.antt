@@ -1,5 +1,5 @@
 -- Code that passes over what a reader gives leaves the store as it was.
-use Rattle.std.proofs.Common.{◌≡◌, ℕ, zero, suc, ◌+◌, ◌-◌, ◌≤◌, ◌<◌, true, List, ◌∷◌, length, Some, None, refl, sym, ap, ◌∙◌, subst, arith, lit<, slice_get, pos}
+use Rattle.std.proofs.Common.{◌≡◌, ℕ, zero, suc, ◌+◌, ◌≤◌, true, List, length, Some, refl, sym, ap, ◌∙◌, subst, arith, lit<, slice_get}
 use Rattle.avro_bytes.specs.declared.meter.Meter.{Meter}
 use Rattle.avro_bytes.specs.declared.fault.MalformedKind.TheVariants.{BadEnum}
 use Rattle.avro_bytes.specs.Blob.{content_at, fixed_at}

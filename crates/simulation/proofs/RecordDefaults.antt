@@ -1,5 +1,5 @@
 -- The defaults of a record that is written: each goes into the slot of a field that has no partner.
-use Rattle.std.proofs.Common.{◌≡◌, ℕ, suc, ◌+◌, ◌-◌, ◌≤◌, ◌<◌, true, List, ◌∷◌, length, Option, Some, None, Ok, refl, arith, ◌∙◌, slice_get}
+use Rattle.std.proofs.Common.{◌≡◌, ℕ, suc, ◌+◌, ◌-◌, ◌≤◌, List, length, Option, Some, None, Ok, refl, arith, ◌∙◌, slice_get}
 use Rattle.avro_types.specs.Node.{Node, FieldNode}
 use Rattle.avro_datum.specs.Writing.{written}
 use Rattle.matching.specs.Partners.{routes}

@@ -1,8 +1,8 @@
 -- The fields of a record that is written: each goes into its slot, or is passed over.
-use Rattle.std.proofs.Common.{◌≡◌, ℕ, zero, suc, ◌+◌, ◌-◌, ◌≤◌, ◌<◌, true, List, [], ◌∷◌, length, Option, Some, None, Ok, refl, sym, ap, ◌∙◌, subst, arith, slice_get}
+use Rattle.std.proofs.Common.{◌≡◌, ℕ, suc, ◌+◌, ◌-◌, ◌≤◌, List, [], ◌∷◌, length, Option, Some, Ok, refl, sym, ap, ◌∙◌, subst, arith}
 use Rattle.avro_bytes.specs.declared.meter.Meter.{Meter}
 use Rattle.avro_bytes.specs.Decoding.{Complete, ◌>>=◌ as ◌>>◌}
-use Rattle.avro_types.specs.Datum.{Datum, Data, more, no_more, how_many}
+use Rattle.avro_types.specs.Datum.{Datum, Data, more, how_many}
 use Rattle.avro_types.specs.Node.{Node, FieldNode}
 use Rattle.avro_datum.specs.Decoding.{Decoder, fields_at}
 use Rattle.matching.specs.declared.pairing.Route.{Route}

@@ -1,26 +1,19 @@
 -- A record that is written: its slots, one of which is selected.
-use Rattle.std.proofs.Common.{◌≡◌, ℕ, zero, suc, ◌+◌, ◌≤◌, ◌<◌, true, List, [], ◌∷◌, length, Option, Some, None, Ok, refl, sym, ap, ◌∙◌, arith, slice_get}
+use Rattle.std.proofs.Common.{◌≡◌, ℕ, suc, ◌+◌, ◌≤◌, ◌<◌, true, List, ◌∷◌, length, Option, Some, refl, sym, ap, ◌∙◌, arith, slice_get}
 use Rattle.std.specs.Prelude.{nat_lt}
-use Rattle.avro_bytes.specs.declared.meter.Meter.{Meter}
 use Rattle.avro_bytes.specs.Blocks.{joined}
-use Rattle.avro_datum.specs.Decoding.{Decoder}
-use Rattle.avro_types.specs.Node.{Node, FieldNode}
-use Rattle.resolver.specs.Resolution.{Resolved, ◌>>=◌, resolved}
+use Rattle.avro_types.specs.Node.{FieldNode}
+use Rattle.resolver.specs.Resolution.{Resolved}
 use Rattle.isa.specs.declared.instr.Instr.TheVariants as op
 use Rattle.isa.specs.Lists.{total_length}
 use Rattle.isa.specs.Program.{Program}
 use Rattle.isa.specs.State.{Frame, Rec, State, Store, add, add_to_slot, has_current}
 use Rattle.isa.specs.Table.{added, close_record, next, select, with_frames}
-use Rattle.program_code.specs.Lines.{Section}
-use Rattle.program_code.specs.Stands.{Writes as CodeWrites}
-use Rattle.simulation.proofs.Buffers.{new_slots, new_slots_length, no_bytes, no_bytes_added, no_bytes_length, no_bytes_twice}
-use Rattle.simulation.proofs.Effects.{bytes_of}
+use Rattle.simulation.proofs.Buffers.{new_slots, new_slots_length, no_bytes, no_bytes_length, no_bytes_twice}
 use Rattle.simulation.proofs.Holding.{Holds, IsHolder, Top, top}
-use Rattle.simulation.proofs.LookUps.{got_below}
 use Rattle.simulation.proofs.Plain.{between, plain_row, row_of_instr}
-use Rattle.simulation.proofs.Rooms.{HasRoom, IsDeeper, IsReady, room_inside}
+use Rattle.simulation.proofs.Rooms.{HasRoom, IsDeeper, IsReady}
 use Rattle.simulation.proofs.Stores.{IsFit, add_to_record, push}
-use Rattle.simulation.proofs.Writing.{Writes}
 
 pub record_holds : (cur : Option ℕ) → IsHolder no_bytes total_length (Rec cur)
 record_holds cur = record { wiped = λ c. refl; sized = λ c. refl }

@@ -1,11 +1,11 @@
 -- The call of a record's routine: it opens the record, fills its slots, and joins them.
-use Rattle.std.proofs.Common.{◌≡◌, ℕ, suc, ◌+◌, ◌-◌, ◌≤◌, ◌<◌, true, List, [], ◌∷◌, length, Option, Some, None, Ok, Err, refl, sym, ap, ◌∙◌, subst, arith, slice_get}
+use Rattle.std.proofs.Common.{◌≡◌, ℕ, suc, ◌+◌, ◌-◌, ◌≤◌, List, ◌∷◌, length, Some, None, Ok, Err, refl, sym, ap, ◌∙◌, subst, arith, slice_get}
 use Rattle.avro_bytes.specs.declared.meter.Meter.{Meter}
 use Rattle.avro_bytes.specs.Blocks.{joined}
 use Rattle.avro_bytes.specs.Decoding.{◌>>=◌ as ◌>>◌}
 use Rattle.avro_bytes.specs.Meter.{opened_record}
 use Rattle.avro_bytes.specs.Laws.Meters.{same_meter, was_opened}
-use Rattle.avro_types.specs.Datum.{Datum, Data, RecordDatum, how_many}
+use Rattle.avro_types.specs.Datum.{Datum, Data, RecordDatum}
 use Rattle.avro_types.specs.Node.{Node, FieldNode}
 use Rattle.avro_types.specs.WellFormed.{HaveDistinctNames}
 use Rattle.avro_datum.specs.Decoding.{Decoder, closed_record, fields_at, record_at}
@@ -32,7 +32,7 @@ use Rattle.simulation.proofs.Plain.{between, meter, row_of_instr}
 use Rattle.simulation.proofs.RecordDefaults.{defaults_forward, defaults_write}
 use Rattle.simulation.proofs.RecordFields.{AllWritten, FieldsWritten, fields_forward, fields_write}
 use Rattle.simulation.proofs.RecordSlots.{on_top, record_closed}
-use Rattle.simulation.proofs.Rooms.{IsDeeper, IsReady, one_frame}
+use Rattle.simulation.proofs.Rooms.{IsDeeper, one_frame}
 use Rattle.simulation.proofs.Routes.{all_free, routes_apart, routes_of, routes_to_slots}
 use Rattle.simulation.proofs.Skipping.{call_row}
 use Rattle.simulation.proofs.Slots.{all_known, buffers, from_first, mixed, mixed_last, new_buffers}

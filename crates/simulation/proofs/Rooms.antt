@@ -1,7 +1,7 @@
 -- Stores at which so many more records, arrays and maps may be opened.
-use Rattle.std.proofs.Common.{◌≡◌, ℕ, suc, ◌+◌, ◌-◌, ◌≤◌, ◌<◌, true, List, ◌∷◌, length, refl, arith}
+use Rattle.std.proofs.Common.{◌≡◌, ℕ, suc, ◌-◌, ◌≤◌, ◌<◌, true, List, length, refl, arith}
 use Rattle.avro_bytes.specs.declared.limits.TheConstants.{MOST_DEPTH}
-use Rattle.isa.specs.State.{Frame, Store, has_current}
+use Rattle.isa.specs.State.{Store, has_current}
 use Rattle.simulation.proofs.Stores.{IsFit}
 
 pub record HasRoom (left : ℕ) (calls : List ℕ) (s : Store) : Type 0 where

@@ -1,5 +1,5 @@
 -- The program of a pair of schemas, run alone, ends with the outcome of its payload.
-use Rattle.std.proofs.Common.{◌≡◌, ℕ, ◌+◌, ◌*◌, ◌^◌, ◌≤◌, ◌<◌, true, false, List, ◌++◌, length, Some, refl, sym, ap, ◌∙◌, subst, arith}
+use Rattle.std.proofs.Common.{◌≡◌, ℕ, ◌+◌, ◌*◌, ◌^◌, ◌≤◌, ◌<◌, true, List, ◌++◌, length, Some, sym, ap, ◌∙◌, arith}
 use Rattle.std.proofs.Math.Nat.{mul-le-mul_right}
 use Rattle.avro_bytes.specs.declared.limits.TheConstants.{MOST_UNITS}
 use Rattle.avro_types.specs.Node.{Node}
@@ -12,7 +12,7 @@ use Rattle.isa.specs.State.{End, Out, State, start}
 use Rattle.program_code.specs.Code.{code_of}
 use Rattle.program_code.specs.Linking.{BeginsIn, ProgramIsInRange, ProgramIsLinked}
 use Rattle.simulation.specs.Alone.{run_alone}
-use Rattle.simulation.specs.Simulation.{EachEndIsOutcome, EarlyEndIsOutcome, EndsWithOutcome, IsOutcomeOf, IsSimulated}
+use Rattle.simulation.specs.Simulation.{EachEndIsOutcome, EarlyEndIsOutcome, IsOutcomeOf, IsSimulated}
 use Rattle.simulation.proofs.Counting.{counted_as}
 use Rattle.simulation.proofs.Runs.{RowsStay, RowsStayBounded, one_end, rows_bounded, runs_stay, takes_rows}
 use Rattle.simulation.proofs.Whole.{Finishes, whole}

@@ -1,5 +1,5 @@
 -- Code that skips goes forward, and each member of a union has its place.
-use Rattle.std.proofs.Common.{◌≡◌, ℕ, suc, ◌+◌, ◌≤◌, List, length, refl, ap, arith}
+use Rattle.std.proofs.Common.{◌≡◌, ℕ, suc, ◌≤◌, List, length, refl, ap, arith}
 use Rattle.avro_types.specs.Node.{Node, FieldNode}
 use Rattle.isa.specs.Program.{Program}
 use Rattle.program_code.specs.Lines.{Section}

@@ -1,12 +1,11 @@
 -- Code that stands to skip a node passes over what decoding it gives, at every depth.
 use Rattle.std.proofs.Common.{◌≡◌, ℕ, zero, suc, ◌+◌, ◌*◌, ◌-◌, ◌≤◌, ◌<◌, true, false, List, ◌∷◌, length, Ok, Option, Some, refl, sym, ap, ◌∙◌, subst, arith, slice_get}
 use Rattle.std.specs.Prelude.{nat_lt, slice_index_or}
-use Rattle.avro_bytes.specs.declared.limits.TheConstants.{MOST_DEPTH}
 use Rattle.avro_bytes.specs.declared.meter.Meter.{Meter}
 use Rattle.avro_bytes.specs.declared.fault.MalformedKind.TheVariants.{BadBranch, BadEnum}
 use Rattle.avro_bytes.specs.Blob.{content_at, fixed_at}
 use Rattle.avro_bytes.specs.Boolean.{boolean_at}
-use Rattle.avro_bytes.specs.Decoding.{Decoding, Complete, Failed, Need, ◌>>=◌, map_decoding}
+use Rattle.avro_bytes.specs.Decoding.{Complete, Failed, Need, ◌>>=◌, map_decoding}
 use Rattle.avro_bytes.specs.Meter.{opened_record}
 use Rattle.avro_bytes.specs.Number.{int_limit, long_limit}
 use Rattle.avro_bytes.specs.NumberDecoding.{number_at}
@@ -16,7 +15,7 @@ use Rattle.avro_bytes.specs.Laws.Meters.{same_meter, was_opened}
 use Rattle.avro_bytes.specs.Laws.Numbers.{number_some}
 use Rattle.avro_bytes.specs.Laws.Positions.{position_sound}
 use Rattle.avro_types.specs.Datum.{Datum, Data, NullDatum, BooleanDatum, IntDatum, LongDatum, BytesDatum, TextDatum, FixedDatum, EnumDatum, UnionDatum, more, no_more}
-use Rattle.avro_types.specs.Node.{Node, Names, FieldNode, NullNode, BooleanNode, IntNode, LongNode, BytesNode, TextNode, FixedNode, EnumNode, ArrayNode, MapNode, UnionNode, RecordNode}
+use Rattle.avro_types.specs.Node.{Node, FieldNode, NullNode, BooleanNode, IntNode, LongNode, BytesNode, TextNode, FixedNode, EnumNode, ArrayNode, MapNode, RecordNode}
 use Rattle.avro_types.specs.WellFormed.{is_union}
 use Rattle.avro_datum.specs.Decoding.{Decoder, array_of, closed_record, fields_at, kind_at, map_of, member_at, node_at, pair_at, plain_at, record_at, union_at}
 use Rattle.avro_datum.specs.ItemDecoding.{Reader, blocks_at}
@@ -24,17 +23,17 @@ use Rattle.avro_datum.specs.Laws.Decoders.{Deeper}
 use Rattle.avro_datum.specs.Laws.Kinds.{kind_is_plain, none_deeper, one_deeper}
 use Rattle.isa.specs.declared.instr.Instr.TheVariants as op
 use Rattle.isa.specs.declared.limits.TheConstants.{MOST_CALLS}
-use Rattle.isa.specs.Program.{Program, jumps_of}
+use Rattle.isa.specs.Program.{Program}
 use Rattle.isa.specs.State.{Skip as SkipFrame, State, Store}
-use Rattle.isa.specs.Table.{next, pushed, reads}
+use Rattle.isa.specs.Table.{next, pushed}
 use Rattle.program_code.specs.Lines.{Section, Skip}
 use Rattle.program_code.specs.SkipStands.{SkipRoutine, Skips, SkipsFields, SkipsMembers, SkipsPlain, k_array, k_boolean, k_bytes, k_enum, k_field, k_fixed, k_int, k_last, k_long, k_map, k_member, k_no_field, k_no_member, k_null, k_plain, k_record, k_text, k_union}
-use Rattle.simulation.proofs.Follow.{Comes, Follows, Leads, comes_on, cost, follows_row, follows_then, one_row, reads_then, row_then}
+use Rattle.simulation.proofs.Follow.{Comes, Follows, comes_on, cost, follows_row, follows_then, one_row, reads_then, row_then}
 use Rattle.simulation.proofs.LookUps.{got, got_below}
 use Rattle.simulation.proofs.Opening.{record_opens}
 use Rattle.simulation.proofs.Passing.{Passed, Passes, blocks_pass, boolean_passes, bytes_pass, enum_passes, fixed_passes, int_passes, long_passes, passes_map, passes_none, passes_so, passes_then, text_passes}
 use Rattle.simulation.proofs.Plain.{between, meter, plain_row, row_of_instr}
-use Rattle.simulation.proofs.Rooms.{HasRoom, one_frame, room_inside}
+use Rattle.simulation.proofs.Rooms.{HasRoom, one_frame}
 use Rattle.simulation.proofs.SkipPlaces.{fields_forward, members_forward, members_placed, plain_forward, skips_forward}
 use Rattle.simulation.proofs.Stores.{opened}
 

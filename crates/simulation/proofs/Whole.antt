@@ -1,5 +1,5 @@
 -- A program that stands for a pair of schemas ends with the outcome of its payload, in few enough rows.
-use Rattle.std.proofs.Common.{◌≡◌, ℕ, zero, suc, ◌+◌, ◌-◌, ◌*◌, ◌≤◌, ◌<◌, Bool, true, false, cond, List, [], ◌∷◌, length, Option, Some, None, Ok, Err, refl, sym, ap, ◌∙◌, subst, arith, slice_get}
+use Rattle.std.proofs.Common.{◌≡◌, ℕ, ◌+◌, ◌-◌, ◌*◌, ◌≤◌, ◌<◌, Bool, true, false, cond, List, [], ◌∷◌, length, Some, None, Ok, Err, refl, sym, ap, ◌∙◌, subst, arith, slice_get}
 use Rattle.std.specs.Prelude.{nat_lt}
 use Rattle.avro_bytes.specs.declared.fault.MalformedKind.TheVariants.{Trailing, Truncated}
 use Rattle.avro_bytes.specs.declared.limits.TheConstants.{MOST_DEPTH}
@@ -29,7 +29,7 @@ use Rattle.program_code.specs.Lines.{Section, Skip, Write}
 use Rattle.program_code.specs.SkipStands.{SkipRoutine}
 use Rattle.program_code.specs.Stands.{Opening, Routine}
 use Rattle.simulation.proofs.Effects.{bytes_of}
-use Rattle.simulation.proofs.Follow.{Comes, Ends, Follows, Takes, end_row, ends_later, ends_on, told}
+use Rattle.simulation.proofs.Follow.{Comes, Ends, Follows, Takes, end_row, ends_later, ends_on}
 use Rattle.simulation.proofs.Holding.{Becomes}
 use Rattle.simulation.proofs.Inside.{takes_inside}
 use Rattle.simulation.proofs.LookUps.{got, got_below}

@@ -1,6 +1,6 @@
 -- The loop over items that are written, whatever reads an item and whatever bytes come of it.
 use Rattle.std.proofs.Common.{◌≡◌, ℕ, zero, suc, ◌+◌, ◌-◌, ◌*◌, ◌≤◌, ◌<◌, true, List, [], ◌∷◌, ◌++◌, length, Option, Some, None, Ok, refl, sym, ap, ◌∙◌, subst, arith, length-append, slice_get, pos}
-use Rattle.avro_bytes.specs.declared.limits.TheConstants.{MOST_DEPTH, MOST_UNITS}
+use Rattle.avro_bytes.specs.declared.limits.TheConstants.{MOST_UNITS}
 use Rattle.avro_bytes.specs.declared.meter.Meter.{Meter}
 use Rattle.avro_bytes.specs.BlockDecoding.{next_item}
 use Rattle.avro_bytes.specs.Decoding.{Complete, map_decoding}
@@ -19,9 +19,9 @@ use Rattle.simulation.proofs.Effects.{in_one, in_one_more, in_one_none}
 use Rattle.simulation.proofs.Follow.{Follows, Leads, follows_map, follows_then, reads_then, row_then, stay}
 use Rattle.simulation.proofs.Holding.{Becomes, Holds, IsHolder, Top, becomes_so, holds_more, top}
 use Rattle.simulation.proofs.Plain.{between, meter, row_of_instr}
-use Rattle.simulation.proofs.Rooms.{HasRoom, IsDeeper, IsReady, room_inside}
+use Rattle.simulation.proofs.Rooms.{IsDeeper, IsReady, room_inside}
 use Rattle.simulation.proofs.SkipLoop.{step_takes}
-use Rattle.simulation.proofs.Stores.{IsFit, add_to_blocks}
+use Rattle.simulation.proofs.Stores.{add_to_blocks}
 use Rattle.simulation.proofs.Writing.{Writes, Wrote}
 
 in_block_longer : (n : ℕ) (x : List ℕ) → length x ≤ length (in_block n x)

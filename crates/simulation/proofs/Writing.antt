@@ -1,5 +1,5 @@
 -- Code that writes: it follows a reader, and its effect is the bytes of what was read, or a mismatch.
-use Rattle.std.proofs.Common.{◌≡◌, ℕ, ◌≤◌, List, length, Ok, Err, refl, sym, ap, ◌∙◌, subst, arith}
+use Rattle.std.proofs.Common.{◌≡◌, ℕ, ◌≤◌, List, length, Ok, Err, sym, ◌∙◌, subst}
 use Rattle.avro_bytes.specs.declared.meter.Meter.{Meter}
 use Rattle.avro_bytes.specs.Decoding.{Complete, map_decoding}
 use Rattle.avro_datum.specs.ItemDecoding.{Reader}
