@@ -6,7 +6,9 @@ use Rattle.outcome.specs.declared.mismatch.Mismatch.{Mismatch}
 use Rattle.resolver.specs.Resolution.{Resolved, ◌>>=◌}
 use Rattle.isa.specs.State.{Frame, Store, frames_size, size_of, empty_buffers, has_current, add}
 use Rattle.simulation.proofs.Buffers.{current_emptied, emptied_frames, emptied_length}
-use Rattle.simulation.proofs.Stores.{IsFit, add_stamp, add_twice, fit_fits, more_still, opened, push, stamp, stamp_add, stamp_fits, stamp_push, stamp_twice, store}
+use Rattle.simulation.proofs.Marks.{add_stamp, stamp, stamp_add, stamp_fits, stamp_push, stamp_twice}
+use Rattle.simulation.proofs.Numbers.{past_still}
+use Rattle.simulation.proofs.Stores.{IsFit, add_twice, fit_fits, opened, push, store}
 
 -- frames that hold something, which may be emptied, and has so many bytes
 pub record IsHolder {C : Type 0} (wipe : C → C) (size : C → ℕ) (F : C → Frame) : Type 0 where
@@ -92,7 +94,7 @@ module _ (misses : List Mismatch) where
       unfolding add
       by_total frames out true over = emptied_top (store frames out None false) None true
           (λ G h. let same : nat_lt MOST_OUTPUT (frames_size (G c ∷ frames) + length out) ≡ true = rw (h.sized c, sym (holder.sized c)) over in spills (G c) same)
-          (λ x y le. let wide : nat_lt MOST_OUTPUT (frames_size frames + length out + length x) ≡ true = more_still MOST_OUTPUT (frames_size frames + length out) (size_of (F c)) (frames_size (F c ∷ frames) + length out) (length x) (omega arith) (omega (arith, le, holder.sized c)) over in adds x y wide)
+          (λ x y le. let wide : nat_lt MOST_OUTPUT (frames_size frames + length out + length x) ≡ true = past_still MOST_OUTPUT (frames_size frames + length out) (size_of (F c)) (frames_size (F c ∷ frames) + length out) (length x) (omega arith) (omega (arith, le, holder.sized c)) over in adds x y wide)
         where
           spills : (f : Frame) → nat_lt MOST_OUTPUT (frames_size (f ∷ frames) + length out) ≡ true → push f (store frames out None false) ≡ store (empty_buffers f ∷ emptied_frames frames) [] None true
           spills f h = rw h refl

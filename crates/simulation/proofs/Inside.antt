@@ -32,17 +32,9 @@ use Rattle.isa.specs.Row.{kept, row, row_at, skipped}
 use Rattle.isa.specs.State.{Blocks, End, Frame, Part, Rec, Skip, SkipBlocks, State, has_current, meter_of}
 use Rattle.isa.specs.Table.{Move, added, anything, begun, close_record, content, ends_part, entered, finished, fixed, gathered, halt, if_current, leave, moved, moves, next, next_of, only_text, opens, or_miss, passed, pushed, reads, return, select, skip_next_of, wait, with_frames}
 use Rattle.simulation.proofs.Follow.{Takes, a_row, no_row}
+use Rattle.simulation.proofs.Numbers.{least_is_first, least_is_second, lt_false}
 use Rattle.simulation.proofs.Opening.{opening_is}
 use Rattle.simulation.proofs.Plain.{plain_row, unless_ended}
-
-lt_false : (a b : ℕ) → nat_lt a b ≡ false → b ≤ a
-lt_false a b h = grind arith
-
-piece_fits : (at left len : ℕ) → at + min MOST_PIECE left ≤ len → nat_lt MOST_PIECE left ≡ true → at + MOST_PIECE ≤ len
-piece_fits at left len h e = grind arith
-
-rest_fits : (at left len : ℕ) → at + min MOST_PIECE left ≤ len → nat_lt MOST_PIECE left ≡ false → at + left ≤ len
-rest_fits at left len h e = grind arith
 
 module _ (P : Program) (p : List ℕ) where
   abbrev In : State → Type 0
@@ -98,8 +90,8 @@ module _ (P : Program) (p : List ℕ) where
     moves_in part s i = by_length (nat_lt (length p) (s.pos + min MOST_PIECE part.left)) refl
       where
         by_piece : s.pos + min MOST_PIECE part.left ≤ length p → (b : Bool) → nat_lt MOST_PIECE part.left ≡ b → AllIn (cond b (Some (moved P p true move part MOST_PIECE s)) (ends_part P p true move part s))
-        by_piece le true e = piece_fits s.pos part.left (length p) le e
-        by_piece le false e = ends_in part s i (rest_fits s.pos part.left (length p) le e)
+        by_piece le true e = omega (arith, le, least_is_first MOST_PIECE part.left e)
+        by_piece le false e = ends_in part s i (omega (arith, le, least_is_second MOST_PIECE part.left e))
 
         by_length : (b : Bool) → nat_lt (length p) (s.pos + min MOST_PIECE part.left) ≡ b → AllIn (cond b (wait P p true s) (cond (nat_lt MOST_PIECE part.left) (Some (moved P p true move part MOST_PIECE s)) (ends_part P p true move part s)))
         by_length true e = i

@@ -44,12 +44,13 @@ use Rattle.simulation.proofs.LookUps.{got, got_below}
 use Rattle.simulation.proofs.Parts.{blocks_write, both_write}
 use Rattle.simulation.proofs.Passing.{Passed}
 use Rattle.simulation.proofs.Plain.{between, meter, plain_row, row_of_instr}
-use Rattle.simulation.proofs.RecordFields.{AllWritten}
 use Rattle.simulation.proofs.Records.{call_writes}
 use Rattle.simulation.proofs.Rooms.{room_as}
-use Rattle.simulation.proofs.Skipping.{AllSkipped, all_skipped, no_union_passes}
+use Rattle.simulation.proofs.Skipping.{all_skipped, no_union_passes}
 use Rattle.simulation.proofs.SkipPlaces.{skips_forward}
-use Rattle.simulation.proofs.Stores.{add_nothing, miss_is}
+use Rattle.simulation.proofs.Marks.{miss_is}
+use Rattle.simulation.proofs.Standing.{AllSkipped, AllWritten}
+use Rattle.simulation.proofs.Stores.{add_nothing}
 use Rattle.simulation.proofs.Values.{checked_bytes, int_bytes, into_bytes, lacking_bytes, no_union_read, plain_bytes, record_read, same_fields, text_bytes}
 use Rattle.simulation.proofs.WritePlaces.{members_forward, members_placed, plain_forward, straight_forward, writes_forward}
 use Rattle.simulation.proofs.Writing.{Writes, Wrote, writes_map, writes_so}
@@ -61,7 +62,7 @@ module _ (W R : List Node) (P : Program) (Begins : Section → ℕ → Type 0) (
   abbrev Run : {A : Type 0} → ℕ → ℕ → ℕ → ℕ → Reader A → (A → Resolved (List ℕ)) → Type 0
   Run left k pc q reader effect = Writes P p L left k pc q reader effect
 
-  module _ (decoder : Decoder) (left : ℕ) (skips : Deeper (AllSkipped W P Begins p skipped decoder) left) (writes : Deeper (AllWritten W R P Begins p decoder) left) where
+  module _ (decoder : Decoder) (left : ℕ) (skips : Deeper (AllSkipped W P Begins p decoder) left) (writes : Deeper (AllWritten W R P Begins p decoder) left) where
     abbrev Plain : ℕ → Reader Datum
     Plain w at m = plain_at decoder p (slice_get W w) at m
 
@@ -255,5 +256,5 @@ module _ (W R : List Node) (P : Program) (Begins : Section → ℕ → Type 0) (
   -- at every depth
   pub all_written : (left : ℕ) → AllWritten W R P Begins p (node_at left W p) left
   unfolding node_at
-  all_written zero pc w r q code = kind_writes (λ node at m. Failed Need) 0 (none_deeper (AllSkipped W P Begins p skipped (λ node at m. Failed Need))) (none_deeper (AllWritten W R P Begins p (λ node at m. Failed Need))) pc w r q code
-  all_written (suc left) pc w r q code = kind_writes (node_at left W p) (suc left) (one_deeper (AllSkipped W P Begins p skipped (node_at left W p)) left (all_skipped W P Begins p skipped left)) (one_deeper (AllWritten W R P Begins p (node_at left W p)) left (all_written left)) pc w r q code
+  all_written zero pc w r q code = kind_writes (λ node at m. Failed Need) 0 (none_deeper (AllSkipped W P Begins p (λ node at m. Failed Need))) (none_deeper (AllWritten W R P Begins p (λ node at m. Failed Need))) pc w r q code
+  all_written (suc left) pc w r q code = kind_writes (node_at left W p) (suc left) (one_deeper (AllSkipped W P Begins p (node_at left W p)) left (all_skipped W P Begins p skipped left)) (one_deeper (AllWritten W R P Begins p (node_at left W p)) left (all_written left)) pc w r q code

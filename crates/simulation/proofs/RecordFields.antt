@@ -26,17 +26,11 @@ use Rattle.simulation.proofs.Rooms.{IsDeeper}
 use Rattle.simulation.proofs.Routes.{AreApart, AreOf, one_of}
 use Rattle.simulation.proofs.SkipPlaces.{skips_forward}
 use Rattle.simulation.proofs.Slots.{Keeps, buffers, fields_left, keeps_later, keeps_put, left_drop, left_end, left_keep, put_in, slot_bytes}
+use Rattle.simulation.proofs.Standing.{AllSkipped, AllWritten}
 use Rattle.simulation.proofs.Stores.{IsFit}
 use Rattle.simulation.proofs.Writing.{Writes, Wrote}
 
 module _ (W R : List Node) (P : Program) (Begins : Section → ℕ → Type 0) (p : List ℕ) where
-  -- each pair of nodes that code stands for is written
-  abbrev pub AllWritten : Decoder → ℕ → Type 0
-  AllWritten decoder left = (pc w r q : ℕ) → CodeWrites W R P Begins pc w r q → Writes P p (length P.code) left (q - pc) pc q (decoder w) (λ d. bytes_of (resolved W R w r d))
-
-  abbrev AllSkipped : Decoder → ℕ → Type 0
-  AllSkipped decoder left = (pc w q : ℕ) → Skips W P Begins pc w q → Passes P p (length P.code) left (q - pc) pc q (decoder w)
-
   abbrev L : ℕ
   L = length P.code
 
@@ -46,7 +40,7 @@ module _ (W R : List Node) (P : Program) (Begins : Section → ℕ → Type 0) (
     fields_forward {routes = route ∷ routes} (dropped mid none code others) = omega (arith, skips_forward W P Begins code, fields_forward others)
     fields_forward {routes = route ∷ routes} (kept partner mid is here code others) = omega (arith, forward _ route.node partner.node mid code, fields_forward others)
 
-    module _ (decoder : Decoder) (left less : ℕ) (skips : AllSkipped decoder less) (writes : AllWritten decoder less) (gs : List FieldNode)
+    module _ (decoder : Decoder) (left less : ℕ) (skips : AllSkipped W P Begins p decoder less) (writes : AllWritten W R P Begins p decoder less) (gs : List FieldNode)
         (calls : List ℕ) (s : Store) (fit : IsFit s) (deeper : IsDeeper left s less) (few : length calls ≤ suc (length s.frames)) where
       abbrev deep : ℕ → Meter
       deep u = record { depth = suc (length s.frames); units = u }

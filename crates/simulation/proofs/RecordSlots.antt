@@ -11,6 +11,7 @@ use Rattle.isa.specs.State.{Frame, Rec, State, Store, add, add_to_slot, has_curr
 use Rattle.isa.specs.Table.{added, close_record, next, select, with_frames}
 use Rattle.simulation.proofs.Buffers.{new_slots, new_slots_length, no_bytes, no_bytes_length, no_bytes_twice}
 use Rattle.simulation.proofs.Holding.{Holds, IsHolder, Top, top}
+use Rattle.simulation.proofs.Numbers.{lt_yes}
 use Rattle.simulation.proofs.Plain.{between, plain_row, row_of_instr}
 use Rattle.simulation.proofs.Rooms.{HasRoom, IsDeeper, IsReady}
 use Rattle.simulation.proofs.Stores.{IsFit, add_to_record, push}
@@ -20,9 +21,6 @@ record_holds cur = record { wiped = λ c. refl; sized = λ c. refl }
 
 as_many : (k : ℕ) (c : List (List ℕ)) → no_bytes c ≡ no_bytes (new_slots k) → length c ≡ k
 as_many k c like = sym (no_bytes_length c) ∙ ap length like ∙ no_bytes_length (new_slots k) ∙ new_slots_length k
-
-is_below : (j k : ℕ) → j < k → nat_lt j k ≡ true
-is_below j k h = grind arith
 
 selected : (j : ℕ) (c : State) (cur : Option ℕ) (slots : List (List ℕ)) (below : List Frame) → c.store.frames ≡ Rec cur slots ∷ below → nat_lt j (length slots) ≡ true → select j c c.store.frames ≡ Some (next c.pos (with_frames (Rec (Some j) slots ∷ below) c))
 selected j c cur slots below is lt = ap (select j c) is ∙ rw lt refl
@@ -56,7 +54,7 @@ module _ (P : Program) (p : List ℕ) (gs : List FieldNode) (left less : ℕ) (c
   slot_selected j pc a u cur acc t here lt held =
       let on = on_top cur acc t held in
       let t1 : Store = record t { frames = Rec (Some j) on.inner ∷ on.below } in
-      let inside : nat_lt j (length on.inner) ≡ true = is_below j (length on.inner) (omega (arith, lt, as_many (length gs) on.inner on.like)) in
+      let inside : nat_lt j (length on.inner) ≡ true = lt_yes j (length on.inner) (omega (arith, lt, as_many (length gs) on.inner on.like)) in
       let held1 : HoldsSlots (Some j) acc t1 = on.refit (Rec (Some j)) (record_holds (Some j)) in
       record {
         store = t1;
@@ -67,4 +65,4 @@ module _ (P : Program) (p : List ℕ) (gs : List FieldNode) (left less : ℕ) (c
       }
 
   pub slot_adds : (j : ℕ) → j < length gs → (x : List ℕ) (c : List (List ℕ)) → no_bytes c ≡ no_bytes (new_slots (length gs)) → add x (push (Rec (Some j) c) s) ≡ push (Rec (Some j) (add_to_slot j x c)) s
-  slot_adds j lt x c like = add_to_record x j c s (is_below j (length c) (omega (arith, lt, as_many (length gs) c like)))
+  slot_adds j lt x c like = add_to_record x j c s (lt_yes j (length c) (omega (arith, lt, as_many (length gs) c like)))

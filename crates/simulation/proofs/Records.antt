@@ -30,12 +30,13 @@ use Rattle.simulation.proofs.Opening.{record_opens}
 use Rattle.simulation.proofs.Passing.{Passes}
 use Rattle.simulation.proofs.Plain.{between, meter, row_of_instr}
 use Rattle.simulation.proofs.RecordDefaults.{defaults_forward, defaults_write}
-use Rattle.simulation.proofs.RecordFields.{AllWritten, FieldsWritten, fields_forward, fields_write}
+use Rattle.simulation.proofs.RecordFields.{FieldsWritten, fields_forward, fields_write}
 use Rattle.simulation.proofs.RecordSlots.{on_top, record_closed}
 use Rattle.simulation.proofs.Rooms.{IsDeeper, one_frame}
 use Rattle.simulation.proofs.Routes.{all_free, routes_apart, routes_of, routes_to_slots}
 use Rattle.simulation.proofs.Skipping.{call_row}
 use Rattle.simulation.proofs.Slots.{all_known, buffers, from_first, mixed, mixed_last, new_buffers}
+use Rattle.simulation.proofs.Standing.{AllSkipped, AllWritten}
 use Rattle.simulation.proofs.Stores.{opened, push, push_empty}
 use Rattle.simulation.proofs.Writing.{Writes, Wrote}
 
@@ -49,10 +50,7 @@ module _ (W R : List Node) (P : Program) (Begins : Section → ℕ → Type 0) (
   abbrev L : ℕ
   L = length P.code
 
-  abbrev AllSkipped : Decoder → ℕ → Type 0
-  AllSkipped decoder left = (pc w q : ℕ) → Skips W P Begins pc w q → Passes P p (length P.code) left (q - pc) pc q (decoder w)
-
-  pub call_writes : (decoder : Decoder) (left : ℕ) → Deeper (AllSkipped decoder) left → Deeper (AllWritten W R P Begins p decoder) left → (pc w r a : ℕ) → slice_get P.code pc ≡ Some (op.Call a) → (k : Routine W R P Begins a w r) → HaveDistinctNames k.fs → (effect : Datum → Resolved (List ℕ))
+  pub call_writes : (decoder : Decoder) (left : ℕ) → Deeper (AllSkipped W P Begins p decoder) left → Deeper (AllWritten W R P Begins p decoder) left → (pc w r a : ℕ) → slice_get P.code pc ≡ Some (op.Call a) → (k : Routine W R P Begins a w r) → HaveDistinctNames k.fs → (effect : Datum → Resolved (List ℕ))
       → ((ds : Data) → bytes_of (resolved_fields W R (no_slots k.gs) (routes k.fs k.gs) ds >>= λ slots. Ok (RecordDatum (filled k.gs slots))) ≡ effect (RecordDatum ds)) → Writes P p (length P.code) left 1 pc (pc + 1) (record_at decoder k.fs) effect
   call_writes decoder left skips writes pc w r a here k distinct effect is at u calls s ready =
       row_then P p L 0 1 (between pc at calls s u) c0 (record_at decoder k.fs at (meter s u)) Q (call_row P p left pc a at u calls s here ready.has_room)
@@ -75,7 +73,7 @@ module _ (W R : List Node) (P : Program) (Begins : Section → ℕ → Type 0) (
       few = omega (arith, ready.has_room.few)
 
       -- the defaults, and the end of the routine
-      closes : (less : ℕ) → (deeper : IsDeeper left s less) → (skipped : AllSkipped decoder less) (written_so : AllWritten W R P Begins p decoder less) (now : ℕ) → u ≤ now → (ds : Data) (to : ℕ) (n : Meter) (d : State)
+      closes : (less : ℕ) → (deeper : IsDeeper left s less) → (skipped : AllSkipped W P Begins p decoder less) (written_so : AllWritten W R P Begins p decoder less) (now : ℕ) → u ≤ now → (ds : Data) (to : ℕ) (n : Meter) (d : State)
           → FieldsWritten W R P Begins p forward decoder left less skipped written_so k.gs calls1 s ready.fit deeper few k.fs k.m now (λ ds. resolved_fields W R (no_slots k.gs) (routes k.fs k.gs) ds) ds to n d → Follows P p L (k.q - k.m + 2) d (closed_record (length s.frames) ds to n) Q
       closes less deeper skipped written_so now le ds to n d h =
           let res = resolved_fields W R (no_slots k.gs) (routes k.fs k.gs) ds in

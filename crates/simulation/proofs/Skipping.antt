@@ -30,20 +30,19 @@ use Rattle.program_code.specs.Lines.{Section, Skip}
 use Rattle.program_code.specs.SkipStands.{SkipRoutine, Skips, SkipsFields, SkipsMembers, SkipsPlain, k_array, k_boolean, k_bytes, k_enum, k_field, k_fixed, k_int, k_last, k_long, k_map, k_member, k_no_field, k_no_member, k_null, k_plain, k_record, k_text, k_union}
 use Rattle.simulation.proofs.Follow.{Comes, Follows, comes_on, cost, follows_row, follows_then, one_row, reads_then, row_then}
 use Rattle.simulation.proofs.LookUps.{got, got_below}
+use Rattle.simulation.proofs.Numbers.{lt_yes}
 use Rattle.simulation.proofs.Opening.{record_opens}
 use Rattle.simulation.proofs.Passing.{Passed, Passes, blocks_pass, boolean_passes, bytes_pass, enum_passes, fixed_passes, int_passes, long_passes, passes_map, passes_none, passes_so, passes_then, text_passes}
 use Rattle.simulation.proofs.Plain.{between, meter, plain_row, row_of_instr}
 use Rattle.simulation.proofs.Rooms.{HasRoom, one_frame}
 use Rattle.simulation.proofs.SkipPlaces.{fields_forward, members_forward, members_placed, plain_forward, skips_forward}
+use Rattle.simulation.proofs.Standing.{AllSkipped}
 use Rattle.simulation.proofs.Stores.{opened}
-
-is_below : (j k : ℕ) → j < k → nat_lt j k ≡ true
-is_below j k h = grind arith
 
 -- a call, where few enough are open
 pub call_row : (P : Program) (p : List ℕ) (left pc a at u : ℕ) (calls : List ℕ) (s : Store) → slice_get P.code pc ≡ Some (op.Call a) → HasRoom left calls s → plain_row P p (between pc at calls s u) ≡ Some (between a at ((pc + 1) ∷ calls) s u)
 call_row P p left pc a at u calls s here room =
-    row_of_instr P p (between pc at calls s u) (op.Call a) refl here ∙ rw (is_below (length calls) MOST_CALLS (omega (arith, room.few, room.shallow))) refl
+    row_of_instr P p (between pc at calls s u) (op.Call a) refl here ∙ rw (lt_yes (length calls) MOST_CALLS (omega (arith, room.few, room.shallow))) refl
 
 module _ (W : List Node) (P : Program) (Begins : Section → ℕ → Type 0) (p : List ℕ) (routines : (w a : ℕ) → Begins (Skip w) a → SkipRoutine W P Begins a w) where
   abbrev L : ℕ
@@ -52,20 +51,16 @@ module _ (W : List Node) (P : Program) (Begins : Section → ℕ → Type 0) (p 
   abbrev Over : {A : Type 0} → ℕ → ℕ → ℕ → ℕ → Reader A → Type 0
   Over left k pc q reader = Passes P p L left k pc q reader
 
-  -- each node that code stands for is passed over
-  abbrev pub AllSkipped : Decoder → ℕ → Type 0
-  AllSkipped decoder left = (pc w q : ℕ) → Skips W P Begins pc w q → Passes P p (length P.code) left (q - pc) pc q (decoder w)
-
   -- ---- records
 
-  fields_pass : (decoder : Decoder) (left : ℕ) → AllSkipped decoder left → {pc q : ℕ} {fields : List FieldNode} → SkipsFields W P Begins pc fields q → Over left (q - pc) pc q (fields_at decoder fields)
+  fields_pass : (decoder : Decoder) (left : ℕ) → AllSkipped W P Begins p decoder left → {pc q : ℕ} {fields : List FieldNode} → SkipsFields W P Begins pc fields q → Over left (q - pc) pc q (fields_at decoder fields)
   unfolding fields_at
   fields_pass decoder left skips {pc = pc} k_no_field = passes_none P p L left (pc - pc) pc no_more
   fields_pass decoder left skips {pc = pc} {q = q} {fields = f ∷ fields} (k_field mid code others) =
       passes_then P p L left (mid - pc) (q - mid) (q - pc) pc mid q (decoder f.node) (λ d to after. fields_at decoder fields to after >>= λ ds end last. Complete (more d ds) end last) (omega (arith, skips_forward W P Begins code, fields_forward W P Begins others)) (skips pc f.node mid code)
       (λ d. passes_then P p L left (q - mid) 0 (q - mid) mid q q (fields_at decoder fields) (λ ds end last. Complete (more d ds) end last) (omega arith) (fields_pass decoder left skips others) (λ ds. passes_none P p L left 0 q (more d ds)))
 
-  record_passes : (decoder : Decoder) (left : ℕ) → Deeper (AllSkipped decoder) left → (pc w a : ℕ) → slice_get P.code pc ≡ Some (op.Call a) → (k : SkipRoutine W P Begins a w) → Over left 1 pc (pc + 1) (record_at decoder k.fields)
+  record_passes : (decoder : Decoder) (left : ℕ) → Deeper (AllSkipped W P Begins p decoder) left → (pc w a : ℕ) → slice_get P.code pc ≡ Some (op.Call a) → (k : SkipRoutine W P Begins a w) → Over left 1 pc (pc + 1) (record_at decoder k.fields)
   record_passes decoder left deeper pc w a here k at u calls s room =
       row_then P p L 0 1 (between pc at calls s u) c0 (record_at decoder k.fields at (meter s u)) Q (call_row P p left pc a at u calls s here room)
       (record_opens P p L (k.q + 1 - a) SkipFrame c0 (λ m. fields_at decoder k.fields at m >>= closed_record (length s.frames)) Q (row_of_instr P p c0 op.Enter refl k.opens) (omega (arith, got_below P.code (k.q + 1) op.Return k.returns)) (λ m o. inside m o))
@@ -106,7 +101,7 @@ module _ (W : List Node) (P : Program) (Begins : Section → ℕ → Type 0) (p 
 
   -- ---- each kind
 
-  module _ (decoder : Decoder) (left : ℕ) (deeper : Deeper (AllSkipped decoder) left) where
+  module _ (decoder : Decoder) (left : ℕ) (deeper : Deeper (AllSkipped W P Begins p decoder) left) where
     abbrev Plain : ℕ → Reader Datum
     Plain w at m = plain_at decoder p (slice_get W w) at m
 
@@ -195,7 +190,7 @@ module _ (W : List Node) (P : Program) (Begins : Section → ℕ → Type 0) (p 
     no_union_passes pc w q n code at u calls s room = subst (λ g. Follows P p L (q - pc) (between pc at calls s u) g (Passed P p L q calls s u)) (kind_is_plain decoder W p at (meter s u) (slice_get W w) n) (kind_passes pc w q code at u calls s room)
 
   -- at every depth
-  pub all_skipped : (left : ℕ) → AllSkipped (node_at left W p) left
+  pub all_skipped : (left : ℕ) → AllSkipped W P Begins p (node_at left W p) left
   unfolding node_at
-  all_skipped zero pc w q code = kind_passes (λ node at m. Failed Need) 0 (none_deeper (AllSkipped (λ node at m. Failed Need))) pc w q code
-  all_skipped (suc left) pc w q code = kind_passes (node_at left W p) (suc left) (one_deeper (AllSkipped (node_at left W p)) left (all_skipped left)) pc w q code
+  all_skipped zero pc w q code = kind_passes (λ node at m. Failed Need) 0 (none_deeper (AllSkipped W P Begins p (λ node at m. Failed Need))) pc w q code
+  all_skipped (suc left) pc w q code = kind_passes (node_at left W p) (suc left) (one_deeper (AllSkipped W P Begins p (node_at left W p)) left (all_skipped left)) pc w q code

@@ -5,6 +5,7 @@ use Rattle.avro_bytes.specs.Walk.{Walk}
 use Rattle.outcome.specs.declared.limits.TheConstants.{MOST_OUTPUT}
 use Rattle.isa.specs.State.{Blocks, Frame, Rec, Store, add, add_to_slot, append, empty_buffers, emptied, frames_size, frames_with, has_current, is_done, miss, out_with, size_of, total}
 use Rattle.simulation.proofs.Buffers.{current_emptied, current_with, emptied_added, emptied_frames, emptied_size, emptied_twice, out_nothing, out_twice, with_nothing, with_size, with_twice}
+use Rattle.simulation.proofs.Numbers.{past}
 
 abbrev pub store : List Frame → List ℕ → Option ℕ → Bool → Store
 store frames out mark over = record { frames = frames; out = out; mark = mark; over = over }
@@ -34,9 +35,6 @@ pub record Grows (frames_to : List Frame → List Frame) (out_to : List Frame �
 
 abbrev grown : (List Frame → List Frame) → (List Frame → List ℕ → List ℕ) → Store → Store
 grown frames_to out_to s = record s { frames = frames_to s.frames; out = out_to s.frames s.out }
-
-past : (m a b : ℕ) → a ≤ b → nat_lt m a ≡ true → nat_lt m b ≡ true
-past m a b le h = grind arith
 
 fit_grown_by : (frames_to : List Frame → List Frame) (out_to : List Frame → List ℕ → List ℕ) (frames : List Frame) (out : List ℕ) (b : Bool) → nat_lt MOST_OUTPUT (frames_size frames + length out) ≡ b → Grows frames_to out_to frames out → fit (grown frames_to out_to (fit (store frames out None false))) ≡ fit (grown frames_to out_to (store frames out None false))
 fit_grown_by frames_to out_to frames out true e g = rw (e, past MOST_OUTPUT _ _ g.larger e) (ap (λ (l : List Frame). store l [] None true) g.shape)
@@ -77,12 +75,12 @@ fit_frames_by : {A : Type 0} (of : List Frame → A) (frames : List Frame) (out 
 fit_frames_by of frames out true e h = rw e h
 fit_frames_by of frames out false e h = rw e refl
 
-fit_frames : {A : Type 0} (of : List Frame → A) (frames : List Frame) (out : List ℕ) (mark : Option ℕ) (over : Bool) → of (emptied_frames frames) ≡ of frames → of ((fit (store frames out mark over)).frames) ≡ of frames
+pub fit_frames : {A : Type 0} (of : List Frame → A) (frames : List Frame) (out : List ℕ) (mark : Option ℕ) (over : Bool) → of (emptied_frames frames) ≡ of frames → of ((fit (store frames out mark over)).frames) ≡ of frames
 fit_frames of frames out (Some m) over h = h
 fit_frames of frames out None true h = h
 fit_frames of frames out None false h = fit_frames_by of frames out (nat_lt MOST_OUTPUT (frames_size frames + length out)) refl h
 
-fit_mark : (frames : List Frame) (out : List ℕ) (mark : Option ℕ) (over : Bool) → (fit (store frames out mark over)).mark ≡ mark
+pub fit_mark : (frames : List Frame) (out : List ℕ) (mark : Option ℕ) (over : Bool) → (fit (store frames out mark over)).mark ≡ mark
 fit_mark frames out (Some m) over = refl
 fit_mark frames out None true = refl
 fit_mark frames out None false = by_size (nat_lt MOST_OUTPUT (frames_size frames + length out)) refl
@@ -164,48 +162,3 @@ push_empty frame s f z e = fit_same (frame ∷ s.frames) s.out s.mark s.over (fi
       nothing = λ h. ap (λ (g : Frame). store (g ∷ emptied_frames frames) [] mark over) e ∙ ap (λ (t : Store). store (frame ∷ t.frames) t.out mark over) (f.nothing h);
       few = λ h. let n : frames_size (frame ∷ frames) + length out ≡ frames_size frames + length out = omega arith in rw n (f.few h);
     }
-
--- ---- a mark
-
-abbrev pub first_mark : Option ℕ → ℕ → ℕ
-first_mark None m = m
-first_mark (Some first) m = first
-
--- as a mark leaves it; whether the limit was passed before depends on what was held
-abbrev pub stamp : ℕ → Bool → Store → Store
-stamp i over s = store (emptied_frames s.frames) [] (Some (first_mark s.mark i)) over
-
-pub add_stamp : (x : List ℕ) (i : ℕ) (over : Bool) (s : Store) → add x (stamp i over s) ≡ stamp i over s
-unfolding add
-add_stamp x i over s = refl
-
-pub stamp_twice : (i j : ℕ) (over last : Bool) (s : Store) → stamp j last (stamp i over s) ≡ stamp i last s
-stamp_twice i j over last s = ap (λ (l : List Frame). store l [] (Some (first_mark s.mark i)) last) (emptied_twice s.frames)
-
-stamp_fit : (i : ℕ) (o : Bool) (frames : List Frame) (out : List ℕ) (mark : Option ℕ) (over : Bool) → stamp i o (fit (store frames out mark over)) ≡ stamp i o (store frames out mark over)
-stamp_fit i o frames out mark over =
-    ap (λ (l : List Frame). store l [] (Some (first_mark ((fit (store frames out mark over)).mark) i)) o) (fit_frames emptied_frames frames out mark over (emptied_twice frames))
-    ∙ ap (λ (m : Option ℕ). store (emptied_frames frames) [] (Some (first_mark m i)) o) (fit_mark frames out mark over)
-
-pub stamp_add : (i : ℕ) (o : Bool) (x : List ℕ) (s : Store) → IsFit s → has_current s.frames ≡ true → stamp i o (add x s) ≡ stamp i o s
-stamp_add i o x s f h =
-    ap (stamp i o) (add_is x s f h)
-    ∙ stamp_fit i o (frames_with x s.frames) (out_with x s.frames s.out) s.mark s.over
-    ∙ ap (λ (l : List Frame). store l [] (Some (first_mark s.mark i)) o) (emptied_added x s.frames)
-
-pub stamp_push : (i : ℕ) (o : Bool) (frame : Frame) (s : Store) → stamp i o (push frame s) ≡ record (stamp i o s) { frames = empty_buffers frame ∷ emptied_frames s.frames }
-stamp_push i o frame s = stamp_fit i o (frame ∷ s.frames) s.out s.mark s.over
-
-pub miss_is : (i : ℕ) (s : Store) → IsFit s → miss i s ≡ stamp i s.over s
-unfolding miss
-miss_is i s f = by_mark s.frames s.out s.mark s.over f
-  where
-    by_mark : (frames : List Frame) (out : List ℕ) (mark : Option ℕ) (over : Bool) → IsFit (store frames out mark over) → miss i (store frames out mark over) ≡ stamp i over (store frames out mark over)
-    by_mark frames out (Some m) over f = sym (f.nothing refl)
-    by_mark frames out None over f = refl
-
-pub stamp_fits : (i : ℕ) (o : Bool) (s : Store) → IsFit (stamp i o s)
-stamp_fits i o s = record { nothing = λ h. ap (λ (l : List Frame). store l [] (Some (first_mark s.mark i)) o) (emptied_twice s.frames); few = λ h. cc }
-
-pub more_still : (m a b c d : ℕ) → a + b ≡ c → b ≤ d → nat_lt m c ≡ true → nat_lt m (a + d) ≡ true
-more_still m a b c d e le h = grind arith

@@ -33,10 +33,12 @@ use Rattle.simulation.proofs.Follow.{Comes, Ends, Follows, Takes, end_row, ends_
 use Rattle.simulation.proofs.Holding.{Becomes}
 use Rattle.simulation.proofs.Inside.{takes_inside}
 use Rattle.simulation.proofs.LookUps.{got, got_below}
+use Rattle.simulation.proofs.Numbers.{lt_false, lt_no, lt_true}
 use Rattle.simulation.proofs.Pairs.{all_written}
 use Rattle.simulation.proofs.Plain.{between, plain_row, row_of_instr}
 use Rattle.simulation.proofs.Rooms.{IsReady}
-use Rattle.simulation.proofs.Stores.{stamp, store}
+use Rattle.simulation.proofs.Marks.{stamp}
+use Rattle.simulation.proofs.Stores.{store}
 use Rattle.simulation.proofs.Writing.{Wrote, becomes_ready}
 
 abbrev nothing : Store
@@ -46,17 +48,8 @@ no_frames : (frames : List Frame) → length frames ≡ 0 → frames ≡ []
 no_frames [] e = refl
 no_frames (f ∷ frames) e = absurd (omega arith)
 
-lt_true : (a b : ℕ) → nat_lt a b ≡ true → a < b
-lt_true a b h = grind arith
-
-lt_false : (a b : ℕ) → nat_lt a b ≡ false → b ≤ a
-lt_false a b h = grind arith
-
 ready_first : IsReady MOST_DEPTH [] nothing
-ready_first = record { fit = record { nothing = λ h. absurd cc; few = λ h. none_past 67108864 }; current = refl; has_room = record { room = omega arith; shallow = omega arith; few = omega arith } }
-  where
-    none_past : (k : ℕ) → nat_lt k 0 ≡ false
-    none_past k = grind arith
+ready_first = record { fit = record { nothing = λ h. absurd cc; few = λ h. lt_no MOST_OUTPUT 0 (omega arith) }; current = refl; has_room = record { room = omega arith; shallow = omega arith; few = omega arith } }
 
 module _ (W R : List Node) (P : Program) (Begins : Section → ℕ → Type 0) (p : List ℕ) (formed : IsWellFormed W)
     (routines : (w r a : ℕ) → Begins (Write w r) a → Routine W R P Begins a w r) (skipped : (w a : ℕ) → Begins (Skip w) a → SkipRoutine W P Begins a w) (opening : Opening W R P Begins) where

@@ -12,7 +12,8 @@ use Rattle.simulation.proofs.Follow.{Follows, follows_map, follows_so}
 use Rattle.simulation.proofs.Holding.{Becomes, becomes_so}
 use Rattle.simulation.proofs.Plain.{between, meter}
 use Rattle.simulation.proofs.Rooms.{IsReady, room_as}
-use Rattle.simulation.proofs.Stores.{add_fits, add_frames, stamp_fits}
+use Rattle.simulation.proofs.Marks.{stamp_fits}
+use Rattle.simulation.proofs.Stores.{add_fits, add_frames}
 
 -- ---- what stays as it was
 
