@@ -28,9 +28,13 @@ mod RecordDefaults
 mod Records
 mod WritePlaces
 mod Values
+mod Straights
 mod Pairs
+mod SameParts
 mod Counting
+mod InsideParts
 mod Inside
 mod Whole
 mod Runs
 mod Simulated
+mod Examples

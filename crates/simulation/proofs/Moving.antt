@@ -1,26 +1,20 @@
 -- A content moves in rows of 64 bytes at most, and is checked when it is whole.
-use Rattle.std.proofs.Common.{◌≡◌, ℕ, zero, suc, ◌+◌, ◌-◌, ◌≤◌, ◌<◌, Bool, true, false, cond, List, [], ◌++◌, length, take, drop, Option, Some, None, refl, sym, ap, ◌∙◌, subst, arith, pos, append-nil, length-drop, min}
+use Rattle.std.proofs.Common.{◌≡◌, ℕ, zero, suc, ◌+◌, ◌-◌, ◌≤◌, ◌<◌, Bool, true, false, cond, List, [], ◌++◌, length, drop, Option, Some, None, refl, sym, ap, ◌∙◌, subst, arith, pos, append-nil, length-drop, min}
 use Rattle.std.specs.Prelude.{nat_lt}
 use Rattle.std.specs.Str.{is_utf8}
-use Rattle.std.proofs.Math.Seq.{take-add}
-use Rattle.std.proofs.lemmas.Str.{IsUtf8-nil, is_utf8-from_IsUtf8}
-use Rattle.std.proofs.lemmas.List.{drop-drop, length-take-le}
+use Rattle.std.proofs.lemmas.List.{length-take-le}
 use Rattle.avro_bytes.specs.declared.meter.Meter.{Meter}
 use Rattle.avro_bytes.specs.declared.fault.MalformedKind.TheVariants.{BadText, Truncated}
 use Rattle.avro_bytes.specs.Blob.{content_at, fixed_at}
 use Rattle.avro_bytes.specs.Decoding.{Decoding, Complete, Failed, Malformed, Need, ◌>>=◌}
-use Rattle.avro_bytes.specs.Laws.Lengths.{length_sound}
-use Rattle.avro_bytes.specs.Laws.Numbers.{number_some}
 use Rattle.avro_bytes.specs.Length.{length_at}
-use Rattle.avro_bytes.specs.Number.{long_limit}
 use Rattle.avro_bytes.specs.Shortest.{shortest}
-use Rattle.avro_bytes.specs.Text.{utf8_only}
 use Rattle.avro_bytes.specs.Written.{after_length}
 use Rattle.outcome.specs.Outcome as outcomes
 use Rattle.isa.specs.declared.limits.TheConstants.{MOST_PIECE}
 use Rattle.isa.specs.Program.{Program}
-use Rattle.isa.specs.State.{Out, Part, State, Store, miss}
-use Rattle.isa.specs.Table.{Move, anything, begun, content, fixed, moves, only_text, or_miss, stop}
+use Rattle.isa.specs.State.{Out, Part, State, Store}
+use Rattle.isa.specs.Table.{begun, content, fixed, moves, stop}
 use Rattle.simulation.proofs.Follow.{Follows, cost, end_row, follows_so, one_row, reads_then, row_then, stay}
 use Rattle.simulation.proofs.Plain.{between, meter, moving, plain_row}
 use Rattle.simulation.proofs.Contents.{Anything, Check, OnlyText, OrMiss, Puts, checked, closed, closed_text, length_ahead, move_of, no_text, stretch, stretches, then_then, unless_of}

@@ -12,14 +12,13 @@ use Rattle.isa.specs.Lists.{total_length}
 use Rattle.isa.specs.Program.{Program}
 use Rattle.isa.specs.State.{Rec, State, Store, add_to_slot}
 use Rattle.program_code.specs.Lines.{Section}
-use Rattle.program_code.specs.SkipStands.{Skips}
 use Rattle.program_code.specs.Stands.{Fields, Writes as CodeWrites, dropped, kept, no_field}
 use Rattle.simulation.proofs.Buffers.{new_slots, no_bytes, no_bytes_added}
 use Rattle.simulation.proofs.Effects.{bytes_of}
 use Rattle.simulation.proofs.Follow.{Follows, follows_then, row_then, stay}
 use Rattle.simulation.proofs.Holding.{holds_more, holds_so}
 use Rattle.simulation.proofs.LookUps.{got_below}
-use Rattle.simulation.proofs.Passing.{Passed, Passes}
+use Rattle.simulation.proofs.Passing.{Passed}
 use Rattle.simulation.proofs.Plain.{between, meter}
 use Rattle.simulation.proofs.RecordSlots.{HoldsSlots, record_holds, slot_adds, slot_selected, top_depth, top_room}
 use Rattle.simulation.proofs.Rooms.{IsDeeper}
@@ -28,7 +27,7 @@ use Rattle.simulation.proofs.SkipPlaces.{skips_forward}
 use Rattle.simulation.proofs.Slots.{Keeps, buffers, fields_left, keeps_later, keeps_put, left_drop, left_end, left_keep, put_in, slot_bytes}
 use Rattle.simulation.proofs.Standing.{AllSkipped, AllWritten}
 use Rattle.simulation.proofs.Stores.{IsFit}
-use Rattle.simulation.proofs.Writing.{Writes, Wrote}
+use Rattle.simulation.proofs.Writing.{Wrote}
 
 module _ (W R : List Node) (P : Program) (Begins : Section → ℕ → Type 0) (p : List ℕ) where
   abbrev L : ℕ

@@ -19,7 +19,6 @@ use Rattle.isa.specs.Program.{Program}
 use Rattle.isa.specs.State.{Frame, Rec, State, Store, add}
 use Rattle.isa.specs.Table.{next, pushed}
 use Rattle.program_code.specs.Lines.{Section}
-use Rattle.program_code.specs.SkipStands.{Skips}
 use Rattle.program_code.specs.Stands.{Routine, Writes as CodeWrites}
 use Rattle.simulation.proofs.Buffers.{joined_length, new_slots, new_slots_empty, new_slots_size, no_bytes}
 use Rattle.simulation.proofs.Effects.{bytes_of}
@@ -27,7 +26,6 @@ use Rattle.simulation.proofs.Follow.{Comes, Follows, comes_on, follows_then, one
 use Rattle.simulation.proofs.Holding.{Holds, becomes_so, holds_so}
 use Rattle.simulation.proofs.LookUps.{got_below}
 use Rattle.simulation.proofs.Opening.{record_opens}
-use Rattle.simulation.proofs.Passing.{Passes}
 use Rattle.simulation.proofs.Plain.{between, meter, row_of_instr}
 use Rattle.simulation.proofs.RecordDefaults.{defaults_forward, defaults_write}
 use Rattle.simulation.proofs.RecordFields.{FieldsWritten, fields_forward, fields_write}

@@ -7,7 +7,8 @@ use Rattle.isa.specs.Program.{Program}
 use Rattle.isa.specs.Row.{row_of}
 use Rattle.isa.specs.State.{End, State, start}
 use Rattle.simulation.specs.Alone.{RowsAreCounted, RunsGoOn, RunsStay, RunsStayInside, rows_from}
-use Rattle.simulation.proofs.Counting.{counted_as, row_adds_one, row_counted}
+use Rattle.simulation.proofs.SameParts.{counted_as}
+use Rattle.simulation.proofs.Counting.{row_adds_one, row_counted}
 use Rattle.simulation.proofs.Follow.{Takes, a_row, no_row}
 use Rattle.simulation.proofs.Inside.{row_inside}
 use Rattle.simulation.proofs.Plain.{plain_row}

@@ -4,8 +4,8 @@ ghost use Rattle.simulation.specs.Simulation.{EachEndIsOutcome, EarlyEndIsOutcom
 use avro_types::Nodes;
 
 /// The law that the program of a pair of schemas, run alone on a payload that has ended, comes within the row bound to
-/// an end, which is the payload's outcome; that whatever end a run comes to is that outcome, so that it never traps; and
-/// that an end that comes before the input has ended is the outcome with every continuation.
+/// an end, which is the payload's outcome. Whatever end a run comes to is the outcome, so that none is a trap; and one
+/// that it comes to before the input has ended is the outcome with every continuation.
 pub fn program_ends_with_the_outcome(w: &Nodes, r: &Nodes)
     ensures simulated { IsSimulated w.now r.now }
     ensures each_end { EachEndIsOutcome w.now r.now }
