@@ -18,8 +18,8 @@ use Rattle.isa.specs.Row.{kept, row, row_at, skipped}
 use Rattle.isa.specs.State.{Blocks, End, Rec, Skip, SkipBlocks, State, meter_of}
 use Rattle.isa.specs.Table.{added, anything, entered, next, only_text, or_miss}
 use Rattle.simulation.proofs.Follow.{Takes, a_row, no_row}
-use Rattle.simulation.proofs.Plain.{plain_row, unless_ended}
 use Rattle.simulation.proofs.InsideParts.{AllIn, In, cond_in, current_in, reads_in, opens_in, boolean_in, int_in, long_in, position_in, content_in, fixed_in, any_still, text_still, miss_still, any_skip_still, text_skip_still, select_in, close_in, leave_in, next_in, skip_next_in, entered_in, return_in, halt_in}
+use Rattle.simulation.proofs.Plain.{plain_row, unless_ended}
 
 module _ (P : Program) (p : List ℕ) where
   row_in : (i : Instr) (s : State) → In P p s → AllIn P p (row P p true i s)

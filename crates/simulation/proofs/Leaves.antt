@@ -33,13 +33,13 @@ use Rattle.isa.specs.Table.{added, content, entered, fixed, if_current, moves, n
 use Rattle.program_code.specs.Lines.{miss as why_not}
 use Rattle.program_code.specs.Stands.{AreEntries, IsEntry}
 use Rattle.simulation.proofs.Buffers.{current_emptied}
+use Rattle.simulation.proofs.Contents.{Anything, Check, OnlyText, OrMiss, Puts, checked, closed, move_of, unchecked}
 use Rattle.simulation.proofs.Follow.{Follows, follows_so, reads_all, row_then}
 use Rattle.simulation.proofs.Holding.{Becomes, becomes_after, becomes_so}
 use Rattle.simulation.proofs.LookUps.{got}
-use Rattle.simulation.proofs.Contents.{Anything, Check, OnlyText, OrMiss, Puts, checked, closed, move_of, unchecked}
+use Rattle.simulation.proofs.Marks.{miss_is, stamp_add}
 use Rattle.simulation.proofs.Moving.{Landed, content_follows, fixed_follows}
 use Rattle.simulation.proofs.Plain.{between, meter, moving, plain_row, row_of_instr}
-use Rattle.simulation.proofs.Marks.{miss_is, stamp_add}
 use Rattle.simulation.proofs.Stores.{IsFit, add_fits, add_frames, add_nothing, add_twice}
 use Rattle.simulation.proofs.Writing.{Writes, Wrote, add_depth, add_ready}
 

@@ -15,10 +15,10 @@ use Rattle.isa.specs.declared.limits.TheConstants.{MOST_PIECE}
 use Rattle.isa.specs.Program.{Program}
 use Rattle.isa.specs.State.{Out, Part, State, Store}
 use Rattle.isa.specs.Table.{begun, content, fixed, moves, stop}
-use Rattle.simulation.proofs.Follow.{Follows, cost, end_row, follows_so, one_row, reads_then, row_then, stay}
-use Rattle.simulation.proofs.Plain.{between, meter, moving, plain_row}
 use Rattle.simulation.proofs.Contents.{Anything, Check, OnlyText, OrMiss, Puts, checked, closed, closed_text, length_ahead, move_of, no_text, stretch, stretches, then_then, unless_of}
+use Rattle.simulation.proofs.Follow.{Follows, cost, end_row, follows_so, one_row, reads_then, row_then, stay}
 use Rattle.simulation.proofs.Numbers.{least_below, least_is_second, lt_false, lt_no, lt_true, lt_yes}
+use Rattle.simulation.proofs.Plain.{between, meter, moving, plain_row}
 
 module _ (P : Program) (p : List ℕ) (L : ℕ) where
   module _ (put : List ℕ → Store → Store) (Fits : Store → Type 0) (puts : Puts put Fits) (check : Check) (pc : ℕ) (calls : List ℕ) (u : ℕ)

@@ -34,10 +34,10 @@ use Rattle.simulation.proofs.LookUps.{got}
 use Rattle.simulation.proofs.Plain.{between, meter, plain_row, row_of_instr}
 use Rattle.simulation.proofs.Skipping.{all_skipped}
 use Rattle.simulation.proofs.Standing.{AllSkipped, AllWritten}
+use Rattle.simulation.proofs.Straights.{missed, straights}
 use Rattle.simulation.proofs.Values.{into_bytes, no_union_read}
 use Rattle.simulation.proofs.WritePlaces.{members_forward, members_placed, plain_forward, straight_forward}
 use Rattle.simulation.proofs.Writing.{Writes, Wrote, writes_so}
-use Rattle.simulation.proofs.Straights.{missed, straights}
 
 module _ (W R : List Node) (P : Program) (Begins : Section → ℕ → Type 0) (p : List ℕ) (formed : IsWellFormed W) (routines : (w r a : ℕ) → Begins (Write w r) a → Routine W R P Begins a w r) (skipped : (w a : ℕ) → Begins (Skip w) a → SkipRoutine W P Begins a w) where
   abbrev L : ℕ

@@ -22,8 +22,8 @@ use Rattle.isa.specs.Program.{Program}
 use Rattle.isa.specs.Row.{row}
 use Rattle.isa.specs.State.{Part, SkipBlocks, State, Store, meter_of}
 use Rattle.isa.specs.Table.{fixed, moves, next, reads}
-use Rattle.simulation.proofs.Follow.{Follows, follows_map, follows_so, follows_then, reads_all, stay}
 use Rattle.simulation.proofs.Contents.{Anything, OnlyText, Puts, move_of, unchecked}
+use Rattle.simulation.proofs.Follow.{Follows, follows_map, follows_so, follows_then, reads_all, stay}
 use Rattle.simulation.proofs.Moving.{Landed, content_follows, fixed_follows}
 use Rattle.simulation.proofs.Opening.{blocks_open}
 use Rattle.simulation.proofs.Plain.{between, meter, moving, plain_row, row_of_instr}

@@ -1,17 +1,18 @@
 -- Runs alone: they count their rows, come to one end at most, and are the same on longer input.
-use Rattle.std.proofs.Common.{◌≡◌, ℕ, zero, suc, ◌+◌, ◌≤◌, Bool, true, false, List, [], ◌++◌, length, Option, Some, None, refl, sym, ap, ◌∙◌, subst, arith, append-nil}
+use Rattle.std.proofs.Common.{◌≡◌, ℕ, zero, suc, ◌+◌, ◌≤◌, Bool, true, false, List, [], ◌++◌, length, Option, Some, None, refl, sym, ap, ◌∙◌, subst, arith, append-nil, ◌-◌, inl, inr}
 use Rattle.std.specs.Prelude.{option_map}
+use Rattle.std.proofs.lemmas.Bool.{cases_lt}
 use Rattle.matching.specs.Options.{given}
 use Rattle.isa.specs.Bounds.{IsBounded}
 use Rattle.isa.specs.Program.{Program}
 use Rattle.isa.specs.Row.{row_of}
 use Rattle.isa.specs.State.{End, State, start}
-use Rattle.simulation.specs.Alone.{RowsAreCounted, RunsGoOn, RunsStay, RunsStayInside, rows_from}
-use Rattle.simulation.proofs.SameParts.{counted_as}
+use Rattle.simulation.specs.Alone.{EndsAreLast, RowsAreCounted, RunsGoOn, RunsStay, RunsStayInside, rows_from}
 use Rattle.simulation.proofs.Counting.{row_adds_one, row_counted}
 use Rattle.simulation.proofs.Follow.{Takes, a_row, no_row}
 use Rattle.simulation.proofs.Inside.{row_inside}
 use Rattle.simulation.proofs.Plain.{plain_row}
+use Rattle.simulation.proofs.SameParts.{counted_as}
 
 -- the laws of rows, as `isa` proves them
 abbrev pub RowsStay : Type 0
@@ -134,6 +135,14 @@ rows_are_counted P input ended n s e = omega (arith, counts_rows P input ended n
 
 pub runs_go_on : RunsGoOn
 runs_go_on P input ended n more s e = rows_behind P input ended n more start s e
+
+pub ends_are_last : EndsAreLast
+ends_are_last P input ended n m s t end r e k = elim (cases_lt n m) [
+  | inl lt ↦ (
+      let later : n + suc (m - suc n) ≡ m = omega (arith, lt) in
+      absurd (stays_ended P input ended (m - suc n) s t end e (sym (rows_behind P input ended n (suc (m - suc n)) start s r) ∙ ap (λ (j : ℕ). rows_from P input ended j start) later ∙ k)))
+  | inr le ↦ le
+]
 
 pub runs_stay_inside : RowsStay → RunsStayInside
 runs_stay_inside stays P input ended n s e = rows_inside stays P input ended n start s (omega arith) e

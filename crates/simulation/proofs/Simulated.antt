@@ -13,8 +13,8 @@ use Rattle.program_code.specs.Code.{code_of}
 use Rattle.program_code.specs.Linking.{BeginsIn, ProgramIsInRange, ProgramIsLinked}
 use Rattle.simulation.specs.Alone.{run_alone}
 use Rattle.simulation.specs.Simulation.{EachEndIsOutcome, EarlyEndIsOutcome, IsOutcomeOf, IsSimulated}
-use Rattle.simulation.proofs.SameParts.{counted_as}
 use Rattle.simulation.proofs.Runs.{RowsStay, RowsStayBounded, one_end, rows_bounded, runs_stay, takes_rows}
+use Rattle.simulation.proofs.SameParts.{counted_as}
 use Rattle.simulation.proofs.Whole.{Finishes, whole}
 
 few_rows : (rows units instrs bytes : ℕ) → rows ≤ (units + 1) * instrs + bytes → units ≤ MOST_UNITS → instrs ≤ MOST_INSTRS → bytes ≤ MOST_PAYLOAD → rows < 2 ^ 64

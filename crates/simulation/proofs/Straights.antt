@@ -34,14 +34,14 @@ use Rattle.simulation.proofs.Effects.{array_bytes, bytes_of, effects, item, map_
 use Rattle.simulation.proofs.Follow.{Follows, follows_so, row_then, stay}
 use Rattle.simulation.proofs.Leaves.{boolean_writes, bytes_text_write, bytes_write, enum_writes, fixed_writes, int_writes, long_writes, text_writes}
 use Rattle.simulation.proofs.LookUps.{got_below}
+use Rattle.simulation.proofs.Marks.{miss_is}
 use Rattle.simulation.proofs.Parts.{blocks_write, both_write}
 use Rattle.simulation.proofs.Passing.{Passed}
 use Rattle.simulation.proofs.Plain.{between, meter, row_of_instr}
 use Rattle.simulation.proofs.Records.{call_writes}
 use Rattle.simulation.proofs.Rooms.{room_as}
-use Rattle.simulation.proofs.Skipping.{no_union_passes}
 use Rattle.simulation.proofs.SkipPlaces.{skips_forward}
-use Rattle.simulation.proofs.Marks.{miss_is}
+use Rattle.simulation.proofs.Skipping.{no_union_passes}
 use Rattle.simulation.proofs.Standing.{AllSkipped, AllWritten}
 use Rattle.simulation.proofs.Stores.{add_nothing}
 use Rattle.simulation.proofs.Values.{checked_bytes, int_bytes, lacking_bytes, plain_bytes, record_read, same_fields, text_bytes}

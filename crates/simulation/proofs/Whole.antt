@@ -33,11 +33,11 @@ use Rattle.simulation.proofs.Follow.{Comes, Ends, Follows, Takes, end_row, ends_
 use Rattle.simulation.proofs.Holding.{Becomes}
 use Rattle.simulation.proofs.Inside.{takes_inside}
 use Rattle.simulation.proofs.LookUps.{got, got_below}
+use Rattle.simulation.proofs.Marks.{stamp}
 use Rattle.simulation.proofs.Numbers.{lt_false, lt_no, lt_true}
 use Rattle.simulation.proofs.Pairs.{all_written}
 use Rattle.simulation.proofs.Plain.{between, plain_row, row_of_instr}
 use Rattle.simulation.proofs.Rooms.{IsReady}
-use Rattle.simulation.proofs.Marks.{stamp}
 use Rattle.simulation.proofs.Stores.{store}
 use Rattle.simulation.proofs.Writing.{Wrote, becomes_ready}
 

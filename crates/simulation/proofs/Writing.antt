@@ -10,9 +10,9 @@ use Rattle.isa.specs.State.{State, Store, add, has_current}
 use Rattle.simulation.proofs.Buffers.{current_emptied, emptied_length}
 use Rattle.simulation.proofs.Follow.{Follows, follows_map, follows_so}
 use Rattle.simulation.proofs.Holding.{Becomes, becomes_so}
+use Rattle.simulation.proofs.Marks.{stamp_fits}
 use Rattle.simulation.proofs.Plain.{between, meter}
 use Rattle.simulation.proofs.Rooms.{IsReady, room_as}
-use Rattle.simulation.proofs.Marks.{stamp_fits}
 use Rattle.simulation.proofs.Stores.{add_fits, add_frames}
 
 -- ---- what stays as it was

@@ -1,4 +1,4 @@
-ghost use Rattle.simulation.specs.Alone.{RowsAreCounted, RunsGoOn, RunsStay, RunsStayInside};
+ghost use Rattle.simulation.specs.Alone.{EndsAreLast, RowsAreCounted, RunsGoOn, RunsStay, RunsStayInside};
 ghost use Rattle.simulation.specs.Simulation.{EachEndIsOutcome, EarlyEndIsOutcome, IsSimulated};
 
 use avro_types::Nodes;
@@ -19,10 +19,11 @@ pub fn program_ends_with_the_outcome(w: &Nodes, r: &Nodes)
 }
 
 /// The law of what holds of every program that is run alone: its count is that of its rows, it goes on from where it
-/// is, it stays inside its input, and it is the same on longer input.
+/// is but for an end, it stays inside its input, and it is the same on longer input.
 pub fn runs_alone_are_counted_and_stay()
     ensures counted { RowsAreCounted }
     ensures go_on { RunsGoOn }
+    ensures ends { EndsAreLast }
     ensures inside { RunsStayInside }
     ensures stay { RunsStay }
 {
