@@ -189,7 +189,8 @@ fn bytes_that_are_loaded_are_an_image(rt: HostRuntime) {
                 changed[at] = byte;
                 if let Ok(program) = loaded(alloc, &changed) {
                     let saved = saved(alloc, &program).expect(&rt, "no memory");
-                    assert!(rt; changed[4] == 1 || saved.as_slice() == changed.as_slice());
+                    let is_first = changed.starts_with(b"AVRP\x01");
+                    assert!(rt; is_first || saved.as_slice() == changed.as_slice());
                     assert!(rt;
                         migrated(alloc, &changed).expect(&rt, "an image").as_slice()
                             == saved.as_slice()
