@@ -1,0 +1,3 @@
+pub mod Segments
+pub mod Ropes
+pub mod Buffers
