@@ -4,3 +4,7 @@ pub mod Joining
 pub mod Laying
 pub mod Placing
 pub mod Putting
+pub mod Texts
+pub mod Framing
+pub mod Keeping
+pub mod Closing

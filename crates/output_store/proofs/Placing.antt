@@ -43,7 +43,7 @@ all-at P [] i d f lt = absurd (omega (arith, lt))
 all-at P (x ∷ xs) zero d f lt = f.0
 all-at P (x ∷ xs) (suc i) d f lt = all-at P xs i d f.1 (omega (arith, lt))
 
-map-replicate : {A B : Type 0} (f : A → B) (n : ℕ) (y : A) → map f (replicate n y) ≡ replicate n (f y)
+pub map-replicate : {A B : Type 0} (f : A → B) (n : ℕ) (y : A) → map f (replicate n y) ≡ replicate n (f y)
 map-replicate f zero y = refl
 map-replicate {B = B} f (suc n) y = ap (λ (x : List B). f y ∷ x) (map-replicate f n y)
 

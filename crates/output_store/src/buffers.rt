@@ -1,6 +1,6 @@
 ghost use Rattle.std.specs.Prelude.{◌≡◌, ◌≢◌, ℕ, ◌+◌, ◌<◌, ◌≤◌, List, [], ◌∷◌, ◌++◌, length, map, OnErr, OnOk, IfOk};
 ghost use Rattle.output_store.specs.declared.buffers.Buffer.TheVariants.{Empty};
-ghost use Rattle.output_store.specs.Buffers.{AreLaid, AreRopes, IsHeld, AllHeld, IsLater, IsPlace, buffer_at, segments_at, segments_of, with_added, with_closed, with_none, with_opened};
+ghost use Rattle.output_store.specs.Buffers.{AreLaid, AreRopes, IsHeld, AllHeld, IsLater, IsPlace, buffer_at, segments_at, segments_of, with_added, with_closed, with_fewer, with_none, with_opened};
 ghost use Rattle.output_store.specs.Segments.{AreSegments, bytes_of, with_bytes, with_lists, with_segment, with_segments};
 
 use crate::ropes::Ropes;
@@ -208,10 +208,16 @@ impl Buffers {
 
     /// The bytes of all buffers.
     pub fn arena(&self) -> &[u8]
-        ensures arena { result.now ≡ self.now.arena }
-        ensures laid { AreLaid self.now }
+        ensures { result.now ≡ self.now.arena }
     {
         &self.arena
+    }
+
+    /// The law that the segments of each lie in the arena, none is empty, and of two neighbours the second does not begin where the first ends.
+    pub fn are_laid(&self)
+        ensures { AreLaid self.now }
+    {
+        let _opened = &self.arena;
     }
 
     /// Bytes at the end of one.
@@ -273,6 +279,13 @@ impl Buffers {
             Place::Slot(number) => self.slots[number] = buffer,
         }
         Ok(())
+    }
+
+    /// The slots from a first one on are no more.
+    pub fn shorten(&mut self, first: usize)
+        ensures { self.new ≡ with_fewer first self.old }
+    {
+        self.slots.truncate(first);
     }
 
     /// All of them empty.

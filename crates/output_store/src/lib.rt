@@ -4,7 +4,9 @@
 mod buffers;
 mod ropes;
 mod segment;
+mod store;
 
 pub use buffers::{Buffer, Buffers, Place};
 pub use ropes::Ropes;
 pub use segment::Segment;
+pub use store::{Frame, Opening, Store};
