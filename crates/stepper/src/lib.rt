@@ -1,9 +1,15 @@
 //! The machine: rows of the instruction table, taken one by one or in slices.
 #![tactic(auto)]
 
+mod blocks;
 mod check;
+mod contents;
+mod flow;
+mod held;
 mod machine;
 mod numbers;
+mod positions;
+mod records;
 mod step;
 
 pub use machine::Machine;

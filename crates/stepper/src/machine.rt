@@ -1,4 +1,4 @@
-ghost use Rattle.std.specs.Prelude.{◌≡◌, ◌≤◌, ◌<◌, ◌+◌, ℕ, length, OnOk, OnErr, Some, None, true};
+ghost use Rattle.std.specs.Prelude.{◌≡◌, ◌≤◌, ◌<◌, ◌+◌, ℕ, [], ◌∷◌, ◌++◌, length, is_some, option_to_list, OnOk, OnErr, Some, None, false, true};
 ghost use Rattle.avro_bytes.specs.declared.meter.Meter.{Meter};
 ghost use Rattle.isa.specs.declared.limits.TheConstants.{MOST_INSTRS};
 ghost use Rattle.isa.specs.State.{has_current, meter_of};
@@ -83,6 +83,20 @@ impl Machine {
         self.end = None;
     }
 
+    /// The address of the next instruction.
+    pub fn pc(&self) -> usize
+        ensures { result ≡ self.now.state.pc }
+    {
+        self.pc
+    }
+
+    /// How many rows were taken.
+    pub fn count(&self) -> u64
+        ensures { result ≡ self.now.state.count }
+    {
+        self.count
+    }
+
     /// The place of the next byte.
     pub fn pos(&self) -> usize
         ensures { result ≡ self.now.state.pos }
@@ -124,7 +138,13 @@ impl Machine {
     }
 
     /// Bytes are missing, or cannot be read.
-    pub(crate) fn refuse(&mut self, fault: Fault, program: &Program, input: &[u8], ended: bool) -> Step
+    pub(crate) fn refuse(
+        &mut self,
+        fault: Fault,
+        program: &Program,
+        input: &[u8],
+        ended: bool,
+    ) -> Step
         ensures takes { Takes (refused program.now input.now ended fault self.old.state) result self.old self.new }
         ensures pos { self.new.state.pos ≡ self.old.state.pos }
         ensures part { self.new.state.part ≡ self.old.state.part }
@@ -150,6 +170,46 @@ impl Machine {
         self.pc += 1;
         self.pos = to;
         Step::Moved
+    }
+
+    /// At an address, with the bytes up to a place read.
+    pub(crate) fn jump(&mut self, address: usize, to: usize) -> Step
+        ensures step { result ≡ Step.Moved }
+        ensures jumped { self.new ≡ record self.old { state = record self.old.state { pc = address; pos = to } } }
+    {
+        self.pc = address;
+        self.pos = to;
+        Step::Moved
+    }
+
+    /// How many calls are open.
+    pub fn calls(&self) -> usize
+        ensures { result ≡ length self.now.state.calls }
+    {
+        self.calls.len()
+    }
+
+    /// A call of a routine at an address.
+    pub(crate) fn push_call(&mut self, address: usize) -> Step
+        requires { self.old.state.pc < MOST_INSTRS }
+        ensures takes { Takes (Some (record self.old.state { pc = address; calls = (self.old.state.pc + 1) ∷ self.old.state.calls })) result self.old self.new }
+        ensures pos { self.new.state.pos ≡ self.old.state.pos }
+        ensures part { self.new.state.part ≡ self.old.state.part }
+    {
+        if self.calls.push(self.pc + 1).is_err() {
+            return Step::NoMemory;
+        }
+        self.pc = address;
+        Step::Moved
+    }
+
+    /// The address to return to, of the newest call, which is closed.
+    pub(crate) fn pop_call(&mut self) -> Option<usize>
+        ensures popped { option_to_list result ++ self.new.state.calls ≡ self.old.state.calls }
+        ensures some { is_some result ≡ false → self.old.state.calls ≡ [] }
+        ensures kept { self.new ≡ record self.old { state = record self.old.state { calls = self.new.state.calls } } }
+    {
+        self.calls.pop()
     }
 
     /// Bytes at the end of the current buffer.
