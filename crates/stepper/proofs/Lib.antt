@@ -1,2 +1,4 @@
 pub mod Tables
 pub mod Checking
+pub mod Counts
+pub mod Stepping
