@@ -2,3 +2,4 @@ pub mod Tables
 pub mod Checking
 pub mod Counts
 pub mod Stepping
+pub mod Slicing

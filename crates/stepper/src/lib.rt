@@ -9,8 +9,11 @@ mod held;
 mod machine;
 mod numbers;
 mod positions;
+mod readings;
 mod records;
+mod slice;
 mod step;
 
-pub use machine::Machine;
+pub use machine::{Machine, Part};
+pub use slice::{Slice, Why};
 pub use step::Step;
