@@ -1,0 +1,5 @@
+pub mod Tables
+pub mod Checking
+pub mod Counts
+pub mod Stepping
+pub mod Slicing
