@@ -3,3 +3,4 @@ pub mod Checking
 pub mod Counts
 pub mod Stepping
 pub mod Slicing
+pub mod Longer

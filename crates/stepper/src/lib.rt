@@ -6,6 +6,7 @@ mod check;
 mod contents;
 mod flow;
 mod held;
+mod laws;
 mod machine;
 mod numbers;
 mod positions;
@@ -14,6 +15,7 @@ mod records;
 mod slice;
 mod step;
 
+pub use laws::machines_go_on_with_more_input;
 pub use machine::{Machine, Part};
 pub use slice::{Slice, Why};
 pub use step::Step;
