@@ -1,0 +1,8 @@
+use Rattle.std.proofs.Common.{map, drop}
+use Rattle.output_store.specs.Buffers.{IsHeld, IsLater, segments_of}
+use Rattle.output_store.specs.Segments.{with_lists}
+use Rattle.output_store.proofs.Joining.{HasJoined}
+use Rattle.output_store.proofs.buffers.joined_buffers.Given as goal
+
+abbrev pub invariant-loop-other : goal.invariant-loop-other
+invariant-loop-other l = HasJoined l.fn.ropes l.ropes l.fn.buffer l.joined l.others l.other-index
