@@ -2,7 +2,7 @@
 use Rattle.std.proofs.Common.{string_bytes, length}
 use Rattle.commands.proofs.Answers.{Continues}
 use Rattle.commands.specs.Lines.{lines}
-use Rattle.commands.proofs.transcode.transcode.Given as goal
+use Rattle.commands.proofs.transcode.answers.Given as goal
 
 abbrev pub invariant-loop-line : goal.invariant-loop-line
 invariant-loop-line l = Continues l.writer l.reader (lines l.payloads) (lines l.rest) (string_bytes l.output)

@@ -1,6 +1,6 @@
 -- One line more, and no line more.
 use Rattle.commands.proofs.Answers.{continues_all, continues_one}
-use Rattle.commands.proofs.transcode.transcode.Goals as goal
+use Rattle.commands.proofs.transcode.answers.Goals as goal
 
 pub loop-line-preserved : goal.loop-line-preserved
 loop-line-preserved c =
