@@ -20,12 +20,7 @@ pub enum PairError {
 }
 
 /// The outcome of one payload, by the program of its pair of schemas.
-pub fn transcode(
-    alloc: Global,
-    w: &Nodes,
-    r: &Nodes,
-    payload: &[u8],
-) -> Result<Outcome, PairError>
+pub fn transcode(alloc: Global, w: &Nodes, r: &Nodes, payload: &[u8]) -> Result<Outcome, PairError>
     ensures { TranscodesPair w.now r.now payload.now result }
 {
     let mut transcoder = match Transcoder::new(alloc, w, r) {
