@@ -36,21 +36,23 @@ pub(crate) fn run(alloc: Global, program: &Program, input: &[u8], piece: usize, 
     let mut end = 0;
     'turns: for _turn in 0..TURNS {
         let slice = machine.slice(program, &input[..end], end == input.len(), &[], k);
-        match slice.why {
-            Why::Ended => return machine,
-            Why::Waits => end = further(end, piece, input.len()),
-            _ => {}
+        if slice.why == Why::Ended {
+            return machine;
         }
+        end = further(slice.why, end, piece, input.len());
     }
     machine
 }
 
-/// The end of a further piece.
-fn further(end: usize, piece: usize, len: usize) -> usize
+/// The end of a further piece, where the machine waits for one.
+fn further(why: Why, end: usize, piece: usize, len: usize) -> usize
     requires { end ≤ len }
     ensures order { end ≤ result }
     ensures within { result ≤ len }
 {
+    if why != Why::Waits {
+        return end;
+    }
     if len - end < piece { len } else { end + piece }
 }
 
