@@ -23,7 +23,6 @@ pub goes_on : (xs : List Segment) (l s : Segment) → l.end ≡ s.place → with
 goes_on xs l s e =
     with_segment-at xs l s ∙ ap (λ (b : Bool). xs ++ cond b (record l { end = s.end } ∷ []) (l ∷ s ∷ [])) (eq-eqb l.end s.place e)
 
-
 pub comes_after : (xs : List Segment) (l s : Segment) → l.end ≢ s.place → with_segment (xs ++ l ∷ []) s ≡ (xs ++ l ∷ []) ++ s ∷ []
 comes_after xs l s ne =
     with_segment-at xs l s ∙ ap (λ (b : Bool). xs ++ cond b (record l { end = s.end } ∷ []) (l ∷ s ∷ [])) (differ (eqb_tells l.end s.place))

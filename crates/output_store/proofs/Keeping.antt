@@ -26,7 +26,7 @@ use Rattle.output_store.proofs.Texts.{all-empty, length-joined, out-added, out-c
 abbrev pub store_of : List Frame → List (List ℕ) → List ℕ → Option ℕ → Bool → Store
 store_of fs texts out mark over = record { frames = frames_in fs texts; out = out; mark = mark; over = over }
 
-total-is : (fs : List Frame) (laid : Laid) (units : ℕ) (mark : Option ℕ) (over : Bool) → IsKept fs laid units mark over → total (held_of fs laid units mark over).store ≡ length laid.arena
+pub total-is : (fs : List Frame) (laid : Laid) (units : ℕ) (mark : Option ℕ) (over : Bool) → IsKept fs laid units mark over → total (held_of fs laid units mark over).store ≡ length laid.arena
 total-is fs laid units mark over k =
     ap (λ (n : ℕ). n + length (out_of laid)) (sizes fs (texts_of laid) (places-texts fs laid k.places)) ∙ k.counts
   where

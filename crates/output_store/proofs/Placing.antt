@@ -84,9 +84,9 @@ put-out arena grown more old new out b slots segments f g = record {
   first = g.held;
   rest = AllHeld-later old new slots g.later f.rest;
   laid = record {
-      out = subst (AreSegments (length grown)) (sym g.is) g.are;
-      slots = longer-lists (length arena) (length grown) (map (segments_of new) slots) (grows arena grown more g.longer) (subst (AllByRecursion (AreSegments (length arena))) (sym (all-later old new slots g.later f.rest)) f.laid.slots);
-    };
+    out = subst (AreSegments (length grown)) (sym g.is) g.are;
+    slots = longer-lists (length arena) (length grown) (map (segments_of new) slots) (grows arena grown more g.longer) (subst (AllByRecursion (AreSegments (length arena))) (sym (all-later old new slots g.later f.rest)) f.laid.slots);
+  };
 }
 
 pub put-slot : (arena grown more : List ℕ) (old new : List (List Segment)) (out b : Buffer) (slots : List Buffer) (i : ℕ) (segments : List Segment) → IsLaid arena old out slots → Became arena grown more old new b segments → IsLaid grown new out (set slots i b)
@@ -97,11 +97,11 @@ put-slot arena grown more old new out b slots i segments f g =
       first = IsHeld-later old new out g.later f.first;
       rest = all-set (IsHeld new) i b slots g.held (AllHeld-later old new slots g.later f.rest);
       laid = record {
-          out = longer-segments (length arena) (length grown) (segments_of new out) le (subst (AreSegments (length arena)) (sym (segments-later old new out g.later f.first)) f.laid.out);
-          slots = subst (AllByRecursion (AreSegments (length grown))) (sym (map-set (segments_of new) slots i b))
-              (all-set (AreSegments (length grown)) i (segments_of new b) (map (segments_of new) slots) (subst (AreSegments (length grown)) (sym g.is) g.are)
-              (longer-lists (length arena) (length grown) (map (segments_of new) slots) le (subst (AllByRecursion (AreSegments (length arena))) (sym (all-later old new slots g.later f.rest)) f.laid.slots)));
-        };
+        out = longer-segments (length arena) (length grown) (segments_of new out) le (subst (AreSegments (length arena)) (sym (segments-later old new out g.later f.first)) f.laid.out);
+        slots = subst (AllByRecursion (AreSegments (length grown))) (sym (map-set (segments_of new) slots i b))
+            (all-set (AreSegments (length grown)) i (segments_of new b) (map (segments_of new) slots) (subst (AreSegments (length grown)) (sym g.is) g.are)
+            (longer-lists (length arena) (length grown) (map (segments_of new) slots) le (subst (AllByRecursion (AreSegments (length arena))) (sym (all-later old new slots g.later f.rest)) f.laid.slots)));
+      };
     }
 
 pub shown-out : (arena grown more : List ℕ) (old new : List (List Segment)) (out b : Buffer) (slots : List Buffer) (segments : List Segment) → IsLaid arena old out slots → Became arena grown more old new b segments →
@@ -172,9 +172,9 @@ fewer-laid arena ropes out slots first f = record {
   first = f.first;
   rest = all-take (IsHeld ropes) first slots f.rest;
   laid = record {
-      out = f.laid.out;
-      slots = subst (AllByRecursion (AreSegments (length arena))) (take-map (segments_of ropes) first slots) (all-take (AreSegments (length arena)) first (map (segments_of ropes) slots) f.laid.slots);
-    };
+    out = f.laid.out;
+    slots = subst (AllByRecursion (AreSegments (length arena))) (take-map (segments_of ropes) first slots) (all-take (AreSegments (length arena)) first (map (segments_of ropes) slots) f.laid.slots);
+  };
 }
 
 -- the segments of a buffer with those of slots, between new bytes
@@ -232,11 +232,11 @@ opened-laid arena ropes out slots more f = record {
   first = f.first;
   rest = all-append (IsHeld ropes) slots (replicate more buffers.Empty) f.rest (all-replicate (IsHeld ropes) more buffers.Empty tt);
   laid = record {
-      out = f.laid.out;
-      slots = subst (AllByRecursion (AreSegments (length arena))) (sym (map-append (segments_of ropes) slots (replicate more buffers.Empty)))
-          (all-append (AreSegments (length arena)) (map (segments_of ropes) slots) (map (segments_of ropes) (replicate more buffers.Empty)) f.laid.slots
-          (subst (AllByRecursion (AreSegments (length arena))) (sym (map-replicate (segments_of ropes) more buffers.Empty)) (all-replicate (AreSegments (length arena)) more [] tt)));
-    };
+    out = f.laid.out;
+    slots = subst (AllByRecursion (AreSegments (length arena))) (sym (map-append (segments_of ropes) slots (replicate more buffers.Empty)))
+        (all-append (AreSegments (length arena)) (map (segments_of ropes) slots) (map (segments_of ropes) (replicate more buffers.Empty)) f.laid.slots
+        (subst (AllByRecursion (AreSegments (length arena))) (sym (map-replicate (segments_of ropes) more buffers.Empty)) (all-replicate (AreSegments (length arena)) more [] tt)));
+  };
 }
 
 filled : (more n m : ℕ) (slots new : List Buffer) → m ≡ length slots → n ≡ m + more → new ≡ take n slots ++ replicate (n - m) buffers.Empty → new ≡ slots ++ replicate more buffers.Empty
@@ -259,9 +259,9 @@ emptied-laid arena ropes slots n r e = record {
   first = tt;
   rest = subst (AllHeld ropes) (sym e) (all-replicate (IsHeld ropes) n buffers.Empty tt);
   laid = record {
-      out = tt;
-      slots = subst (λ (x : List Buffer). AllByRecursion (AreSegments (length arena)) (map (segments_of ropes) x)) (sym e) (subst (AllByRecursion (AreSegments (length arena))) (sym (map-replicate (segments_of ropes) n buffers.Empty)) (all-replicate (AreSegments (length arena)) n [] tt));
-    };
+    out = tt;
+    slots = subst (λ (x : List Buffer). AllByRecursion (AreSegments (length arena)) (map (segments_of ropes) x)) (sym e) (subst (AllByRecursion (AreSegments (length arena))) (sym (map-replicate (segments_of ropes) n buffers.Empty)) (all-replicate (AreSegments (length arena)) n [] tt));
+  };
 }
 
 pub shows-emptied : (arena : List ℕ) (ropes : List (List Segment)) (slots : List Buffer) (n : ℕ) (laid : Laid) → arena ≡ [] → slots ≡ replicate n buffers.Empty → n ≡ length laid.slots → laid_of arena ropes buffers.Empty slots ≡ with_none laid

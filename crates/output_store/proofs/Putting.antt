@@ -36,17 +36,19 @@ module _ (arena : List ℕ) (old : List (List Segment)) (out : Buffer) (slots : 
   pub added-out : (grown bytes : List ℕ) (new : List (List Segment)) (r b : Buffer) (place : Place) (from : ℕ) → Added grown bytes new r b place from → place ≡ places.Out →
       IsLaid grown new b slots × (laid_of grown new b slots ≡ with_added place bytes laid)
   added-out grown bytes new r b place from a e =
-      let g = subst (λ (x : Place). Became arena grown bytes old new b (with_bytes (segments_of old (buffer_at out slots x)) (record { place = length arena; end = length arena + length bytes }))) e (became grown bytes new r b place from a) in
-      (put-out arena grown bytes old new out b slots (with_bytes (segments_of old out) (record { place = length arena; end = length arena + length bytes })) keeps g,
-      shows-added-out arena grown bytes old new out b slots laid is keeps g ∙ ap (λ (x : Place). with_added x bytes laid) (sym e))
+      let g = subst (λ (x : Place). Became arena grown bytes old new b (with_bytes (segments_of old (buffer_at out slots x)) (record { place = length arena; end = length arena + length bytes }))) e (became grown bytes new r b place from a) in (
+        put-out arena grown bytes old new out b slots (with_bytes (segments_of old out) (record { place = length arena; end = length arena + length bytes })) keeps g,
+        shows-added-out arena grown bytes old new out b slots laid is keeps g ∙ ap (λ (x : Place). with_added x bytes laid) (sym e),
+      )
 
   pub added-slot : (grown bytes : List ℕ) (new : List (List Segment)) (r b : Buffer) (place : Place) (from i : ℕ) → Added grown bytes new r b place from → place ≡ places.Slot i →
       IsLaid grown new out (set slots i b) × (laid_of grown new out (set slots i b) ≡ with_added place bytes laid)
   added-slot grown bytes new r b place from i a e =
       let g = subst (λ (x : Place). Became arena grown bytes old new b (with_bytes (segments_of old (buffer_at out slots x)) (record { place = length arena; end = length arena + length bytes }))) e (became grown bytes new r b place from a) in
-      let lt : i < length slots = subst (λ (x : Place). IsPlace (length slots) x) e (place-there arena old out slots place laid is a.there) in
-      (put-slot arena grown bytes old new out b slots i (with_bytes (segments_of old (buffer_at out slots (places.Slot i))) (record { place = length arena; end = length arena + length bytes })) keeps g,
-      shows-added-slot arena grown bytes old new out b slots i laid is keeps lt g ∙ ap (λ (x : Place). with_added x bytes laid) (sym e))
+      let lt : i < length slots = subst (λ (x : Place). IsPlace (length slots) x) e (place-there arena old out slots place laid is a.there) in (
+        put-slot arena grown bytes old new out b slots i (with_bytes (segments_of old (buffer_at out slots (places.Slot i))) (record { place = length arena; end = length arena + length bytes })) keeps g,
+        shows-added-slot arena grown bytes old new out b slots i laid is keeps lt g ∙ ap (λ (x : Place). with_added x bytes laid) (sym e),
+      )
 
   -- ---- slots closed
 
@@ -91,17 +93,19 @@ module _ (arena : List ℕ) (old : List (List Segment)) (out : Buffer) (slots : 
   pub closed-out : (grown around : List ℕ) (one two new : List (List Segment)) (r b c d : Buffer) (into : Place) (first before from : ℕ) → Closed grown around one two new r b c d into first before from → into ≡ places.Out →
       IsLaid grown new d (take first slots) × (laid_of grown new d (take first slots) ≡ with_closed first into around before laid)
   closed-out grown around one two new r b c d into first before from a e =
-      let g = subst (λ (x : Place). Became arena grown around old new d (closing arena (segments_of old (buffer_at out slots x)) (drop first (map (segments_of old) slots)) around before)) e (closed grown around one two new r b c d into first before from a) in
-      (put-out arena grown around old new out d (take first slots) (closing arena (segments_of old out) (drop first (map (segments_of old) slots)) around before) (fewer-laid arena old out slots first keeps) g,
-      shows-closed-out arena grown around old new out d slots first before laid is keeps g ∙ ap (λ (x : Place). with_closed first x around before laid) (sym e))
+      let g = subst (λ (x : Place). Became arena grown around old new d (closing arena (segments_of old (buffer_at out slots x)) (drop first (map (segments_of old) slots)) around before)) e (closed grown around one two new r b c d into first before from a) in (
+        put-out arena grown around old new out d (take first slots) (closing arena (segments_of old out) (drop first (map (segments_of old) slots)) around before) (fewer-laid arena old out slots first keeps) g,
+        shows-closed-out arena grown around old new out d slots first before laid is keeps g ∙ ap (λ (x : Place). with_closed first x around before laid) (sym e),
+      )
 
   pub closed-slot : (grown around : List ℕ) (one two new : List (List Segment)) (r b c d : Buffer) (into : Place) (first before from i : ℕ) → Closed grown around one two new r b c d into first before from → into ≡ places.Slot i →
       IsLaid grown new out (set (take first slots) i d) × (laid_of grown new out (set (take first slots) i d) ≡ with_closed first into around before laid)
   closed-slot grown around one two new r b c d into first before from i a e =
       let g = subst (λ (x : Place). Became arena grown around old new d (closing arena (segments_of old (buffer_at out slots x)) (drop first (map (segments_of old) slots)) around before)) e (closed grown around one two new r b c d into first before from a) in
-      let lt : i < length slots = subst (λ (x : Place). IsPlace (length slots) x) e (place-below first (length slots) into (omega (arith, a.some, how-many)) a.there) in
-      (put-slot arena grown around old new out d (take first slots) i (closing arena (segments_of old (buffer_at out slots (places.Slot i))) (drop first (map (segments_of old) slots)) around before) (fewer-laid arena old out slots first keeps) g,
-      shows-closed-slot arena grown around old new out d slots i first before laid is keeps lt g ∙ ap (λ (x : Place). with_closed first x around before laid) (sym e))
+      let lt : i < length slots = subst (λ (x : Place). IsPlace (length slots) x) e (place-below first (length slots) into (omega (arith, a.some, how-many)) a.there) in (
+        put-slot arena grown around old new out d (take first slots) i (closing arena (segments_of old (buffer_at out slots (places.Slot i))) (drop first (map (segments_of old) slots)) around before) (fewer-laid arena old out slots first keeps) g,
+        shows-closed-slot arena grown around old new out d slots i first before laid is keeps lt g ∙ ap (λ (x : Place). with_closed first x around before laid) (sym e),
+      )
 
   -- ---- a buffer of more segments, as it is written
 

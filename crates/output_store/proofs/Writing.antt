@@ -67,8 +67,15 @@ down_turns js at ps f some there =
     let r = rope_of js at (record { before = 0; segment = record { place = 0; end = 0 }; behind = 0 }) f some there in
     let before = rope_at (ropes_of js) (joint_of js at).before in
     let behind = rope_at (ropes_of js) (joint_of js at).behind in
-    omega (arith, ap (λ (x : List Segment). length x) r, length-append before ((joint_of js at).segment ∷ behind), length-append (rope_at (ropes_of js) at) (waiting js ps),
-    length-append before (waiting js (at ∷ ps)), length-append behind (waiting js ps), fewer js ps)
+    omega (
+      arith,
+      ap (λ (x : List Segment). length x) r,
+      length-append before ((joint_of js at).segment ∷ behind),
+      length-append (rope_at (ropes_of js) at) (waiting js ps),
+      length-append before (waiting js (at ∷ ps)),
+      length-append behind (waiting js ps),
+      fewer js ps,
+    )
 
 pub went_on : (arena : List ℕ) (js : List Joint) (whole out more : List ℕ) (p : ℕ) (ps : List ℕ) → IsWriting arena js whole out 0 (p ∷ ps) → more ≡ out ++ bytes_at arena (joint_of js p).segment → IsWriting arena js whole more (joint_of js p).behind ps
 went_on arena js whole out more p ps w e =

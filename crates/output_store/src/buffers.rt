@@ -131,7 +131,11 @@ fn joined_buffer(ropes: &mut Ropes, buffer: Buffer, behind: Buffer) -> Result<Bu
 }
 
 /// The buffer with those of others after its own, in order.
-fn joined_buffers(ropes: &mut Ropes, buffer: Buffer, others: &[Buffer]) -> Result<Buffer, AllocError>
+fn joined_buffers(
+    ropes: &mut Ropes,
+    buffer: Buffer,
+    others: &[Buffer],
+) -> Result<Buffer, AllocError>
     requires ropes { AreRopes ropes.old }
     requires held { IsHeld ropes.old buffer }
     requires others { AllHeld ropes.old others.now }
@@ -252,7 +256,13 @@ impl Buffers {
     }
 
     /// The slots from a first one on go to the end of another one, in order, between bytes of which so many stand before them.
-    pub fn close(&mut self, first: usize, into: Place, around: &[u8], before: usize) -> Result<(), AllocError>
+    pub fn close(
+        &mut self,
+        first: usize,
+        into: Place,
+        around: &[u8],
+        before: usize,
+    ) -> Result<(), AllocError>
         requires first { first ≤ length self.old.slots }
         requires into { IsPlace first into }
         requires before { before ≤ length around.now }

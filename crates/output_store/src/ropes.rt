@@ -51,7 +51,12 @@ impl Ropes {
     }
 
     /// A further rope, and its number: a segment between two earlier ropes.
-    pub fn join(&mut self, before: usize, segment: Segment, behind: usize) -> Result<usize, AllocError>
+    pub fn join(
+        &mut self,
+        before: usize,
+        segment: Segment,
+        behind: usize,
+    ) -> Result<usize, AllocError>
         requires before { before < length self.old }
         requires behind { behind < length self.old }
         ensures number { IfOk result (λ rope. rope ≡ length self.old) }
@@ -67,7 +72,13 @@ impl Ropes {
     }
 
     /// The bytes of a rope's segments after others. An `Err` leaves a beginning of them.
-    pub fn write(&self, alloc: Global, arena: &[u8], rope: usize, out: &mut Vec<u8>) -> Result<(), AllocError>
+    pub fn write(
+        &self,
+        alloc: Global,
+        arena: &[u8],
+        rope: usize,
+        out: &mut Vec<u8>,
+    ) -> Result<(), AllocError>
         requires there { rope < length self.now }
         requires within { AreWithin (length arena.now) (rope_at self.now rope) }
         ensures { OnOk result (out.new.items ≡ out.old.items ++ bytes_of arena.now (rope_at self.now rope)) }

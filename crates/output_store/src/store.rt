@@ -1,7 +1,8 @@
-ghost use Rattle.std.specs.Prelude.{◌≡◌, ◌≢◌, ℕ, ◌+◌, ◌<◌, ◌≤◌, Bool, true, false, List, [], ◌∷◌, ◌++◌, length, is_some, option_map, reverse, vec_len, Some, None, OnErr, OnOk, IfOk, IsTrue};
+ghost use Rattle.std.specs.Prelude.{◌≡◌, ◌≢◌, ℕ, ◌+◌, ◌-◌, ◌<◌, ◌≤◌, Bool, true, false, List, [], ◌∷◌, ◌++◌, length, is_some, option_map, reverse, vec_len, Some, None, OnErr, OnOk, IfOk, IsTrue};
 ghost use Rattle.avro_bytes.specs.declared.limits.TheConstants.{MOST_DEPTH};
 ghost use Rattle.avro_bytes.specs.Written.{block_count};
-ghost use Rattle.isa.specs.State.{add, emptied, has_current, is_done, miss};
+ghost use Rattle.outcome.specs.declared.limits.TheConstants.{MOST_OUTPUT};
+ghost use Rattle.isa.specs.State.{add, has_current, is_done, total};
 ghost use Rattle.output_store.specs.Frames.{FewSlots, HasSlot, HoldsBuffers, first_of, frame_of, has_current_below, is_skip, is_skipped, items_of, newest_place, opened_at, place_of, skip_walk_of, slots_of, slots_opened, walk_of};
 ghost use Rattle.output_store.specs.Store.{Appends, around_items, close_blocks, close_record, closed_between, leave, meter_of, next_item, next_skipped, select, with_frames};
 
@@ -30,7 +31,9 @@ pub enum Frame {
         items: u32,
     },
     /// An array or a map that is skipped.
-    SkipBlocks { walk: BlockWalk },
+    SkipBlocks {
+        walk: BlockWalk,
+    },
 }
 
 /// What is to be opened.
@@ -272,6 +275,13 @@ impl Store {
         ensures { result ≡ is_done self.now.store.mark self.now.store.over }
     {
         self.mark.is_some() || self.over
+    }
+
+    /// How many bytes more the buffers may have.
+    pub fn room(&self) -> usize
+        ensures { result ≡ MOST_OUTPUT - total self.now.store }
+    {
+        MOST_OUTPUT - self.buffers.arena().len()
     }
 
     /// Bytes at the end of the current buffer.

@@ -4,3 +4,4 @@ pub mod Counts
 pub mod Stepping
 pub mod Slicing
 pub mod Longer
+pub mod Bulk

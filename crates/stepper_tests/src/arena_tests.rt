@@ -4,8 +4,7 @@ use crate::programs::{bytes, program};
 use std::test::Fail;
 use stepper::Machine;
 
-const SWAPPED: &str =
-    "0 CALL 2\n1 HALT\n2 RECORD 2\n3 SLOT 1\n4 LONG\n5 SLOT 0\n6 TEXT\n7 ENDREC\n8 RET\n";
+const SWAPPED: &str = "0 CALL 2,1 HALT,2 RECORD 2,3 SLOT 1,4 LONG,5 SLOT 0,6 TEXT,7 ENDREC,8 RET";
 
 #[test]
 fn a_closed_record_adds_nothing_to_the_arena(rt: HostRuntime) -> Result<(), Fail> {
@@ -19,7 +18,7 @@ fn a_closed_record_adds_nothing_to_the_arena(rt: HostRuntime) -> Result<(), Fail
 
 #[test]
 fn a_cut_character_is_carried(rt: HostRuntime) -> Result<(), Fail> {
-    let program = program(rt.alloc(), "0 TEXT\n1 HALT\n")?;
+    let program = program(rt.alloc(), "0 TEXT,1 HALT")?;
     let mut input = vec![in rt.alloc(); b'a'; 67]?;
     input.as_mut_slice()[..2].copy_from_slice(&[0x82, 0x01]);
     input.as_mut_slice()[65..].copy_from_slice(&[0xc3, 0xa9]);

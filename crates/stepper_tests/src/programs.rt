@@ -16,11 +16,16 @@ const TURNS: usize = 20_000;
 /// More rows than any test takes.
 pub(crate) const ALL: u64 = 1_000_000_000;
 
-/// The program of these lines under the header, assembled again where memory ran out the first time.
+/// The program of these lines under the header, where a comma stands for each LF but the last. It is assembled again where memory
+/// ran out the first time.
 pub(crate) fn program(alloc: Global, lines: &str) -> Result<Program, AsmError> {
-    let text = format!(in alloc; "avro program 1\n{lines}")?;
-    match assemble(alloc, text.as_bytes()) {
-        Err(AsmError::NoMemory) => assemble(alloc, text.as_bytes()),
+    let mut text = Vec::from_slice(alloc, b"avro program 1\n")?;
+    for byte in lines.as_bytes() {
+        text.push(if *byte == b',' { b'\n' } else { *byte })?;
+    }
+    text.push(b'\n')?;
+    match assemble(alloc, text.as_slice()) {
+        Err(AsmError::NoMemory) => assemble(alloc, text.as_slice()),
         answer => answer,
     }
 }
@@ -34,15 +39,21 @@ pub(crate) fn run(alloc: Global, program: &Program, input: &[u8], piece: usize, 
         if slice.why == Why::Ended {
             return machine;
         }
-        if slice.why == Why::Waits {
-            end = if input.len() - end < piece {
-                input.len()
-            } else {
-                end + piece
-            };
-        }
+        end = further(slice.why, end, piece, input.len());
     }
     machine
+}
+
+/// The end of a further piece, where the machine waits for one.
+fn further(why: Why, end: usize, piece: usize, len: usize) -> usize
+    requires { end ≤ len }
+    ensures order { end ≤ result }
+    ensures within { result ≤ len }
+{
+    if why != Why::Waits {
+        return end;
+    }
+    if len - end < piece { len } else { end + piece }
 }
 
 /// The end of a run, in words.
@@ -50,7 +61,8 @@ pub(crate) fn end_words(alloc: Global, end: &End) -> Result<String, AllocError> 
     match end {
         End::Out(Outcome::Done(bytes)) => {
             let hex = hex::encode(alloc, bytes.as_slice())?;
-            format!(in alloc; "done {hex}")
+            let shown = if hex.is_empty() { "-" } else { hex.as_str() };
+            format!(in alloc; "done {shown}")
         }
         End::Out(Outcome::Mismatch(m)) => {
             let kind = m.kind.name();

@@ -3,11 +3,11 @@
 ghost use Rattle.std.specs.Prelude.{◌≡◌};
 
 use crate::programs::{bytes, program, words};
+use isa::Program;
 use std::test::Fail;
 use stepper::{Machine, Slice, Why};
 
-const SAME: &str =
-    "0 CALL 2\n1 HALT\n2 RECORD 2\n3 SLOT 0\n4 LONG\n5 SLOT 1\n6 TEXT\n7 ENDREC\n8 RET\n";
+const SAME: &str = "0 CALL 2,1 HALT,2 RECORD 2,3 SLOT 0,4 LONG,5 SLOT 1,6 TEXT,7 ENDREC,8 RET";
 
 #[test]
 fn slices_say_why_they_stop(rt: HostRuntime) -> Result<(), Fail> {
@@ -77,13 +77,19 @@ fn slices_wait_for_bytes(rt: HostRuntime) -> Result<(), Fail> {
     Ok(())
 }
 
+/// What a slice of a machine takes that was reset.
+fn after_reset(machine: &mut Machine, program: &Program, input: &[u8]) -> Slice {
+    machine.reset();
+    machine.slice(program, input, true, &[], 100)
+}
+
 #[test]
 fn a_machine_is_reset(rt: HostRuntime) -> Result<(), Fail> {
     let program = program(rt.alloc(), SAME)?;
     let input = bytes(rt.alloc(), "3606666f6f")?;
     let mut machine = Machine::new(rt.alloc());
     for _message in 0..3 {
-        let all = machine.slice(&program, &input, true, &[], 100);
+        let all = after_reset(&mut machine, &program, &input);
         assert_eq!(rt;
             all,
             Slice {
@@ -92,7 +98,6 @@ fn a_machine_is_reset(rt: HostRuntime) -> Result<(), Fail> {
             }
         );
         assert!(rt; machine.take_end().is_some());
-        machine.reset();
     }
     Ok(())
 }

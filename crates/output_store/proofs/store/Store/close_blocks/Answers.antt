@@ -11,6 +11,6 @@ returns-clause-closed c =
     let s = c.args.self.now.store in
     on_ok_weaker c.close.result
     (λ e. e ∙ ap (λ (x : List ℕ). closed_between x c.in_ok-before.before s.frames s) (c.deref.ensures.value ∙ c.in_ok-before.ensures.spelled ∙ ap (λ (n : ℕ). block_count n ++ 0 ∷ []) c.items.ensures)
-        ∙ ap (λ (n : ℕ). closed_between (block_count (items_of s.frames) ++ 0 ∷ []) n s.frames s) (c.in_ok-before.ensures.before ∙ ap (λ (n : ℕ). length (block_count n)) c.items.ensures)
-        ∙ blocks-closed s.frames s c.requires.blocks)
+    ∙ ap (λ (n : ℕ). closed_between (block_count (items_of s.frames) ++ 0 ∷ []) n s.frames s) (c.in_ok-before.ensures.before ∙ ap (λ (n : ℕ). length (block_count n)) c.items.ensures)
+    ∙ blocks-closed s.frames s c.requires.blocks)
     c.close.ensures.closed
