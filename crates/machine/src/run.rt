@@ -1,10 +1,13 @@
 ghost use Rattle.std.specs.Prelude.{◌≡◌, ◌≤◌, ◌+◌, ◌++◌, OnOk, OnErr, option_map, Some, false, true};
+ghost use Rattle.program_code.specs.Code.{code_of};
 ghost use Rattle.simulation.specs.Alone.{run_alone};
 ghost use Rattle.stepper.specs.Running.{end_of};
 ghost use Rattle.stepper.specs.Slice.{IsWhy, Rows};
+ghost use Rattle.machine.specs.Ending.{EarlyEndIsOutcome, EndIsOutcome, IsWithinBound};
 
-use isa::{End, Program};
-use simulation::runs_alone_are_counted_and_stay;
+use avro_types::Nodes;
+use isa::{End, Program, rows_stay_within_bounds};
+use simulation::{program_ends_with_the_outcome, runs_alone_are_counted_and_stay};
 use std::alloc::{AllocError, Global};
 use std::marker::Model;
 use stepper::{Machine, Slice, machines_go_on_with_more_input};
@@ -93,6 +96,21 @@ impl<'p> Run<'p> {
         ensures { run_alone self.now.program self.now.input self.now.ended self.now.machine.state.count ≡ Some self.now.machine.state }
     {
         let _opened = &self.machine;
+    }
+
+    /// The law that where its program is that of a pair of schemas, it ends with the outcome of the bytes that came, and
+    /// within the row bound where they are all. A slice of that many rows, with no breakpoint, then ends it, unless
+    /// memory runs out.
+    pub fn ends_with_the_outcome(&self, w: &Nodes, r: &Nodes)
+        requires { code_of w.now r.now ≡ Some self.now.program }
+        ensures end { EndIsOutcome w.now r.now self.now }
+        ensures early { EarlyEndIsOutcome w.now r.now self.now }
+        ensures bound { IsWithinBound self.now }
+    {
+        let _opened = &self.machine;
+        program_ends_with_the_outcome(w, r);
+        runs_alone_are_counted_and_stay();
+        rows_stay_within_bounds();
     }
 
     /// The program that is run.
