@@ -1,7 +1,5 @@
 //! Calls that are made again where memory ran out the first time.
 
-ghost use Rattle.std.specs.Prelude.{◌≡◌, false};
-
 use avro_schema::{Schema, SchemaError};
 use isa::Program;
 use machine::{Outcome, PairError, Run, TranscodeError, Transcoder, transcode};
@@ -60,10 +58,11 @@ pub(crate) fn transcoded(
     }
 }
 
-/// More bytes, given again where memory ran out the first time.
-pub(crate) fn pushed(run: &mut Run<'_>, piece: &[u8]) -> Result<(), AllocError>
-    requires { run.old.ended ≡ false }
-{
+/// More bytes for a run that takes some, given again where memory ran out the first time.
+pub(crate) fn pushed(run: &mut Run<'_>, piece: &[u8]) -> Result<(), AllocError> {
+    if run.is_closed() {
+        return Ok(());
+    }
     match run.push(piece) {
         Err(AllocError) => run.push(piece),
         Ok(()) => Ok(()),

@@ -6,7 +6,7 @@ use isa::{End, Program};
 use machine::{Outcome, Run, Why};
 use std::alloc::{AllocError, Global};
 
-/// More slices and pieces than any test takes.
+/// More slices than any test takes.
 const TURNS: usize = 20_000;
 
 /// Bytes from hexadecimal.
@@ -43,11 +43,13 @@ pub(crate) fn end_line(alloc: Global, end: Option<&End>) -> Result<String, Alloc
     }
 }
 
-/// Takes so many bytes, or all that are left, from the front.
-fn next_piece<'b>(rest: &mut &'b [u8], size: usize) -> &'b [u8] {
-    let (piece, later) = rest.split_at(size.min(rest.len()));
-    *rest = later;
-    piece
+/// Rows until the run ends or waits, in slices of so many.
+fn advance(run: &mut Run<'_>, k: u64) {
+    for _turn in 0..TURNS {
+        if matches!(run.slice(&[], k).why, Why::Ended | Why::Waits) {
+            return;
+        }
+    }
 }
 
 /// A run on a payload in pieces of a size and slices of so many rows.
@@ -55,18 +57,21 @@ pub(crate) fn cut_run<'p>(
     alloc: Global,
     program: &'p Program,
     payload: &[u8],
-    piece: usize,
+    size: usize,
     k: u64,
 ) -> Result<Run<'p>, AllocError> {
     let mut run = Run::new(alloc, program);
-    let mut rest = payload;
-    for _turn in 0..TURNS {
-        match run.slice(&[], k).why {
-            Why::Ended => return Ok(run),
-            Why::Waits if rest.is_empty() => run.close(),
-            Why::Waits if !run.is_closed() => pushed(&mut run, next_piece(&mut rest, piece))?,
-            _ => {}
-        }
+    for piece in payload.chunks(size.max(1)) {
+        advance(&mut run, k);
+        pushed(&mut run, piece)?;
     }
+    advance(&mut run, k);
+    run.close();
+    advance(&mut run, k);
     Ok(run)
+}
+
+/// Whether an answer is the one of its row.
+pub(crate) fn is_answer(found: &str, answer: &str) -> bool {
+    found == answer
 }

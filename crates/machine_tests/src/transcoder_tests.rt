@@ -1,7 +1,7 @@
 //! Messages, one after another and each by itself.
 
 use crate::again::{compiled, outcome, parsed, transcoded, transcoder};
-use crate::lines::{bytes_of, cut_run, end_line, outcome_line};
+use crate::lines::{bytes_of, cut_run, end_line, is_answer, outcome_line};
 use crate::rows::{MESSAGES, OUTCOMES};
 use avro_schema::Schema;
 use std::alloc::Global;
@@ -35,7 +35,7 @@ fn outcomes_of_pairs(rt: HostRuntime) -> Result<(), Fail> {
         let bytes = bytes_of(alloc, payload)?;
         let (found, same) = both_ways(alloc, &w, &r, &bytes)?;
         assert!(rt;
-            found.as_str() == *answer,
+            is_answer(&found, answer),
             "{writer} {reader} {payload}: {found}"
         );
         assert!(rt; same, "{writer} {reader} {payload} in pieces");
@@ -52,7 +52,7 @@ fn messages_follow_one_another(rt: HostRuntime) -> Result<(), Fail> {
     for (payload, answer) in messages {
         let bytes = bytes_of(alloc, payload)?;
         let found = outcome_line(alloc, &outcome(&mut transcoder, &bytes)?)?;
-        assert!(rt; found.as_str() == answer, "{payload}: {found}");
+        assert!(rt; is_answer(&found, answer), "{payload}: {found}");
     }
     assert_eq!(rt; transcoder.program().len(), 9);
     Ok(())
