@@ -80,10 +80,12 @@ impl<'p> Run<'p> {
 
     /// Rows, at most so many, none at a breakpoint at which no content is begun, and none that cannot be counted.
     pub fn slice(&mut self, breaks: &[u32], k: u64) -> Slice
-        ensures rows { Rows self.old.program self.old.input self.old.ended breaks.now result.rows self.old.machine.state self.new.machine.state }
+        ensures rows { Rows self.old.program self.old.input self.old.ended breaks.now result.rows
+            self.old.machine.state self.new.machine.state }
         ensures most { result.rows ≤ k }
         ensures count { self.new.machine.state.count ≡ self.old.machine.state.count + result.rows }
-        ensures why { IsWhy self.old.program self.old.input self.old.ended breaks.now result.why k result.rows self.new.machine.state }
+        ensures why { IsWhy self.old.program self.old.input self.old.ended breaks.now result.why k result.rows
+            self.new.machine.state }
         ensures kept { self.new ≡ record self.old { machine = self.new.machine } }
     {
         runs_alone_are_counted_and_stay();
@@ -93,7 +95,8 @@ impl<'p> Run<'p> {
 
     /// The law that its machine is the program run alone on the bytes that came, as many rows on as it has counted.
     pub fn is_alone(&self)
-        ensures { run_alone self.now.program self.now.input self.now.ended self.now.machine.state.count ≡ Some self.now.machine.state }
+        ensures { run_alone self.now.program self.now.input self.now.ended self.now.machine.state.count
+            ≡ Some self.now.machine.state }
     {
         let _opened = &self.machine;
     }
