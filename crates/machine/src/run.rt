@@ -101,8 +101,8 @@ impl<'p> Run<'p> {
         let _opened = &self.machine;
     }
 
-    /// The law that where its program is that of a pair of schemas, it ends with the outcome of the bytes that came, and
-    /// within the row bound where they are all. A slice of that many rows, with no breakpoint, then ends it, unless
+    /// The law that where its program is that of a pair of schemas, it ends with the outcome of the bytes that came,
+    /// and within the row bound where they are all. So a slice of that many rows with no breakpoint ends it, unless
     /// memory runs out.
     pub fn ends_with_the_outcome(&self, w: &Nodes, r: &Nodes)
         requires { code_of w.now r.now ≡ Some self.now.program }

@@ -4,7 +4,6 @@ use crate::again::{outcome, parsed, transcoded, transcoder};
 use crate::lines::{bytes_of, outcome_line};
 use machine::{PairError, TranscodeError};
 use outcome::{MOST_PAYLOAD, Outcome};
-use program_compiler::CompileError;
 use std::alloc::{AllocError, Global};
 use std::test::Fail;
 
@@ -44,8 +43,6 @@ fn programs_too_large(rt: HostRuntime) -> Result<(), Fail> {
         parsed(alloc, writer.as_str())?,
         parsed(alloc, reader.as_str())?,
     );
-    let refused = transcoder(alloc, &w, &r);
-    assert!(rt; refused.err() == Some(CompileError::ProgramTooLarge));
     let refused = transcoded(alloc, &w, &r, &[]);
     assert!(rt; refused.err() == Some(PairError::ProgramTooLarge));
     Ok(())
