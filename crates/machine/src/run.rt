@@ -1,10 +1,13 @@
 ghost use Rattle.std.specs.Prelude.{◌≡◌, ◌≤◌, ◌+◌, ◌++◌, OnOk, OnErr, option_map, Some, false, true};
+ghost use Rattle.program_code.specs.Code.{code_of};
 ghost use Rattle.simulation.specs.Alone.{run_alone};
 ghost use Rattle.stepper.specs.Running.{end_of};
 ghost use Rattle.stepper.specs.Slice.{IsWhy, Rows};
+ghost use Rattle.machine.specs.Ending.{EarlyEndIsOutcome, EndIsOutcome, IsWithinBound};
 
-use isa::{End, Program};
-use simulation::runs_alone_are_counted_and_stay;
+use avro_types::Nodes;
+use isa::{End, Program, rows_stay_within_bounds};
+use simulation::{program_ends_with_the_outcome, runs_alone_are_counted_and_stay};
 use std::alloc::{AllocError, Global};
 use std::marker::Model;
 use stepper::{Machine, Slice, machines_go_on_with_more_input};
@@ -77,10 +80,12 @@ impl<'p> Run<'p> {
 
     /// Rows, at most so many, none at a breakpoint at which no content is begun, and none that cannot be counted.
     pub fn slice(&mut self, breaks: &[u32], k: u64) -> Slice
-        ensures rows { Rows self.old.program self.old.input self.old.ended breaks.now result.rows self.old.machine.state self.new.machine.state }
+        ensures rows { Rows self.old.program self.old.input self.old.ended breaks.now result.rows
+            self.old.machine.state self.new.machine.state }
         ensures most { result.rows ≤ k }
         ensures count { self.new.machine.state.count ≡ self.old.machine.state.count + result.rows }
-        ensures why { IsWhy self.old.program self.old.input self.old.ended breaks.now result.why k result.rows self.new.machine.state }
+        ensures why { IsWhy self.old.program self.old.input self.old.ended breaks.now result.why k result.rows
+            self.new.machine.state }
         ensures kept { self.new ≡ record self.old { machine = self.new.machine } }
     {
         runs_alone_are_counted_and_stay();
@@ -90,9 +95,25 @@ impl<'p> Run<'p> {
 
     /// The law that its machine is the program run alone on the bytes that came, as many rows on as it has counted.
     pub fn is_alone(&self)
-        ensures { run_alone self.now.program self.now.input self.now.ended self.now.machine.state.count ≡ Some self.now.machine.state }
+        ensures { run_alone self.now.program self.now.input self.now.ended self.now.machine.state.count
+            ≡ Some self.now.machine.state }
     {
         let _opened = &self.machine;
+    }
+
+    /// The law that where its program is that of a pair of schemas, it ends with the outcome of the bytes that came,
+    /// and within the row bound where they are all. So a slice of that many rows with no breakpoint ends it, unless
+    /// memory runs out.
+    pub fn ends_with_the_outcome(&self, w: &Nodes, r: &Nodes)
+        requires { code_of w.now r.now ≡ Some self.now.program }
+        ensures end { EndIsOutcome w.now r.now self.now }
+        ensures early { EarlyEndIsOutcome w.now r.now self.now }
+        ensures bound { IsWithinBound self.now }
+    {
+        let _opened = &self.machine;
+        program_ends_with_the_outcome(w, r);
+        runs_alone_are_counted_and_stay();
+        rows_stay_within_bounds();
     }
 
     /// The program that is run.
