@@ -75,7 +75,7 @@ impl Machine {
     }
 
     /// What is known of it.
-    fn check(&self) -> TextCheck
+    pub(crate) fn check(&self) -> TextCheck
         ensures { check_of result ≡ self.now.check }
     {
         self.check

@@ -1,4 +1,4 @@
-use Rattle.std.proofs.Common.{◌≡◌, ◌∙◌, ◌-◌, drop, take}
+use Rattle.std.proofs.Common.{◌∙◌, ◌-◌, drop, take}
 use Rattle.stepper.proofs.Checking.{decides-text, is-empty, whole-text}
 use Rattle.stepper.proofs.check.TextCheck.is_text.Goals as goal
 

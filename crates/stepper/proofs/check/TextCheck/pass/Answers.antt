@@ -1,4 +1,4 @@
-use Rattle.std.proofs.Common.{rules, ◌≡◌, ◌∙◌, ◌-◌, ℕ, List, ap, arith, drop, false, length, subst, sym, take}
+use Rattle.std.proofs.Common.{rules, ◌≡◌, ◌∙◌, ◌-◌, ℕ, List, ap, arith, false, length, subst, sym, take}
 use Rattle.std.specs.Prelude.{is_some}
 use Rattle.std.specs.Str.{IsErrorLen, IsValidUpTo}
 use Rattle.std.proofs.lemmas.List.{length-take, take_rest}
