@@ -1,11 +1,10 @@
 -- What a store keeps, and what it shows, when its newest frame is closed.
-use Rattle.std.proofs.Common.{◌≡◌, ◌≤◌, ◌<◌, ℕ, zero, suc, ◌+◌, ◌-◌, Bool, true, false, List, [], ◌∷◌, ◌++◌, length, map, take, drop, get_or, set, replicate, Option, Some, None, refl, sym, ap, ◌∙◌, subst, arith, append_assoc, length-append, pos}
+use Rattle.std.proofs.Common.{◌≡◌, ◌≤◌, ◌<◌, ℕ, zero, suc, ◌+◌, ◌-◌, Bool, true, false, List, [], ◌∷◌, ◌++◌, length, take, drop, get_or, replicate, Option, Some, refl, sym, ap, ◌∙◌, subst, arith, length-append, pos}
 use Rattle.std.specs.Prelude.{is_some}
-use Rattle.std.specs.List.{AllByRecursion}
 use Rattle.std.proofs.lemmas.List.{append-nil, drop_at, length-drop, length-map, length-replicate, length-set, length-take, take-map, take_at}
 use Rattle.avro_bytes.specs.Blocks.{joined}
 use Rattle.avro_bytes.specs.Shortest.{shortest, shortest_groups}
-use Rattle.avro_bytes.specs.Written.{block_count, in_block}
+use Rattle.avro_bytes.specs.Written.{block_count}
 use Rattle.outcome.specs.declared.limits.TheConstants.{MOST_OUTPUT}
 use Rattle.isa.specs.Lists.{total_length}
 use Rattle.isa.specs.State as state
@@ -15,10 +14,10 @@ use Rattle.output_store.specs.declared.buffers.Place.TheVariants as places
 use Rattle.output_store.specs.declared.store.Frame.{Frame}
 use Rattle.output_store.specs.declared.store.Frame.TheVariants as frames
 use Rattle.output_store.specs.Buffers.{AreLaid, IsPlace, Laid, with_closed, with_fewer, with_none}
-use Rattle.output_store.specs.Frames.{AreFrames, HasFewItems, first_of, frames_in, items_of, newest_place, place_of, walk_of}
+use Rattle.output_store.specs.Frames.{AreFrames, first_of, frames_in, items_of, newest_place, walk_of}
 use Rattle.output_store.specs.Segments.{bytes_of}
 use Rattle.output_store.specs.Store.{Held, IsKept, close_blocks, closed_between, held_of, out_of, texts_of, with_frames}
-use Rattle.output_store.proofs.Framing.{add-done, add-fits, add-over, appended, emptied-frames, front-size, placed, sizes}
+use Rattle.output_store.proofs.Framing.{add-done, add-fits, add-over, appended, emptied-frames, placed, sizes}
 use Rattle.output_store.proofs.Keeping.{store_of}
 use Rattle.output_store.proofs.Texts.{length-joined, out-closed, out_with, texts-closed, texts-none, texts_with, total-replicate, total-split, total-with, whole}
 

@@ -1,16 +1,15 @@
 -- What joining makes of the segments of a buffer, and that all else stays while ropes grow.
-use Rattle.std.proofs.Common.{◌≡◌, ◌≢◌, ◌≤◌, ◌<◌, ℕ, zero, suc, ◌+◌, ◌-◌, Bool, true, false, List, [], ◌∷◌, ◌++◌, length, map, take, drop, get_or, refl, sym, ap, ◌∙◌, subst, arith, append_assoc, length-append, ◌⊎◌, inl, inr, eqb, cond}
-use Rattle.std.specs.List.{AllByRecursion}
+use Rattle.std.proofs.Common.{◌≡◌, ◌≢◌, ◌≤◌, ◌<◌, ℕ, zero, suc, ◌+◌, ◌-◌, Bool, true, false, List, [], ◌∷◌, ◌++◌, length, map, take, drop, get_or, refl, sym, ap, ◌∙◌, arith, append_assoc, length-append, ◌⊎◌, inl, inr, eqb, cond}
 use Rattle.std.proofs.Math.Seq.{take-add}
 use Rattle.std.proofs.lemmas.Bool.{eq-eqb}
 use Rattle.std.proofs.lemmas.Bool.Decides.{eqb_tells}
-use Rattle.std.proofs.lemmas.List.{append-nil, drop-append-le, drop-drop, drop_all, get_or_append_left, get_or_at, length-drop, length-map, take-append-le}
+use Rattle.std.proofs.lemmas.List.{append-nil, drop-drop, drop_all, get_or_append_left, get_or_at, length-map}
 use Rattle.output_store.specs.declared.buffers.Buffer.{Buffer}
 use Rattle.output_store.specs.declared.buffers.Buffer.TheVariants as buffers
 use Rattle.output_store.specs.declared.segment.Segment.{Segment}
 use Rattle.output_store.specs.Buffers.{AllHeld, AreRopes, IsHeld, IsLater, segments_of}
 use Rattle.output_store.specs.Ropes.{rope_at}
-use Rattle.output_store.specs.Segments.{AreSegments, AreWithin, IsApart, IsSegment, bytes_at, bytes_of, with_bytes, with_lists, with_segment, with_segments}
+use Rattle.output_store.specs.Segments.{AreSegments, IsSegment, bytes_at, bytes_of, with_lists, with_segment, with_segments}
 
 -- ---- the last segment
 

@@ -1,10 +1,9 @@
 -- What a store keeps, and what it shows, through each of its changes.
-use Rattle.std.proofs.Common.{◌≡◌, ◌≤◌, ◌<◌, ℕ, zero, suc, ◌+◌, ◌-◌, Bool, true, false, cond, List, [], ◌∷◌, ◌++◌, length, map, take, drop, get_or, set, replicate, Option, Some, None, refl, sym, ap, ◌∙◌, subst, arith, append_assoc, length-append, reverse}
-use Rattle.std.specs.Prelude.{Result, Ok, Err, OnErr, OnOk, is_some, is_ok}
+use Rattle.std.proofs.Common.{◌≡◌, ◌≤◌, ◌<◌, ℕ, ◌+◌, ◌-◌, Bool, true, false, List, [], ◌∷◌, ◌++◌, length, take, replicate, Option, Some, None, refl, sym, ap, ◌∙◌, subst, arith, length-append}
+use Rattle.std.specs.Prelude.{Result, Ok, Err, OnErr, OnOk}
 use Rattle.std.specs.List.{AllByRecursion}
-use Rattle.std.proofs.lemmas.List.{append-nil, drop_all, drop_at, get_or_at, get_or_append_left, length-drop, length-map, length-set, length-replicate, length-take, take-append-drop, take-append-le, take_at}
+use Rattle.std.proofs.lemmas.List.{append-nil, drop_at, get_or_at, length-map, length-set, length-replicate, take_at}
 use Rattle.avro_bytes.specs.declared.limits.TheConstants.{MOST_DEPTH}
-use Rattle.avro_bytes.specs.Blocks.{joined}
 use Rattle.outcome.specs.declared.limits.TheConstants.{MOST_OUTPUT}
 use Rattle.isa.specs.Lists.{total_length}
 use Rattle.isa.specs.State as state
@@ -15,11 +14,11 @@ use Rattle.output_store.specs.declared.store.Frame.{Frame}
 use Rattle.output_store.specs.declared.store.Frame.TheVariants as frames
 use Rattle.output_store.specs.declared.store.Opening.{Opening}
 use Rattle.output_store.specs.declared.store.Opening.TheVariants as openings
-use Rattle.output_store.specs.Buffers.{AreLaid, IsPlace, Laid, with_added, with_closed, with_fewer, with_none, with_opened}
-use Rattle.output_store.specs.Frames.{AreFrames, HasFewItems, HoldsBuffers, first_of, frame_of, frames_in, has_current_below, newest_place, opened_at, place_of, slots_opened}
-use Rattle.output_store.specs.Store.{Held, IsKept, closed_between, held_of, out_of, texts_of, with_frames}
-use Rattle.output_store.proofs.Framing.{add-done, add-fits, add-over, appended, current, emptied-frames, placed, sizes}
-use Rattle.output_store.proofs.Texts.{all-empty, length-joined, out-added, out-closed, out_with, take-empty, texts-added, texts-closed, texts-none, texts-opened, texts_with, total-append, total-replicate, total-split, total-with, whole}
+use Rattle.output_store.specs.Buffers.{AreLaid, IsPlace, Laid, with_added, with_none, with_opened}
+use Rattle.output_store.specs.Frames.{AreFrames, HasFewItems, frame_of, frames_in, opened_at, place_of, slots_opened}
+use Rattle.output_store.specs.Store.{Held, IsKept, held_of, out_of, texts_of, with_frames}
+use Rattle.output_store.proofs.Framing.{add-fits, add-over, appended, emptied-frames, placed, sizes}
+use Rattle.output_store.proofs.Texts.{out-added, texts-added, texts-none, texts-opened, texts_with, total-append, total-replicate, total-with}
 
 -- ---- the store that is shown
 

@@ -2,13 +2,13 @@
 use Rattle.std.proofs.Common.{◌≡◌, ◌≤◌, ◌<◌, ℕ, zero, suc, ◌+◌, ◌-◌, Bool, true, false, cond, List, [], ◌∷◌, ◌++◌, length, map, take, drop, get_or, set, replicate, refl, sym, ap, ◌∙◌, subst, arith, append_assoc, length-append}
 use Rattle.std.specs.Prelude.{Result, Ok, Err, OnErr, OnOk, is_ok}
 use Rattle.std.specs.List.{AllByRecursion}
-use Rattle.std.proofs.lemmas.List.{append-nil, drop-map, get_or-map, length-map, map-append, map-set, take-map, take_all}
+use Rattle.std.proofs.lemmas.List.{drop-map, get_or-map, length-map, map-append, map-set, take-map, take_all}
 use Rattle.output_store.specs.declared.buffers.Buffer.{Buffer}
 use Rattle.output_store.specs.declared.buffers.Buffer.TheVariants as buffers
 use Rattle.output_store.specs.declared.buffers.Place.{Place}
 use Rattle.output_store.specs.declared.buffers.Place.TheVariants as places
 use Rattle.output_store.specs.declared.segment.Segment.{Segment}
-use Rattle.output_store.specs.Buffers.{AllHeld, AreLaid, AreRopes, IsHeld, IsLaid, IsLater, IsPlace, Laid, buffer_at, laid_of, segments_at, segments_of, with_added, with_closed, with_none, with_opened, with_segments_at}
+use Rattle.output_store.specs.Buffers.{AllHeld, AreLaid, IsHeld, IsLaid, IsLater, IsPlace, Laid, buffer_at, laid_of, segments_at, segments_of, with_added, with_closed, with_none, with_opened}
 use Rattle.output_store.specs.Segments.{AreSegments, AreWithin, with_bytes, with_lists}
 use Rattle.output_store.proofs.Joining.{AllHeld-later, AreRopes-later, IsHeld-later, all-later, held-at, segments-later}
 use Rattle.output_store.proofs.Laying.{longer-lists, longer-segments, with_bytes-are, with_lists-are, within-segments}

@@ -1,9 +1,9 @@
 -- A rope written segment by segment: what is left to write, and for how many turns.
-use Rattle.std.proofs.Common.{◌≡◌, ◌≤◌, ◌<◌, ℕ, suc, ◌+◌, ◌*◌, ◌-◌, List, [], ◌∷◌, ◌++◌, length, reverse, get_or, refl, sym, ap, ◌∙◌, subst, arith, append_assoc, length-append}
+use Rattle.std.proofs.Common.{◌≡◌, ◌≤◌, ◌<◌, ℕ, ◌*◌, ◌-◌, List, [], ◌∷◌, ◌++◌, length, reverse, get_or, refl, sym, ap, ◌∙◌, subst, arith, append_assoc, length-append}
 use Rattle.std.proofs.lemmas.List.{append-nil, get_or_default, nil_from_length, reverse-append}
 use Rattle.output_store.specs.declared.ropes.Joint.{Joint}
 use Rattle.output_store.specs.declared.segment.Segment.{Segment}
-use Rattle.output_store.specs.Ropes.{AreJoints, joined_by, rope_at, ropes_of}
+use Rattle.output_store.specs.Ropes.{AreJoints, rope_at, ropes_of}
 use Rattle.output_store.specs.Segments.{AreWithin, IsSegment, bytes_at, bytes_of}
 use Rattle.output_store.proofs.Roping.{AreJoints-get, first_rope, how_many, rope_of}
 

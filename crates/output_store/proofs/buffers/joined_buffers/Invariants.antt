@@ -1,6 +1,3 @@
-use Rattle.std.proofs.Common.{map, drop}
-use Rattle.output_store.specs.Buffers.{IsHeld, IsLater, segments_of}
-use Rattle.output_store.specs.Segments.{with_lists}
 use Rattle.output_store.proofs.Joining.{HasJoined}
 use Rattle.output_store.proofs.buffers.joined_buffers.Given as goal
 

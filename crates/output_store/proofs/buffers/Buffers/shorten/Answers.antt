@@ -1,4 +1,4 @@
-use Rattle.std.proofs.Common.{◌≡◌, ◌∙◌, List, ap, sym, take, map}
+use Rattle.std.proofs.Common.{◌∙◌, List, ap, sym}
 use Rattle.std.proofs.lemmas.List.{take-map}
 use Rattle.output_store.specs.declared.segment.Segment.{Segment}
 use Rattle.output_store.specs.Buffers.{laid_of, segments_of, with_fewer}

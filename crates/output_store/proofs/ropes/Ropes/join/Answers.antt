@@ -1,4 +1,4 @@
-use Rattle.std.proofs.Common.{◌≡◌, ◌∙◌, ◌+◌, ap, arith}
+use Rattle.std.proofs.Common.{arith}
 use Rattle.output_store.proofs.Roping.{AreJoints-push, how_many, pushed}
 use Rattle.output_store.proofs.ropes.Ropes.join.Goals as goal
 

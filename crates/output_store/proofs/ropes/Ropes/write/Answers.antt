@@ -1,6 +1,4 @@
-use Rattle.std.proofs.Common.{◌≡◌, ◌<◌, ◌∙◌, ℕ, ◌++◌, List, length, ap, arith}
-use Rattle.output_store.specs.Ropes.{rope_at}
-use Rattle.output_store.specs.Segments.{bytes_of}
+use Rattle.std.proofs.Common.{◌∙◌, ℕ, ◌++◌, List, ap, arith}
 use Rattle.output_store.proofs.Writing.{began, down, down_smaller, on, on_smaller, popped, segment_there, wrote}
 use Rattle.output_store.proofs.ropes.Ropes.write.Goals as goal
 

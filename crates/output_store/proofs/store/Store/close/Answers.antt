@@ -1,4 +1,4 @@
-use Rattle.std.proofs.Common.{◌≡◌, ◌∙◌, ◌∷◌, List, ℕ, Some, ap, arith, length, reverse, subst, sym, true}
+use Rattle.std.proofs.Common.{◌≡◌, ◌∙◌, List, ℕ, Some, ap, arith, length, reverse, subst, sym, true}
 use Rattle.isa.specs.State.{is_done}
 use Rattle.output_store.specs.declared.store.Frame.{Frame}
 use Rattle.output_store.specs.Buffers.{with_closed, with_fewer, with_none}

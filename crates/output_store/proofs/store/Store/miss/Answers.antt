@@ -1,4 +1,4 @@
-use Rattle.std.proofs.Common.{◌≡◌, ◌∙◌, ◌∷◌, ℕ, Option, None, ap, reverse, subst, sym}
+use Rattle.std.proofs.Common.{◌≡◌, ◌∙◌, ◌∷◌, ℕ, Option, ap, reverse, subst, sym}
 use Rattle.output_store.specs.Store.{Held, IsKept, held_of}
 use Rattle.output_store.proofs.Keeping.{kept-none, miss-first, miss-later}
 use Rattle.output_store.proofs.store.Store.miss.Goals as goal

@@ -1,10 +1,8 @@
-use Rattle.std.proofs.Common.{◌≡◌, ◌∙◌, ◌∷◌, [], ◌++◌, List, ap, arith, length, reverse, subst, sym}
+use Rattle.std.proofs.Common.{◌≡◌, ◌∙◌, ◌∷◌, [], ◌++◌, List, ap, arith, reverse}
 use Rattle.std.proofs.lemmas.List.{reverse-append}
 use Rattle.output_store.specs.declared.store.Frame.{Frame}
 use Rattle.output_store.specs.Buffers.{with_opened}
-use Rattle.output_store.specs.Frames.{frame_of, opened_at}
-use Rattle.output_store.specs.Store.{IsKept, out_of, texts_of, with_frames}
-use Rattle.output_store.proofs.Keeping.{kept-opened, shown-opened, store_of}
+use Rattle.output_store.proofs.Keeping.{kept-opened, shown-opened}
 use Rattle.output_store.proofs.store.Store.open.Goals as goal
 
 pub invariant_of-self-2 : goal.invariant_of-self-2

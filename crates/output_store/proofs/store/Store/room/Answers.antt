@@ -1,4 +1,4 @@
-use Rattle.std.proofs.Common.{◌≡◌, ◌∙◌, ◌∷◌, ◌-◌, ℕ, List, ap, length, reverse, sym}
+use Rattle.std.proofs.Common.{◌∙◌, ◌∷◌, ◌-◌, ℕ, List, ap, length, reverse, sym}
 use Rattle.outcome.specs.declared.limits.TheConstants.{MOST_OUTPUT}
 use Rattle.isa.specs.State.{total}
 use Rattle.output_store.specs.Store.{Held}
