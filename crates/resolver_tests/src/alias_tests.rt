@@ -46,16 +46,28 @@ fn in_order(alloc: Global, w: &Schema, r: &Schema) -> Result<bool, AllocError> {
     }
 }
 
+/// Whether all fields of one record go to another's, of it to its own, and of the other back to it.
+fn orders(alloc: Global, one: &Schema, other: &Schema) -> Result<[bool; 3], AllocError> {
+    Ok([
+        in_order(alloc, one, other)?,
+        in_order(alloc, one, one)?,
+        in_order(alloc, other, one)?,
+    ])
+}
+
+/// The same, of the texts of two records.
+fn orders_of(alloc: Global, one: &str, other: &str) -> Result<[bool; 3], Fail> {
+    let (one, other) = (parsed(alloc, one)?, parsed(alloc, other)?);
+    Ok(orders(alloc, &one, &other)?)
+}
+
 #[test]
 fn many_fields_go_by_name_and_alias(rt: HostRuntime) -> Result<(), Fail> {
-    let alloc = rt.alloc();
-    let writer = parsed(alloc, &many(alloc, "a", "c", 40)?)?;
-    let reader = parsed(alloc, &many(alloc, "b", "a", 40)?)?;
-    assert!(rt; in_order(alloc, &writer, &reader)?, "by alias");
-    assert!(rt; in_order(alloc, &writer, &writer)?, "by name");
-    assert!(rt;
-        !in_order(alloc, &reader, &writer)?,
-        "a writer's alias does not count"
-    );
+    let writer = many(rt.alloc(), "a", "c", 40)?;
+    let reader = many(rt.alloc(), "b", "a", 40)?;
+    let [by_alias, by_name, by_writers_alias] = orders_of(rt.alloc(), &writer, &reader)?;
+    assert!(rt; by_alias);
+    assert!(rt; by_name);
+    assert!(rt; !by_writers_alias, "a writer's alias does not count");
     Ok(())
 }

@@ -1,5 +1,7 @@
 //! Payloads of every kind of schema, and each fault from outside data.
 
+ghost use Rattle.std.specs.Prelude.{◌<◌};
+
 use crate::again::{parsed, read_again, written};
 use crate::lines::{bytes_of, is_answer, malformed_line, written_line};
 use crate::rows::DATA;
@@ -7,6 +9,7 @@ use avro_bytes::{Fault, MOST_UNITS, MalformedKind, Meter, WireForm, read_and_ski
 use avro_datum::{NodeForm, PayloadError, WriteError, write};
 use avro_schema::Datum;
 use resolver::MOST_OUTPUT;
+use std::alloc::{AllocError, Global};
 use std::process::Abort;
 use std::test::Fail;
 
@@ -86,26 +89,32 @@ fn a_map_is_skipped(rt: HostRuntime) -> Result<(), Fail> {
     Ok(())
 }
 
+/// A chain of so many records.
+fn chain(alloc: Global, records: usize) -> Result<Vec<u8>, AllocError>
+    requires { 0 < records }
+{
+    let mut payload = vec![in alloc; 2u8; records - 1]?;
+    payload.push(0)?;
+    Ok(payload)
+}
+
+/// Whether a payload that is read twice is one datum.
+fn reads_alike(alloc: Global, text: &str, payload: &[u8]) -> Result<bool, Fail> {
+    let schema = parsed(alloc, text)?;
+    let datum = read_again(alloc, schema.nodes(), payload)?;
+    Ok(datum == read_again(alloc, schema.nodes(), payload)?)
+}
+
 #[test]
 fn a_thousand_records_nest(rt: HostRuntime) -> Result<(), Fail> {
-    let schema = parsed(rt.alloc(), CHAIN)?;
-    let mut payload = vec![in rt.alloc(); 2u8; 999]?;
-    payload.push(0)?;
-    let datum = read_again(rt.alloc(), schema.nodes(), &payload)?;
-    let again = read_again(rt.alloc(), schema.nodes(), &payload)?;
-    assert!(rt; datum == again);
-    let out = written(&rt, &datum)?;
-    assert_eq!(rt; out.len(), 1001);
-    assert!(rt; out.ends_with(&payload));
-    let deeper = vec![in rt.alloc(); 2u8; 1000]?;
-    let refused = PayloadError::Malformed {
-        kind: MalformedKind::TooDeep,
-        at: 1000,
-    };
-    assert_eq!(rt;
-        read_again(rt.alloc(), schema.nodes(), &deeper).err(),
-        Some(refused)
-    );
+    let payload = chain(rt.alloc(), 1000)?;
+    let answer = written_line(rt.alloc(), &payload)?;
+    let found = line_of_payload(&rt, CHAIN, &payload)?;
+    assert!(rt; is_answer(&found, &answer));
+    assert!(rt; reads_alike(rt.alloc(), CHAIN, &payload)?);
+    let deeper = chain(rt.alloc(), 1001)?;
+    let found = line_of_payload(&rt, CHAIN, &deeper)?;
+    assert!(rt; is_answer(&found, "malformed TooDeep at 1000"));
     Ok(())
 }
 

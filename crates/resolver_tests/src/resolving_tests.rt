@@ -1,9 +1,11 @@
 //! A datum of a record, resolved for readers by hand.
 
 use crate::again::parsed;
-use avro_schema::{Datum, Schema};
+use crate::lines::{outcome_line, written_line};
+use avro_datum::write;
+use avro_schema::{Datum, Nodes, Schema};
 use resolver::{
-    Mismatch, MismatchKind, Place, ResolveError, TranscodeError, matches, place_of, resolve,
+    MismatchKind, Outcome, Place, ResolveError, TranscodeError, matches, place_of, resolve,
 };
 use std::alloc::{AllocError, Global};
 use std::test::Fail;
@@ -48,62 +50,74 @@ fn resolved(alloc: Global, w: &Schema, r: &Schema) -> Result<Datum, ResolveError
     }
 }
 
+/// What a reader makes of the datum, written, or its first mismatch.
+fn line_of_resolved(alloc: Global, w: &Schema, r: &Schema) -> Result<String, Fail> {
+    let mut out = Vec::new(alloc);
+    match resolved(alloc, w, r) {
+        Ok(datum) => {
+            write(&datum, &mut out)?;
+            Ok(written_line(alloc, &out)?)
+        }
+        Err(ResolveError::Mismatch(found)) => Ok(outcome_line(alloc, &Outcome::Mismatch(found))?),
+        Err(error) => Err(error.into()),
+    }
+}
+
+/// The same, of the text of the reader.
+fn line_for(alloc: Global, reader: &str) -> Result<String, Fail> {
+    let (w, r) = (parsed(alloc, RECORD)?, parsed(alloc, reader)?);
+    line_of_resolved(alloc, &w, &r)
+}
+
 #[test]
 fn fields_go_by_name(rt: HostRuntime) -> Result<(), Fail> {
-    let alloc = rt.alloc();
-    let (writer, reader) = (parsed(alloc, RECORD)?, parsed(alloc, REORDERED)?);
-    let text = Datum::Text(String::from_str(alloc, "foo")?);
-    let reordered = resolved(alloc, &writer, &reader)?;
-    let Datum::Record(fields) = reordered else {
-        assert!(rt; false, "a record");
-        return Ok(());
-    };
-    assert_eq!(rt; fields.len(), 2);
-    assert!(rt; fields.first() == Some(&text));
-    assert!(rt; fields.last() == Some(&Datum::Long(27)));
-    let shorter = resolved(alloc, &writer, &parsed(alloc, SHORTER)?)?;
-    let Datum::Record(fields) = shorter else {
-        assert!(rt; false, "a record");
-        return Ok(());
-    };
-    assert_eq!(rt; fields.len(), 1);
-    assert!(rt; fields.first() == Some(&text));
+    let found = line_for(rt.alloc(), REORDERED)?;
+    assert_eq!(rt; found.as_str(), "written 06666f6f36");
+    let found = line_for(rt.alloc(), SHORTER)?;
+    assert_eq!(rt; found.as_str(), "written 06666f6f");
     Ok(())
 }
 
 #[test]
 fn mismatches(rt: HostRuntime) -> Result<(), Fail> {
-    let alloc = rt.alloc();
-    let writer = parsed(alloc, RECORD)?;
-    let lacking = Mismatch {
-        kind: MismatchKind::NoDefault,
-        writer_node: 0,
-        reader_node: 3,
-    };
-    let found = resolved(alloc, &writer, &parsed(alloc, LONGER)?);
-    assert!(rt; found.err() == Some(ResolveError::Mismatch(lacking)));
-    let other = Mismatch {
-        kind: MismatchKind::NoMatch,
-        writer_node: 1,
-        reader_node: 1,
-    };
-    let found = resolved(alloc, &writer, &parsed(alloc, RETYPED)?);
-    assert!(rt; found.err() == Some(ResolveError::Mismatch(other)));
+    let found = line_for(rt.alloc(), LONGER)?;
+    assert_eq!(rt; found.as_str(), "mismatch NoDefault 0 3");
+    let found = line_for(rt.alloc(), RETYPED)?;
+    assert_eq!(rt; found.as_str(), "mismatch NoMatch 1 1");
     Ok(())
+}
+
+/// Whether the first nodes match, and the place of the one with the other.
+fn first_place(w: &Nodes, r: &Nodes) -> (bool, Place) {
+    w.is_well_formed();
+    r.is_well_formed();
+    (matches(w, 0, r, 0), place_of(w, 0, r, 0))
+}
+
+/// The same of texts.
+fn place_for(alloc: Global, writer: &str, reader: &str) -> Result<(bool, Place), Fail> {
+    let (w, r) = (parsed(alloc, writer)?, parsed(alloc, reader)?);
+    Ok(first_place(w.nodes(), r.nodes()))
+}
+
+/// What a reader of longs makes of an int.
+fn promoted(alloc: Global, n: i32) -> Result<Datum, Fail> {
+    let (int, long) = (parsed(alloc, "\"int\"")?, parsed(alloc, "\"long\"")?);
+    Ok(resolve(alloc, int.nodes(), long.nodes(), Datum::Int(n))?)
 }
 
 #[test]
 fn promotion_goes_one_way(rt: HostRuntime) -> Result<(), Fail> {
     let alloc = rt.alloc();
-    let (int, long) = (parsed(alloc, "\"int\"")?, parsed(alloc, "\"long\"")?);
-    let (int, long) = (int.nodes(), long.nodes());
-    int.is_well_formed();
-    long.is_well_formed();
-    assert!(rt; matches(int, 0, long, 0));
-    assert!(rt; !matches(long, 0, int, 0));
-    assert_eq!(rt; place_of(int, 0, long, 0), Place::Straight);
-    assert_eq!(rt; place_of(long, 0, int, 0), Place::Unmatched);
-    assert!(rt; resolve(alloc, int, long, Datum::Int(-1)) == Ok(Datum::Long(-1)));
+    assert_eq!(rt;
+        place_for(alloc, "\"int\"", "\"long\"")?,
+        (true, Place::Straight)
+    );
+    assert_eq!(rt;
+        place_for(alloc, "\"long\"", "\"int\"")?,
+        (false, Place::Unmatched)
+    );
+    assert!(rt; promoted(alloc, -1)? == Datum::Long(-1));
     Ok(())
 }
 

@@ -5,3 +5,4 @@ pub mod Stepping
 pub mod Slicing
 pub mod Longer
 pub mod Bulk
+pub mod Spelled

@@ -2,7 +2,7 @@ ghost use Rattle.std.specs.Prelude.{◌≡◌, ◌≤◌, ◌<◌, ◌+◌, ℕ,
 ghost use Rattle.avro_bytes.specs.declared.meter.Meter.{Meter};
 ghost use Rattle.isa.specs.declared.limits.TheConstants.{MOST_INSTRS};
 ghost use Rattle.isa.specs.State.{has_current, meter_of};
-ghost use Rattle.avro_bytes.specs.Shortest.{shortest};
+ghost use Rattle.avro_bytes.specs.Shortest.{IsTight, shortest};
 ghost use Rattle.isa.specs.Table.{added, next, stop, trap};
 ghost use Rattle.output_store.specs.Store.{Appends};
 ghost use Rattle.stepper.specs.Contract.{Takes, refused};
@@ -16,6 +16,16 @@ use outcome::Outcome;
 use output_store::Store;
 use std::alloc::{AllocError, Global};
 use std::marker::Model;
+
+/// Whether a spelling has one byte, or a last one that adds something.
+fn is_tight(spelling: &[u8]) -> bool
+    ensures { result ≡ true → IsTight spelling.now }
+{
+    match spelling.last() {
+        Some(last) => spelling.len() == 1 || *last > 0,
+        None => false,
+    }
+}
 
 /// A content of which bytes are still to move.
 #[derive(Clone, Copy, Debug)]
@@ -232,5 +242,19 @@ impl Machine {
         self.scratch.clear();
         put_long(&mut self.scratch, n)?;
         self.store.add(&self.scratch)
+    }
+
+    /// The shortest spelling of a number that was read at the end of the current buffer: its own, where that is the shortest.
+    pub(crate) fn add_spelled(&mut self, n: i64, spelling: &[u8]) -> Result<(), AllocError>
+        requires room { has_current self.old.state.store.frames ≡ true }
+        requires tight { IsTight spelling.now → spelling.now ≡ shortest n }
+        ensures added { OnOk result (self.new.state ≡ added (shortest n) self.old.state) }
+        ensures check { self.new.check ≡ self.old.check }
+        ensures refused { OnErr result (self.new ≡ self.old) }
+    {
+        if is_tight(spelling) {
+            return self.store.add(spelling);
+        }
+        self.add_long(n)
     }
 }

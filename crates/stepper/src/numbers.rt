@@ -2,12 +2,22 @@ ghost use Rattle.std.specs.Prelude.{◌≡◌, ◌≤◌, ◌<◌, length, None}
 ghost use Rattle.isa.specs.declared.instr.Instr.TheVariants as op;
 ghost use Rattle.isa.specs.declared.limits.TheConstants.{MOST_INSTRS};
 ghost use Rattle.isa.specs.Row.{row};
-ghost use Rattle.stepper.specs.Contract.{Takes};
+ghost use Rattle.avro_bytes.specs.Shortest.{IsTight, shortest};
+ghost use Rattle.stepper.specs.Contract.{Takes, WasRead};
 
 use crate::machine::Machine;
 use crate::step::Step;
 use avro_bytes::{read_boolean, read_int, read_long};
 use isa::{Program, Trap};
+
+/// The bytes of a number that was read between two places.
+fn spelling(input: &[u8], at: usize, to: usize, n: i64) -> &[u8]
+    requires read { WasRead input.now at to n }
+    requires within { to ≤ length input.now }
+    ensures { IsTight result.now → result.now ≡ shortest n }
+{
+    &input[at..to]
+}
 
 impl Machine {
     /// A boolean moves.
@@ -47,7 +57,8 @@ impl Machine {
         }
         match read_int(input, self.pos(), self.meter()) {
             Ok((value, to, _)) => {
-                if self.add_long(value.into()).is_err() {
+                let spelling = spelling(input, self.pos(), to, value.into());
+                if self.add_spelled(value.into(), spelling).is_err() {
                     return Step::NoMemory;
                 }
                 self.next(to)
@@ -70,7 +81,8 @@ impl Machine {
         }
         match read_long(input, self.pos(), self.meter()) {
             Ok((value, to, _)) => {
-                if self.add_long(value).is_err() {
+                let spelling = spelling(input, self.pos(), to, value);
+                if self.add_spelled(value, spelling).is_err() {
                     return Step::NoMemory;
                 }
                 self.next(to)

@@ -1,0 +1,193 @@
+//! Transcodes messages from standard input in process, for measurements: the writer's schema and the reader's stand in its first two
+//! lines, and then the container of the messages. With `--passes N` it transcodes all of them N times, by one transcoder, and
+//! prints how many were answered by bytes, and how many bytes; with `--dump`, once, and prints the container of the answers. It ends with
+//! status 1 where something else came.
+#![tactic(auto)]
+
+mod messages;
+
+use avro_schema::Schema;
+use avro_types::Nodes;
+use machine::Transcoder;
+use memchr::memchr;
+use messages::{Messages, put_number};
+use outcome::Outcome;
+use std::alloc::Global;
+use std::io::{self, Read, Write};
+use std::process::ExitCode;
+use std::rt::Env;
+
+/// What to do with the messages.
+#[derive(Drop)]
+enum Task {
+    Passes(u64),
+    Dump,
+}
+
+/// What was answered.
+#[derive(Clone, Copy)]
+struct Tally {
+    answers: u64,
+    bytes: u64,
+}
+
+/// A line as a schema, and what follows it.
+fn split_schema(alloc: Global, input: &[u8]) -> Option<(Schema, &[u8])> {
+    let end = memchr(b'\n', input)?;
+    let line = std::str::from_utf8(&input[..end]).ok()?;
+    match Schema::parse(alloc, line) {
+        Ok(schema) => Some((schema, &input[end + 1..])),
+        Err(_) => None,
+    }
+}
+
+/// A message, transcoded to bytes.
+fn answer(transcoder: &mut Transcoder<'_>, message: &[u8]) -> Option<Vec<u8>> {
+    match transcoder.transcode(message) {
+        Ok(Outcome::Done(bytes)) => Some(bytes),
+        _ => None,
+    }
+}
+
+/// Transcodes all messages once, and counts the answers.
+fn pass(transcoder: &mut Transcoder<'_>, messages: &[&[u8]], tally: Tally) -> Option<Tally> {
+    let mut tally = tally;
+    for message in messages {
+        let bytes = answer(transcoder, message)?.len() as u64;
+        tally = Tally {
+            answers: tally.answers.wrapping_add(1),
+            bytes: tally.bytes.wrapping_add(bytes),
+        };
+    }
+    Some(tally)
+}
+
+/// Transcodes all messages so many times.
+fn passes(transcoder: &mut Transcoder<'_>, messages: &[&[u8]], count: u64) -> Option<Tally> {
+    let mut tally = Tally {
+        answers: 0,
+        bytes: 0,
+    };
+    for _ in 0..count {
+        tally = pass(transcoder, messages, tally)?;
+    }
+    Some(tally)
+}
+
+/// The container of the answers.
+fn dump(alloc: Global, transcoder: &mut Transcoder<'_>, messages: &[&[u8]]) -> Option<Vec<u8>> {
+    let mut container = Vec::new(alloc);
+    let mut answers = Vec::new(alloc);
+    put_number(&mut container, messages.len())?;
+    for message in messages {
+        let answer = answer(transcoder, message)?;
+        put_number(&mut container, answer.len())?;
+        answers.extend_from_slice(&answer).ok()?;
+    }
+    container.extend_from_slice(&answers).ok()?;
+    Some(container)
+}
+
+/// The line that tells what was answered.
+fn line_of(alloc: Global, tally: Tally) -> Option<Vec<u8>> {
+    let (answers, bytes) = (tally.answers, tally.bytes);
+    let line = format!(in alloc; "answers {answers} bytes {bytes}\n").ok()?;
+    Some(line.into_bytes())
+}
+
+/// What to print for messages.
+fn output_of_messages(
+    alloc: Global,
+    task: &Task,
+    transcoder: &mut Transcoder<'_>,
+    messages: &[&[u8]],
+) -> Option<Vec<u8>> {
+    match task {
+        Task::Dump => dump(alloc, transcoder, messages),
+        Task::Passes(count) => line_of(alloc, passes(transcoder, messages, *count)?),
+    }
+}
+
+/// What to print for a container of messages.
+fn output_of_container(
+    alloc: Global,
+    task: &Task,
+    transcoder: &mut Transcoder<'_>,
+    container: &[u8],
+) -> Option<Vec<u8>> {
+    let messages = Messages::of(container)?.split(alloc)?;
+    output_of_messages(alloc, task, transcoder, &messages)
+}
+
+/// What to print for a pair of schemas and a container.
+fn output_of_pair(
+    alloc: Global,
+    task: &Task,
+    writer: &Nodes,
+    reader: &Nodes,
+    container: &[u8],
+) -> Option<Vec<u8>> {
+    match Transcoder::new(alloc, writer, reader) {
+        Ok(transcoder) => {
+            let mut transcoder = transcoder;
+            output_of_container(alloc, task, &mut transcoder, container)
+        }
+        Err(_) => None,
+    }
+}
+
+/// What to print for the reader's schema and a container, which follow the writer's.
+fn output_after(alloc: Global, task: &Task, writer: &Nodes, rest: &[u8]) -> Option<Vec<u8>> {
+    match split_schema(alloc, rest) {
+        Some((reader, container)) => {
+            output_of_pair(alloc, task, writer, reader.nodes(), container)
+        }
+        None => None,
+    }
+}
+
+/// What to print for an input.
+fn output_of(alloc: Global, task: &Task, input: &[u8]) -> Option<Vec<u8>> {
+    match split_schema(alloc, input) {
+        Some((writer, rest)) => output_after(alloc, task, writer.nodes(), rest),
+        None => None,
+    }
+}
+
+/// Reads the whole input.
+fn input(rt: &(impl Input + AllocGlobal)) -> io::Result<Vec<u8>> {
+    let mut input = Vec::new(rt.alloc());
+    rt.reader().read_to_end(&mut input)?;
+    Ok(input)
+}
+
+/// What the words of the command line ask for.
+fn task_of(words: &[String]) -> Option<Task> {
+    match (words.get(1)?.as_str(), words.get(2)) {
+        ("--dump", None) => Some(Task::Dump),
+        ("--passes", Some(count)) => Some(Task::Passes(count.parse().ok()?)),
+        _ => None,
+    }
+}
+
+/// The words of the command line.
+fn words_of(rt: &(impl Env + AllocGlobal)) -> io::Result<Vec<String>> {
+    let words = std::env::args(rt)?;
+    Ok(words.collect(rt.alloc())?)
+}
+
+fn main(rt: HostRuntime) -> ExitCode {
+    let (Ok(words), Ok(input)) = (words_of(&rt), input(&rt)) else {
+        return ExitCode::from(1);
+    };
+    let Some(task) = task_of(&words) else {
+        return ExitCode::from(1);
+    };
+    let Some(output) = output_of(rt.alloc(), &task, &input) else {
+        return ExitCode::from(1);
+    };
+    match io::writer(&rt).write_all(&output) {
+        Ok(()) => ExitCode::from(0),
+        Err(_) => ExitCode::from(1),
+    }
+}
