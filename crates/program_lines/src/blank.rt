@@ -6,6 +6,7 @@ use avro_types::Datum;
 
 /// Whether a datum is written as no bytes. No byte is looked at after the first.
 #[cycle(blank)]
+#[tactic(auto, using(avro_datum::proofs::Written::record_written), unfolding(avro_datum::specs::Writing::written))]
 pub(crate) fn is_blank(datum: &Datum) -> bool
     ensures { result ≡ (length (written (datum_of datum.now)) == 0) }
 {
@@ -13,12 +14,21 @@ pub(crate) fn is_blank(datum: &Datum) -> bool
         Datum::Null => true,
         Datum::Fixed(value) => value.is_empty(),
         Datum::Record(fields) => are_blank(fields),
-        _ => false,
+        Datum::Boolean(_) => false,
+        Datum::Int(_) => false,
+        Datum::Long(_) => false,
+        Datum::Enum(_) => false,
+        Datum::Bytes(_) => false,
+        Datum::Text(_) => false,
+        Datum::Array(_) => false,
+        Datum::Map(_) => false,
+        Datum::Union(_, _) => false,
     }
 }
 
 /// Whether data are all written as no bytes.
 #[cycle(blank)]
+#[tactic(auto, using(crate::proofs::NoBytes::blank_here), unfolding(avro_datum::specs::Writing::written))]
 fn are_blank(each: &[Datum]) -> bool
     ensures { result ≡ (length (written_data (data_of each.now)) == 0) }
 {
