@@ -1,5 +1,5 @@
 -- The numbers of defaults: constants that are there keep theirs, and one that is added has the number that it would have.
-use Rattle.std.proofs.Common.{◌≡◌, ℕ, Bool, true, false, cond, List, [], ◌∷◌, ◌++◌, Some, length, is_some, refl, sym, ap, ◌∙◌, subst}
+use Rattle.std.proofs.Common.{◌≡◌, ℕ, Bool, true, false, cond, List, [], ◌∷◌, ◌++◌, suc, Some, None, is_some, refl, sym, ap, ◌∙◌}
 use Rattle.std.specs.Prelude.{Option, if◌then◌else◌}
 use Rattle.std.specs.BTreeMap.{BTreeMap, get}
 use Rattle.std.specs.Ordering.{is_eq}
@@ -12,7 +12,7 @@ use Rattle.program_lines.specs.declared.lines.Constant.TheVariants.{Default}
 use Rattle.program_lines.specs.Lines.{bytes_of}
 use Rattle.program_compiler.specs.Tables.{AreDefaults, found, pair_cmp}
 use Rattle.program_compiler.proofs.Sharing.{number_is, pair_is}
-use Rattle.program_compiler.proofs.Tables.{is_found, number_none}
+use Rattle.program_compiler.proofs.Tables.{adding_there, is_found}
 
 -- what is found is there, and has that number
 there : (b : List ℕ) (xs : List (List ℕ)) (n : ℕ) → found bytes_eq b xs ≡ Some n → has bytes_eq b xs ≡ true
@@ -56,6 +56,12 @@ module _ (R : List Node) where
   -- another constant, and the defaults keep their numbers
   pub defaults_still : (defaults : BTreeMap (ℕ × ℕ) ℕ) (xs more others : List (List ℕ)) → AreDefaults R defaults xs → more ≡ adding bytes_eq xs others → AreDefaults R defaults more
   defaults_still defaults xs more others known h field n e = ap (found bytes_eq (bytes_of R (Default field.0 field.1))) h ∙ found_still (bytes_of R (Default field.0 field.1)) xs others n (known field n e)
+
+  -- a default that was there adds no constant
+  pub default_before : (defaults : BTreeMap (ℕ × ℕ) ℕ) (xs : List (List ℕ)) (key : ℕ × ℕ) → AreDefaults R defaults xs → (o : Option ℕ) → get pair_cmp defaults key ≡ o → is_some o ≡ true
+      → xs ≡ adding bytes_eq xs (bytes_of R (Default key.0 key.1) ∷ [])
+  default_before defaults xs key known (Some n) e h = adding_there bytes_eq (bytes_of R (Default key.0 key.1)) xs (there (bytes_of R (Default key.0 key.1)) xs n (known key n e))
+  default_before defaults xs key known None e h = absurd (let no : ⊥ = cc in no)
 
   -- a default that was not there
   pub defaults_on : (defaults further : BTreeMap (ℕ × ℕ) ℕ) (xs more : List (List ℕ)) (key : ℕ × ℕ) (number_of : ℕ) → AreDefaults R defaults xs

@@ -1,6 +1,6 @@
 -- Misses of a pair of enums that was noted before: none is new, and those that are there stay.
 use Rattle.std.proofs.Common.{◌≡◌, ℕ, Bool, true, false, cond, List, [], ◌∷◌, ◌++◌, refl, sym, ap, ◌∙◌, subst}
-use Rattle.std.specs.Prelude.{if◌then◌else◌}
+use Rattle.std.specs.Prelude.{not, if◌then◌else◌}
 use Rattle.std.specs.List.{AllByRecursion}
 use Rattle.std.specs.BTreeSet.{BTreeSet, contains}
 use Rattle.std.specs.Ordering.{is_eq}
@@ -12,7 +12,11 @@ use Rattle.program_lines.specs.Lines.{targets_of}
 use Rattle.program_compiler.specs.Tables.{AreNoted, pair_cmp}
 use Rattle.program_compiler.proofs.Sharing.{pair_is}
 
-AllIn : List Mismatch → List Mismatch → Type 0
+pub was_there : (added had : Bool) → added ≡ not had → added ≡ false → had ≡ true
+was_there added true e h = refl
+was_there added false e h = sym h ∙ e
+
+abbrev AllIn : List Mismatch → List Mismatch → Type 0
 AllIn wanted ms = AllByRecursion (λ m. has same_miss m ms ≡ true) wanted
 
 none_added : (wanted ms : List Mismatch) → AllIn wanted ms → ms ≡ adding same_miss ms wanted
@@ -25,7 +29,7 @@ all_stay wanted ms others h =
     subst (λ l. AllIn wanted l) (sym more.0.1) (all_more same_miss miss_refl wanted ms more.0.0 h)
 
 module _ (W R : List Node) where
-  lacked_of : ℕ × ℕ → List Mismatch
+  abbrev lacked_of : ℕ × ℕ → List Mismatch
   lacked_of pair = lacked (targets_of W R pair.0 pair.1)
 
   -- others come, and what is there stays
