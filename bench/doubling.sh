@@ -1,13 +1,14 @@
 #!/usr/bin/env bash
 # Whether time is linear: the program on payloads of nested arrays of records, and on schemas of many symbols, of many long names that
 # differ at their ends, of many defaults, members, aliases, and names in one long namespace, each of one size and of twice that size, in one
-# run. Not part of the gate. Usage: bench/doubling.sh PROGRAM
+# run. And whether a datum costs the same with a schema of twice the size: records of many fields, unions of many members, enums of many
+# symbols, long names. Not part of the gate. Usage: bench/doubling.sh PROGRAM [WORD], which takes the rows alone whose names have that word.
 set -euo pipefail
 program=$(realpath "$1")
-exec python3 - "$program" <<'PYTHON'
-import subprocess, sys, time
+exec python3 - "$program" "${2:-}" <<'PYTHON'
+import random, subprocess, sys, time
 
-program = sys.argv[1]
+program, word = sys.argv[1:]
 
 def number(n):
     n = n * 2 if n >= 0 else -2 * n - 1
@@ -82,6 +83,44 @@ def aliases(size):
     reader = '{"type":"record","name":"R","namespace":"%s","aliases":[%s,"W"],"fields":[%s]}' % (space, others, read)
     return writer + "\n" + reader + "\n" + "02" * count + "\n"
 
+def enum_fields(size):
+    """Fields of one great enum to an enum that lacks a symbol, so that each field's line of the program names its misses."""
+    symbols = ['"S%08d"' % i for i in range(size // 25)]
+    return "\n".join(whole(['{"name":"e","type":{"type":"enum","name":"E","symbols":[%s]}}' % ",".join(some)]
+                           + ['{"name":"f%04d","type":"E"}' % i for i in range(size // 100)]).split("\n")[0] for some in (symbols, symbols[1:])) + "\n"
+
+def long_default(size):
+    """Many records of one name to a record with a long text by default, which each of their routines puts."""
+    writer = ",".join('{"type":"record","name":"n%d.R","fields":[]}' % i for i in range(size // 200))
+    return '[%s]\n{"type":"record","name":"R","fields":[{"name":"s","type":"string","default":"%s"}]}\n' % (writer, "a" * size)
+
+# A datum's cost: schemas of so many parts, one line of many data, and how many data those are.
+
+def fields_row(many):
+    """A record to the same fields the other way round."""
+    fields = ['{"name":"f%d","type":"long"}' % i for i in range(many)]
+    writer, reader = ('{"type":"array","items":{"type":"record","name":"R","fields":[%s]}}' % ",".join(each) for each in (fields, fields[::-1]))
+    records = 400_000 // many
+    return writer, reader, number(records) + number(20) * (many * records) + b"\0", records * many
+
+def members_row(many):
+    members = ['{"type":"fixed","name":"F%d","size":1}' % i for i in range(many)]
+    union = '{"type":"array","items":[%s]}' % ",".join(members)
+    rng, data = random.Random(many), 400_000
+    return union, union, number(data) + b"".join(number(rng.randrange(64, many)) + b"x" for _ in range(data)) + b"\0", data
+
+def symbols_row(many):
+    symbols = ",".join('"S%d"' % i for i in range(many))
+    enum = '{"type":"array","items":{"type":"enum","name":"E","symbols":[%s]}}' % symbols
+    rng, data = random.Random(many), 400_000
+    return enum, enum, number(data) + b"".join(number(rng.randrange(64, many)) for _ in range(data)) + b"\0", data
+
+def name_row(letters):
+    name = "n" * letters
+    schema = '{"type":"array","items":{"type":"record","name":"%s","fields":[{"name":"%s","type":"long"}]}}' % (name, name)
+    data = 400_000
+    return schema, schema, number(data) + number(20) * data + b"\0", data
+
 def seconds(data):
     begin = time.perf_counter()
     done = subprocess.run([program, "transcode"], input=data, capture_output=True)
@@ -89,16 +128,34 @@ def seconds(data):
     assert done.returncode == 0, done.stdout[:200]
     return took
 
-# the least of some turns, in which both sizes come, so that what else the machine does falls on both alike
+# the least of some turns, in which all of them come, so that what else the machine does falls on all alike
+def least(turns, *inputs):
+    return [min(took) for took in zip(*([seconds(data) for data in inputs] for _ in range(turns)))]
+
 holds = True
-start = min(seconds(b'"int"\n"int"\n') for _ in range(40))
+start = least(40, b'"int"\n"int"\n')[0]
 for name, make, size, turns in [("payload", points, 1 << 21, 10), ("schema of enums", enums, 100_000, 30), ("schema of names", names, 100_000, 30),
-                                ("schema of defaults of one enum", defaults, 50_000, 30), ("schema of one union", members, 100_000, 30),
+                                ("schema of defaults of one enum", defaults, 50_000, 30), ("schema of fields of one enum", enum_fields, 50_000, 30),
+                                ("schema of one long default", long_default, 100_000, 30), ("schema of one union", members, 100_000, 30),
                                 ("schema of one long namespace", namespace, 100_000, 30), ("schema of references in one long namespace", references, 100_000, 30),
                                 ("schema of many aliases", aliases, 100_000, 30)]:
-    inputs = [make(size * k).encode() for k in (1, 2)]
-    once, twice = (min(took) - start for took in zip(*([seconds(data) for data in inputs] for _ in range(turns))))
+    if word not in name:
+        continue
+    once, twice = (took - start for took in least(turns, *(make(size * k).encode() for k in (1, 2))))
     holds = holds and twice / once <= 2.3
     print("%s of %d and %d bytes: %.1f ms and %.1f ms, ratio %.2f (2.3 at most)" % (name, size, size * 2, once * 1000, twice * 1000, twice / once))
+
+for name, make, many in [("data of a record by its fields", fields_row, 500), ("data of a union by its members", members_row, 500),
+                         ("data of an enum by its symbols", symbols_row, 2000), ("data of a record by the letters of its name", name_row, 50_000)]:
+    if word not in name:
+        continue
+    costs = []
+    for parts in (many, many * 2):
+        writer, reader, payload, data = make(parts)
+        schemas = (writer + "\n" + reader + "\n").encode()
+        alone, whole_line = least(10, schemas, schemas + payload.hex().encode() + b"\n")
+        costs.append((whole_line - alone) / data)
+    holds = holds and costs[1] / costs[0] <= 1.5
+    print("%s, %d and %d: %.1f ns and %.1f ns a datum, ratio %.2f (1.5 at most)" % (name, many, many * 2, costs[0] * 1e9, costs[1] * 1e9, costs[1] / costs[0]))
 sys.exit(0 if holds else 1)
 PYTHON

@@ -1,5 +1,5 @@
 -- The lines of X are good.
-use Rattle.std.proofs.Common.{◌≡◌, ℕ, zero, suc, ◌<◌, Bool, true, false, cond, List, [], ◌∷◌, length, map, Option, Some, None, IfSome, refl, sym, ap, ◌∙◌, subst, arith}
+use Rattle.std.proofs.Common.{◌≡◌, ℕ, zero, suc, ◌<◌, Bool, true, false, cond, List, [], ◌∷◌, length, map, Option, Some, None, IfSome, ℤ, refl, sym, ap, ◌∙◌, subst, arith}
 use Rattle.std.specs.Prelude.{◌+◌, ◌/◌, ◌%◌, pos, slice_get, nat_lt}
 use Rattle.std.specs.List.{AllByRecursion}
 use Rattle.avro_bytes.specs.Number.{zigzag}
@@ -36,9 +36,9 @@ some_groups left n = by_test (nat_lt n 128)
     by_test true = omega arith
     by_test false = omega arith
 
-some_shortest : (j : ℕ) → 0 < length (shortest (pos j))
+pub some_shortest : (n : ℤ) → 0 < length (shortest n)
 unfolding shortest
-some_shortest j = some_groups 9 (zigzag (pos j))
+some_shortest n = some_groups 9 (zigzag n)
 
 module _ (W R : List Node) (formed : IsWellFormed W) (theirs : IsWellFormed R) where
   abbrev Good : List Line → Type 0
@@ -154,7 +154,7 @@ module _ (W R : List Node) (formed : IsWellFormed W) (theirs : IsWellFormed R) w
 
     placed_good : (r : ℕ) → r < length R → is_union (slice_get W w) ≡ false → (p : Place) → place W R w r ≡ p → Good (placed_node W R F w r p)
     placed_good r below plain Straight e = let is = place_is w r Straight e in straight_good r below is.0 is.1 (slice_get W w) refl plain
-    placed_good r below plain (IntoMember j m) e = let is = place_is w r (IntoMember j m) e in (some_shortest j, straight_good m is.0 is.1 is.2 (slice_get W w) refl plain)
+    placed_good r below plain (IntoMember j m) e = let is = place_is w r (IntoMember j m) e in (some_shortest (pos j), straight_good m is.0 is.1 is.2 (slice_get W w) refl plain)
     placed_good r below plain Nowhere e = (miss_near kinds.NoBranch w r lt below, good_K W R formed w lt)
     placed_good r below plain Unmatched e = (miss_near kinds.NoMatch w r lt below, good_K W R formed w lt)
 

@@ -33,10 +33,10 @@ pair_at p q = then_at (nat_cmp p.0 q.0) (nat_cmp p.1 q.1) ∙ ap (λ x. x && is_
 both : (a b c d : ℕ) → ((a == b) && (c == d)) ≡ true → (a ≡ b) × (c ≡ d)
 both a b c d e = grind arith
 
-pair_is : (p q : ℕ × ℕ) → is_eq (pair_cmp p q) ≡ true → q ≡ p
+pub pair_is : (p q : ℕ × ℕ) → is_eq (pair_cmp p q) ≡ true → q ≡ p
 pair_is p q e = let parts = both q.0 p.0 q.1 p.1 (sym (pair_at p q) ∙ e) in ap (λ a. (a, q.1)) parts.0 ∙ ap (λ b. (p.0, b)) parts.1
 
-number_is : (x y : ℕ) → Some x ≡ Some y → x ≡ y
+pub number_is : (x y : ℕ) → Some x ≡ Some y → x ≡ y
 number_is x y e = cc
 
 module _ (W R : List Node) (ms : List Mismatch) where

@@ -1,16 +1,19 @@
 -- Things in a row, each once, and where each is found.
-use Rattle.std.specs.Prelude.{◌≡◌, ℕ, Bool, List, map, slice_get, Option, Some, None, if◌then◌else◌}
+use Rattle.std.specs.Prelude.{◌≡◌, ℕ, Bool, true, List, map, slice_get, Option, Some, None, if◌then◌else◌}
 use Rattle.std.specs.declared.cmp.Ordering.{Ordering}
 use Rattle.std.specs.Ordering.{nat_cmp, ordering_then}
 use Rattle.std.specs.Cmp.Lexicographic.{slice_cmp}
 use Rattle.std.specs.BTreeMap.{BTreeMap, get}
+use Rattle.std.specs.BTreeSet.{BTreeSet, contains}
 use Rattle.std.specs.Global.{Vec}
+use Rattle.std.specs.List.{AllByRecursion}
 use Rattle.std.specs.Str.{bytes_eq}
 use Rattle.outcome.specs.declared.mismatch.Mismatch.{Mismatch}
 use Rattle.avro_types.specs.Node.{Node}
 use Rattle.isa.specs.declared.entry.Entry.{Entry}
-use Rattle.program_code.specs.Numbering.{entry_of, has, kind_number, number, same_miss}
-use Rattle.program_lines.specs.Lines.{targets_of}
+use Rattle.program_code.specs.Numbering.{entry_of, has, kind_number, lacked, number, same_miss}
+use Rattle.program_lines.specs.declared.lines.Constant.TheVariants.{Default}
+use Rattle.program_lines.specs.Lines.{bytes_of, targets_of}
 use Rattle.program_compiler.specs.declared.constants.Constants.TheInside as constants
 use Rattle.program_compiler.specs.declared.misses.Misses.TheInside as misses
 
@@ -42,3 +45,13 @@ pair_cmp p q = ordering_then (nat_cmp p.0 q.0) (nat_cmp p.1 q.1)
 abbrev pub AreShared : List Node → List Node → List Mismatch → BTreeMap (ℕ × ℕ) ℕ → List (List Entry) → Type 0
 AreShared W R misses numbers maps = (pair : ℕ × ℕ) (n : ℕ) → get pair_cmp numbers pair ≡ Some n
     → slice_get maps n ≡ Some (map (entry_of misses) (targets_of W R pair.0 pair.1))
+
+-- of each of these pairs of enums all misses are there
+abbrev pub AreNoted : List Node → List Node → BTreeSet (ℕ × ℕ) → List Mismatch → Type 0
+AreNoted W R pairs misses = (pair : ℕ × ℕ) → contains pair_cmp pairs pair ≡ true
+    → AllByRecursion (λ m. has same_miss m misses ≡ true) (lacked (targets_of W R pair.0 pair.1))
+
+-- under a reader's record and a field of it stands the number of the field's default
+abbrev pub AreDefaults : List Node → BTreeMap (ℕ × ℕ) ℕ → List (List ℕ) → Type 0
+AreDefaults R defaults constants = (field : ℕ × ℕ) (n : ℕ) → get pair_cmp defaults field ≡ Some n
+    → found bytes_eq (bytes_of R (Default field.0 field.1)) constants ≡ Some n

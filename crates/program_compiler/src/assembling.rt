@@ -16,6 +16,7 @@ use avro_types::Nodes;
 use isa::{MOST_INSTRS, MOST_TABLES, Parts};
 use program_lines::{CompileError, Line, Listing};
 use std::alloc::Global;
+use std::collections::BTreeMap;
 
 /// Whether there is no code for a line.
 fn is_lost(line: &Line) -> bool
@@ -55,7 +56,8 @@ pub(crate) fn assemble(
     if !are_whole(lines) {
         return Err(CompileError::ProgramTooLarge);
     }
-    let Some(constants) = gather_constants(alloc, r, lines)? else {
+    let mut defaults = BTreeMap::new(alloc);
+    let Some(constants) = gather_constants(alloc, &mut defaults, r, lines)? else {
         return Err(CompileError::ProgramTooLarge);
     };
     let misses = gather_misses(alloc, w, r, lines)?;
@@ -69,6 +71,7 @@ pub(crate) fn assemble(
     let tables = Tables {
         listing,
         constants: &constants,
+        defaults: &defaults,
         misses: &misses,
     };
     let code = match link(alloc, r, &tables) {

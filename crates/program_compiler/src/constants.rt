@@ -6,7 +6,8 @@ ghost use Rattle.avro_types.specs.Node.{Node};
 ghost use Rattle.outcome.specs.declared.limits.TheConstants.{MOST_OUTPUT};
 ghost use Rattle.program_code.specs.Numbering.{adding, constants_of, named_in, number};
 ghost use Rattle.program_compiler.specs.Parts.{Notes};
-ghost use Rattle.program_compiler.specs.Tables.{found};
+ghost use Rattle.program_compiler.specs.Tables.{AreDefaults, found};
+ghost use Rattle.program_lines.specs.declared.lines.Constant.TheVariants.{Default};
 ghost use Rattle.program_lines.specs.Lines.{default_of, fields_of_record, line_of, lines_in};
 ghost use Rattle.program_lines.specs.Lines.{bytes_of as bytes_of_constant};
 
@@ -153,35 +154,84 @@ pub(crate) fn bytes_of(
     }
 }
 
+/// Constants with a field's default, or none where that has too many bytes. One that came before is not written again.
+fn with_default(
+    alloc: Global,
+    constants: Constants,
+    defaults: &mut BTreeMap<(usize, usize), usize>,
+    r: &Nodes,
+    reader: usize,
+    field: usize,
+) -> Result<Option<Constants>, AllocError>
+    requires { AreDefaults r.now defaults.old constants }
+    ensures notes { IfOk result (λ o. Notes o constants (bytes_of_constant r.now (Default reader field) ∷ [])) }
+    ensures defaults { IfOk result (λ o. IfSome o (λ more. AreDefaults r.now defaults.new more)) }
+{
+    if defaults.contains_key(&(reader, field)) {
+        return Ok(Some(constants));
+    }
+    let Some(bytes) = bytes_of(alloc, r, Constant::Default { reader, field })? else {
+        return Ok(None);
+    };
+    let number = constants.number_of(&bytes);
+    let more = constants.with(bytes)?;
+    defaults.insert((reader, field), number)?;
+    Ok(Some(more))
+}
+
+/// Constants with another constant, or none where that has too many bytes.
+fn with_constant(
+    alloc: Global,
+    constants: Constants,
+    defaults: &mut BTreeMap<(usize, usize), usize>,
+    r: &Nodes,
+    constant: Constant,
+) -> Result<Option<Constants>, AllocError>
+    requires { AreDefaults r.now defaults.old constants }
+    ensures notes { IfOk result (λ o. Notes o constants (bytes_of_constant r.now constant ∷ [])) }
+    ensures defaults { IfOk result (λ o. IfSome o (λ more. AreDefaults r.now defaults.new more)) }
+{
+    if let Constant::Default { reader, field } = constant {
+        return with_default(alloc, constants, defaults, r, reader, field);
+    }
+    match bytes_of(alloc, r, constant)? {
+        Some(bytes) => Ok(Some(constants.with(bytes)?)),
+        None => Ok(None),
+    }
+}
+
 /// Constants with the one that a line names, or none where that has too many bytes.
 fn noted(
     alloc: Global,
     constants: Constants,
+    defaults: &mut BTreeMap<(usize, usize), usize>,
     r: &Nodes,
     line: &Line,
 ) -> Result<Option<Constants>, AllocError>
-    ensures { IfOk result (λ o. (W : List Node) → Notes o constants (constants_of (line_of W r.now line.now))) }
+    requires { AreDefaults r.now defaults.old constants }
+    ensures notes { IfOk result (λ o. (W : List Node) → Notes o constants (constants_of (line_of W r.now line.now))) }
+    ensures defaults { IfOk result (λ o. IfSome o (λ more. AreDefaults r.now defaults.new more)) }
 {
     match line {
-        Line::Put(constant) => match bytes_of(alloc, r, *constant)? {
-            Some(bytes) => Ok(Some(constants.with(bytes)?)),
-            None => Ok(None),
-        },
+        Line::Put(constant) => with_constant(alloc, constants, defaults, r, *constant),
         _ => Ok(Some(constants)),
     }
 }
 
-/// The constants that lines name, or none where one has too many bytes.
+/// The constants that lines name, or none where one has too many bytes; and the numbers of the defaults among them.
 pub(crate) fn gather_constants(
     alloc: Global,
+    defaults: &mut BTreeMap<(usize, usize), usize>,
     r: &Nodes,
     lines: &[Line],
 ) -> Result<Option<Constants>, AllocError>
-    ensures { IfOk result (λ o. (W : List Node) → Notes o [] (named_in constants_of (lines_in W r.now lines.now))) }
+    requires { AreDefaults r.now defaults.old [] }
+    ensures notes { IfOk result (λ o. (W : List Node) → Notes o [] (named_in constants_of (lines_in W r.now lines.now))) }
+    ensures defaults { IfOk result (λ o. IfSome o (λ more. AreDefaults r.now defaults.new more)) }
 {
     let mut constants = Constants::new(alloc);
     for line in lines {
-        match noted(alloc, constants, r, line)? {
+        match noted(alloc, constants, defaults, r, line)? {
             Some(more) => constants = more,
             None => return Ok(None),
         }

@@ -1,10 +1,12 @@
-ghost use Rattle.std.specs.Prelude.{◌≡◌, ◌+◌, ◌<◌, ◌≤◌, ◌∷◌, [], ℕ, List, length};
+ghost use Rattle.std.specs.Prelude.{◌≡◌, ◌+◌, ◌<◌, ◌≤◌, ◌∷◌, [], ℕ, List, length, IfOk, MatchOption};
 ghost use Rattle.std.specs.Str.{bytes_eq};
 ghost use Rattle.avro_types.specs.Node.{Node};
+ghost use Rattle.outcome.specs.declared.limits.TheConstants.{MOST_OUTPUT};
 ghost use Rattle.isa.specs.declared.instr.Instr.TheVariants as op;
 ghost use Rattle.program_code.specs.Numbering.{code_from, jumps_of, maps_of, number};
 ghost use Rattle.program_code.specs.Numbering.{linked as instr_of};
 ghost use Rattle.program_compiler.specs.Linking.{instr_with};
+ghost use Rattle.program_compiler.specs.Tables.{AreDefaults};
 ghost use Rattle.program_compiler.specs.Parts.{Links, LinksAll, LinksTo, Narrows};
 ghost use Rattle.program_lines.specs.Lines.{line_of, lines_in};
 ghost use Rattle.program_lines.specs.Lines.{bytes_of as bytes_of_constant};
@@ -16,7 +18,8 @@ use crate::misses::Misses;
 use avro_types::Nodes;
 use isa::{Instr, MOST_INSTRS};
 use program_lines::{CompileError, Constant, Go, Line, Listing};
-use std::alloc::Global;
+use std::alloc::{AllocError, Global};
+use std::collections::BTreeMap;
 
 /// How many maps and jump tables the lines before have.
 #[derive(Clone, Copy)]
@@ -30,6 +33,7 @@ struct Counts {
 pub(crate) struct Tables<'t> {
     pub(crate) listing: &'t Listing,
     pub(crate) constants: &'t Constants,
+    pub(crate) defaults: &'t BTreeMap<(usize, usize), usize>,
     pub(crate) misses: &'t Misses,
 }
 
@@ -74,17 +78,40 @@ fn of_number(kind: Numbered, number: Option<u32>) -> Result<Instr, CompileError>
     }
 }
 
+/// The number of a constant, or none where it has too many bytes. A default that was noted is not written again.
+fn number_of(
+    alloc: Global,
+    r: &Nodes,
+    tables: &Tables,
+    constant: Constant,
+) -> Result<Option<usize>, AllocError>
+    requires { AreDefaults r.now tables.now.defaults.now tables.now.constants.now }
+    ensures { IfOk result (λ o. MatchOption o (MOST_OUTPUT < length (bytes_of_constant r.now constant))
+        (λ n. n ≡ number bytes_eq (bytes_of_constant r.now constant) tables.now.constants.now)) }
+{
+    if let Constant::Default { reader, field } = constant {
+        if let Some(number) = tables.defaults.get(&(reader, field)).copied() {
+            return Ok(Some(number));
+        }
+    }
+    match bytes_of(alloc, r, constant)? {
+        Some(bytes) => Ok(Some(tables.constants.number_of(&bytes))),
+        None => Ok(None),
+    }
+}
+
 /// The instruction that puts a constant.
 fn putting(
     alloc: Global,
     r: &Nodes,
-    constants: &Constants,
+    tables: &Tables,
     constant: Constant,
 ) -> Result<Instr, CompileError>
-    ensures { LinksTo (bytes_of_constant r.now constant ∷ []) (op.Put (number bytes_eq (bytes_of_constant r.now constant) constants.now)) result }
+    requires { AreDefaults r.now tables.now.defaults.now tables.now.constants.now }
+    ensures { LinksTo (bytes_of_constant r.now constant ∷ []) (op.Put (number bytes_eq (bytes_of_constant r.now constant) tables.now.constants.now)) result }
 {
-    match bytes_of(alloc, r, constant)? {
-        Some(bytes) => of_number(Numbered::Put, operand(constants.number_of(&bytes))),
+    match number_of(alloc, r, tables, constant)? {
+        Some(number) => of_number(Numbered::Put, operand(number)),
         None => Err(CompileError::ProgramTooLarge),
     }
 }
@@ -98,11 +125,12 @@ fn linked(
     counts: Counts,
     line: &Line,
 ) -> Result<Instr, CompileError>
+    requires { AreDefaults r.now tables.now.defaults.now tables.now.constants.now }
     ensures { (W : List Node) → Links (line_of W r.now line.now) (instr_of (start_at tables.now.listing.now) tables.now.constants.now tables.now.misses.now pc counts.maps counts.jumps (line_of W r.now line.now)) result }
 {
     match line {
         Line::Op(instr) => Ok(*instr),
-        Line::Put(constant) => putting(alloc, r, tables.constants, *constant),
+        Line::Put(constant) => putting(alloc, r, tables, *constant),
         Line::Miss(miss) => of_number(Numbered::Miss, operand(tables.misses.number_of(*miss))),
         Line::BytesText(miss) => {
             of_number(Numbered::BytesText, operand(tables.misses.number_of(*miss)))
@@ -141,7 +169,8 @@ fn counted(counts: Counts, line: &Line) -> Counts
 
 /// The code of all lines.
 pub(crate) fn link(alloc: Global, r: &Nodes, tables: &Tables) -> Result<Vec<Instr>, CompileError>
-    requires { length tables.now.listing.now.lines ≤ MOST_INSTRS }
+    requires few { length tables.now.listing.now.lines ≤ MOST_INSTRS }
+    requires defaults { AreDefaults r.now tables.now.defaults.now tables.now.constants.now }
     ensures { (W : List Node) → LinksAll (lines_in W r.now tables.now.listing.now.lines) (code_from (start_at tables.now.listing.now) tables.now.constants.now tables.now.misses.now 0 0 0 (lines_in W r.now tables.now.listing.now.lines)) result }
 {
     let lines = tables.listing.lines();

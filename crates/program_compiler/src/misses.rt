@@ -3,7 +3,7 @@ ghost use Rattle.program_code.specs.Numbering.{adding, lacked, misses_in, misses
 ghost use Rattle.program_code.specs.Numbering.{kind_number as number_of_kind};
 ghost use Rattle.program_code.specs.Writing.{target};
 ghost use Rattle.program_lines.specs.Lines.{line_of, lines_in, targets_of};
-ghost use Rattle.program_compiler.specs.Tables.{found};
+ghost use Rattle.program_compiler.specs.Tables.{AreNoted, found};
 ghost use Rattle.program_compiler.specs.Tables.{key_of as key_of_miss};
 
 use crate::maps::{position_for, symbols};
@@ -11,7 +11,7 @@ use avro_types::Nodes;
 use outcome::{Mismatch, MismatchKind};
 use program_lines::Line;
 use std::alloc::{AllocError, Global};
-use std::collections::BTreeMap;
+use std::collections::{BTreeMap, BTreeSet};
 use std::marker::Model;
 
 /// A number for each kind.
@@ -153,14 +153,41 @@ fn note_symbols(
     Ok(())
 }
 
+/// Adds the misses of a pair of enums. A pair that came before has no further one.
+fn note_pair(
+    misses: &mut Misses,
+    pairs: &mut BTreeSet<(usize, usize)>,
+    w: &Nodes,
+    r: &Nodes,
+    writer: usize,
+    reader: usize,
+) -> Result<(), AllocError>
+    requires { AreNoted w.now r.now pairs.old misses.old }
+    ensures added { OnOk result (misses.new ≡ adding same_miss misses.old (lacked (targets_of w.now r.now writer reader))) }
+    ensures noted { OnOk result (AreNoted w.now r.now pairs.new misses.new) }
+{
+    if !pairs.insert((writer, reader))? {
+        return Ok(());
+    }
+    note_symbols(misses, w, r, writer, reader)
+}
+
 /// Adds the misses that a line names.
-fn note(misses: &mut Misses, w: &Nodes, r: &Nodes, line: &Line) -> Result<(), AllocError>
-    ensures { OnOk result (misses.new ≡ adding same_miss misses.old (misses_of (line_of w.now r.now line.now))) }
+fn note(
+    misses: &mut Misses,
+    pairs: &mut BTreeSet<(usize, usize)>,
+    w: &Nodes,
+    r: &Nodes,
+    line: &Line,
+) -> Result<(), AllocError>
+    requires { AreNoted w.now r.now pairs.old misses.old }
+    ensures added { OnOk result (misses.new ≡ adding same_miss misses.old (misses_of (line_of w.now r.now line.now))) }
+    ensures noted { OnOk result (AreNoted w.now r.now pairs.new misses.new) }
 {
     match line {
         Line::Miss(miss) => misses.add(*miss),
         Line::BytesText(miss) => misses.add(*miss),
-        Line::Enum { writer, reader } => note_symbols(misses, w, r, *writer, *reader),
+        Line::Enum { writer, reader } => note_pair(misses, pairs, w, r, *writer, *reader),
         _ => Ok(()),
     }
 }
@@ -175,8 +202,9 @@ pub(crate) fn gather_misses(
     ensures { IfOk result (λ misses. misses ≡ misses_in (lines_in w.now r.now lines.now)) }
 {
     let mut misses = Misses::new(alloc);
+    let mut pairs = BTreeSet::new(alloc);
     for line in lines {
-        note(&mut misses, w, r, line)?;
+        note(&mut misses, &mut pairs, w, r, line)?;
     }
     Ok(misses)
 }

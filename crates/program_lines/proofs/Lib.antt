@@ -1,4 +1,5 @@
 pub mod Appended
+pub mod NoBytes
 pub mod Members
 pub mod Numbered
 pub mod RoutineSteps

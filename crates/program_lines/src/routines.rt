@@ -39,7 +39,6 @@ fn have_partners(alloc: Global, routes: &[Route], many: usize) -> Result<Vec<boo
 
 /// Adds the lines of a reader's field, if it has no partner and its written default is not empty.
 fn put_default(
-    alloc: Global,
     reader: usize,
     position: usize,
     has_partner: bool,
@@ -57,8 +56,7 @@ fn put_default(
     let Some(default) = &field.default else {
         return Ok(());
     };
-    let blank = is_blank(alloc, default)?;
-    if blank {
+    if is_blank(default) {
         return Ok(());
     }
     put(lines, Line::Op(Instr::Slot(position as u32)))?;
@@ -86,14 +84,7 @@ fn put_defaults(
 {
     let marks = have_partners(alloc, routes, rs.len())?;
     for position in 0..rs.len() {
-        put_default(
-            alloc,
-            reader,
-            position,
-            marks[position],
-            &rs[position],
-            lines,
-        )?;
+        put_default(reader, position, marks[position], &rs[position], lines)?;
     }
     Ok(())
 }

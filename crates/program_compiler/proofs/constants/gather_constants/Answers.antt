@@ -9,11 +9,14 @@ use Rattle.program_compiler.proofs.Linked.{at_some, long_line}
 use Rattle.program_compiler.proofs.Tables.{listed_on}
 use Rattle.program_compiler.proofs.constants.gather_constants.Goals as goal
 
-pub returns : goal.returns
-returns c = λ W. ap (λ ls. adding bytes_eq c.loop-line.constants (named_in constants_of (lines_in W c.args.r.now ls))) (sym (drop_of_length-le c.args.lines.now c.loop-line-test.false)) ∙ c.loop-line.invariant W
+pub returns-clause-notes : goal.returns-clause-notes
+returns-clause-notes c = λ W. ap (λ ls. adding bytes_eq c.loop-line.constants (named_in constants_of (lines_in W c.args.r.now ls))) (sym (drop_of_length-le c.args.lines.now c.loop-line-test.false)) ∙ c.loop-line.invariant.so_far W
 
-pub returns-in-None : goal.returns-in-None
-returns-in-None c = λ W. long_line W c.args.r.now c.args.lines.now c.loop-line.line-index c.line-item.result c.loop-line-test.true c.line-item.is (at_none _ _ _ c.in-None.is (c.in_ok-more.ensures W))
+pub returns-in-None-clause-notes : goal.returns-in-None-clause-notes
+returns-in-None-clause-notes c = λ W. long_line W c.args.r.now c.args.lines.now c.loop-line.line-index c.line-item.result c.loop-line-test.true c.line-item.is (at_none _ _ _ c.in-None.is (c.in_ok-more.ensures.notes W))
 
 pub loop-line-preserved : goal.loop-line-preserved
-loop-line-preserved c = λ W. listed_on bytes_eq constants_of W c.args.r.now c.args.lines.now c.loop-line.line-index c.line-item.result _ _ _ c.loop-line-test.true c.line-item.is (at_some _ _ _ _ c.in-Some.is (c.in_ok-more.ensures W)) (c.loop-line.invariant W)
+loop-line-preserved c = record {
+  defaults = at_some _ _ _ _ c.in-Some.is c.in_ok-more.ensures.defaults;
+  so_far = λ W. listed_on bytes_eq constants_of W c.args.r.now c.args.lines.now c.loop-line.line-index c.line-item.result _ _ _ c.loop-line-test.true c.line-item.is (at_some _ _ _ _ c.in-Some.is (c.in_ok-more.ensures.notes W)) (c.loop-line.invariant.so_far W);
+}

@@ -1,5 +1,5 @@
 -- The number of the constant's bytes.
-use Rattle.std.proofs.Common.{◌≡◌, ◌∷◌, [], ◌∙◌, ap, subst}
+use Rattle.std.proofs.Common.{◌≡◌, ◌∷◌, [], subst}
 use Rattle.std.specs.Str.{bytes_eq}
 use Rattle.program_code.specs.Numbering.{number}
 use Rattle.program_lines.specs.Lines.{bytes_of as bytes_of_constant}
@@ -10,5 +10,5 @@ use Rattle.program_compiler.proofs.linking.putting.Goals as goal
 pub returns-in-Some : goal.returns-in-Some
 returns-in-Some c =
     let bytes = bytes_of_constant c.args.r.now c.args.constant in
-    let same : c.in-Some.bytes.items ≡ bytes = at_some _ _ _ _ c.in-Some.is c.in_ok-bytes.ensures in
-    c.of_number.ensures (bytes ∷ []) _ (subst (Narrows c.operand.result) (c.number_of.ensures ∙ ap (λ b. number bytes_eq b c.args.constants.now) same) c.operand.ensures)
+    let same : c.in-Some.number ≡ number bytes_eq bytes c.args.tables.now.constants.now = at_some _ _ _ _ c.in-Some.is c.in_ok-number.ensures in
+    c.of_number.ensures (bytes ∷ []) _ (subst (Narrows c.operand.result) same c.operand.ensures)
