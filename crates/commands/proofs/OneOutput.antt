@@ -3,9 +3,7 @@ use Rattle.std.proofs.Common.{◌≡◌, ℕ, Bool, true, false, List, [], ◌�
 use Rattle.std.specs.List.{concat}
 use Rattle.avro_types.specs.Node.{Node}
 use Rattle.assembler.specs.Assembling.{assembled}
-use Rattle.assembler.specs.declared.fault.AsmFault.{AsmFault}
 use Rattle.isa.specs.Program.{Program}
-use Rattle.isa.specs.State.{State}
 use Rattle.program_code.specs.Code.{code_of}
 use Rattle.outcome.specs.Outcome.{Outcome}
 use Rattle.outcome.specs.declared.limits.TheConstants.{MOST_PAYLOAD}
@@ -19,7 +17,6 @@ use Rattle.commands.specs.Payload.{payload_of}
 use Rattle.commands.specs.Refusal.{IsRefused, text_of}
 use Rattle.commands.specs.Running.{IsRunAnswer, IsRunLine, StopsIn, line_of_run, pieces_of}
 use Rattle.commands.specs.Schemas.{schemas_of}
-use Rattle.commands.specs.declared.command.Verb.{Verb}
 use Rattle.commands.specs.declared.command.Verb.TheVariants.{Compile, Run, Transcode}
 use Rattle.commands.specs.declared.refusal.Refusal.{Refusal}
 use Rattle.commands.specs.declared.refusal.Refusal.TheVariants.{BadListing, ProgramTooLarge}

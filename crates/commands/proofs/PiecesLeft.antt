@@ -1,5 +1,5 @@
 -- The pieces of a line, one after another.
-use Rattle.std.proofs.Common.{◌≡◌, ◌<◌, ℕ, zero, suc, ◌+◌, Bool, true, false, List, [], ◌∷◌, ◌++◌, length, take, Bor, Option, Some, None, MatchOption, nat_le, nat_lt, refl, sym, ap, ◌∙◌, append-nil, append_assoc, add-one, arith, length-append, Result, Ok, Err, OnOk, codes}
+use Rattle.std.proofs.Common.{◌≡◌, ◌<◌, ℕ, zero, suc, ◌+◌, true, false, List, [], ◌∷◌, ◌++◌, length, take, Bor, Option, Some, None, MatchOption, nat_le, nat_lt, refl, sym, ap, ◌∙◌, append-nil, append_assoc, add-one, arith, length-append, Result, Ok, Err, OnOk, codes}
 use Rattle.std.specs.Prelude.{if◌then◌else◌, slice_get}
 use Rattle.std.specs.Result.{is_ok}
 use Rattle.std.specs.List.{concat}
