@@ -30,5 +30,14 @@ printf '%sno message\n' "$schemas" | "$program" compile >"$out" 2>"$err"; want '
 printf '"int"\n"float"\n' | "$program" compile >"$out" 2>"$err"; want 'compile and a bad schema' 1 some none
 printf '%s' "$schemas" | "$program" transcode --image >"$out" 2>"$err"; want 'transcode --image' 2 none some
 printf '%s' "$schemas" | "$program" compile >/dev/full 2>"$err"; status=$?; : >"$out"; (exit $status); want 'compile to a full device' 3 none none
+listing=$'avro program 1\n0 TEXT\n1 HALT\nend\n'
+printf '%s02|61\n' "$listing" | "$program" run >"$out" 2>"$err"; want run 0 some none
+printf '%s02|61\n' "$listing" | "$program" run --steps 1 >"$out" 2>"$err"; want 'run --steps' 0 some none
+printf '%s' "$listing" | "$program" run >"$out" 2>"$err"; want 'run and no payload' 0 none none
+printf 'end\n02\n' | "$program" run >"$out" 2>"$err"; want 'run and a bad listing' 1 some none
+printf '%s' "$listing" | "$program" run --steps 0 >"$out" 2>"$err"; want 'run --steps 0' 2 none some
+printf '%s' "$listing" | "$program" run --steps 1000000001 >"$out" 2>"$err"; want 'run and too many steps' 2 none some
+printf '%s' "$listing" | "$program" run --image >"$out" 2>"$err"; want 'run --image' 2 none some
+printf '%s02|61\n' "$listing" | "$program" run >/dev/full 2>"$err"; status=$?; : >"$out"; (exit $status); want 'run to a full device' 3 none none
 echo "$passed passed, $failed failed"
 [ "$failed" = 0 ]

@@ -9,7 +9,7 @@ ghost use Rattle.commands.specs.declared.status.Status.TheVariants.{BadTraffic, 
 mod tests;
 
 use clap::error::ErrorKind;
-use clap::{Arg, ArgAction, ArgMatches, Command};
+use clap::{Arg, ArgAction, ArgMatches, Command, value_parser};
 use commands::{RunError, Status, Verb, run};
 use std::alloc::{AllocError, Global};
 use std::io;
@@ -28,11 +28,22 @@ fn command_line<'a>(alloc: Global) -> Result<Command<'a>, AllocError> {
     let compile = Command::new(alloc, "compile")
         .about("Prints the program that transcodes from a writer's schema to a reader's")
         .arg(image)?;
+    let steps = Arg::new(alloc, "steps")
+        .long("steps")
+        .value_name("N")
+        .action(ArgAction::Set)
+        .value_parser(value_parser!(u64).range(1..=1_000_000_000))
+        .default_value("1000000")
+        .help("How many rows the run on a payload takes at most");
+    let run = Command::new(alloc, "run")
+        .about("Runs the program of a listing on payloads, whose pieces are parted by bars")
+        .arg(steps)?;
     Command::new(alloc, "avrogate")
         .about("Transcodes Avro data between standard input and standard output")
         .subcommand_required(true)
         .subcommand(transcode)?
-        .subcommand(compile)
+        .subcommand(compile)?
+        .subcommand(run)
 }
 
 /// What the words ask for.
@@ -41,6 +52,9 @@ fn verb_of(matches: &ArgMatches<'_>) -> Option<Verb> {
         Some(("transcode", _)) => Some(Verb::Transcode),
         Some(("compile", words)) => Some(Verb::Compile {
             image: words.get_flag("image"),
+        }),
+        Some(("run", words)) => Some(Verb::Run {
+            steps: words.get_one("steps")?,
         }),
         _ => None,
     }

@@ -1,5 +1,8 @@
 pub mod Answers
 pub mod OneOutput
+pub mod PiecesLeft
 pub mod SchemaLines
 pub mod Split
+pub mod Stopping
 pub mod Traffic
+pub mod UpToEnd

@@ -1,5 +1,5 @@
 -- How the first LF splits the lines of an input.
-use Rattle.std.proofs.Common.{◌≡◌, ℕ, zero, suc, ◌+◌, ◌<◌, nat_eq, Bool, true, false, List, [], ◌∷◌, length, take, drop, get_or, refl, ap, add-one, arith}
+use Rattle.std.proofs.Common.{◌≡◌, ℕ, zero, suc, ◌+◌, ◌<◌, nat_eq, Bool, true, false, List, [], ◌∷◌, ◌++◌, length, take, drop, get_or, refl, ap, add-one, arith}
 use Rattle.std.proofs.lemmas.Bool.{eqb-true}
 use Rattle.std.proofs.lemmas.List.{drop_all}
 use Rattle.commands.specs.Lines.{lines, in_front}
@@ -51,3 +51,13 @@ lines_last [] h none = absurd (cc)
 lines_last (x ∷ xs) h none =
     let nothing : drop (length xs) xs ≡ [] = drop_all (length xs) xs (omega arith) in
     rw nothing (rw lines_none (lines_whole (x ∷ xs) (omega arith) none), omega arith)
+
+-- ---- where the first line stands
+
+parted : (xs : List ℕ) (k : ℕ) → k < length xs → nat_eq (get_or xs k 0) 10 ≡ true → xs ≡ take k xs ++ 10 ∷ drop (suc k) xs
+parted [] k h here = absurd (omega arith)
+parted (x ∷ xs) zero h here = ap (λ b. b ∷ xs) (eqb-true x 10 here)
+parted (x ∷ xs) (suc k) h here = ap (λ ys. x ∷ ys) (parted xs k (omega arith) here)
+
+pub first_parted : (xs : List ℕ) (k : ℕ) → k < length xs → nat_eq (get_or xs k 0) 10 ≡ true → xs ≡ take k xs ++ 10 ∷ drop (k + 1) xs
+first_parted xs k h here = rw add-one (parted xs k h here)

@@ -34,7 +34,10 @@ abbrev pub IsAnswer : List Node → List Node → List ℕ → List ℕ → Type
 IsAnswer W R line answer = MatchOption (payload_of line) (answer ≡ codes "bad hex") (IsPayloadAnswer W R answer)
 
 -- the answers to lines, each ended by an LF
-unfoldable pub IsAnswers : List Node → List Node → List (List ℕ) → List ℕ → Type 0
-IsAnswers W R [] output = output ≡ []
-IsAnswers W R (line ∷ later) output =
-    (answer : List ℕ) × (rest : List ℕ) × IsAnswer W R line answer × IsAnswers W R later rest × (output ≡ answer ++ 10 ∷ rest)
+unfoldable pub AreAnswers : (List ℕ → List ℕ → Type 0) → List (List ℕ) → List ℕ → Type 0
+AreAnswers IsAnswer [] output = output ≡ []
+AreAnswers IsAnswer (line ∷ later) output =
+    (answer : List ℕ) × (rest : List ℕ) × IsAnswer line answer × AreAnswers IsAnswer later rest × (output ≡ answer ++ 10 ∷ rest)
+
+abbrev pub IsAnswers : List Node → List Node → List (List ℕ) → List ℕ → Type 0
+IsAnswers W R = AreAnswers (IsAnswer W R)

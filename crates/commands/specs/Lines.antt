@@ -1,5 +1,5 @@
 -- The lines of an input.
-use Rattle.std.specs.Prelude.{ℕ, ◌==◌, if◌then◌else◌, List, [], ◌∷◌}
+use Rattle.std.specs.Prelude.{◌≡◌, ◌⊎◌, ℕ, ◌==◌, if◌then◌else◌, List, [], ◌∷◌, ◌++◌}
 
 -- a byte at the front of the first line, which is a new one where there was none
 unfoldable pub in_front : ℕ → List (List ℕ) → List (List ℕ)
@@ -10,3 +10,7 @@ in_front byte (line ∷ later) = (byte ∷ line) ∷ later
 unfoldable pub lines : List ℕ → List (List ℕ)
 lines [] = []
 lines (byte ∷ rest) = if byte == 10 then [] ∷ lines rest else in_front byte (lines rest)
+
+-- the first line, ended by an LF or by the last byte, and what follows it
+abbrev pub IsFirst : List ℕ → List ℕ → List ℕ → Type 0
+IsFirst bytes line later = (bytes ≡ line ++ 10 ∷ later) ⊎ ((bytes ≡ line) × (later ≡ []))

@@ -2,17 +2,20 @@
 use Rattle.std.specs.Prelude.{◌≡◌, ℕ, Bool, List, [], ◌∷◌, ◌++◌, drop, if◌then◌else◌, MatchOption, MatchResult}
 use Rattle.hex.specs.Hex.{encode_lower}
 use Rattle.avro_types.specs.Node.{Node}
+use Rattle.assembler.specs.Assembling.{assembled}
 use Rattle.assembler.specs.Listing.{listing_of}
 use Rattle.avro_loader.specs.Image.{image_of}
 use Rattle.isa.specs.Program.{Program}
 use Rattle.program_code.specs.Code.{code_of}
-use Rattle.commands.specs.Answer.{IsAnswers}
+use Rattle.commands.specs.Answer.{AreAnswers, IsAnswers}
 use Rattle.commands.specs.Lines.{lines}
+use Rattle.commands.specs.Listed.{listed}
 use Rattle.commands.specs.Refusal.{IsRefused}
+use Rattle.commands.specs.Running.{IsRunLine}
 use Rattle.commands.specs.Schemas.{schemas_of}
 use Rattle.commands.specs.declared.command.Verb.{Verb}
-use Rattle.commands.specs.declared.command.Verb.TheVariants.{Compile, Transcode}
-use Rattle.commands.specs.declared.refusal.Refusal.TheVariants.{ProgramTooLarge}
+use Rattle.commands.specs.declared.command.Verb.TheVariants.{Compile, Run, Transcode}
+use Rattle.commands.specs.declared.refusal.Refusal.TheVariants.{BadListing, ProgramTooLarge}
 use Rattle.commands.specs.declared.status.Status.{Status}
 use Rattle.commands.specs.declared.status.Status.TheVariants.{Answered}
 
@@ -20,20 +23,37 @@ use Rattle.commands.specs.declared.status.Status.TheVariants.{Answered}
 abbrev pub text_of_program : Bool → Program → List ℕ
 text_of_program image P = if image then encode_lower (image_of P) ++ 10 ∷ [] else listing_of P
 
--- a verb's output for a pair of schemas and the lines after them
-abbrev pub IsOutputOf : Verb → List Node → List Node → List (List ℕ) → List ℕ → Status → Type 0
-IsOutputOf Transcode W R payloads output status =
+-- the output of `transcode` for a pair of schemas and the lines after them
+abbrev pub IsTranscoded : List Node → List Node → List (List ℕ) → List ℕ → Status → Type 0
+IsTranscoded W R payloads output status =
     MatchOption (code_of W R) (IsRefused ProgramTooLarge output status) (λ P. IsAnswers W R payloads output × (status ≡ Answered))
-IsOutputOf (Compile image) W R later output status =
+
+-- that of `compile`, which ignores the lines after them
+abbrev pub IsCompiled : Bool → List Node → List Node → List (List ℕ) → List ℕ → Status → Type 0
+IsCompiled image W R later output status =
     MatchOption (code_of W R) (IsRefused ProgramTooLarge output status) (λ P. (output ≡ text_of_program image P) × (status ≡ Answered))
+
+-- an output for the schemas in the first two lines and the lines after them
+abbrev pub IsForSchemas : (List Node → List Node → List (List ℕ) → List ℕ → Status → Type 0) → List ℕ → List ℕ → Status → Type 0
+IsForSchemas IsOutputOf input output status =
+    let inputs = lines input in
+    MatchResult (schemas_of inputs)
+    (λ pair. IsOutputOf pair.0 pair.1 (drop 2 inputs) output status)
+    (λ refusal. IsRefused refusal output status)
+
+-- the output of `run` for a listing and the payload lines after it
+abbrev pub IsRun : ℕ → List ℕ → List ℕ → Status → Type 0
+IsRun steps input output status =
+    let parts = listed input in
+    MatchResult (assembled parts.0)
+    (λ P. AreAnswers (IsRunLine P steps) parts.1 output × (status ≡ Answered))
+    (λ fault. IsRefused (BadListing fault) output status)
 
 -- a verb's output for an input, and its status
 abbrev pub IsOutput : Verb → List ℕ → List ℕ → Status → Type 0
-IsOutput verb input output status =
-    let inputs = lines input in
-    MatchResult (schemas_of inputs)
-    (λ pair. IsOutputOf verb pair.0 pair.1 (drop 2 inputs) output status)
-    (λ refusal. IsRefused refusal output status)
+IsOutput Transcode = IsForSchemas IsTranscoded
+IsOutput (Compile image) = IsForSchemas (IsCompiled image)
+IsOutput (Run steps) = IsRun steps
 
 -- each input has an output, and just one, with one status
 abbrev pub HasOutput : Type 0

@@ -2,6 +2,7 @@
 use Rattle.std.specs.Prelude.{◌≡◌, ℕ, List, [], ◌∷◌, ◌++◌, codes}
 use Rattle.std.specs.Fmt.{decimal}
 use Rattle.schema_drafts.specs.SchemaError.{name_of}
+use Rattle.commands.specs.Names.{name_of_fault}
 use Rattle.commands.specs.declared.refusal.Refusal.{Refusal}
 use Rattle.commands.specs.declared.refusal.Refusal.TheVariants as refusals
 use Rattle.commands.specs.declared.status.Status.{Status}
@@ -9,6 +10,7 @@ use Rattle.commands.specs.declared.status.Status.TheVariants.{Refused}
 
 abbrev pub text_of : Refusal → List ℕ
 text_of (refusals.BadSchema line error) = codes "bad schema " ++ decimal line ++ codes " " ++ name_of error
+text_of (refusals.BadListing fault) = codes "bad listing " ++ decimal fault.line ++ codes " " ++ name_of_fault fault.kind
 text_of refusals.ProgramTooLarge = codes "program too large"
 text_of refusals.NoMemory = codes "out of memory"
 

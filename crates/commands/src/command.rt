@@ -9,6 +9,7 @@ use crate::compile::compile;
 use crate::input::read_all;
 use crate::output::write_whole;
 use crate::refusal::Refusal;
+use crate::running::run_listed;
 use crate::schemas::schemas_of;
 use crate::status::Status;
 use crate::transcode::transcode;
@@ -23,6 +24,8 @@ pub enum Verb {
     Transcode,
     /// Answers the program of the schemas: its listing, or its image.
     Compile { image: bool },
+    /// Answers each payload with how a run of a listed program on it stands after at most so many rows.
+    Run { steps: u64 },
 }
 
 /// Why a run was broken off.
@@ -62,11 +65,18 @@ fn answered(alloc: Global, verb: &Verb, input: &[u8]) -> Result<String, Refusal>
     ensures err { IfErr result (λ e. e ≢ Refusal.NoMemory →
         IsOutput verb.now input.now (text_of e ++ 10 ∷ []) Refused) }
 {
-    let schemas = schemas_of(alloc, input)?;
-    let (writer, reader) = (schemas.writer.nodes(), schemas.reader.nodes());
     match verb {
-        Verb::Transcode => transcode(alloc, writer, reader, schemas.later),
-        Verb::Compile { image } => compile(alloc, writer, reader, *image),
+        Verb::Transcode => {
+            let schemas = schemas_of(alloc, input)?;
+            let (writer, reader) = (schemas.writer.nodes(), schemas.reader.nodes());
+            transcode(alloc, writer, reader, schemas.later)
+        }
+        Verb::Compile { image } => {
+            let schemas = schemas_of(alloc, input)?;
+            let (writer, reader) = (schemas.writer.nodes(), schemas.reader.nodes());
+            compile(alloc, writer, reader, *image)
+        }
+        Verb::Run { steps } => run_listed(alloc, input, *steps),
     }
 }
 

@@ -6,4 +6,6 @@ pub fn input_has_one_output()
     ensures one { HasOneOutput }
 {
     resolver::payload_has_one_outcome();
+    isa::row_or_end_is_there();
+    simulation::runs_alone_are_counted_and_stay();
 }

@@ -1,12 +1,13 @@
-ghost use Rattle.std.specs.Prelude.{◌≡◌, ◌<◌, [], ◌∷◌, drop, length, MatchOption};
-ghost use Rattle.commands.specs.Lines.{lines};
+ghost use Rattle.std.specs.Prelude.{◌≡◌, ◌<◌, [], ◌∷◌, drop, length, IfSome, MatchOption};
+ghost use Rattle.commands.specs.Lines.{IsFirst, lines};
 ghost use Rattle.commands.specs.Schemas.{line_at};
 
 use memchr::memchr;
 
 /// The first line without its LF, and what follows it.
 pub(crate) fn split_line(bytes: &[u8]) -> Option<(&[u8], &[u8])>
-    ensures { MatchOption result (lines bytes.now ≡ [])
+    ensures place { IfSome result (λ p. IsFirst bytes.now p.0.now p.1.now) }
+    ensures lines { MatchOption result (lines bytes.now ≡ [])
         (λ p. (lines bytes.now ≡ p.0.now ∷ lines p.1.now) × (length p.1.now < length bytes.now)) }
 {
     match memchr(b'\n', bytes) {

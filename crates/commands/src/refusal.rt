@@ -1,6 +1,8 @@
 ghost use Rattle.std.specs.Prelude.{◌≡◌, ◌≢◌, ◌++◌, ◌∷◌, [], string_bytes, IfOk};
+ghost use Rattle.commands.specs.Names.{name_of_fault};
 ghost use Rattle.commands.specs.Refusal.{text_of};
 
+use assembler::{AsmErrorKind, AsmFault};
 use avro_schema::SchemaError;
 use std::alloc::{AllocError, AllocFailed, Global};
 use thiserror::Error;
@@ -10,6 +12,8 @@ use thiserror::Error;
 pub(crate) enum Refusal {
     #[error("the schema in line {line} is bad: {error}")]
     BadSchema { line: u8, error: SchemaError },
+    #[error("the listing is bad: {0}")]
+    BadListing(AsmFault),
     #[error("the program of the schemas passes a limit")]
     ProgramTooLarge,
     #[error("out of memory")]
@@ -45,6 +49,30 @@ fn bad_schema(alloc: Global, line: u8, error: SchemaError) -> Result<String, All
     Ok(text)
 }
 
+/// The name of what is wrong with a listing.
+fn name_of_fault(kind: AsmErrorKind) -> &'static str
+    ensures { result.now ≡ name_of_fault kind }
+{
+    match kind {
+        AsmErrorKind::BadHeader => "BadHeader",
+        AsmErrorKind::BadLine => "BadLine",
+        AsmErrorKind::BadIndex => "BadIndex",
+        AsmErrorKind::TooLarge => "TooLarge",
+        AsmErrorKind::NoCode => "NoCode",
+        AsmErrorKind::OutOfRange => "OutOfRange",
+    }
+}
+
+/// The line of a bad listing.
+fn bad_listing(alloc: Global, fault: AsmFault) -> Result<String, AllocError>
+    ensures { IfOk result (λ text. string_bytes text ≡ text_of (Refusal.BadListing fault) ++ 10 ∷ []) }
+{
+    let line = fault.line;
+    let name = name_of_fault(fault.kind);
+    let text = format!(in alloc; "bad listing {line} {name}\n")?;
+    Ok(text)
+}
+
 impl Refusal {
     /// The refusal of the schema in a line. Memory that ran out is no fault of a schema.
     pub(crate) fn of_schema(line: u8, error: SchemaError) -> Refusal
@@ -65,6 +93,7 @@ impl Refusal {
     {
         match self {
             Refusal::BadSchema { line, error } => bad_schema(alloc, line, error),
+            Refusal::BadListing(fault) => bad_listing(alloc, fault),
             Refusal::ProgramTooLarge => format!(in alloc; "program too large\n"),
             Refusal::NoMemory => Err(AllocError),
         }

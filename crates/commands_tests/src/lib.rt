@@ -9,3 +9,5 @@ mod devices;
 mod rows;
 #[cfg(test)]
 mod run_tests;
+#[cfg(test)]
+mod running_tests;

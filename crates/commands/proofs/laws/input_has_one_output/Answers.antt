@@ -2,7 +2,9 @@ use Rattle.commands.proofs.OneOutput.{one_output, some_output}
 use Rattle.commands.proofs.laws.input_has_one_output.Goals as goal
 
 pub returns-clause-some : goal.returns-clause-some
-returns-clause-some c = some_output c.payload_has_one_outcome.ensures.some
+returns-clause-some c =
+    let runs = c.runs_alone_are_counted_and_stay.ensures in
+    some_output c.payload_has_one_outcome.ensures.some c.row_or_end_is_there.ensures runs.counted runs.go_on
 
 pub returns-clause-one : goal.returns-clause-one
-returns-clause-one c = one_output c.payload_has_one_outcome.ensures.one
+returns-clause-one c = one_output c.payload_has_one_outcome.ensures.one c.runs_alone_are_counted_and_stay.ensures.ends

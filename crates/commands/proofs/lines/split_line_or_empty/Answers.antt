@@ -3,4 +3,4 @@ use Rattle.commands.proofs.Split.{lines_none}
 use Rattle.commands.proofs.lines.split_line_or_empty.Goals as goal
 
 pub returns-in-None-clause-rest : goal.returns-in-None-clause-rest
-returns-in-None-clause-rest c = rw c.in-None.ensures lines_none
+returns-in-None-clause-rest c = rw c.in-None.ensures.lines lines_none

@@ -11,8 +11,8 @@ loop-line-preserved c =
     let reader = ap (λ pair. pair.reader) so_far.kept in
     record {
       kept = pushed.kept ∙ so_far.kept;
-      so_far = continues_by _ _ _ _ _ _ _ _ _ pushed.pushed.0 _ _ writer reader c.in-Some.ensures.0 so_far.so_far pushed.pushed.1 pushed.pushed.2 c.in_ok-push_str.ensures.bytes;
+      so_far = continues_by _ _ _ _ _ _ _ _ _ pushed.pushed.0 _ _ writer reader c.in-Some.ensures.lines.0 so_far.so_far pushed.pushed.1 pushed.pushed.2 c.in_ok-push_str.ensures.bytes;
     }
 
 pub returns : goal.returns
-returns c = continues_all _ _ _ _ _ c.in_default.ensures c.loop-line.invariant.so_far
+returns c = continues_all _ _ _ _ c.in_default.ensures.lines c.loop-line.invariant.so_far

@@ -1,5 +1,6 @@
 -- What is answered so far goes before the answers of the lines that are left, and the pair stays.
 use Rattle.std.proofs.Common.{◌≡◌, string_bytes, length}
+use Rattle.commands.specs.Answer.{IsAnswer}
 use Rattle.commands.proofs.Answers.{Continues}
 use Rattle.commands.specs.Lines.{lines}
 use Rattle.commands.proofs.transcode.answers.Given as goal
@@ -7,7 +8,7 @@ use Rattle.commands.proofs.transcode.answers.Given as goal
 abbrev pub invariant-loop-line : goal.invariant-loop-line
 invariant-loop-line l = record {
   kept : l.transcoder ≡ l.fn.transcoder;
-  so_far : Continues l.fn.transcoder.writer l.fn.transcoder.reader (lines l.payloads) (lines l.rest) (string_bytes l.output);
+  so_far : Continues (IsAnswer l.fn.transcoder.writer l.fn.transcoder.reader) (lines l.payloads) (lines l.rest) (string_bytes l.output);
 }
 
 abbrev pub decreases-loop-line : goal.decreases-loop-line

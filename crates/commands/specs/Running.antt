@@ -1,0 +1,45 @@
+-- How runs of a listed program are answered. All of this is this project's own.
+use Rattle.std.specs.Prelude.{◌≡◌, ◌≤◌, ◌<◌, ℕ, true, List, ◌++◌, length, codes, nat_lt, Option, Some, None, is_some, MatchBool, MatchOption}
+use Rattle.std.specs.Fmt.{decimal}
+use Rattle.std.specs.List.{concat}
+use Rattle.assembler.specs.Things.{each_in}
+use Rattle.assembler.specs.Words.{parts}
+use Rattle.isa.specs.Program.{Program}
+use Rattle.isa.specs.State.{End, Out, State, Trapped}
+use Rattle.outcome.specs.declared.limits.TheConstants.{MOST_PAYLOAD}
+use Rattle.simulation.specs.Alone.{run_alone}
+use Rattle.commands.specs.Answer.{line_of}
+use Rattle.commands.specs.Names.{name_of_trap}
+use Rattle.commands.specs.Payload.{payload_of}
+
+-- the bytes of each piece of a line, which bars, 124, part, or None where one of them spells none
+abbrev pub pieces_of : List ℕ → Option (List (List ℕ))
+pieces_of line = each_in payload_of (parts 124 line)
+
+-- The state in which a run on a whole payload stops that may take so many rows: it is the program run alone, as many
+-- rows on as it has counted, and fewer than it may take only where it has ended.
+pub record StopsIn (P : Program) (payload : List ℕ) (steps : ℕ) (s : State) : Type 0 where
+  pub alone : run_alone P payload true s.count ≡ Some s
+  pub most : s.count ≤ steps
+  pub ended : s.count < steps → is_some s.end ≡ true
+
+-- how a run ended, or that it goes on
+abbrev pub text_of_end : Option End → List ℕ
+text_of_end (Some (Out outcome)) = line_of outcome
+text_of_end (Some (Trapped t)) = codes "trap " ++ name_of_trap t
+text_of_end None = codes "running"
+
+-- the line of a run, without its LF
+abbrev pub line_of_run : State → List ℕ
+line_of_run s = text_of_end s.end ++ codes " count " ++ decimal s.count
+
+-- the answer to a payload: by its size, then by its run
+abbrev pub IsRunAnswer : Program → ℕ → List ℕ → List ℕ → Type 0
+IsRunAnswer P steps answer payload =
+    MatchBool (nat_lt MOST_PAYLOAD (length payload)) (answer ≡ codes "too large")
+    ((s : State) × StopsIn P payload steps s × (answer ≡ line_of_run s))
+
+-- the answer to a line: however its payload is cut into pieces, it is their bytes, joined
+abbrev pub IsRunLine : Program → ℕ → List ℕ → List ℕ → Type 0
+IsRunLine P steps line answer =
+    MatchOption (pieces_of line) (answer ≡ codes "bad hex") (λ pieces. IsRunAnswer P steps answer (concat pieces))

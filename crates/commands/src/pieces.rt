@@ -1,0 +1,36 @@
+ghost use Rattle.std.specs.Prelude.{◌≡◌, ◌<◌, ◌∷◌, [], IfOk, MatchOption, length};
+ghost use Rattle.assembler.specs.Words.{parts};
+ghost use Rattle.commands.specs.Running.{pieces_of};
+
+use crate::payload::payload_of;
+use isa::Lists;
+use memchr::memchr;
+use std::alloc::{AllocError, Global};
+
+/// The text before the first bar, and what follows the bar.
+fn split_bar(line: &[u8]) -> (&[u8], Option<&[u8]>)
+    ensures { MatchOption result.1 (parts 124 line.now ≡ result.0.now ∷ [])
+        (λ later. (parts 124 line.now ≡ result.0.now ∷ parts 124 later.now) × (length later.now < length line.now)) }
+{
+    match memchr(b'|', line) {
+        Some(end) => (&line[..end], Some(&line[end + 1..])),
+        None => (line, None),
+    }
+}
+
+/// The pieces that a line spells, which are parted by bars.
+pub(crate) fn pieces_of(alloc: Global, line: &[u8]) -> Result<Option<Lists<u8>>, AllocError>
+    ensures { IfOk result (λ found. pieces_of line.now ≡ found) }
+{
+    let mut pieces = Lists::new(alloc);
+    let mut rest = Some(line);
+    while let Some(left) = rest {
+        let (text, later) = split_bar(left);
+        let Some(piece) = payload_of(alloc, text)? else {
+            return Ok(None);
+        };
+        pieces.push(&piece)?;
+        rest = later;
+    }
+    Ok(Some(pieces))
+}

@@ -1,0 +1,168 @@
+ghost use Rattle.std.specs.Prelude.{◌≡◌, ◌≤◌, ◌<◌, ◌++◌, ◌⊎◌, ℕ, List, length, string_bytes, true, is_some, IfErr, IfOk, OnOk, Err, Ok};
+ghost use Rattle.std.specs.List.{concat};
+ghost use Rattle.assembler.specs.Assembling.{assembled};
+ghost use Rattle.assembler.specs.declared.fault.AsmFault.{AsmFault};
+ghost use Rattle.isa.specs.Program.{Program as Parted};
+ghost use Rattle.outcome.specs.declared.limits.TheConstants.{MOST_PAYLOAD};
+ghost use Rattle.commands.specs.Answer.{AreAnswers};
+ghost use Rattle.commands.specs.Lines.{lines};
+ghost use Rattle.commands.specs.Listed.{listed};
+ghost use Rattle.commands.specs.Names.{name_of_trap};
+ghost use Rattle.commands.specs.Running.{IsRunAnswer, IsRunLine, StopsIn, line_of_run, text_of_end};
+
+use crate::answer::push_outcome;
+use crate::lines::split_line;
+use crate::listed::split_listing;
+use crate::pieces::pieces_of;
+use crate::refusal::Refusal;
+use assembler::{AsmError, assemble};
+use isa::{End, Lists, Program, Trap, row_or_end_is_there};
+use machine::{Run, Why};
+use outcome::MOST_PAYLOAD;
+use std::alloc::{AllocError, Global};
+use std::fmt::Write;
+
+/// Takes rows until so many were taken in all, or no more are there.
+fn take_rows(run: &mut Run, steps: u64) -> Result<(), AllocError>
+    requires { run.old.machine.state.count ≤ steps }
+    ensures most { run.new.machine.state.count ≤ steps }
+    ensures ended { OnOk result (run.old.ended ≡ true → run.new.machine.state.count < steps
+        → is_some run.new.machine.state.end ≡ true) }
+    ensures kept { run.new ≡ record run.old { machine = run.new.machine } }
+{
+    let left = steps - run.machine().count();
+    let slice = run.slice(&[], left);
+    row_or_end_is_there();
+    if slice.why == Why::NoMemory {
+        return Err(AllocError);
+    }
+    Ok(())
+}
+
+/// Runs a program on the pieces of a payload, one after another, and on their end.
+fn run_on<'p>(
+    alloc: Global,
+    program: &'p Program,
+    steps: u64,
+    pieces: &Lists<u8>,
+) -> Result<Run<'p>, AllocError>
+    ensures { IfOk result (λ run. StopsIn program.now (concat pieces.now) steps run.machine.state) }
+{
+    let mut run = Run::new(alloc, program);
+    for number in 0..pieces.len() {
+        run.push(pieces.list(number))?;
+        take_rows(&mut run, steps)?;
+    }
+    run.close();
+    take_rows(&mut run, steps)?;
+    run.is_alone();
+    Ok(run)
+}
+
+/// The name of a trap.
+fn name_of_trap(trap: Trap) -> &'static str
+    ensures { result.now ≡ name_of_trap trap }
+{
+    match trap {
+        Trap::NoFrame => "NoFrame",
+        Trap::NoBuffer => "NoBuffer",
+        Trap::TooManyCalls => "TooManyCalls",
+        Trap::NoReturn => "NoReturn",
+        Trap::BadSlot => "BadSlot",
+        Trap::OpenAtHalt => "OpenAtHalt",
+        Trap::OffEnd => "OffEnd",
+    }
+}
+
+/// Appends how a run ended, or that it goes on.
+fn push_end(alloc: Global, output: &mut String, run: &Run) -> Result<(), AllocError>
+    ensures { OnOk result (string_bytes output.new ≡ string_bytes output.old ++ text_of_end run.now.machine.state.end) }
+{
+    match run.machine().end() {
+        Some(End::Out(outcome)) => push_outcome(alloc, output, outcome),
+        Some(End::Trap(trap)) => {
+            let name = name_of_trap(*trap);
+            write!(output, "trap {name}")
+        }
+        None => output.push_str("running"),
+    }
+}
+
+/// Appends the line of a run, without its LF.
+fn push_run(alloc: Global, output: &mut String, run: &Run) -> Result<(), AllocError>
+    ensures { OnOk result (string_bytes output.new ≡ string_bytes output.old ++ line_of_run run.now.machine.state) }
+{
+    push_end(alloc, output, run)?;
+    let count = run.machine().count();
+    write!(output, " count {count}")
+}
+
+/// Appends the answer to a payload, without its LF.
+fn push_run_answer(
+    alloc: Global,
+    program: &Program,
+    steps: u64,
+    pieces: &Lists<u8>,
+    output: &mut String,
+) -> Result<(), AllocError>
+    ensures { OnOk result ((answer : List ℕ) × IsRunAnswer program.now steps answer (concat pieces.now)
+        × (string_bytes output.new ≡ string_bytes output.old ++ answer)) }
+{
+    if pieces.total_is_within(MOST_PAYLOAD) {
+        let run = run_on(alloc, program, steps, pieces)?;
+        push_run(alloc, output, &run)
+    } else {
+        output.push_str("too large")
+    }
+}
+
+/// Appends the answer to a line, without its LF.
+fn push_line_answer(
+    alloc: Global,
+    program: &Program,
+    steps: u64,
+    line: &[u8],
+    output: &mut String,
+) -> Result<(), AllocError>
+    ensures { OnOk result ((answer : List ℕ) × IsRunLine program.now steps line.now answer
+        × (string_bytes output.new ≡ string_bytes output.old ++ answer)) }
+{
+    match pieces_of(alloc, line)? {
+        Some(pieces) => push_run_answer(alloc, program, steps, &pieces, output),
+        None => output.push_str("bad hex"),
+    }
+}
+
+/// The answers to payload lines.
+fn answers(
+    alloc: Global,
+    program: &Program,
+    steps: u64,
+    payloads: &[u8],
+) -> Result<String, AllocError>
+    ensures { IfOk result (λ output. AreAnswers (IsRunLine program.now steps) (lines payloads.now) (string_bytes output)) }
+{
+    let mut output = String::new(alloc);
+    let mut rest = payloads;
+    while let Some((line, later)) = split_line(rest) {
+        push_line_answer(alloc, program, steps, line, &mut output)?;
+        output.push_str("\n")?;
+        rest = later;
+    }
+    Ok(output)
+}
+
+/// The answers to payload lines of the program whose listing stands before them.
+pub(crate) fn run_listed(alloc: Global, input: &[u8], steps: u64) -> Result<String, Refusal>
+    ensures ok { IfOk result (λ output. (P : Parted) × (assembled (listed input.now).0 ≡ Ok P)
+        × AreAnswers (IsRunLine P steps) (listed input.now).1 (string_bytes output)) }
+    ensures err { IfErr result (λ e. (e ≡ Refusal.NoMemory)
+        ⊎ ((fault : AsmFault) × (e ≡ Refusal.BadListing fault) × (assembled (listed input.now).0 ≡ Err fault))) }
+{
+    let (listing, payloads) = split_listing(input);
+    match assemble(alloc, listing) {
+        Ok(program) => Ok(answers(alloc, &program, steps, payloads)?),
+        Err(AsmError::Fault(fault)) => Err(Refusal::BadListing(fault)),
+        Err(AsmError::NoMemory) => Err(Refusal::NoMemory),
+    }
+}

@@ -1,0 +1,202 @@
+//! What is written for runs of listed programs.
+
+use crate::devices::assert_writes;
+use commands::Verb;
+use std::process::Abort;
+use std::test::Fail;
+
+/// More rows than a run here takes.
+const MANY: u64 = 1_000_000;
+
+/// The program of a list of longs to itself.
+const LISTING_OF_LIST: &str = "avro program 1
+const 0 00
+const 1 02
+jumps 0 7 9
+0 CALL 2
+1 HALT
+2 RECORD 2
+3 SLOT 0
+4 LONG
+5 SLOT 1
+6 BRANCH 0
+7 PUT 0
+8 JUMP 11
+9 PUT 1
+10 CALL 2
+11 ENDREC
+12 RET
+end
+";
+
+/// The program of a record of a long and a string to one of the string and an int with a default.
+const LISTING_OF_PAIR: &str = "avro program 1
+const 0 0e
+0 CALL 2
+1 HALT
+2 RECORD 2
+3 SLONG
+4 SLOT 0
+5 TEXT
+6 SLOT 1
+7 PUT 0
+8 ENDREC
+9 RET
+end
+";
+
+/// The program of a string to itself.
+const LISTING_OF_TEXT: &str = "avro program 1\n0 TEXT\n1 HALT\nend\n";
+
+/// Instructions on the empty payload, and how they end.
+const TRAPS: &str = "0 ENDREC
+trap NoFrame count 1
+0 RECORD 0;1 LONG
+trap NoBuffer count 2
+0 CALL 0
+trap TooManyCalls count 1025
+0 RET
+trap NoReturn count 1
+0 RECORD 1;1 SLOT 1
+trap BadSlot count 2
+0 ENTER;1 HALT
+trap OpenAtHalt count 2
+0 ENTER
+trap OffEnd count 2
+";
+
+/// Lines after the header, and what is wrong with them.
+const BAD_LISTINGS: &str = "0 CALL 02
+bad listing 2 BadLine
+1 HALT
+bad listing 2 BadIndex
+0 JUMP 1
+bad listing 2 OutOfRange
+0 HALT;0 HALT
+bad listing 3 BadIndex
+0 HALT;const 0 00
+bad listing 3 BadLine
+miss 0 NoMatch 0 0
+bad listing 3 NoCode
+";
+
+/// Whether `run` writes an output for an input and ends with a status.
+fn assert_runs(rt: &(impl Abort + AllocGlobal), steps: u64, input: &str, output: &str, status: u8) {
+    let verb = Verb::Run { steps };
+    assert_writes(rt, &verb, input.as_bytes(), output.as_bytes(), status);
+}
+
+/// Whether each row of two lines, the lines after the header with `;` for LF, and the output, is so.
+fn assert_rows(
+    rt: &(impl Abort + AllocGlobal),
+    rows: &str,
+    end: &str,
+    status: u8,
+) -> Result<(), Fail> {
+    let lines: Vec<&str> = rows.lines().collect(rt.alloc())?;
+    for row in lines.chunks(2) {
+        let [code, output] = row else {
+            assert!(rt; false, "rows have two lines");
+            return Ok(());
+        };
+        let code = code.replace(rt.alloc(), ";", "\n")?;
+        let input = format!(in rt.alloc(); "avro program 1\n{code}\n{end}")?;
+        let output = format!(in rt.alloc(); "{output}\n")?;
+        assert_runs(rt, MANY, &input, &output, status);
+    }
+    Ok(())
+}
+
+#[test]
+fn runs_pieces(rt: HostRuntime) -> Result<(), Fail> {
+    let list = format!(in rt.alloc(); "{LISTING_OF_LIST}02|02|04|00\n02020400\n|02||0204|00|\n")?;
+    let whole = "done 02020400 count 20\ndone 02020400 count 20\ndone 02020400 count 20\n";
+    assert_runs(&rt, MANY, &list, whole, 0);
+    assert_runs(&rt, 20, &list, whole, 0);
+    let cut = "running count 19\nrunning count 19\nrunning count 19\n";
+    assert_runs(&rt, 19, &list, cut, 0);
+    let pair = format!(in rt.alloc(); "{LISTING_OF_PAIR}3606666f6f\n36|06666f|6f")?;
+    let done = "done 06666f6f0e count 11\ndone 06666f6f0e count 11\n";
+    assert_runs(&rt, MANY, &pair, done, 0);
+    Ok(())
+}
+
+#[test]
+fn counts_the_rows_of_all_pieces(rt: HostRuntime) {
+    let endless = "avro program 1\n0 JUMP 0\nend\n\n|||\n";
+    assert_runs(&rt, 5, endless, "running count 5\nrunning count 5\n", 0);
+    assert_runs(&rt, 0, endless, "running count 0\nrunning count 0\n", 0);
+}
+
+#[test]
+fn runs_texts_that_are_cut(rt: HostRuntime) -> Result<(), Fail> {
+    let letters = "|61".repeat(rt.alloc(), 63)?;
+    let joined = "61".repeat(rt.alloc(), 63)?;
+    let input = format!(in rt.alloc();
+        "{LISTING_OF_TEXT}82|01{letters}|c3|a9\n8201{letters}|c3|28\n02|c3\n00\n"
+    )?;
+    let output = format!(in rt.alloc();
+        "done 8201{joined}c3a9 count 4\nmalformed BadText at 2 count 3\nmalformed BadText at 1 count 2\ndone 00 count 2\n"
+    )?;
+    assert_runs(&rt, MANY, &input, &output, 0);
+    Ok(())
+}
+
+#[test]
+fn tells_traps(rt: HostRuntime) -> Result<(), Fail> {
+    assert_rows(&rt, TRAPS, "end\n\n", 0)
+}
+
+#[test]
+fn tells_bad_listings(rt: HostRuntime) -> Result<(), Fail> {
+    assert_rows(&rt, BAD_LISTINGS, "end\n02\n", 1)?;
+    assert_rows(&rt, BAD_LISTINGS, "", 1)?;
+    assert_runs(&rt, MANY, "", "bad listing 1 BadHeader\n", 1);
+    assert_runs(&rt, MANY, "end\n\n", "bad listing 1 BadHeader\n", 1);
+    assert_runs(&rt, MANY, "avro program 1\n", "bad listing 2 NoCode\n", 1);
+    let unended = "avro program 1\n0 HALT";
+    assert_runs(&rt, MANY, unended, "bad listing 2 BadLine\n", 1);
+    let zeros = " 0".repeat(rt.alloc(), 4_097)?;
+    let large = format!(in rt.alloc(); "avro program 1\njumps 0{zeros}\n0 HALT\nend\n")?;
+    assert_runs(&rt, MANY, &large, "bad listing 2 TooLarge\n", 1);
+    Ok(())
+}
+
+#[test]
+fn ends_listings_at_the_first_line_end(rt: HostRuntime) {
+    assert_runs(&rt, MANY, "avro program 1\n0 HALT\n", "", 0);
+    assert_runs(&rt, MANY, "avro program 1\n0 HALT\nend", "", 0);
+    let twice = "avro program 1\n0 HALT\nend\n\nend\n";
+    assert_runs(&rt, MANY, twice, "done - count 1\nbad hex\n", 0);
+}
+
+#[test]
+fn tells_what_is_no_payload(rt: HostRuntime) -> Result<(), Fail> {
+    let input = format!(in rt.alloc(); "{LISTING_OF_TEXT}0\n0A\n-\n0|0\n00|0g\n00|-\n00 \n00|\n")?;
+    let bad = "bad hex\n".repeat(rt.alloc(), 7)?;
+    let output = format!(in rt.alloc(); "{bad}done 00 count 2\n")?;
+    assert_runs(&rt, MANY, &input, &output, 0);
+    Ok(())
+}
+
+#[test]
+fn measures_joined_pieces(rt: HostRuntime) -> Result<(), Fail> {
+    let half = "00".repeat(rt.alloc(), 8_388_608)?;
+    let input = format!(in rt.alloc();
+        "avro program 1\n0 HALT\nend\n{half}|{half}\n{half}|{half}|00\n{half}|{half}|00|0\n"
+    )?;
+    let output = "malformed Trailing at 0 count 1\ntoo large\nbad hex\n";
+    assert_runs(&rt, MANY, &input, output, 0);
+    Ok(())
+}
+
+#[test]
+fn tells_outputs_that_are_too_large(rt: HostRuntime) -> Result<(), Fail> {
+    let text = "61".repeat(rt.alloc(), 200_000)?;
+    let input = format!(in rt.alloc();
+        "avro program 1\nconst 0 {text}\n0 BLOCKS\n1 NEXT 4\n2 PUT 0\n3 JUMP 1\n4 HALT\nend\na00500\n00\n"
+    )?;
+    let output = "output too large count 1011\ndone 00 count 3\n";
+    assert_runs(&rt, MANY, &input, output, 0);
+    Ok(())
+}
