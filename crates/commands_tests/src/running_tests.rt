@@ -183,10 +183,18 @@ fn tells_what_is_no_payload(rt: HostRuntime) -> Result<(), Fail> {
 fn measures_joined_pieces(rt: HostRuntime) -> Result<(), Fail> {
     let half = "00".repeat(rt.alloc(), 8_388_608)?;
     let input = format!(in rt.alloc();
-        "avro program 1\n0 HALT\nend\n{half}|{half}\n{half}|{half}|00\n{half}|{half}|00|0\n"
+        "avro program 1\n0 HALT\nend\n{half}|{half}\n{half}|{half}|00\n"
     )?;
-    let output = "malformed Trailing at 0 count 1\ntoo large\nbad hex\n";
+    let output = "malformed Trailing at 0 count 1\ntoo large\n";
     assert_runs(&rt, MANY, &input, output, 0);
+    Ok(())
+}
+
+#[test]
+fn reads_pieces_before_it_measures_them(rt: HostRuntime) -> Result<(), Fail> {
+    let large = "00".repeat(rt.alloc(), 16_777_217)?;
+    let input = format!(in rt.alloc(); "avro program 1\n0 HALT\nend\n{large}|0\n")?;
+    assert_runs(&rt, MANY, &input, "bad hex\n", 0);
     Ok(())
 }
 
