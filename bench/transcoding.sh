@@ -80,7 +80,7 @@ for name, writer, reader, make, count in WORKLOADS:
     messages = [make() for _ in range(count)]
     container = struct.pack("<%dI" % (count + 1), count, *map(len, messages)) + b"".join(messages)
     data = json.dumps(writer).encode() + b"\n" + json.dumps(reader).encode() + b"\n" + container
-    few = messages[: max(1, min(200, 400_000 // len(messages[0])))]
+    few = messages[: max(1, min(200, 40_000 // len(messages[0])))]
     begin = time.process_time()
     answers = [by_python(writer, reader, message) for message in few]
     python = (time.process_time() - begin) / len(few)
