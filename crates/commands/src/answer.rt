@@ -53,7 +53,8 @@ pub(crate) fn push_payload_answer(
     payload: &[u8],
     output: &mut String,
 ) -> Result<(), AllocError>
-    ensures pushed { OnOk result ((answer : List ℕ) × IsPayloadAnswer transcoder.old.writer transcoder.old.reader answer payload.now
+    ensures pushed { OnOk result
+        ((answer : List ℕ) × IsPayloadAnswer transcoder.old.writer transcoder.old.reader answer payload.now
         × (string_bytes output.new ≡ string_bytes output.old ++ answer)) }
     ensures kept { transcoder.new ≡ transcoder.old }
 {
@@ -71,7 +72,8 @@ pub(crate) fn push_answer(
     line: &[u8],
     output: &mut String,
 ) -> Result<(), AllocError>
-    ensures pushed { OnOk result ((answer : List ℕ) × IsAnswer transcoder.old.writer transcoder.old.reader line.now answer
+    ensures pushed { OnOk result
+        ((answer : List ℕ) × IsAnswer transcoder.old.writer transcoder.old.reader line.now answer
         × (string_bytes output.new ≡ string_bytes output.old ++ answer)) }
     ensures kept { transcoder.new ≡ transcoder.old }
 {

@@ -140,7 +140,8 @@ fn answers(
     steps: u64,
     payloads: &[u8],
 ) -> Result<String, AllocError>
-    ensures { IfOk result (λ output. AreAnswers (IsRunLine program.now steps) (lines payloads.now) (string_bytes output)) }
+    ensures { IfOk result
+        (λ output. AreAnswers (IsRunLine program.now steps) (lines payloads.now) (string_bytes output)) }
 {
     let mut output = String::new(alloc);
     let mut rest = payloads;

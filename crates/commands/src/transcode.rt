@@ -18,7 +18,8 @@ fn answers(
     transcoder: &mut Transcoder,
     payloads: &[u8],
 ) -> Result<String, AllocError>
-    ensures { IfOk result (λ output. IsAnswers transcoder.old.writer transcoder.old.reader (lines payloads.now) (string_bytes output)) }
+    ensures { IfOk result
+        (λ output. IsAnswers transcoder.old.writer transcoder.old.reader (lines payloads.now) (string_bytes output)) }
 {
     let mut output = String::new(alloc);
     let mut rest = payloads;

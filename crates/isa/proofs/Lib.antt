@@ -1,6 +1,7 @@
 mod Stretches
 mod Turns
 pub mod Judged
+mod Unshared
 mod Longer
 mod Held
 mod Proper

@@ -1,5 +1,5 @@
-ghost use Rattle.std.specs.Prelude.{◌≡◌, ◌≤◌, ◌<◌, ◌++◌, ◌∷◌, [], List, length, map, option_map, slice_get, slice_index_or, nat_le, Some, OnOk, OnErr};
-ghost use Rattle.isa.specs.Judging.{are_within, first_empty};
+ghost use Rattle.std.specs.Prelude.{◌≡◌, ◌≤◌, ◌<◌, ◌++◌, ◌∷◌, [], Bool, List, length, map, option_map, slice_get, slice_index_or, nat_le, None, Some, OnOk, OnErr};
+ghost use Rattle.isa.specs.Judging.{are_within, first_empty, first_out, first_out_in};
 ghost use Rattle.isa.specs.Lists.{total_length};
 
 use std::alloc::{AllocError, Global};
@@ -78,6 +78,14 @@ impl<T: Copy> Lists<T> {
         let to = self.items.len();
         self.stretches.push(Stretch { from, to })?;
         Ok(())
+    }
+
+    /// The items of all lists, shared ones once. Where none of them is out of range, nothing in a list is.
+    #[tactic(auto, using(crate::proofs::Unshared::none_in_lists))]
+    pub(crate) fn items(&self) -> &[T]
+        ensures { (test : T → Bool) → first_out test result.now ≡ None → first_out_in test self.now ≡ None }
+    {
+        &self.items
     }
 
     /// The list of a number once more, after the others. It takes the room of none.

@@ -83,11 +83,15 @@ pub(crate) fn first_out<T: Ranged>(items: &[T], sizes: &Sizes) -> Option<usize>
     items.iter().position(|item| !item.is_in_range(sizes))
 }
 
-/// The first of these lists that has something out of range, and where.
+/// The first of these lists that has something out of range, and where. Items that lists share are tested once, unless one
+/// of them is out of range.
 #[tactic(auto, using(crate::proofs::Turns::out_here, crate::proofs::Turns::out_later))]
 pub(crate) fn first_out_in<T: Ranged>(lists: &Lists<T>, sizes: &Sizes) -> Option<(usize, usize)>
     ensures { result ≡ first_out_in (T.in_range sizes.now) lists.now }
 {
+    if first_out(lists.items(), sizes).is_none() {
+        return None;
+    }
     for number in 0..lists.len() {
         if let Some(item) = first_out(lists.list(number), sizes) {
             return Some((number, item));

@@ -32,7 +32,8 @@ pub enum Place {
 fn joined_segment(ropes: &mut Ropes, buffer: Buffer, segment: Segment) -> Result<Buffer, AllocError>
     requires ropes { AreRopes ropes.old }
     requires held { IsHeld ropes.old buffer }
-    ensures segments { IfOk result (λ b. segments_of ropes.new b ≡ with_segment (segments_of ropes.old buffer) segment) }
+    ensures segments { IfOk result
+        (λ b. segments_of ropes.new b ≡ with_segment (segments_of ropes.old buffer) segment) }
     ensures some { IfOk result (λ b. b ≢ Empty) }
     ensures held { IfOk result (λ b. IsHeld ropes.new b) }
     ensures later { IsLater ropes.old ropes.new }
@@ -96,7 +97,8 @@ fn joined_buffer(ropes: &mut Ropes, buffer: Buffer, behind: Buffer) -> Result<Bu
     requires ropes { AreRopes ropes.old }
     requires held { IsHeld ropes.old buffer }
     requires behind { IsHeld ropes.old behind }
-    ensures segments { IfOk result (λ b. segments_of ropes.new b ≡ with_segments (segments_of ropes.old buffer) (segments_of ropes.old behind)) }
+    ensures segments { IfOk result
+        (λ b. segments_of ropes.new b ≡ with_segments (segments_of ropes.old buffer) (segments_of ropes.old behind)) }
     ensures held { IfOk result (λ b. IsHeld ropes.new b) }
     ensures later { IsLater ropes.old ropes.new }
 {
@@ -139,7 +141,8 @@ fn joined_buffers(
     requires ropes { AreRopes ropes.old }
     requires held { IsHeld ropes.old buffer }
     requires others { AllHeld ropes.old others.now }
-    ensures segments { IfOk result (λ b. segments_of ropes.new b ≡ with_lists (segments_of ropes.old buffer) (map (segments_of ropes.old) others.now)) }
+    ensures segments { IfOk result (λ b. segments_of ropes.new b
+        ≡ with_lists (segments_of ropes.old buffer) (map (segments_of ropes.old) others.now)) }
     ensures held { IfOk result (λ b. IsHeld ropes.new b) }
     ensures later { IsLater ropes.old ropes.new }
 {

@@ -60,7 +60,8 @@ impl Ropes {
         requires before { before < length self.old }
         requires behind { behind < length self.old }
         ensures number { IfOk result (λ rope. rope ≡ length self.old) }
-        ensures joined { OnOk result (self.new ≡ self.old ++ (rope_at self.old before ++ segment ∷ rope_at self.old behind) ∷ []) }
+        ensures joined { OnOk result
+            (self.new ≡ self.old ++ (rope_at self.old before ++ segment ∷ rope_at self.old behind) ∷ []) }
         ensures refused { OnErr result (self.new ≡ self.old) }
     {
         self.joints.push(Joint {

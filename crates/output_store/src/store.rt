@@ -326,7 +326,8 @@ impl Store {
         requires few { FewSlots opening }
         requires deep { length self.old.store.frames < MOST_DEPTH }
         requires units { self.old.units ≤ units }
-        ensures opened { OnOk result (self.new.store ≡ with_frames (frame_of opening ∷ self.old.store.frames) self.old.store) }
+        ensures opened { OnOk result
+            (self.new.store ≡ with_frames (frame_of opening ∷ self.old.store.frames) self.old.store) }
         ensures units { OnOk result (self.new.units ≡ units) }
         ensures arena { self.new.layout.arena ≡ self.old.layout.arena }
         ensures refused { OnErr result (self.new ≡ self.old) }
@@ -401,7 +402,8 @@ impl Store {
         requires holds { HoldsBuffers self.old.store.frames }
         requires below { has_current_below self.old.store.frames ≡ true }
         requires before { before ≤ length around.now }
-        ensures closed { OnOk result (self.new.store ≡ closed_between around.now before self.old.store.frames self.old.store) }
+        ensures closed { OnOk result
+            (self.new.store ≡ closed_between around.now before self.old.store.frames self.old.store) }
         ensures units { self.new.units ≡ self.old.units }
         ensures arena { OnOk result (Appends around.now self.old self.new) }
         ensures refused { OnErr result (self.new ≡ self.old) }

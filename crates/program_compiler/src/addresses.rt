@@ -27,7 +27,8 @@ pub(crate) fn ahead(pc: usize, far: usize) -> Option<u32>
 
 /// The addresses so far ahead, or none where one takes more than 32 bits.
 fn all_ahead(alloc: Global, pc: usize, fars: &[usize]) -> Result<Option<Vec<u32>>, AllocError>
-    ensures { IfOk result (λ o. MatchOption o (IsWide (map (λ far. pc + far) fars.now)) (λ v. v.items ≡ map (λ far. pc + far) fars.now)) }
+    ensures { IfOk result
+        (λ o. MatchOption o (IsWide (map (λ far. pc + far) fars.now)) (λ v. v.items ≡ map (λ far. pc + far) fars.now)) }
 {
     let mut addresses = Vec::new(alloc);
     for index in 0..fars.len() {
@@ -46,7 +47,8 @@ fn noted(
     pc: usize,
     line: &Line,
 ) -> Result<Option<Lists<u32>>, AllocError>
-    ensures { IfOk result (λ o. (W R : List Node) → MatchOption o (AreWide (jumps_of pc (line_of W R line.now))) (λ more. more ≡ jumps ++ jumps_of pc (line_of W R line.now))) }
+    ensures { IfOk result (λ o. (W R : List Node) → MatchOption o (AreWide (jumps_of pc (line_of W R line.now)))
+        (λ more. more ≡ jumps ++ jumps_of pc (line_of W R line.now))) }
 {
     match line {
         Line::Branch(fars) => match all_ahead(alloc, pc, fars)? {
@@ -63,7 +65,8 @@ fn noted(
 
 /// The jump tables of lines, or none where an address takes more than 32 bits.
 pub(crate) fn gather_jumps(alloc: Global, lines: &[Line]) -> Result<Option<Lists<u32>>, AllocError>
-    ensures { IfOk result (λ o. (W R : List Node) → MatchOption o (AreWide (jumps_from 0 (lines_in W R lines.now))) (λ jumps. jumps ≡ jumps_from 0 (lines_in W R lines.now))) }
+    ensures { IfOk result (λ o. (W R : List Node) → MatchOption o (AreWide (jumps_from 0 (lines_in W R lines.now)))
+        (λ jumps. jumps ≡ jumps_from 0 (lines_in W R lines.now))) }
 {
     let mut jumps = Lists::new(alloc);
     for pc in 0..lines.len() {

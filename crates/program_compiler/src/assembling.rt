@@ -47,7 +47,8 @@ pub(crate) fn assemble(
     r: &Nodes,
     listing: &Listing,
 ) -> Result<Parts, CompileError>
-    ensures { Assembles (lines_in w.now r.now listing.now.lines) (numbered (start_at listing.now) (lines_in w.now r.now listing.now.lines)) result }
+    ensures { Assembles (lines_in w.now r.now listing.now.lines)
+        (numbered (start_at listing.now) (lines_in w.now r.now listing.now.lines)) result }
 {
     let lines = listing.lines();
     if lines.len() > MOST_INSTRS {

@@ -107,7 +107,8 @@ impl Constants {
 /// The default of a field of a record, if it has one.
 fn default_at(nodes: &Nodes, reader: usize, field: usize) -> Option<&Datum>
     ensures none { result ≡ None → default_of (slice_get (fields_of_record (slice_get nodes.now reader)) field) ≡ [] }
-    ensures some { IfSome result (λ d. default_of (slice_get (fields_of_record (slice_get nodes.now reader)) field) ≡ written (datum_of d.now)) }
+    ensures some { IfSome result
+        (λ d. default_of (slice_get (fields_of_record (slice_get nodes.now reader)) field) ≡ written (datum_of d.now)) }
 {
     if reader >= nodes.len() {
         return None;
@@ -123,7 +124,8 @@ fn default_at(nodes: &Nodes, reader: usize, field: usize) -> Option<&Datum>
 
 /// The bytes of a default, or none where they are too many.
 fn written_default(alloc: Global, default: &Datum) -> Result<Option<Vec<u8>>, AllocError>
-    ensures { IfOk result (λ o. MatchOption o (MOST_OUTPUT < length (written (datum_of default.now))) (λ v. v.items ≡ written (datum_of default.now))) }
+    ensures { IfOk result (λ o. MatchOption o (MOST_OUTPUT < length (written (datum_of default.now)))
+        (λ v. v.items ≡ written (datum_of default.now))) }
 {
     let mut out = Vec::new(alloc);
     match write(default, &mut out) {
@@ -139,7 +141,8 @@ pub(crate) fn bytes_of(
     r: &Nodes,
     constant: Constant,
 ) -> Result<Option<Vec<u8>>, AllocError>
-    ensures { IfOk result (λ o. MatchOption o (MOST_OUTPUT < length (bytes_of_constant r.now constant)) (λ v. v.items ≡ bytes_of_constant r.now constant)) }
+    ensures { IfOk result (λ o. MatchOption o (MOST_OUTPUT < length (bytes_of_constant r.now constant))
+        (λ v. v.items ≡ bytes_of_constant r.now constant)) }
 {
     match constant {
         Constant::Position(position) => {
@@ -226,7 +229,8 @@ pub(crate) fn gather_constants(
     lines: &[Line],
 ) -> Result<Option<Constants>, AllocError>
     requires { AreDefaults r.now defaults.old [] }
-    ensures notes { IfOk result (λ o. (W : List Node) → Notes o [] (named_in constants_of (lines_in W r.now lines.now))) }
+    ensures notes { IfOk result
+        (λ o. (W : List Node) → Notes o [] (named_in constants_of (lines_in W r.now lines.now))) }
     ensures defaults { IfOk result (λ o. IfSome o (λ more. AreDefaults r.now defaults.new more)) }
 {
     let mut constants = Constants::new(alloc);

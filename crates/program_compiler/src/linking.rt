@@ -108,7 +108,8 @@ fn putting(
     constant: Constant,
 ) -> Result<Instr, CompileError>
     requires { AreDefaults r.now tables.now.defaults.now tables.now.constants.now }
-    ensures { LinksTo (bytes_of_constant r.now constant ∷ []) (op.Put (number bytes_eq (bytes_of_constant r.now constant) tables.now.constants.now)) result }
+    ensures { LinksTo (bytes_of_constant r.now constant ∷ [])
+        (op.Put (number bytes_eq (bytes_of_constant r.now constant) tables.now.constants.now)) result }
 {
     match number_of(alloc, r, tables, constant)? {
         Some(number) => of_number(Numbered::Put, operand(number)),
@@ -126,7 +127,8 @@ fn linked(
     line: &Line,
 ) -> Result<Instr, CompileError>
     requires { AreDefaults r.now tables.now.defaults.now tables.now.constants.now }
-    ensures { (W : List Node) → Links (line_of W r.now line.now) (instr_of (start_at tables.now.listing.now) tables.now.constants.now tables.now.misses.now pc counts.maps counts.jumps (line_of W r.now line.now)) result }
+    ensures { (W : List Node) → Links (line_of W r.now line.now) (instr_of (start_at tables.now.listing.now)
+        tables.now.constants.now tables.now.misses.now pc counts.maps counts.jumps (line_of W r.now line.now)) result }
 {
     match line {
         Line::Op(instr) => Ok(*instr),
@@ -151,7 +153,8 @@ fn counted(counts: Counts, line: &Line) -> Counts
     requires maps { counts.maps < MOST_INSTRS }
     requires jumps { counts.jumps < MOST_INSTRS }
     ensures maps { (W R : List Node) → result.maps ≡ counts.maps + length (maps_of (line_of W R line.now)) }
-    ensures jumps { (W R : List Node) (pc : ℕ) → result.jumps ≡ counts.jumps + length (jumps_of pc (line_of W R line.now)) }
+    ensures jumps { (W R : List Node) (pc : ℕ) → result.jumps
+        ≡ counts.jumps + length (jumps_of pc (line_of W R line.now)) }
     ensures more { (result.maps ≤ counts.maps + 1) × (result.jumps ≤ counts.jumps + 1) }
 {
     match line {
@@ -171,7 +174,10 @@ fn counted(counts: Counts, line: &Line) -> Counts
 pub(crate) fn link(alloc: Global, r: &Nodes, tables: &Tables) -> Result<Vec<Instr>, CompileError>
     requires few { length tables.now.listing.now.lines ≤ MOST_INSTRS }
     requires defaults { AreDefaults r.now tables.now.defaults.now tables.now.constants.now }
-    ensures { (W : List Node) → LinksAll (lines_in W r.now tables.now.listing.now.lines) (code_from (start_at tables.now.listing.now) tables.now.constants.now tables.now.misses.now 0 0 0 (lines_in W r.now tables.now.listing.now.lines)) result }
+    ensures { (W : List Node)
+        → LinksAll (lines_in W r.now tables.now.listing.now.lines)
+        (code_from (start_at tables.now.listing.now) tables.now.constants.now tables.now.misses.now 0 0 0
+        (lines_in W r.now tables.now.listing.now.lines)) result }
 {
     let lines = tables.listing.lines();
     let mut code = Vec::new(alloc);

@@ -79,7 +79,8 @@ fn push_entries(
 ) -> Result<(), AllocError>
     requires few { length misses.now ≤ MOST_TABLES }
     requires shared { AreShared w.now r.now misses.now numbers.old maps.old }
-    ensures pushed { OnOk result (maps.new ≡ maps.old ++ map (entry_of misses.now) (targets_of w.now r.now writer reader) ∷ []) }
+    ensures pushed { OnOk result
+        (maps.new ≡ maps.old ++ map (entry_of misses.now) (targets_of w.now r.now writer reader) ∷ []) }
     ensures shared { OnOk result (AreShared w.now r.now misses.now numbers.new maps.new) }
 {
     if let Some(number) = numbers.get(&(writer, reader)).copied() {
@@ -104,7 +105,8 @@ fn push_map(
 ) -> Result<(), AllocError>
     requires few { length misses.now ≤ MOST_TABLES }
     requires shared { AreShared w.now r.now misses.now numbers.old maps.old }
-    ensures pushed { OnOk result (maps.new ≡ maps.old ++ map (map (entry_of misses.now)) (maps_of (line_of w.now r.now line.now))) }
+    ensures pushed { OnOk result
+        (maps.new ≡ maps.old ++ map (map (entry_of misses.now)) (maps_of (line_of w.now r.now line.now))) }
     ensures shared { OnOk result (AreShared w.now r.now misses.now numbers.new maps.new) }
 {
     match line {
@@ -124,7 +126,8 @@ pub(crate) fn gather_maps(
     lines: &[Line],
 ) -> Result<Lists<Entry>, AllocError>
     requires { length misses.now ≤ MOST_TABLES }
-    ensures { IfOk result (λ maps. maps ≡ map (map (entry_of misses.now)) (named_in maps_of (lines_in w.now r.now lines.now))) }
+    ensures { IfOk result
+        (λ maps. maps ≡ map (map (entry_of misses.now)) (named_in maps_of (lines_in w.now r.now lines.now))) }
 {
     let mut maps = Lists::new(alloc);
     let mut numbers = BTreeMap::new(alloc);

@@ -124,7 +124,8 @@ fn note_symbol(
     reader: usize,
     symbol: &str,
 ) -> Result<(), AllocError>
-    ensures { OnOk result (misses.new ≡ adding same_miss misses.old (lacked (target writer reader (slice_get r.now reader) symbol.now ∷ []))) }
+    ensures { OnOk result (misses.new
+        ≡ adding same_miss misses.old (lacked (target writer reader (slice_get r.now reader) symbol.now ∷ []))) }
 {
     match position_for(r, reader, symbol) {
         Some(_) => Ok(()),
@@ -163,7 +164,8 @@ fn note_pair(
     reader: usize,
 ) -> Result<(), AllocError>
     requires { AreNoted w.now r.now pairs.old misses.old }
-    ensures added { OnOk result (misses.new ≡ adding same_miss misses.old (lacked (targets_of w.now r.now writer reader))) }
+    ensures added { OnOk result
+        (misses.new ≡ adding same_miss misses.old (lacked (targets_of w.now r.now writer reader))) }
     ensures noted { OnOk result (AreNoted w.now r.now pairs.new misses.new) }
 {
     if !pairs.insert((writer, reader))? {

@@ -58,7 +58,8 @@ pub enum Line {
 
 /// Adds one line.
 pub(crate) fn put(lines: &mut Vec<Line>, line: Line) -> Result<(), AllocError>
-    ensures { OnOk result ((W R : List Node) → lines_in W R lines.new.items ≡ lines_in W R lines.old.items ++ line_of W R line ∷ []) }
+    ensures { OnOk result
+        ((W R : List Node) → lines_in W R lines.new.items ≡ lines_in W R lines.old.items ++ line_of W R line ∷ []) }
 {
     lines.push(line)?;
     Ok(())
@@ -67,7 +68,8 @@ pub(crate) fn put(lines: &mut Vec<Line>, line: Line) -> Result<(), AllocError>
 /// Adds lines.
 #[tactic(auto, using(crate::proofs::Appended::lines_on))]
 pub(crate) fn put_all(lines: &mut Vec<Line>, mut more: Vec<Line>) -> Result<(), AllocError>
-    ensures { OnOk result ((W R : List Node) → lines_in W R lines.new.items ≡ lines_in W R lines.old.items ++ lines_in W R more.items) }
+    ensures { OnOk result
+        ((W R : List Node) → lines_in W R lines.new.items ≡ lines_in W R lines.old.items ++ lines_in W R more.items) }
 {
     lines.append(&mut more)?;
     Ok(())
@@ -75,7 +77,8 @@ pub(crate) fn put_all(lines: &mut Vec<Line>, mut more: Vec<Line>) -> Result<(), 
 
 /// Adds a loop with that body.
 pub(crate) fn put_loop(lines: &mut Vec<Line>, go: Go, body: Vec<Line>) -> Result<(), AllocError>
-    ensures { OnOk result ((W R : List Node) → lines_in W R lines.new.items ≡ lines_in W R lines.old.items ++ looped (go_of go) (lines_in W R body.items)) }
+    ensures { OnOk result ((W R : List Node) → lines_in W R lines.new.items ≡ lines_in W R lines.old.items
+        ++ looped (go_of go) (lines_in W R body.items)) }
 {
     let len = body.len();
     put(lines, Line::Ahead(go, len + 2))?;

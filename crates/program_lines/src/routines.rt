@@ -24,7 +24,8 @@ use std::alloc::{AllocError, Global};
 /// Which of so many reader's fields have partners.
 fn have_partners(alloc: Global, routes: &[Route], many: usize) -> Result<Vec<bool>, AllocError>
     ensures each { IfOk result (λ v. length v.items ≡ many) }
-    ensures mark { IfOk result (λ v. (j : ℕ) → j < many → slice_index_or v.items j false ≡ has_partner_of j routes.now) }
+    ensures mark { IfOk result
+        (λ v. (j : ℕ) → j < many → slice_index_or v.items j false ≡ has_partner_of j routes.now) }
 {
     let mut marks = vec![in alloc; false; many]?;
     for route in routes {
@@ -48,7 +49,8 @@ fn put_default(
     requires { position < MOST_FIELDS }
     ensures { OnOk result ((W R : List Node) (routes : List Route) → has_partner ≡ has_partner_of position routes
         → slice_get (fields_of_record (slice_get R reader)) position ≡ Some (field_of field.now)
-        → lines_in W R lines.new.items ≡ lines_in W R lines.old.items ++ put_in position (default_bytes routes position (field_of field.now))) }
+        → lines_in W R lines.new.items ≡ lines_in W R lines.old.items
+        ++ put_in position (default_bytes routes position (field_of field.now))) }
 {
     if has_partner {
         return Ok(());
@@ -80,7 +82,8 @@ fn put_defaults(
 ) -> Result<(), AllocError>
     requires few { length rs.now ≤ MOST_FIELDS }
     requires fields { fields_of_record (slice_get r.now reader) ≡ fields_of rs.now }
-    ensures { OnOk result ((W : List Node) → lines_in W r.now lines.new.items ≡ lines_in W r.now lines.old.items ++ defaults_code routes.now 0 (fields_of rs.now)) }
+    ensures { OnOk result ((W : List Node) → lines_in W r.now lines.new.items ≡ lines_in W r.now lines.old.items
+        ++ defaults_code routes.now 0 (fields_of rs.now)) }
 {
     let marks = have_partners(alloc, routes, rs.len())?;
     for position in 0..rs.len() {
@@ -98,7 +101,8 @@ fn put_field(
     lines: &mut Vec<Line>,
 ) -> Result<(), AllocError>
     requires { IsRoute (length w.now) (length r.now) MOST_FIELDS route.now }
-    ensures { OnOk result (lines_in w.now r.now lines.new.items ≡ lines_in w.now r.now lines.old.items ++ field_code w.now r.now route.now) }
+    ensures { OnOk result (lines_in w.now r.now lines.new.items ≡ lines_in w.now r.now lines.old.items
+        ++ field_code w.now r.now route.now) }
 {
     match route.partner {
         Some(partner) => {
@@ -118,7 +122,8 @@ fn put_fields(
     lines: &mut Vec<Line>,
 ) -> Result<(), AllocError>
     requires { AreRoutes (length w.now) (length r.now) MOST_FIELDS routes.now }
-    ensures { OnOk result (lines_in w.now r.now lines.new.items ≡ lines_in w.now r.now lines.old.items ++ fields_code w.now r.now routes.now) }
+    ensures { OnOk result (lines_in w.now r.now lines.new.items ≡ lines_in w.now r.now lines.old.items
+        ++ fields_code w.now r.now routes.now) }
 {
     for route in routes {
         put_field(alloc, w, r, route, lines)?;
@@ -135,7 +140,8 @@ fn skip_fields(
     lines: &mut Vec<Line>,
 ) -> Result<(), AllocError>
     requires { FieldsBelow (length w.now) (fields_of fields.now) }
-    ensures { OnOk result (lines_in w.now r.now lines.new.items ≡ lines_in w.now r.now lines.old.items ++ skip_fields w.now (fields_of fields.now)) }
+    ensures { OnOk result (lines_in w.now r.now lines.new.items ≡ lines_in w.now r.now lines.old.items
+        ++ skip_fields w.now (fields_of fields.now)) }
 {
     for field in fields {
         skip(alloc, w, r, field.node, lines)?;
@@ -155,7 +161,8 @@ fn put_routine(
     requires writer { wn < length w.now }
     requires reader { rn < length r.now }
     ensures { OnOk result (lines_in w.now r.now lines.new.items ≡ lines_in w.now r.now lines.old.items
-        ++ given (field_lists (slice_get w.now wn) (slice_get r.now rn)) (Lost ∷ []) (λ p. write_routine w.now r.now p.0 p.1)) }
+        ++ given (field_lists (slice_get w.now wn) (slice_get r.now rn)) (Lost ∷ [])
+        (λ p. write_routine w.now r.now p.0 p.1)) }
 {
     w.is_well_formed();
     r.is_well_formed();
@@ -179,7 +186,8 @@ fn put_skip_routine(
     lines: &mut Vec<Line>,
 ) -> Result<(), AllocError>
     requires { wn < length w.now }
-    ensures { OnOk result (lines_in w.now r.now lines.new.items ≡ lines_in w.now r.now lines.old.items ++ skip_routine w.now (slice_get w.now wn)) }
+    ensures { OnOk result (lines_in w.now r.now lines.new.items ≡ lines_in w.now r.now lines.old.items
+        ++ skip_routine w.now (slice_get w.now wn)) }
 {
     let Kind::Record { fields, .. } = w.kind(wn) else {
         return put(lines, Line::Lost);
@@ -198,7 +206,8 @@ fn put_section(
     part: Section,
     lines: &mut Vec<Line>,
 ) -> Result<(), AllocError>
-    ensures { OnOk result (lines_in w.now r.now lines.new.items ≡ lines_in w.now r.now lines.old.items ++ section w.now r.now (section_of part)) }
+    ensures { OnOk result (lines_in w.now r.now lines.new.items ≡ lines_in w.now r.now lines.old.items
+        ++ section w.now r.now (section_of part)) }
 {
     w.is_well_formed();
     r.is_well_formed();

@@ -104,7 +104,8 @@ impl Sections {
 
 /// Adds the section that a line calls, if it calls one.
 fn note_call(sections: &mut Sections, line: &Line) -> Result<(), AllocError>
-    ensures { OnOk result ((W R : List Node) → sections.new ≡ adding same_section sections.old (calls_of (line_of W R line.now))) }
+    ensures { OnOk result
+        ((W R : List Node) → sections.new ≡ adding same_section sections.old (calls_of (line_of W R line.now))) }
 {
     match line {
         Line::Call(section) => sections.add(*section),
@@ -114,7 +115,8 @@ fn note_call(sections: &mut Sections, line: &Line) -> Result<(), AllocError>
 
 /// Adds the sections that lines call.
 pub(crate) fn note_calls(sections: &mut Sections, lines: &[Line]) -> Result<(), AllocError>
-    ensures { OnOk result ((W R : List Node) → sections.new ≡ adding same_section sections.old (named_in calls_of (lines_in W R lines.now))) }
+    ensures { OnOk result ((W R : List Node) → sections.new
+        ≡ adding same_section sections.old (named_in calls_of (lines_in W R lines.now))) }
 {
     for line in lines {
         note_call(sections, line)?;

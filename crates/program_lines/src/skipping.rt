@@ -21,7 +21,8 @@ fn skip_within(
     lines: &mut Vec<Line>,
 ) -> Result<(), AllocError>
     requires { n < length w.now }
-    ensures { OnOk result (lines_in w.now r.now lines.new.items ≡ lines_in w.now r.now lines.old.items ++ skip_within w.now levels n) }
+    ensures { OnOk result
+        (lines_in w.now r.now lines.new.items ≡ lines_in w.now r.now lines.old.items ++ skip_within w.now levels n) }
 {
     if levels == 0 {
         return put(lines, Line::Lost);

@@ -57,7 +57,8 @@ fn record(
     requires writer { wn < length w.now }
     requires reader { rn < length r.now }
     ensures { OnOk result (lines_in w.now r.now lines.new.items ≡ lines_in w.now r.now lines.old.items
-        ++ given (field_lists (slice_get w.now wn) (slice_get r.now rn)) (Lost ∷ []) (λ p. record_code w.now r.now wn rn (lacking p.0 p.1))) }
+        ++ given (field_lists (slice_get w.now wn) (slice_get r.now rn)) (Lost ∷ [])
+        (λ p. record_code w.now r.now wn rn (lacking p.0 p.1))) }
 {
     let Some((ws, rs)) = field_lists(w, wn, r, rn) else {
         return put(lines, Line::Lost);
@@ -110,7 +111,8 @@ fn values(
 ) -> Result<(), AllocError>
     requires { IfSome parts (ArePair w.now r.now) }
     ensures { OnOk result (lines_in w.now r.now lines.new.items ≡ lines_in w.now r.now lines.old.items
-        ++ given parts (Lost ∷ []) (λ p. Op op.Blocks ∷ looped op.Next (Op op.Text ∷ write_within w.now r.now steps p.0 p.1))) }
+        ++ given parts (Lost ∷ [])
+        (λ p. Op op.Blocks ∷ looped op.Next (Op op.Text ∷ write_within w.now r.now steps p.0 p.1))) }
 {
     let Some((wn, rn)) = parts else {
         return put(lines, Line::Lost);
@@ -242,7 +244,8 @@ fn write_members(
     ensures lines { OnOk result (lines_in w.now r.now code.new.items
         ≡ lines_in w.now r.now code.old.items ++ one_of (map (λ m. write_within w.now r.now steps m rn) members.now)) }
     ensures places { OnOk result (fars.new.items
-        ≡ fars.old.items ++ begins (length code.old.items + 1) (map (λ m. write_within w.now r.now steps m rn) members.now)) }
+        ≡ fars.old.items
+        ++ begins (length code.old.items + 1) (map (λ m. write_within w.now r.now steps m rn) members.now)) }
 {
     let Some((first, rest)) = members.split_first() else {
         return Ok(());
@@ -270,7 +273,8 @@ pub(crate) fn write(
 ) -> Result<(), AllocError>
     requires writer { wn < length w.now }
     requires reader { rn < length r.now }
-    ensures { OnOk result (lines_in w.now r.now lines.new.items ≡ lines_in w.now r.now lines.old.items ++ X w.now r.now wn rn) }
+    ensures { OnOk result
+        (lines_in w.now r.now lines.new.items ≡ lines_in w.now r.now lines.old.items ++ X w.now r.now wn rn) }
 {
     w.is_well_formed();
     write_within(alloc, w, r, wn, rn, w.len() + 1, lines)

@@ -52,7 +52,8 @@ impl Machine {
         requires pc { self.old.state.pc < MOST_INSTRS }
         requires within { self.old.state.pos ≤ length input.now }
         requires whole { self.old.state.part ≡ None }
-        ensures takes { Takes (row program.now input.now ended (op.Next after) self.old.state) result self.old self.new }
+        ensures takes { Takes (row program.now input.now ended (op.Next after) self.old.state) result self.old
+            self.new }
         ensures within { self.new.state.pos ≤ length input.now }
         ensures whole { self.new.state.part ≡ None }
     {
@@ -78,7 +79,8 @@ impl Machine {
         requires pc { self.old.state.pc < MOST_INSTRS }
         requires within { self.old.state.pos ≤ length input.now }
         requires whole { self.old.state.part ≡ None }
-        ensures takes { Takes (row program.now input.now ended (op.SkipNext after) self.old.state) result self.old self.new }
+        ensures takes { Takes (row program.now input.now ended (op.SkipNext after) self.old.state) result self.old
+            self.new }
         ensures within { self.new.state.pos ≤ length input.now }
         ensures whole { self.new.state.part ≡ None }
     {

@@ -84,7 +84,8 @@ impl Machine {
     /// At a place, behind which a content goes on.
     fn goes_on(&mut self, part: Part, check: TextCheck, to: usize) -> Step
         ensures step { result ≡ Step.Moved }
-        ensures moved { self.new ≡ record self.old { state = record self.old.state { pos = to; part = Some (part_of part) }; check = check_of check } }
+        ensures moved { self.new ≡ record self.old
+            { state = record self.old.state { pos = to; part = Some (part_of part) }; check = check_of check } }
     {
         self.pos = to;
         self.part = Some(part);
@@ -96,7 +97,8 @@ impl Machine {
     fn pass_whole(&mut self, to: usize) -> Step
         requires { self.old.state.pc < MOST_INSTRS }
         ensures step { result ≡ Step.Moved }
-        ensures whole { self.new ≡ record self.old { state = record (next to self.old.state) { part = None }; check = None } }
+        ensures whole { self.new
+            ≡ record self.old { state = record (next to self.old.state) { part = None }; check = None } }
     {
         self.pc += 1;
         self.pos = to;
@@ -148,7 +150,8 @@ impl Machine {
         requires left { MOST_PIECE < part.left }
         requires on { IsOn input.now self.old }
         requires part { HasMoved input.now self.old.state.pos (check_of check) (part_of part) }
-        ensures takes { Takes (Some (moved program.now input.now ended (move_of moving) (part_of part) MOST_PIECE self.old.state)) result self.old self.new }
+        ensures takes { Takes (Some (moved program.now input.now ended (move_of moving) (part_of part) MOST_PIECE
+            self.old.state)) result self.old self.new }
         ensures on { IsOn input.now self.new }
         ensures stays { Stays self.old.state self.new.state }
     {
@@ -180,7 +183,8 @@ impl Machine {
         requires there { self.old.state.pos + part.left ≤ length input.now }
         requires on { IsOn input.now self.old }
         requires part { HasMoved input.now self.old.state.pos (check_of check) (part_of part) }
-        ensures takes { Takes (ends_part program.now input.now ended (move_of moving) (part_of part) self.old.state) result self.old self.new }
+        ensures takes { Takes (ends_part program.now input.now ended (move_of moving) (part_of part) self.old.state)
+            result self.old self.new }
         ensures on { IsOn input.now self.new }
         ensures stays { Stays self.old.state self.new.state }
     {
@@ -232,7 +236,8 @@ impl Machine {
         requires room { HasRoom moving self.old.state }
         requires on { IsOn input.now self.old }
         requires part { HasMoved input.now self.old.state.pos (check_of check) (part_of part) }
-        ensures takes { Takes (moves program.now input.now ended (move_of moving) (part_of part) self.old.state) result self.old self.new }
+        ensures takes { Takes (moves program.now input.now ended (move_of moving) (part_of part) self.old.state) result
+            self.old self.new }
         ensures on { IsOn input.now self.new }
         ensures stays { Stays self.old.state self.new.state }
     {
@@ -257,7 +262,8 @@ impl Machine {
         requires pc { self.old.state.pc < MOST_INSTRS }
         requires room { HasRoom moving self.old.state }
         requires on { IsOn input.now self.old }
-        ensures takes { Takes (content program.now input.now ended (move_of moving) self.old.state self.old.state.part) result self.old self.new }
+        ensures takes { Takes (content program.now input.now ended (move_of moving) self.old.state self.old.state.part)
+            result self.old self.new }
         ensures on { IsOn input.now self.new }
         ensures stays { Stays self.old.state self.new.state }
     {
@@ -282,7 +288,8 @@ impl Machine {
         requires pc { self.old.state.pc < MOST_INSTRS }
         requires room { HasRoom moving self.old.state }
         requires on { IsOn input.now self.old }
-        ensures takes { Takes (fixed program.now input.now ended (move_of moving) size self.old.state self.old.state.part) result self.old self.new }
+        ensures takes { Takes (fixed program.now input.now ended (move_of moving) size self.old.state
+            self.old.state.part) result self.old self.new }
         ensures on { IsOn input.now self.new }
         ensures stays { Stays self.old.state self.new.state }
     {
@@ -309,7 +316,8 @@ impl Machine {
     ) -> Step
         requires pc { self.old.state.pc < MOST_INSTRS }
         requires on { IsOn input.now self.old }
-        ensures takes { Takes (if_current self.old.state.store.frames self.old.state (content program.now input.now ended (move_of moving) self.old.state self.old.state.part)) result self.old self.new }
+        ensures takes { Takes (if_current self.old.state.store.frames self.old.state (content program.now input.now
+            ended (move_of moving) self.old.state self.old.state.part)) result self.old self.new }
         ensures on { IsOn input.now self.new }
         ensures stays { Stays self.old.state self.new.state }
     {
@@ -329,7 +337,8 @@ impl Machine {
     ) -> Step
         requires pc { self.old.state.pc < MOST_INSTRS }
         requires on { IsOn input.now self.old }
-        ensures takes { Takes (if_current self.old.state.store.frames self.old.state (fixed program.now input.now ended (move_of Moving.Bytes) size self.old.state self.old.state.part)) result self.old self.new }
+        ensures takes { Takes (if_current self.old.state.store.frames self.old.state (fixed program.now input.now ended
+            (move_of Moving.Bytes) size self.old.state self.old.state.part)) result self.old self.new }
         ensures on { IsOn input.now self.new }
         ensures stays { Stays self.old.state self.new.state }
     {

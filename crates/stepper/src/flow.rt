@@ -29,7 +29,8 @@ fn miss_of(program: &Program, number: u32) -> Mismatch
 impl Machine {
     /// All was read: the run ends with its outcome.
     fn finish(&mut self, program: &Program) -> Step
-        ensures takes { Takes (finished program.now self.old.state self.old.state.store.mark self.old.state.store.over) result self.old self.new }
+        ensures takes { Takes (finished program.now self.old.state self.old.state.store.mark self.old.state.store.over)
+            result self.old self.new }
         ensures pos { self.new.state.pos ≡ self.old.state.pos }
         ensures part { self.new.state.part ≡ self.old.state.part }
     {
@@ -75,7 +76,8 @@ impl Machine {
         requires pc { self.old.state.pc < MOST_INSTRS }
         requires within { self.old.state.pos ≤ length input.now }
         requires whole { self.old.state.part ≡ None }
-        ensures takes { Takes (row program.now input.now ended (op.Call address) self.old.state) result self.old self.new }
+        ensures takes { Takes (row program.now input.now ended (op.Call address) self.old.state) result self.old
+            self.new }
         ensures within { self.new.state.pos ≤ length input.now }
         ensures whole { self.new.state.part ≡ None }
     {
@@ -111,7 +113,8 @@ impl Machine {
         requires pc { self.old.state.pc < MOST_INSTRS }
         requires within { self.old.state.pos ≤ length input.now }
         requires whole { self.old.state.part ≡ None }
-        ensures takes { Takes (row program.now input.now ended (op.Jump address) self.old.state) result self.old self.new }
+        ensures takes { Takes (row program.now input.now ended (op.Jump address) self.old.state) result self.old
+            self.new }
         ensures within { self.new.state.pos ≤ length input.now }
         ensures whole { self.new.state.part ≡ None }
     {

@@ -75,7 +75,8 @@ impl Machine {
         requires few { FewSlots opening }
         requires deep { length self.old.state.store.frames < MOST_DEPTH }
         requires units { self.old.state.units ≤ inside.units }
-        ensures takes { Takes (Some (next self.old.state.pos (pushed (frame_of opening) inside self.old.state))) result self.old self.new }
+        ensures takes { Takes (Some (next self.old.state.pos (pushed (frame_of opening) inside self.old.state))) result
+            self.old self.new }
         ensures pos { self.new.state.pos ≡ self.old.state.pos }
         ensures part { self.new.state.part ≡ self.old.state.part }
     {
@@ -90,7 +91,8 @@ impl Machine {
     pub(crate) fn select(&mut self, slot: usize) -> Step
         requires pc { self.old.state.pc < MOST_INSTRS }
         requires there { HasSlot slot (slots_of self.old.state.store.frames) }
-        ensures takes { Takes (Some (next self.old.state.pos (with_frames (select slot self.old.state.store.frames) self.old.state))) result self.old self.new }
+        ensures takes { Takes (Some (next self.old.state.pos
+            (with_frames (select slot self.old.state.store.frames) self.old.state))) result self.old self.new }
         ensures pos { self.new.state.pos ≡ self.old.state.pos }
         ensures part { self.new.state.part ≡ self.old.state.part }
     {
@@ -104,7 +106,8 @@ impl Machine {
         requires pc { self.old.state.pc < MOST_INSTRS }
         requires record { is_some (slots_of self.old.state.store.frames) ≡ true }
         requires below { has_current_below self.old.state.store.frames ≡ true }
-        ensures takes { Takes (Some (next self.old.state.pos (record self.old.state { store = close_record self.old.state.store.frames self.old.state.store }))) result self.old self.new }
+        ensures takes { Takes (Some (next self.old.state.pos (record self.old.state
+            { store = close_record self.old.state.store.frames self.old.state.store }))) result self.old self.new }
         ensures pos { self.new.state.pos ≡ self.old.state.pos }
         ensures part { self.new.state.part ≡ self.old.state.part }
     {
@@ -129,7 +132,8 @@ impl Machine {
         requires blocks { is_some (walk_of self.old.state.store.frames) ≡ true }
         requires units { self.old.state.units < inside.units }
         ensures step { result ≡ Step.Moved }
-        ensures gathered { self.new.state ≡ record (next to (with_frames (next_item walk self.old.state.store.frames) self.old.state)) { units = inside.units } }
+        ensures gathered { self.new.state ≡ record (next to
+            (with_frames (next_item walk self.old.state.store.frames) self.old.state)) { units = inside.units } }
     {
         self.store.next_item(walk, inside.units);
         self.pc += 1;
@@ -143,7 +147,8 @@ impl Machine {
         requires blocks { is_some (skip_walk_of self.old.state.store.frames) ≡ true }
         requires units { self.old.state.units ≤ inside.units }
         ensures step { result ≡ Step.Moved }
-        ensures passed { self.new.state ≡ record (next to (with_frames (next_skipped walk self.old.state.store.frames) self.old.state)) { units = inside.units } }
+        ensures passed { self.new.state ≡ record (next to
+            (with_frames (next_skipped walk self.old.state.store.frames) self.old.state)) { units = inside.units } }
     {
         self.store.next_skipped(walk, inside.units);
         self.pc += 1;
@@ -155,7 +160,12 @@ impl Machine {
     pub(crate) fn close_blocks(&mut self, address: usize, to: usize) -> Step
         requires blocks { is_some (walk_of self.old.state.store.frames) ≡ true }
         requires below { has_current_below self.old.state.store.frames ≡ true }
-        ensures takes { Takes (Some (record self.old.state { pc = address; pos = to; store = close_blocks self.old.state.store.frames self.old.state.store })) result self.old self.new }
+        ensures takes { Takes (Some (record self.old.state {
+          pc = address;
+          pos = to;
+          store = close_blocks
+              self.old.state.store.frames self.old.state.store;
+        })) result self.old self.new }
         ensures part { self.new.state.part ≡ self.old.state.part }
     {
         if self.store.close_blocks(&mut self.scratch).is_err() {

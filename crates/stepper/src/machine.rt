@@ -202,7 +202,8 @@ impl Machine {
     /// A call of a routine at an address.
     pub(crate) fn push_call(&mut self, address: usize) -> Step
         requires { self.old.state.pc < MOST_INSTRS }
-        ensures takes { Takes (Some (record self.old.state { pc = address; calls = (self.old.state.pc + 1) ∷ self.old.state.calls })) result self.old self.new }
+        ensures takes { Takes (Some (record self.old.state
+            { pc = address; calls = (self.old.state.pc + 1) ∷ self.old.state.calls })) result self.old self.new }
         ensures pos { self.new.state.pos ≡ self.old.state.pos }
         ensures part { self.new.state.part ≡ self.old.state.part }
     {
