@@ -8,6 +8,7 @@ use hex::FromHexError;
 use isa::{End, Program, Trap};
 use outcome::Outcome;
 use std::alloc::{AllocError, Global};
+use std::test::Fail;
 use stepper::{Machine, Why};
 
 /// More turns than any test takes.
@@ -31,7 +32,7 @@ pub(crate) fn program(alloc: Global, lines: &str) -> Result<Program, AsmError> {
 }
 
 /// A new machine after a run on an input that comes in pieces, in slices of so many rows.
-pub(crate) fn run(alloc: Global, program: &Program, input: &[u8], piece: usize, k: u64) -> Machine {
+fn run(alloc: Global, program: &Program, input: &[u8], piece: usize, k: u64) -> Machine {
     let mut machine = Machine::new(alloc);
     let mut end = 0;
     'turns: for _turn in 0..TURNS {
@@ -102,6 +103,30 @@ pub(crate) fn words(alloc: Global, machine: &Machine) -> Result<String, AllocErr
         }
         None => format!(in alloc; "running count {count}"),
     }
+}
+
+/// What a run on an input answers, in words.
+fn run_words(
+    alloc: Global,
+    program: &Program,
+    input: &[u8],
+    piece: usize,
+    k: u64,
+) -> Result<String, AllocError> {
+    let machine = run(alloc, program, input, piece, k);
+    words(alloc, &machine)
+}
+
+/// What a run of the program of these lines answers, in pieces and slices of so many.
+pub(crate) fn told(
+    alloc: Global,
+    lines: &str,
+    input: &[u8],
+    piece: usize,
+    k: u64,
+) -> Result<String, Fail> {
+    let program = program(alloc, lines)?;
+    Ok(run_words(alloc, &program, input, piece, k)?)
 }
 
 /// The bytes of a row of hexadecimal digits.

@@ -1,6 +1,6 @@
 //! Worked rows: what programs answer, and after how many rows. Each line of a table is a program, its input and the answer.
 
-use crate::programs::{ALL, bytes, program, run, words};
+use crate::programs::{ALL, bytes, told};
 use std::alloc::Global;
 use std::test::Fail;
 
@@ -48,10 +48,8 @@ const LIMITS: &str = "0 ENTER,1 JUMP 0||malformed TooDeep at 0 count 2001
 
 /// What a run of this program on these bytes answers, in pieces and slices of so many.
 fn answer(alloc: Global, lines: &str, hex: &str, piece: usize, k: u64) -> Result<String, Fail> {
-    let program = program(alloc, lines)?;
     let input = bytes(alloc, hex)?;
-    let machine = run(alloc, &program, &input, piece, k);
-    Ok(words(alloc, &machine)?)
+    told(alloc, lines, &input, piece, k)
 }
 
 /// Whether the program of this line answers so, in pieces and slices of so many.

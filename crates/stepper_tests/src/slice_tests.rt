@@ -1,103 +1,182 @@
 //! Slices: how many rows they take, and why no more.
 
-ghost use Rattle.std.specs.Prelude.{◌≡◌};
+ghost use Rattle.stepper.specs.Running.{IsOn, IsUnder};
 
 use crate::programs::{bytes, program, words};
 use isa::Program;
+use std::alloc::{AllocError, Global};
 use std::test::Fail;
-use stepper::{Machine, Slice, Why};
+use stepper::{Machine, Why};
 
 const SAME: &str = "0 CALL 2,1 HALT,2 RECORD 2,3 SLOT 0,4 LONG,5 SLOT 1,6 TEXT,7 ENDREC,8 RET";
 
+/// What is asked of a slice.
+#[derive(Clone, Copy)]
+struct Asked {
+    breaks: &'static [u32],
+    rows: u64,
+}
+
+fn why_name(why: Why) -> &'static str {
+    match why {
+        Why::Ended => "ended",
+        Why::Spent => "spent",
+        Why::Broke => "broke",
+        Why::Waits => "waits",
+        Why::NoMemory => "no memory",
+    }
+}
+
+/// What a slice of a machine takes, in words.
+fn slice_words(
+    alloc: Global,
+    machine: &mut Machine,
+    program: &Program,
+    input: &[u8],
+    ended: bool,
+    asked: &Asked,
+) -> Result<String, AllocError>
+    requires under { IsUnder program.now machine.old.state }
+    requires on { IsOn input.now machine.old }
+    ensures under { IsUnder program.now machine.new.state }
+    ensures on { IsOn input.now machine.new }
+{
+    let slice = machine.slice(program, input, ended, asked.breaks, asked.rows);
+    let why = why_name(slice.why);
+    format!(in alloc; "{} {why}", slice.rows)
+}
+
+/// What slices take one after another, each in words, and then what the machine shows.
+fn all_words(
+    alloc: Global,
+    machine: &mut Machine,
+    program: &Program,
+    input: &[u8],
+    ended: bool,
+    asked: &[Asked],
+) -> Result<String, AllocError>
+    requires under { IsUnder program.now machine.old.state }
+    requires on { IsOn input.now machine.old }
+{
+    let mut all = String::new(alloc);
+    'each: for one in asked {
+        all.push_str(slice_words(alloc, machine, program, input, ended, one)?.as_str())?;
+        all.push_str(", ")?;
+    }
+    all.push_str(words(alloc, machine)?.as_str())?;
+    Ok(all)
+}
+
+/// The same for a new machine.
+fn new_words(
+    alloc: Global,
+    program: &Program,
+    input: &[u8],
+    ended: bool,
+    asked: &[Asked],
+) -> Result<String, AllocError> {
+    let mut machine = Machine::new(alloc);
+    all_words(alloc, &mut machine, program, input, ended, asked)
+}
+
+/// The same for the program of these lines.
+fn told(
+    alloc: Global,
+    lines: &str,
+    input: &[u8],
+    ended: bool,
+    asked: &[Asked],
+) -> Result<String, Fail> {
+    let program = program(alloc, lines)?;
+    Ok(new_words(alloc, &program, input, ended, asked)?)
+}
+
 #[test]
 fn slices_say_why_they_stop(rt: HostRuntime) -> Result<(), Fail> {
-    let program = program(rt.alloc(), SAME)?;
     let input = bytes(rt.alloc(), "3606666f6f")?;
-    let mut machine = Machine::new(rt.alloc());
-    let first = machine.slice(&program, &input, true, &[5], 100);
-    assert_eq!(rt;
-        first,
-        Slice {
-            rows: 4,
-            why: Why::Broke
-        }
-    );
-    let again = machine.slice(&program, &input, true, &[5], 100);
-    assert_eq!(rt;
-        again,
-        Slice {
-            rows: 0,
-            why: Why::Broke
-        }
-    );
-    let two = machine.slice(&program, &input, true, &[], 2);
-    assert_eq!(rt;
-        two,
-        Slice {
+    // After six rows a content is begun: the breakpoint at its instruction does not stop it.
+    let asked = [
+        Asked {
+            breaks: &[5],
+            rows: 100,
+        },
+        Asked {
+            breaks: &[5],
+            rows: 100,
+        },
+        Asked {
+            breaks: &[],
             rows: 2,
-            why: Why::Spent
-        }
-    );
-    // A content is begun: the breakpoint at its instruction does not stop it.
-    let rest = machine.slice(&program, &input, true, &[6], 100);
+        },
+        Asked {
+            breaks: &[6],
+            rows: 100,
+        },
+        Asked {
+            breaks: &[],
+            rows: 100,
+        },
+    ];
+    let told = told(rt.alloc(), SAME, &input, true, &asked)?;
     assert_eq!(rt;
-        rest,
-        Slice {
-            rows: 4,
-            why: Why::Ended
-        }
-    );
-    assert_eq!(rt;
-        words(rt.alloc(), &machine)?.as_str(),
-        "done 3606666f6f count 10"
-    );
-    let none = machine.slice(&program, &input, true, &[], 100);
-    assert_eq!(rt;
-        none,
-        Slice {
-            rows: 0,
-            why: Why::Ended
-        }
+        told.as_str(),
+        "4 broke, 0 broke, 2 spent, 4 ended, 0 ended, done 3606666f6f count 10"
     );
     Ok(())
 }
 
 #[test]
 fn slices_wait_for_bytes(rt: HostRuntime) -> Result<(), Fail> {
-    let program = program(rt.alloc(), SAME)?;
-    let mut machine = Machine::new(rt.alloc());
-    let none = machine.slice(&program, &[], false, &[], 100);
-    assert_eq!(rt;
-        none,
-        Slice {
-            rows: 3,
-            why: Why::Waits
-        }
-    );
+    let asked = [Asked {
+        breaks: &[],
+        rows: 100,
+    }];
+    let told = told(rt.alloc(), SAME, &[], false, &asked)?;
+    assert_eq!(rt; told.as_str(), "3 waits, running count 3");
     Ok(())
 }
 
-/// What a slice of a machine takes that was reset.
-fn after_reset(machine: &mut Machine, program: &Program, input: &[u8]) -> Slice {
-    machine.reset();
-    machine.slice(program, input, true, &[], 100)
+/// What a machine takes of each of three messages, reset before it.
+fn messages_words(
+    alloc: Global,
+    machine: &mut Machine,
+    program: &Program,
+    input: &[u8],
+) -> Result<String, AllocError> {
+    let mut all = String::new(alloc);
+    let asked = Asked {
+        breaks: &[],
+        rows: 100,
+    };
+    'messages: for _message in 0..3 {
+        machine.reset();
+        all.push_str(slice_words(alloc, machine, program, input, true, &asked)?.as_str())?;
+        all.push_str(if machine.take_end().is_some() {
+            " taken, "
+        } else {
+            " lost, "
+        })?;
+    }
+    Ok(all)
+}
+
+fn reset_words(alloc: Global, program: &Program, input: &[u8]) -> Result<String, AllocError> {
+    let mut machine = Machine::new(alloc);
+    messages_words(alloc, &mut machine, program, input)
+}
+
+fn told_of_messages(alloc: Global, lines: &str, input: &[u8]) -> Result<String, Fail> {
+    let program = program(alloc, lines)?;
+    Ok(reset_words(alloc, &program, input)?)
 }
 
 #[test]
 fn a_machine_is_reset(rt: HostRuntime) -> Result<(), Fail> {
-    let program = program(rt.alloc(), SAME)?;
     let input = bytes(rt.alloc(), "3606666f6f")?;
-    let mut machine = Machine::new(rt.alloc());
-    for _message in 0..3 {
-        let all = after_reset(&mut machine, &program, &input);
-        assert_eq!(rt;
-            all,
-            Slice {
-                rows: 10,
-                why: Why::Ended
-            }
-        );
-        assert!(rt; machine.take_end().is_some());
-    }
+    let told = told_of_messages(rt.alloc(), SAME, &input)?;
+    assert_eq!(rt;
+        told.as_str(),
+        "10 ended taken, 10 ended taken, 10 ended taken, "
+    );
     Ok(())
 }

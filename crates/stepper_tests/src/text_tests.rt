@@ -1,7 +1,7 @@
 //! Texts: rows by 64 bytes, and what is known of a cut character.
 
-use crate::programs::{ALL, bytes, program, run, words};
-use std::alloc::Global;
+use crate::programs::{ALL, bytes, told};
+use std::alloc::{AllocError, Global};
 use std::test::Fail;
 
 /// So many letters between two rows of bytes, and how a text of them ends.
@@ -22,18 +22,21 @@ const BYTES: &str = "02|0|ff|mismatch BytesNotText 0 0 count 3
 8201|63|c3a9|done count 4
 ";
 
+/// The words of an answer, without the bytes of what is done.
+fn without_bytes(alloc: Global, all: &str) -> Result<String, AllocError> {
+    match all.strip_prefix("done ") {
+        Some(rest) => match rest.split_once(' ') {
+            Some((_, count)) => format!(in alloc; "done {count}"),
+            None => String::from_str(alloc, all),
+        },
+        None => String::from_str(alloc, all),
+    }
+}
+
 /// What a run of this program answers, in pieces, without the bytes of what is done.
 fn answer(alloc: Global, lines: &str, input: &[u8], piece: usize) -> Result<String, Fail> {
-    let program = program(alloc, lines)?;
-    let machine = run(alloc, &program, input, piece, ALL);
-    let all = words(alloc, &machine)?;
-    match all.as_str().strip_prefix("done ") {
-        Some(rest) => match rest.split_once(' ') {
-            Some((_, count)) => Ok(format!(in alloc; "done {count}")?),
-            None => Ok(all),
-        },
-        None => Ok(all),
-    }
+    let all = told(alloc, lines, input, piece, ALL)?;
+    Ok(without_bytes(alloc, all.as_str())?)
 }
 
 /// The input of a line, and its answer.
