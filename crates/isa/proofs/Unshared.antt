@@ -2,12 +2,12 @@
 use Rattle.std.proofs.Common.{◌≡◌, ◌-◌, ℕ, zero, suc, Bool, true, List, [], ◌∷◌, take, drop, None}
 use Rattle.std.specs.List.{AllByRecursion}
 use Rattle.isa.specs.declared.lists.Stretch.{Stretch}
-use Rattle.isa.specs.Lists.{items_of, lists_in}
+use Rattle.isa.specs.Lists.{lists_in}
 use Rattle.isa.specs.Judging.{first_out, first_out_in}
 use Rattle.isa.proofs.Judged.{all_in, none_out_in}
 
 module _ {A : Type 0} (test : A → Bool) where
-  IsInRange : A → Type 0
+  abbrev IsInRange : A → Type 0
   IsInRange x = test x ≡ true
 
   dropped : (n : ℕ) (xs : List A) → AllByRecursion IsInRange xs → AllByRecursion IsInRange (drop n xs)

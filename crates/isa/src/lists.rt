@@ -81,7 +81,6 @@ impl<T: Copy> Lists<T> {
     }
 
     /// The items of all lists, shared ones once. Where none of them is out of range, nothing in a list is.
-    #[tactic(auto, using(crate::proofs::Unshared::none_in_lists))]
     pub(crate) fn items(&self) -> &[T]
         ensures { (test : T → Bool) → first_out test result.now ≡ None → first_out_in test self.now ≡ None }
     {
