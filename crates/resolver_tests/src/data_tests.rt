@@ -1,7 +1,5 @@
 //! Payloads of every kind of schema, and each fault from outside data.
 
-ghost use Rattle.std.specs.Prelude.{◌<◌};
-
 use crate::again::{parsed, read_again, written};
 use crate::lines::{bytes_of, is_answer, malformed_line, written_line};
 use crate::rows::DATA;
@@ -89,11 +87,9 @@ fn a_map_is_skipped(rt: HostRuntime) -> Result<(), Fail> {
     Ok(())
 }
 
-/// A chain of so many records.
-fn chain(alloc: Global, records: usize) -> Result<Vec<u8>, AllocError>
-    requires { 0 < records }
-{
-    let mut payload = vec![in alloc; 2u8; records - 1]?;
+/// A chain of so many records and a last one.
+fn chain(alloc: Global, before: usize) -> Result<Vec<u8>, AllocError> {
+    let mut payload = vec![in alloc; 2u8; before]?;
     payload.push(0)?;
     Ok(payload)
 }
@@ -107,12 +103,12 @@ fn reads_alike(alloc: Global, text: &str, payload: &[u8]) -> Result<bool, Fail> 
 
 #[test]
 fn a_thousand_records_nest(rt: HostRuntime) -> Result<(), Fail> {
-    let payload = chain(rt.alloc(), 1000)?;
+    let payload = chain(rt.alloc(), 999)?;
     let answer = written_line(rt.alloc(), &payload)?;
     let found = line_of_payload(&rt, CHAIN, &payload)?;
     assert!(rt; is_answer(&found, &answer));
     assert!(rt; reads_alike(rt.alloc(), CHAIN, &payload)?);
-    let deeper = chain(rt.alloc(), 1001)?;
+    let deeper = chain(rt.alloc(), 1000)?;
     let found = line_of_payload(&rt, CHAIN, &deeper)?;
     assert!(rt; is_answer(&found, "malformed TooDeep at 1000"));
     Ok(())
