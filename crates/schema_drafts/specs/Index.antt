@@ -1,7 +1,9 @@
 -- Names kept in order beside what has them, so that each is found without a look at the others.
 use Rattle.std.specs.Prelude.{◌≡◌, ℕ, ◌==◌, ◌&&◌, List, [], ◌∷◌, ◌++◌, length, false, if◌then◌else◌, Option, Some, None, String, slice_get}
 use Rattle.std.specs.Arc.{arc_str_bytes}
-use Rattle.std.specs.BTreeMap.{BTreeMap, get_by_text}
+use Rattle.std.specs.BTreeMap.{BTreeMap, UpdatesBy, get_by_text}
+use Rattle.std.specs.Cmp.Lexicographic.{slice_cmp}
+use Rattle.std.specs.String.{string_bytes, string_cmp}
 use Rattle.std.specs.BTreeSet.{BTreeSet, contains, contains_text}
 use Rattle.std.specs.List.{list_any}
 use Rattle.std.specs.Ordering.{nat_cmp}
@@ -50,6 +52,11 @@ AreOnce heads = (n : ℕ) (full : List ℕ) → slice_get heads n ≡ Some (Name
 -- no full name begins with a dot
 abbrev pub BeginWithNoDot : List Head → Type 0
 BeginWithNoDot heads = (last : List ℕ) → defined_at (dot ∷ last) heads ≡ None
+
+-- the map has a number under one text alone
+abbrev pub HasOnly : {A : Type 0} → List ℕ → ℕ → BTreeMap (String A) ℕ → Type 0
+HasOnly {A = A} text n map = (empty : BTreeMap (String A) ℕ) × ((other : List ℕ) → get_by_text empty other ≡ None)
+    × UpdatesBy string_cmp (λ key. slice_cmp nat_cmp text (string_bytes key)) empty map (Some n)
 
 -- Under each namespace stands its number, and under that, by the last part of a full name, the node that defines it.
 pub record IsIndexOf {A : Type 0} (numbers : BTreeMap (String A) ℕ) (scopes : List (BTreeMap (String A) ℕ))

@@ -1,10 +1,10 @@
-ghost use Rattle.std.specs.Prelude.{◌≡◌, [], ◌∷◌, ◌++◌, length, set, slice_get, Some, None, false, map, IfOk, OnOk};
-ghost use Rattle.avro_types.specs.FullNames.{has_dot, inside, namespace_of};
+ghost use Rattle.std.specs.Prelude.{◌≡◌, [], ◌∷◌, ◌++◌, length, set, slice_get, string_bytes, Some, None, false, map, IfOk, OnOk};
+ghost use Rattle.avro_types.specs.FullNames.{has_dot, inside, namespace_of, unqualified};
 ghost use Rattle.avro_types.specs.Node.{node_of};
 ghost use Rattle.avro_types.specs.Symbols.{is_used, place_of};
 ghost use Rattle.schema_drafts.specs.Draft.{Whole, draft_field_of, draft_of, drafts_of, field_names};
 ghost use Rattle.schema_drafts.specs.Head.{IsUnnamed, Named, defined_at, head_of, head_of_node, heads_of};
-ghost use Rattle.schema_drafts.specs.Index.{AreOnce, BeginWithNoDot, IsNamespaceOf, IsNumbered, namespaces_of, text_of_namespace};
+ghost use Rattle.schema_drafts.specs.Index.{AreOnce, BeginWithNoDot, HasOnly, IsNamespaceOf, IsNumbered, namespaces_of, text_of_namespace};
 
 use crate::draft::{Draft, DraftField};
 use crate::namespace::Namespace;
@@ -187,12 +187,28 @@ impl<'v> Drafts<'v> {
         requires first { place_of (namespace_of name.now) (namespaces_of (heads_of self.old)) ≡ None }
         ensures { OnOk result (self.new ≡ self.old ++ draft_of draft.entry ∷ []) }
     {
-        name.has_two_parts();
         let node = self.nodes.len();
-        let number = self.scopes.len();
-        let mut scope = BTreeMap::new(alloc);
-        scope.insert(String::from_str(alloc, name.last())?, node)?;
+        let scope = first_scope(alloc, name.last(), node)?;
         let namespace = String::from_str(alloc, name.namespace())?;
+        self.push_first(name, namespace, scope, draft)
+    }
+
+    /// Adds the node that defines the first name of a namespace, whose scope is made.
+    fn push_first(
+        &mut self,
+        name: &Name,
+        namespace: String,
+        scope: BTreeMap<String, usize>,
+        draft: Draft<'v>,
+    ) -> Result<(), AllocError>
+        requires named { head_of (draft_of draft) ≡ Named name.now }
+        requires first { place_of (namespace_of name.now) (namespaces_of (heads_of self.old)) ≡ None }
+        requires text { string_bytes namespace ≡ namespace_of name.now }
+        requires scope { HasOnly (unqualified name.now) (length self.old) scope }
+        ensures { OnOk result (self.new ≡ self.old ++ draft_of draft.entry ∷ []) }
+    {
+        name.has_two_parts();
+        let number = self.scopes.len();
         self.scopes.push(scope)?;
         if self.nodes.push(draft).is_err() {
             self.scopes.pop();
@@ -215,6 +231,19 @@ impl<'v> Drafts<'v> {
     {
         self.nodes[node] = draft;
     }
+}
+
+/// A namespace's nodes by the last parts of their names, with one name alone.
+fn first_scope(
+    alloc: Global,
+    last: &str,
+    node: usize,
+) -> Result<BTreeMap<String, usize>, AllocError>
+    ensures { IfOk result (HasOnly last.now node) }
+{
+    let mut scope = BTreeMap::new(alloc);
+    scope.insert(String::from_str(alloc, last)?, node)?;
+    Ok(scope)
 }
 
 /// The fields of a record so far, and their names. Callers see them as a list of `DraftField`s.

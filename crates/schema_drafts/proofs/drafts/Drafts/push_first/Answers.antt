@@ -9,7 +9,7 @@ use Rattle.avro_types.specs.FullNames.{namespace_of, unqualified}
 use Rattle.avro_types.specs.Laws.NameParts.{name-undotted, parts-ruled}
 use Rattle.schema_drafts.proofs.DraftLists.{drafts_of-append, length-drafts_of}
 use Rattle.schema_drafts.proofs.NewIndex.{index-first, fresh-first, pushed-all}
-use Rattle.schema_drafts.proofs.drafts.Drafts.define_first.Goals as goal
+use Rattle.schema_drafts.proofs.drafts.Drafts.push_first.Goals as goal
 
 pub invariant_of-self-in-Ok : goal.invariant_of-self-in-Ok
 invariant_of-self-in-Ok c =
@@ -21,13 +21,12 @@ invariant_of-self-in-Ok c =
     let parts = c.has_two_parts.ensures.parts in
     let none = name-undotted last parts.last_is in
     let new = rw (← c.self.view_is) at c.requires.first in
-    let key : string_bytes c.in_ok-from_str.field-0 ≡ last = c.in_ok-from_str.ensures.ok ∙ c.last.ensures in
-    let enclosing : string_bytes c.in_ok-namespace.namespace ≡ namespace = c.in_ok-namespace.ensures.ok ∙ c.namespace.ensures in
-    let n : c.len-node.result ≡ length d.nodes.items = search rules in
+    let only = c.requires.scope in
+    let same : length c.args.self.now ≡ length ns = ap length (sym c.self.view_is) in
     let count : c.len-number.result ≡ length d.scopes.items = search rules in
     let all = pushed-all _ _ _ _ _ c.push-2.ensures.items c.is_err.ensures.negation c.if-is_err.false in
     rw c.in_ok-push.ensures.items (index-first namespace last none (parts-ruled namespace last parts) ns (drafts_of c.push-2.new.self.items) (draft_of c.args.draft) (c.requires.named ∙ ap Named (sym c.has_two_parts.ensures.joined))
-    (fresh-first namespace last none (heads_of ns) new) (ap drafts_of all ∙ drafts_of-append d.nodes.items (c.args.draft ∷ [])) d.numbers d.scopes.items c.self.invariant new c.insert-2.new.self c.new-scope.result c.insert.new.self c.len-number.result c.len-node.result
-    (λ s. rw c.new-scope.ensures.empty refl) (n ∙ sym (length-drafts_of d.nodes.items)) count
-    (subst (λ l. UpdatesBy string_cmp (λ k. slice_cmp nat_cmp l (string_bytes k)) c.new-scope.result c.insert.new.self (Some c.len-node.result)) key c.in_ok-insert.ensures.updates)
-    (subst (λ l. UpdatesBy string_cmp (λ k. slice_cmp nat_cmp l (string_bytes k)) d.numbers c.insert-2.new.self (Some c.len-number.result)) enclosing c.in-Ok.ensures.updates))
+    (fresh-first namespace last none (heads_of ns) new) (ap drafts_of all ∙ drafts_of-append d.nodes.items (c.args.draft ∷ [])) d.numbers d.scopes.items c.self.invariant new c.insert.new.self only.0 c.args.scope c.len-number.result (length c.args.self.now)
+    only.1 same count
+    only.2
+    (subst (λ l. UpdatesBy string_cmp (λ k. slice_cmp nat_cmp l (string_bytes k)) d.numbers c.insert.new.self (Some c.len-number.result)) c.requires.text c.in-Ok.ensures.updates))
