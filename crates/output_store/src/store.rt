@@ -307,6 +307,14 @@ impl Store {
         }
     }
 
+    /// There are so many units.
+    pub fn count_units(&mut self, units: u32)
+        requires { self.old.units ≤ units }
+        ensures { self.new ≡ record self.old { units = units } }
+    {
+        self.units = units;
+    }
+
     /// The first miss is marked, and nothing is held any more.
     pub fn miss(&mut self, miss: u32)
         ensures missed { self.new.store ≡ Rattle.isa.specs.State.miss miss self.old.store }

@@ -6,3 +6,4 @@ pub mod Slicing
 pub mod Longer
 pub mod Bulk
 pub mod Spelled
+pub mod Foresight

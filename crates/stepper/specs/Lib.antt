@@ -1,3 +1,4 @@
 pub mod Running
 pub mod Contract
 pub mod Slice
+pub mod Looking

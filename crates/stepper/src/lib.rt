@@ -1,6 +1,7 @@
 //! The machine: rows of the instruction table, taken one by one or in slices.
 #![tactic(auto)]
 
+mod ahead;
 mod attempts;
 mod blocks;
 mod check;

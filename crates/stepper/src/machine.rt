@@ -16,6 +16,7 @@ use outcome::Outcome;
 use output_store::Store;
 use std::alloc::{AllocError, Global};
 use std::marker::Model;
+use stretches::Found;
 
 /// Whether a spelling has one byte, or a last one that adds something.
 fn is_tight(spelling: &[u8]) -> bool
@@ -47,6 +48,10 @@ pub struct Machine {
     pub(crate) count: u64,
     pub(crate) end: Option<End>,
     pub(crate) scratch: Vec<u8>,
+    /// What was found ahead.
+    pub(crate) found: Found,
+    /// Before this place nothing is looked for ahead.
+    pub(crate) looked: usize,
     pub(crate) alloc: Global,
 }
 
@@ -75,6 +80,8 @@ impl Machine {
             count: 0,
             end: None,
             scratch: Vec::new(alloc),
+            found: Found::new(alloc),
+            looked: 0,
             alloc,
         }
     }
@@ -91,6 +98,7 @@ impl Machine {
         self.check = TextCheck::unknown();
         self.count = 0;
         self.end = None;
+        self.looked = 0;
     }
 
     /// The address of the next instruction.
