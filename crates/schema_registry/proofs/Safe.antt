@@ -1,5 +1,5 @@
 -- Pairs that are safe, one list of them behind another.
-use Rattle.std.proofs.Common.{◌≡◌, ◌≤◌, ◌<◌, ℕ, zero, suc, ◌+◌, ◌-◌, List, [], ◌∷◌, ◌++◌, length, take, drop, get_or, ◌&&◌, Bool, true, false, Option, Some, None, refl, sym, ap, subst, ◌∙◌, arith, add-one}
+use Rattle.std.proofs.Common.{◌≡◌, ◌≤◌, ◌<◌, ℕ, zero, suc, ◌+◌, ◌-◌, List, [], ◌∷◌, ◌++◌, length, take, drop, get_or, ◌&&◌, Bool, true, false, Option, Some, None, refl, sym, ap, subst, ◌∙◌, arith, add-one, cond, inl, inr, Result, Ok}
 use Rattle.std.specs.Prelude.{IsTrue, ◌↔◌}
 use Rattle.std.specs.List.{filter_map, flat_map}
 use Rattle.avro_schema.specs.Schema.{Declaration}
@@ -7,7 +7,9 @@ use Rattle.resolver.specs.Safety.{IsSafe}
 use Rattle.std.proofs.Math.Seq.{drop-cons}
 use Rattle.schema_registry.specs.declared.level.Level.{Level}
 use Rattle.schema_registry.specs.Lists.{numbered}
-use Rattle.schema_registry.specs.Answers.{AreSafe, Pair, last_of, pairs_with}
+use Rattle.schema_registry.specs.Answers.{AreSafe, IsAnswer, Pair, WhereSafe, last_of, pairs_with}
+use Rattle.schema_registry.specs.Reply.{Reply, CompatibleReply}
+use Rattle.schema_registry.specs.declared.refusal.Refusal.{Refusal}
 
 pub safe-append : (ps qs : List Pair) → AreSafe ps → AreSafe qs → AreSafe (ps ++ qs)
 safe-append [] qs a b = b
@@ -86,3 +88,14 @@ last-range (x ∷ xs) lt =
     let e : suc (length xs) - 1 ≡ length xs = omega arith in
     let one : suc (length xs) - length xs ≡ 1 = omega arith in
     rw (e, one, last-drop x xs) (take-last x xs)
+
+-- ---- what is answered where a test stands for the safety of some pairs
+
+pub tested : (b : Bool) (pairs : List Pair) (forth back : Result Reply Refusal) → Tests b pairs → IsAnswer (WhereSafe pairs forth back) (cond b forth back)
+tested true pairs forth back test = inl (test.0 refl, refl)
+tested false pairs forth back test = inr ((λ safe. let t = test.1 safe in let no : ⊥ = cc in no), refl)
+
+pub tested-reply : (b : Bool) (pairs : List Pair) → Tests b pairs
+    → IsAnswer (WhereSafe pairs (Ok (CompatibleReply true)) (Ok (CompatibleReply false))) (Ok (CompatibleReply b))
+tested-reply true pairs test = inl (test.0 refl, refl)
+tested-reply false pairs test = inr ((λ safe. let t = test.1 safe in let no : ⊥ = cc in no), refl)

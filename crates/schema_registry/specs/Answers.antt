@@ -1,7 +1,7 @@
 -- What a registry answers, read off its lists, and in which order it refuses (our own order; the API has the codes).
 use Rattle.std.specs.Prelude.{◌≡◌, ◌≢◌, ℕ, ◌+◌, ◌&&◌, ◌||◌, List, [], ◌∷◌, ◌++◌, map, length, nat_le, Bool, true, false, not, is_some, if◌then◌else◌, Option, Some, None, Result, Ok, Err, ◌⊎◌}
 use Rattle.std.specs.List.{AllByRecursion, filter_map, flat_map}
-use Rattle.std.specs.FinSet as set
+use Rattle.std.specs.FinMap as finite
 use Rattle.schema_drafts.specs.declared.error.SchemaError.{SchemaError}
 use Rattle.avro_schema.specs.Schema.{Declaration}
 use Rattle.resolver.specs.Safety.{IsSafe}
@@ -15,7 +15,7 @@ use Rattle.schema_registry.specs.Command.{Command, RegisterCommand, SetLevelComm
 use Rattle.schema_registry.specs.Reply.{Reply, IdReply, EntryReply, CompatibleReply, NumbersReply, NamesReply, TextReply, LevelReply, reply_of}
 use Rattle.schema_registry.specs.Level.{is_transitive, new_reads_old, old_reads_new}
 use Rattle.schema_registry.specs.Subject.{is_subject, is_version}
-use Rattle.schema_registry.specs.Lists.{Entry, Lists, SetOfNames, id_of, level_of, numbered, subjects_of, subjects_with_level, version_at, versions_of, with_text}
+use Rattle.schema_registry.specs.Lists.{Entry, Lists, Names, id_of, level_of, numbered, subjects_of, subjects_with_level, version_at, versions_of, with_text}
 use Rattle.schema_registry.specs.Accepting.{declaration_of, id_for, registry_after}
 
 -- a writer and a reader
@@ -80,8 +80,12 @@ abbrev pub compared : {A : Type 0} → Level → List A → List A
 compared level versions = if is_transitive level then versions else last_of versions
 
 -- there is no room for one more name, and this would be one
-abbrev pub has_no_room : SetOfNames → List ℕ → ℕ → Bool
-has_no_room names name most = not (set.contains names name) && nat_le most (set.len names)
+abbrev pub has_no_room : Names → List ℕ → ℕ → Bool
+has_no_room names name most = not (finite.contains_key names name) && nat_le most (finite.len names)
+
+-- there is no room for one more schema, and this would be one
+abbrev pub has_no_id : List Declaration → List ℕ → Bool
+has_no_id schemas text = not (is_some (id_of text schemas)) && nat_le MOST_SCHEMAS (length schemas)
 
 module _ (lists : Lists) where
   abbrev pub schemas_of : List Entry → List Declaration
@@ -94,9 +98,7 @@ module _ (lists : Lists) where
 
   -- there is no room for one more schema, or for one more subject
   abbrev pub is_full : Declaration → List ℕ → Bool
-  is_full schema subject =
-      (not (is_some (id_of schema.text lists.schemas)) && nat_le MOST_SCHEMAS (length lists.schemas))
-      || has_no_room (subjects_of lists.entries) subject MOST_SUBJECTS
+  is_full schema subject = has_no_id lists.schemas schema.text || has_no_room (subjects_of lists.entries) subject MOST_SUBJECTS
 
   abbrev pub entry_answer : Entry → Answer
   entry_answer e = where_some (numbered lists.schemas e.id) NoSchema (λ s. Told (Ok (EntryReply e.subject e.version e.id s.text)))
@@ -149,7 +151,7 @@ module _ (lists : Lists) where
       where_true (is_subject subject) BadSubject (where_true (is_version version) BadVersion
       (where_versions (versions_of subject lists.entries)
       (λ versions. where_some (version_at version versions) NoVersion entry_answer)))
-  answer_to SubjectsCommand = Told (Ok (NamesReply (set.items (subjects_of lists.entries))))
+  answer_to SubjectsCommand = Told (Ok (NamesReply (finite.keys (subjects_of lists.entries))))
   answer_to (SchemaCommand id) = where_some (numbered lists.schemas id) NoSchema (λ s. Told (Ok (TextReply s.text)))
   answer_to (LevelCommand subject) =
       where_true (is_subject_or_none subject) BadSubject (Told (Ok (LevelReply (level_of subject lists.levels))))

@@ -4,7 +4,7 @@ use Rattle.std.specs.List.{filter_map, position_from}
 use Rattle.std.specs.Ordering.{nat_cmp}
 use Rattle.std.specs.Option.{option_and_then}
 use Rattle.std.specs.Cmp.Lexicographic.{slice_cmp}
-use Rattle.std.specs.FinSet as set
+use Rattle.std.specs.FinMap as finite
 use Rattle.std.specs.Str.{bytes_eq}
 use Rattle.avro_schema.specs.Schema.{Declaration}
 use Rattle.schema_registry.specs.declared.command.Version.{Version}
@@ -60,12 +60,16 @@ abbrev pub version_at : Version → List Entry → Option Entry
 version_at Latest entries = numbered entries (length entries)
 version_at (Number n) entries = numbered entries n
 
-abbrev pub SetOfNames : Type 0
-SetOfNames = set.FinSet (slice_cmp nat_cmp)
+-- names, each once, in the order of their bytes
+abbrev pub Names : Type 0
+Names = finite.FinMap (slice_cmp nat_cmp) (Unit {0})
 
--- the subjects that have versions, in the order of their bytes
-abbrev pub subjects_of : List Entry → SetOfNames
-subjects_of entries = set.from_list (map (λ e. e.subject) entries)
+abbrev pub names_in : List (List ℕ) → Names
+names_in ns = finite.from_entries (map (λ n. (n, tt)) ns)
+
+-- the subjects that have versions
+abbrev pub subjects_of : List Entry → Names
+subjects_of entries = names_in (map (λ e. e.subject) entries)
 
 -- ---- levels
 
@@ -88,5 +92,5 @@ level_of None ls = global_level ls
 level_of (Some subject) ls = unwrap_or (level_set (Some subject) ls) (global_level ls)
 
 -- the subjects that have a level of their own
-abbrev pub subjects_with_level : List (Option (List ℕ) × Level) → SetOfNames
-subjects_with_level ls = set.from_list (filter_map (λ l. l.0) ls)
+abbrev pub subjects_with_level : List (Option (List ℕ) × Level) → Names
+subjects_with_level ls = names_in (filter_map (λ l. l.0) ls)

@@ -6,6 +6,8 @@ use Rattle.std.specs.Ordering.{nat_cmp}
 use Rattle.std.specs.Global.{Global}
 use Rattle.avro_schema.specs.Schema.{Declaration}
 use Rattle.schema_registry.specs.declared.limits.TheConstants.{MOST_SCHEMAS}
+use Rattle.schema_registry.specs.declared.command.Version.{Version}
+use Rattle.schema_registry.specs.declared.command.Version.TheVariants.{Latest, Number}
 use Rattle.schema_registry.specs.declared.level.Level.{Level}
 use Rattle.schema_registry.specs.Command.{Command, RegisterCommand}
 use Rattle.schema_registry.specs.Subject.{is_subject}
@@ -38,6 +40,11 @@ entry_of subject number id = record { subject = subject; version = number; id = 
 abbrev pub versions_from : List ℕ → ℕ → List ℕ → List Entry
 versions_from subject number [] = []
 versions_from subject number (id ∷ ids) = entry_of subject number id ∷ versions_from subject (number + 1) ids
+
+-- the number of the version that is asked for
+abbrev pub number_for : Version → List ℕ → ℕ
+number_for Latest ids = length ids
+number_for (Number n) ids = n
 
 -- an id of one of the schemas
 abbrev pub IsId : List Declaration → ℕ → Type 0

@@ -1,11 +1,15 @@
 ghost use Rattle.std.specs.Prelude.{◌≡◌};
+ghost use Rattle.std.specs.BTreeMap.{IsOrdered};
+ghost use Rattle.std.specs.String.{string_cmp};
 ghost use Rattle.schema_registry.specs.Tables.{lacks_room};
 
 use std::collections::BTreeMap;
 
 /// Whether a name would be one more than a map may have.
 pub(crate) fn lacks_room<V>(map: &BTreeMap<String, V>, name: &str, most: usize) -> bool
-    ensures { result ≡ lacks_room map.now name.now most }
+    ensures lacks { result ≡ lacks_room map.now name.now most }
+    ensures ordered { IsOrdered string_cmp map.now }
 {
-    !map.contains_key(name) && map.len() >= most
+    let len = map.len();
+    !map.contains_key(name) && len >= most
 }

@@ -1,8 +1,10 @@
 ghost use Rattle.std.specs.Prelude.{◌≡◌, ◌≤◌, ◌<◌, ◌+◌, ◌^◌, [], ◌∷◌, ◌++◌, length, take, None, option_map, IfOk, OnOk, OnErr};
 ghost use Rattle.avro_schema.specs.Schema.{Declaration};
 ghost use Rattle.schema_registry.specs.Accepting.{id_for, with_schema};
+ghost use Rattle.schema_registry.specs.Answers.{has_no_id};
 ghost use Rattle.schema_registry.specs.Lists.{id_of, numbered};
 
+use crate::limits::MOST_SCHEMAS;
 use avro_schema::Schema;
 use std::alloc::{AllocError, Global};
 use std::collections::BTreeMap;
@@ -63,6 +65,13 @@ impl SchemaTable {
         ensures { result ≡ id_of text.now self.now }
     {
         self.ids.get(text).copied()
+    }
+
+    /// Whether there is no room for the schema of a compact text.
+    pub(crate) fn is_full_for(&self, text: &str) -> bool
+        ensures { result ≡ has_no_id self.now text.now }
+    {
+        self.id_of(text).is_none() && self.schemas.len() >= MOST_SCHEMAS
     }
 
     /// The id of a schema, which is the next one where no schema has its text.

@@ -1,4 +1,4 @@
-ghost use Rattle.std.specs.Prelude.{◌≡◌, ◌≤◌, ◌<◌, ◌^◌, [], ◌∷◌, ◌++◌, length, None, OnOk, OnErr};
+ghost use Rattle.std.specs.Prelude.{◌≡◌, ◌≤◌, ◌<◌, ◌^◌, [], ◌∷◌, ◌++◌, length, None, IfOk, OnOk, OnErr};
 ghost use Rattle.schema_registry.specs.Lists.{numbered};
 ghost use Rattle.schema_registry.specs.Tables.{number_of};
 
@@ -27,8 +27,18 @@ impl Model for Versions {
 }
 
 impl Versions {
+    /// One version, with the schema of an id.
+    pub(crate) fn one(alloc: Global, id: u32) -> Result<Versions, AllocError>
+        requires { id ≤ MOST_SCHEMAS }
+        ensures { IfOk result (λ versions. versions ≡ id ∷ []) }
+    {
+        let mut versions = Versions::new(alloc);
+        versions.add(id)?;
+        Ok(versions)
+    }
+
     /// No version.
-    pub(crate) fn new(alloc: Global) -> Versions
+    fn new(alloc: Global) -> Versions
         ensures { result ≡ [] }
     {
         Versions {

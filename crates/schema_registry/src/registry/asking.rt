@@ -4,7 +4,7 @@ ghost use Rattle.schema_registry.specs.Answers.{Gives, answer_to, entry_answer, 
 ghost use Rattle.schema_registry.specs.Command.{LookupCommand, CheckCommand, VersionsCommand, VersionCommand, SubjectsCommand, SchemaCommand, LevelCommand};
 ghost use Rattle.schema_registry.specs.Lists.{version_at, versions_of};
 ghost use Rattle.schema_registry.specs.Subject.{is_version};
-ghost use Rattle.schema_registry.specs.Tables.{entry_of, numbers_from, versions_from};
+ghost use Rattle.schema_registry.specs.Tables.{entry_of, number_for, numbers_from, versions_from};
 
 use super::Registry;
 use super::registering::parse_schema;
@@ -27,14 +27,21 @@ fn is_version(version: Version) -> bool
     }
 }
 
+/// The number of the version that is asked for.
+fn number_for(versions: &Versions, version: Version) -> u32
+    ensures { result ≡ number_for version versions.now }
+{
+    match version {
+        Version::Latest => versions.len() as u32,
+        Version::Number(number) => number,
+    }
+}
+
 /// The number of the version that is asked for, and the id of its schema.
 fn version_at(versions: &Versions, version: Version) -> Option<(u32, u32)>
     ensures { (s : List ℕ) → option_map (λ p. entry_of s p.0 p.1) result ≡ version_at version (versions_from s 1 versions.now) }
 {
-    let number = match version {
-        Version::Latest => versions.len() as u32,
-        Version::Number(number) => number,
-    };
+    let number = number_for(versions, version);
     let id = versions.id_at(number)?;
     Some((number, id))
 }

@@ -1,6 +1,7 @@
 ghost use Rattle.std.specs.Prelude.{◌≡◌, ◌≢◌, ◌∷◌, [], ◌++◌, Ok, Err, ℕ, List, Some, true, false, MatchResult, OnOk, OnErr, if◌then◌else◌, option_map, string_bytes};
-ghost use Rattle.std.specs.BTreeMap.{IsUnchanged, get_by_text};
+ghost use Rattle.std.specs.BTreeMap.{IsOrdered, IsUnchanged, get_by_text};
 ghost use Rattle.std.specs.Str.{bytes_eq};
+ghost use Rattle.std.specs.String.{string_cmp};
 ghost use Rattle.schema_registry.specs.Accepting.{registry_after};
 ghost use Rattle.schema_registry.specs.Answers.{Gives, answer_to};
 ghost use Rattle.schema_registry.specs.Command.{SetLevelCommand};
@@ -27,6 +28,7 @@ fn put_level(
         ≡ (if bytes_eq (string_bytes subject) s then Some level else get_by_text levels.old s)) }
     ensures full { MatchResult result (λ _. lacks_room levels.old (string_bytes subject) MOST_LEVELS ≡ false)
         (λ e. e ≢ Refusal.NoMemory → (e ≡ Refusal.Full) × (lacks_room levels.old (string_bytes subject) MOST_LEVELS ≡ true)) }
+    ensures ordered { IsOrdered string_cmp levels.old }
     ensures err { OnErr result (IsUnchanged levels.old levels.new) }
 {
     if lacks_room(levels, &subject, MOST_LEVELS) {

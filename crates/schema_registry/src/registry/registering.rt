@@ -2,6 +2,7 @@ ghost use Rattle.std.specs.Prelude.{◌≡◌, ◌≢◌, ◌↔◌, ◌≤◌, 
 ghost use Rattle.std.specs.BTreeMap.{IsUnchanged, get_by_text};
 ghost use Rattle.std.specs.Str.{bytes_eq};
 ghost use Rattle.schema_drafts.specs.declared.error.SchemaError.{SchemaError};
+ghost use Rattle.schema_registry.specs.declared.limits.TheConstants.{MOST_SCHEMAS};
 ghost use Rattle.schema_registry.specs.Accepting.{declaration_of, id_for, registry_after, with_schema};
 ghost use Rattle.schema_registry.specs.Answers.{AreSafe, Gives, GivesId, answer_to, is_full, pairs_of};
 ghost use Rattle.schema_registry.specs.Command.{RegisterCommand};
@@ -11,7 +12,7 @@ ghost use Rattle.schema_registry.specs.Tables.{Registers, entry_of, ids_in, numb
 use super::Registry;
 use crate::compatible::{compared, goes_with_all};
 use crate::history::History;
-use crate::limits::{MOST_SCHEMAS, MOST_SUBJECTS};
+use crate::limits::MOST_SUBJECTS;
 use crate::refusal::Refusal;
 use crate::reply::Reply;
 use crate::room::lacks_room;
@@ -47,10 +48,10 @@ fn add_version(
     ensures err { OnErr result ((s : List ℕ) → get_by_text subjects.new s ≡ get_by_text subjects.old s) }
 {
     if let Some(versions) = subjects.get_mut(subject.as_str()) {
-        return versions.add(id);
+        versions.add(id)?;
+        return Ok(());
     }
-    let mut versions = Versions::new(alloc);
-    versions.add(id)?;
+    let versions = Versions::one(alloc, id)?;
     subjects.insert(subject, versions)?;
     Ok(())
 }
@@ -77,15 +78,14 @@ impl Registry {
         };
         let level = self.level_of(Some(subject));
         let ids = compared(level, versions.ids());
-        goes_with_all(self.alloc, level, schema, &self.schemas, ids)
+        Ok(goes_with_all(self.alloc, level, schema, &self.schemas, ids)?)
     }
 
     /// Whether there is no room for a schema, or for a subject.
     fn is_full(&self, subject: &str, schema: &Schema) -> bool
         ensures { result ≡ is_full (registry_after self.now) schema.now subject.now }
     {
-        let is_new = self.schemas.id_of(schema.text()).is_none();
-        (is_new && self.schemas.len() >= MOST_SCHEMAS)
+        self.schemas.is_full_for(schema.text())
             || lacks_room(&self.subjects, subject, MOST_SUBJECTS)
     }
 
