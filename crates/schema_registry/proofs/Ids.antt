@@ -45,7 +45,7 @@ module _ (old new : BTreeMap (String Global) ℕ) (schemas : List Declaration) (
   one_id t n same len kept updates =
       found-more kept
       (subst (λ t. UpdatesBy string_cmp (λ k. slice_cmp nat_cmp t (string_bytes k)) old new (Some (length schemas + 1))) same
-          (subst (λ n. UpdatesBy string_cmp (λ k. slice_cmp nat_cmp t (string_bytes k)) old new (Some (n + 1))) len updates))
+      (subst (λ n. UpdatesBy string_cmp (λ k. slice_cmp nat_cmp t (string_bytes k)) old new (Some (n + 1))) len updates))
 
   found-less : AreIdsOf old (schemas ++ s ∷ []) → Changes None old new → AreIdsOf new schemas
   found-less kept updates text =

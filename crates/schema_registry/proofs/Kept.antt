@@ -76,7 +76,7 @@ any-levels s ((Some t, level) ∷ ls) =
 -- ---- what the maps find
 
 module _ (schemas : List Declaration) (subjects : BTreeMap (String Global) (List ℕ)) (levels : BTreeMap (String Global) Level) (global : Level)
-  (lists : Lists) (held : Holds schemas subjects levels global lists) where
+    (lists : Lists) (held : Holds schemas subjects levels global lists) where
   pub versions-found : (s ids : List ℕ) → get_by_text subjects s ≡ Some ids → (ids ≢ []) × (versions_of s lists.entries ≡ versions_from s 1 ids)
   versions-found s ids is = (
     subst (λ o. IfSome o (λ ids. ids ≢ [])) is (held.none_empty s),
@@ -147,14 +147,24 @@ pub accepted-more : (old commands : List Command) (c : Command) (reply : Reply) 
 accepted-more old commands c reply are accepted answer = subst AreAccepted (sym are) (one_more old c reply accepted answer)
 
 module _ (schemas : List Declaration) (subjects : BTreeMap (String Global) (List ℕ)) (levels : BTreeMap (String Global) Level) (global : Level)
-  (old commands : List Command) (c : Command) (are : commands ≡ old ++ c ∷ []) where
+    (old commands : List Command) (c : Command) (are : commands ≡ old ++ c ∷ []) where
   pub held-after : Holds schemas subjects levels global (taken (registry_after old) c) → Holds schemas subjects levels global (registry_after commands)
   held-after held = subst (Holds schemas subjects levels global) (sym (ap registry_after are ∙ after-more old c)) held
+
+-- a question changes nothing
+pub question-accepted : (schemas : List Declaration) (subjects : BTreeMap (String Global) (List ℕ)) (levels : BTreeMap (String Global) Level) (global : Level)
+    (old commands : List Command) → Holds schemas subjects levels global (registry_after old) → AreAccepted old
+    → (c : Command) (reply : Reply) → commands ≡ old ++ c ∷ [] → taken (registry_after old) c ≡ registry_after old → IsAnswer (answer_to (registry_after old) c) (Ok reply)
+    → Holds schemas subjects levels global (registry_after commands) × AreAccepted commands
+question-accepted schemas subjects levels global old commands held accepted c reply are same answer = (
+  held-after schemas subjects levels global old commands c are (subst (Holds schemas subjects levels global) (sym same) held),
+  accepted-more old commands c reply are accepted answer,
+)
 
 -- ---- levels
 
 module _ (schemas : List Declaration) (subjects : BTreeMap (String Global) (List ℕ)) (levels : BTreeMap (String Global) Level) (global : Level)
-  (lists : Lists) (held : Holds schemas subjects levels global lists) where
+    (lists : Lists) (held : Holds schemas subjects levels global lists) where
   pub global-held : (level : Level) → Holds schemas subjects levels level (record lists { levels = (None, level) ∷ lists.levels })
   global-held level = record {
     schemas_are = held.schemas_are;

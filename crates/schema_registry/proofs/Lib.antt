@@ -5,3 +5,4 @@ pub mod Entries
 pub mod Named
 pub mod Kept
 pub mod Told
+pub mod Added

@@ -62,7 +62,7 @@ sorted-names ns s sorted same =
     let T-sorted : T (is_sorted by_bytes (marked ns)) = subst T (sym (sorted-marked ns sorted)) tt in
     let listed : Names = finite.from_sorted (marked ns) in
     let alike : listed ≡ s = finite.same_map nat_list_cmp_total bytes-Antisymmetric listed s (λ q. marks (finite.get listed q) (finite.get s q)
-        (ap is_some (finite.get-from_sorted by_bytes (marked ns) q T-sorted) ∙ is_some-find by_bytes q (marked ns) ∙ ap (list_any (eq_by_cmp by_bytes q)) (keys-marked ns) ∙ same q)) in
+    (ap is_some (finite.get-from_sorted by_bytes (marked ns) q T-sorted) ∙ is_some-find by_bytes q (marked ns) ∙ ap (list_any (eq_by_cmp by_bytes q)) (keys-marked ns) ∙ same q)) in
     ap finite.entries (sym alike) ∙ finite.entries-from_sorted by_bytes (marked ns) T-sorted
 
 -- ---- the keys of a map, and a set of names
@@ -81,7 +81,7 @@ any-texts q [] = refl
 any-texts q (k ∷ ks) = ap (λ b. eq_by_cmp by_bytes q (string_bytes k) || b) (any-texts q ks)
 
 module _ {X : Type 0} (m : BTreeMap (String Global) X) (s : Names) (ordered : IsOrdered string_cmp m)
-  (same : (q : List ℕ) → is_some (get_by_text m q) ≡ finite.contains_key s q) where
+    (same : (q : List ℕ) → is_some (get_by_text m q) ≡ finite.contains_key s q) where
   entries-named : finite.entries s ≡ marked (map string_bytes (keys m))
   entries-named = sorted-names (map string_bytes (keys m)) s (texts-sorted (keys m) ordered)
       (λ q. any-texts q (keys m) ∙ sym (is_some-lookup (is_at (λ k. slice_cmp nat_cmp q (string_bytes k))) m.entries) ∙ same q)

@@ -3,13 +3,14 @@ use Rattle.std.proofs.Common.{◌≡◌, ◌≢◌, ℕ, List, [], ◌∷◌, le
 use Rattle.avro_schema.specs.Schema.{Declaration}
 use Rattle.schema_registry.specs.declared.command.Version.{Version}
 use Rattle.schema_registry.specs.declared.refusal.Refusal.TheVariants.{Full, NoSubject, NoVersion, NoSchema}
+use Rattle.schema_registry.specs.declared.refusal.Refusal.{Refusal}
 use Rattle.schema_registry.specs.declared.level.Level.{Level}
 use Rattle.schema_registry.specs.declared.limits.TheConstants.{MOST_LEVELS}
 use Rattle.schema_registry.specs.Accepting.{declaration_of}
-use Rattle.schema_registry.specs.Answers.{Answer, Told, answer_to, check_answer, entry_answer, has_no_room, registration, where_some, where_versions}
+use Rattle.schema_registry.specs.Answers.{Answer, IsAnswer, Told, answer_to, check_answer, entry_answer, has_no_room, registration, where_some, where_versions}
 use Rattle.schema_registry.specs.Command.{LookupCommand, CheckCommand, RegisterCommand, SetLevelCommand, VersionsCommand, VersionCommand}
 use Rattle.schema_registry.specs.Lists.{Entry, Lists, numbered, subjects_with_level, version_at, versions_of, with_text}
-use Rattle.schema_registry.specs.Reply.{LevelReply, NumbersReply}
+use Rattle.schema_registry.specs.Reply.{Reply, LevelReply, NumbersReply}
 use Rattle.schema_registry.specs.Subject.{is_subject, is_version}
 use Rattle.schema_registry.specs.Tables.{numbers_from, versions_from}
 use Rattle.schema_registry.proofs.Entries.{numbers-from}
@@ -40,3 +41,12 @@ module _ (lists : Lists) (s ids : List ℕ) (named : is_subject s ≡ true) (som
 pub level-is : (lists : Lists) (s : List ℕ) (level : Level) (b : Bool) → is_subject s ≡ true → has_no_room (subjects_with_level lists.levels) s MOST_LEVELS ≡ b
     → answer_to lists (SetLevelCommand (Some s) level) ≡ cond b (Told (Err Full)) (Told (Ok (LevelReply level)))
 level-is lists s level b named room = rw (named, room) refl
+
+-- a registration is answered by the schema of its text
+pub registered-answer : (lists : Lists) (s text : List ℕ) (schema : Declaration) → is_subject s ≡ true → declaration_of text ≡ Ok schema → (reply : Reply)
+    → IsAnswer (registration lists s schema) (Ok reply) → IsAnswer (answer_to lists (RegisterCommand s text)) (Ok reply)
+registered-answer lists s text schema named is reply answer = rw (named, is) answer
+
+pub registered-refusal : (lists : Lists) (s text : List ℕ) (schema : Declaration) → is_subject s ≡ true → declaration_of text ≡ Ok schema → (refusal : Refusal)
+    → IsAnswer (registration lists s schema) (Err refusal) → IsAnswer (answer_to lists (RegisterCommand s text)) (Err refusal)
+registered-refusal lists s text schema named is refusal answer = rw (named, is) answer

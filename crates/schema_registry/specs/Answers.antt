@@ -108,8 +108,8 @@ module _ (lists : Lists) where
   register_answer subject versions schema (Some e) = Told (Ok (IdReply e.id))
   register_answer subject versions schema None =
       WhereSafe (pairs_of (level_of (Some subject) lists.levels) schema versions)
-          (if is_full schema subject then Err Full else Ok (IdReply (id_for schema lists.schemas)))
-          (Err Incompatible)
+      (if is_full schema subject then Err Full else Ok (IdReply (id_for schema lists.schemas)))
+      (Err Incompatible)
 
   abbrev pub registration : List ℕ → Declaration → Answer
   registration subject schema =

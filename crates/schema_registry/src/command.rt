@@ -12,14 +12,20 @@ pub enum Version {
 #[derive(Debug, Drop)]
 pub enum Command {
     /// Gives the schema of a text an id, and makes it a version of the subject.
-    Register { subject: String, text: String },
+    Register {
+        subject: String,
+        text: String,
+    },
     /// Sets the level of a subject, or the global one.
     SetLevel {
         subject: Option<String>,
         level: Level,
     },
     /// Which version of the subject the schema of a text is.
-    Lookup { subject: String, text: String },
+    Lookup {
+        subject: String,
+        text: String,
+    },
     /// Whether the schema of a text goes with a version of the subject, by the subject's level.
     Check {
         subject: String,
@@ -27,13 +33,22 @@ pub enum Command {
         text: String,
     },
     /// The numbers of a subject's versions.
-    Versions { subject: String },
+    Versions {
+        subject: String,
+    },
     /// A version of a subject.
-    Version { subject: String, version: Version },
+    Version {
+        subject: String,
+        version: Version,
+    },
     /// The names of all subjects that have versions.
     Subjects,
     /// The text of the schema of an id.
-    Schema { id: u32 },
+    Schema {
+        id: u32,
+    },
     /// The level of a subject, or the global one.
-    Level { subject: Option<String> },
+    Level {
+        subject: Option<String>,
+    },
 }

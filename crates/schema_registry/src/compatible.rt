@@ -12,7 +12,12 @@ use resolver::can_read;
 use std::alloc::{AllocError, Global};
 
 /// Whether a reader can read all that a writer writes, where that is asked.
-fn reads(alloc: Global, is_asked: bool, writer: &Schema, reader: &Schema) -> Result<bool, AllocError>
+fn reads(
+    alloc: Global,
+    is_asked: bool,
+    writer: &Schema,
+    reader: &Schema,
+) -> Result<bool, AllocError>
     ensures { IfOk result (λ b. IsTrue b ↔ AreSafe (if is_asked then (writer.now, reader.now) ∷ [] else [])) }
 {
     if !is_asked {

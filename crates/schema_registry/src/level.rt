@@ -16,7 +16,6 @@ pub enum Level {
 }
 
 impl Level {
-
     /// Its name, as the API has it.
     pub fn name(self) -> &'static str
         ensures { result.now ≡ level_name self }

@@ -69,7 +69,9 @@ impl Registry {
     {
         let history = self.history.and(&command);
         let reply = match command {
-            Command::Register { subject, text } => return self.register_text(subject, text, history),
+            Command::Register { subject, text } => return self.register_text(
+                subject, text, history,
+            ),
             Command::SetLevel { subject, level } => return self.set_level(subject, level, history),
             Command::Lookup { subject, text } => self.lookup(subject, &text)?,
             Command::Check {

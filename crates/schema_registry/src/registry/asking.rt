@@ -102,7 +102,12 @@ impl Registry {
     }
 
     /// Whether the schema of a text goes with a version of a subject.
-    pub(super) fn check(&self, subject: &str, version: Version, text: &str) -> Result<Reply, Refusal>
+    pub(super) fn check(
+        &self,
+        subject: &str,
+        version: Version,
+        text: &str,
+    ) -> Result<Reply, Refusal>
         ensures { Gives (answer_to (registry_after self.now) (CheckCommand subject.now version text.now)) result }
     {
         if !is_subject(subject) {

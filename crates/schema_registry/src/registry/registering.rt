@@ -90,12 +90,7 @@ impl Registry {
     }
 
     /// Adds a version that the subject lacks, and keeps the history.
-    fn add(
-        &mut self,
-        subject: String,
-        schema: Schema,
-        history: History,
-    ) -> Result<u32, AllocError>
+    fn add(&mut self, subject: String, schema: Schema, history: History) -> Result<u32, AllocError>
         requires command { Registers self.old (string_bytes subject) schema history.commands }
         requires lacking { with_text schema.text (registry_after self.old).schemas
             (versions_of (string_bytes subject) (registry_after self.old).entries) ≡ None }
@@ -109,12 +104,16 @@ impl Registry {
     {
         let count = self.schemas.len();
         let id = self.schemas.id_for(self.alloc, schema)?;
-        if add_version(self.alloc, &mut self.subjects, subject, id).is_err() {
-            self.schemas.cut_to(count);
-            return Err(AllocError);
+        match add_version(self.alloc, &mut self.subjects, subject, id) {
+            Ok(()) => {
+                self.history = history;
+                Ok(id)
+            }
+            Err(_) => {
+                self.schemas.cut_to(count);
+                Err(AllocError)
+            }
         }
-        self.history = history;
-        Ok(id)
     }
 
     /// Gives a schema its id, and makes it a version of the subject.

@@ -11,4 +11,4 @@ pub returns : goal.returns
 returns c =
     rw c.if-not-is_asked.false
     (tests-one c.in_ok-can_read.field-0 (c.args.writer.now, c.args.reader.now)
-        (rw (c.nodes.ensures, c.nodes-2.ensures) at c.in_ok-can_read.ensures))
+    (rw (c.nodes.ensures, c.nodes-2.ensures) at c.in_ok-can_read.ensures))

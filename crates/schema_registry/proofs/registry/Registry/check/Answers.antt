@@ -28,5 +28,5 @@ returns c =
     let e = check-is (registry_after c.args.self.now) c.args.subject.now c.in_ok-versions.versions.now named at.0 at.1 c.args.text.now c.in_ok-schema.schema c.in_ok-schema.ensures c.args.version right in
     subst (λ a. IsAnswer a (Ok (CompatibleReply c.in_ok-goes_with.field-0))) (sym e)
     (rw (← c.in-Some.ensures c.args.subject.now, there)
-        (tested-reply c.in_ok-goes_with.field-0 (pairs_with (level_of (Some c.args.subject.now) lists.levels) c.in_ok-schema.schema c.in-Some-get.old.now)
-            (rw c.level_of-level.ensures at c.in_ok-goes_with.ensures)))
+    (tested-reply c.in_ok-goes_with.field-0 (pairs_with (level_of (Some c.args.subject.now) lists.levels) c.in_ok-schema.schema c.in-Some-get.old.now)
+    (rw c.level_of-level.ensures at c.in_ok-goes_with.ensures)))

@@ -12,6 +12,6 @@ returns-else-is_full_for c =
     let lists = registry_after c.args.self.now in
     let held = rw c.self.view_is at c.self.invariant.0 in
     let no_id : has_no_id lists.schemas c.args.schema.now.text ≡ false =
-        ap (λ ss. has_no_id ss c.args.schema.now.text) (sym held.schemas_are) ∙ ap (has_no_id c.self.inside.schemas) (sym c.text.ensures) ∙ sym c.is_full_for.ensures ∙ c.if-is_full_for.false in
+    ap (λ ss. has_no_id ss c.args.schema.now.text) (sym held.schemas_are) ∙ ap (has_no_id c.self.inside.schemas) (sym c.text.ensures) ∙ sym c.is_full_for.ensures ∙ c.if-is_full_for.false in
     rw no_id (c.lacks_room.ensures.lacks
-        ∙ room-named c.self.inside.subjects (subjects_of lists.entries) c.lacks_room.ensures.ordered (subject-there _ _ _ _ _ held) c.args.subject.now MOST_SUBJECTS)
+    ∙ room-named c.self.inside.subjects (subjects_of lists.entries) c.lacks_room.ensures.ordered (subject-there _ _ _ _ _ held) c.args.subject.now MOST_SUBJECTS)

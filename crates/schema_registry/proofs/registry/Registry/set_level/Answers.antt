@@ -16,9 +16,10 @@ use Rattle.schema_registry.proofs.registry.Registry.set_level.Goals as goal
 pub invariant_of-self : goal.invariant_of-self
 invariant_of-self c =
     let are = rw (c.in_default.is, ← c.self.view_is) at c.requires in
-    let old = c.self.inside.history.commands in
-    (held-after _ _ _ _ old c.args.history.commands (SetLevelCommand None c.args.level) are (global-held _ _ _ _ _ c.self.invariant.0 c.args.level),
-        accepted-more old c.args.history.commands (SetLevelCommand None c.args.level) (LevelReply c.args.level) are c.self.invariant.1 refl)
+    let old = c.self.inside.history.commands in (
+      held-after _ _ _ _ old c.args.history.commands (SetLevelCommand None c.args.level) are (global-held _ _ _ _ _ c.self.invariant.0 c.args.level),
+      accepted-more old c.args.history.commands (SetLevelCommand None c.args.level) (LevelReply c.args.level) are c.self.invariant.1 refl,
+    )
 
 pub returns-in_err-put_level-clause-answer : goal.returns-in_err-put_level-clause-answer
 returns-in_err-put_level-clause-answer c =
@@ -29,8 +30,8 @@ returns-in_err-put_level-clause-answer c =
     let named : is_subject s ≡ true = search rules in
     let room = room-named c.self.inside.levels (subjects_with_level lists.levels) c.in_err-put_level.ensures.ordered (level-there _ _ _ _ _ held) s MOST_LEVELS in
     rw (p.1, p.2) (λ known.
-        let full = c.in_err-put_level.ensures.full known in
-        rw (c.in-Some.is, full.0) (subst (λ a. IsAnswer a (Err Full)) (sym (level-is lists s c.args.level true named (sym room ∙ full.1))) refl))
+    let full = c.in_err-put_level.ensures.full known in
+    rw (c.in-Some.is, full.0) (subst (λ a. IsAnswer a (Err Full)) (sym (level-is lists s c.args.level true named (sym room ∙ full.1))) refl))
 
 pub invariant_of-self-2 : goal.invariant_of-self-2
 invariant_of-self-2 c =
@@ -40,10 +41,11 @@ invariant_of-self-2 c =
     let s = string_bytes c.in-Some.subject in
     let named : is_subject s ≡ true = search rules in
     let room = room-named c.self.inside.levels (subjects_with_level lists.levels) c.in_ok-put_level.ensures.ordered (level-there _ _ _ _ _ c.self.invariant.0) s MOST_LEVELS in
-    let answer = subst (λ a. IsAnswer a (Ok (LevelReply c.args.level))) (sym (level-is lists s c.args.level false named (sym room ∙ c.in_ok-put_level.ensures.full))) refl in
-    (held-after _ _ _ _ old c.args.history.commands (SetLevelCommand (Some s) c.args.level) are
-        (level-held _ _ _ _ _ c.self.invariant.0 c.put_level.new.levels s c.args.level c.in_ok-put_level.ensures.put),
-    accepted-more old c.args.history.commands (SetLevelCommand (Some s) c.args.level) (LevelReply c.args.level) are c.self.invariant.1 answer)
+    let answer = subst (λ a. IsAnswer a (Ok (LevelReply c.args.level))) (sym (level-is lists s c.args.level false named (sym room ∙ c.in_ok-put_level.ensures.full))) refl in (
+      held-after _ _ _ _ old c.args.history.commands (SetLevelCommand (Some s) c.args.level) are
+          (level-held _ _ _ _ _ c.self.invariant.0 c.put_level.new.levels s c.args.level c.in_ok-put_level.ensures.put),
+      accepted-more old c.args.history.commands (SetLevelCommand (Some s) c.args.level) (LevelReply c.args.level) are c.self.invariant.1 answer,
+    )
 
 pub returns-clause-answer : goal.returns-clause-answer
 returns-clause-answer c =

@@ -12,4 +12,4 @@ returns c =
     let all : map deref c.loop-name.yielded ≡ keys c.self.inside.subjects = search (rules, iter_end) in
     rw (← c.self.view_is)
     (ap (λ ns. Ok (NamesReply ns)) (c.loop-name.invariant ∙ ap (map string_bytes) all
-        ∙ keys-named c.self.inside.subjects _ c.keys-name-items.ensures.ordered (subject-there _ _ _ _ _ c.self.invariant.0)))
+    ∙ keys-named c.self.inside.subjects _ c.keys-name-items.ensures.ordered (subject-there _ _ _ _ _ c.self.invariant.0)))

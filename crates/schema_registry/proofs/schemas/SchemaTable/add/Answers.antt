@@ -7,4 +7,4 @@ invariant_of-self-in-Ok c =
     let len : c.len.result ≡ length c.self.inside.schemas.items = search rules in
     rw c.in_ok-push.ensures.items
     (one_id c.self.inside.ids c.insert.new.self c.self.inside.schemas.items c.args.schema (rw (← c.self.view_is) at c.requires.new)
-        (string_bytes c.in_ok-text.text) c.len.result (c.in_ok-text.ensures.ok ∙ c.text.ensures) len c.self.invariant c.in-Ok.ensures.updates)
+    (string_bytes c.in_ok-text.text) c.len.result (c.in_ok-text.ensures.ok ∙ c.text.ensures) len c.self.invariant c.in-Ok.ensures.updates)

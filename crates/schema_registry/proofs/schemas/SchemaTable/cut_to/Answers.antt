@@ -12,4 +12,4 @@ invariant_of-self c =
     let few : length all ≤ c.args.count + 1 = rw (← c.self.view_is) at c.requires.one in
     let lacking = last-new c.args.count c.pop.new.self.items c.in-Some.schema all is few (omega (arith, len, c.if-len-count.true)) (rw (← c.self.view_is) at c.requires.new) in
     one_id_less c.self.inside.ids c.remove.new.self c.pop.new.self.items c.in-Some.schema lacking c.text.result.now c.text.ensures
-        (subst (AreIdsOf c.self.inside.ids) is c.self.invariant) c.remove.ensures.updates
+    (subst (AreIdsOf c.self.inside.ids) is c.self.invariant) c.remove.ensures.updates

@@ -13,4 +13,4 @@ invariant_of-self-in-Ok c =
     let len : c.len.result ≡ length c.self.inside.ids.items = search rules in
     rw c.in_ok-push.ensures.items
     (one_number c.self.inside.numbers c.insert.new.self c.self.inside.ids.items c.args.id c.self.invariant
-        (rw (← c.self.view_is) at c.requires.new) c.len.result len c.requires.known c.in-Ok.ensures.updates)
+    (rw (← c.self.view_is) at c.requires.new) c.len.result len c.requires.known c.in-Ok.ensures.updates)
