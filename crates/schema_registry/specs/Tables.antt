@@ -60,6 +60,13 @@ pub record Holds (schemas : List Declaration) (subjects : BTreeMap (String Globa
   pub levels_are : (s : List ℕ) → get_by_text levels s ≡ level_set (Some s) lists.levels
   pub global_is : global ≡ global_level lists.levels
 
+-- the command registers this schema under this subject
+pub record AsksToRegister (c : Command) (subject : List ℕ) (schema : Declaration) : Type 0 where
+  pub text : List ℕ
+  pub command_is : c ≡ RegisterCommand subject text
+  pub declares : declaration_of text ≡ Ok schema
+  pub subject_is : is_subject subject ≡ true
+
 -- these commands are the old ones, and then the registration of the schema
 pub record Registers (old : List Command) (subject : List ℕ) (schema : Declaration) (commands : List Command) : Type 0 where
   pub text : List ℕ

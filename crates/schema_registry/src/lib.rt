@@ -11,6 +11,7 @@ mod registry;
 mod reply;
 mod room;
 mod schemas;
+mod shared;
 mod subject;
 mod versions;
 
@@ -22,3 +23,4 @@ pub use limits::{
 pub use refusal::Refusal;
 pub use registry::Registry;
 pub use reply::Reply;
+pub use shared::{Receipt, SharedRegistry};

@@ -29,6 +29,30 @@ pub enum Refusal {
     NoMemory,
 }
 
+impl Refusal {
+    ghost use Rattle.std.specs.Prelude.{◌≡◌};
+    ghost use Rattle.schema_registry.specs.Refusal.{refusal_name};
+
+    /// Its name, as programs print it.
+    pub fn name(self) -> &'static str
+        ensures { result.now ≡ refusal_name self }
+    {
+        match self {
+            Refusal::BadSubject => "BadSubject",
+            Refusal::BadVersion => "BadVersion",
+            Refusal::BadSchema(_) => "BadSchema",
+            Refusal::BadLevel => "BadLevel",
+            Refusal::NoSubject => "NoSubject",
+            Refusal::NoVersion => "NoVersion",
+            Refusal::NoSchema => "NoSchema",
+            Refusal::Incompatible => "Incompatible",
+            Refusal::Full => "Full",
+            Refusal::Clash => "Clash",
+            Refusal::NoMemory => "NoMemory",
+        }
+    }
+}
+
 impl From<AllocError> for Refusal {
     ghost use Rattle.std.specs.Prelude.{◌≡◌};
     ghost use Rattle.schema_registry.specs.declared.refusal.Refusal.TheVariants.{NoMemory};

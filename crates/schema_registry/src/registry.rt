@@ -5,7 +5,7 @@ ghost use Rattle.schema_registry.specs.Command.{command_of};
 
 mod asking;
 mod levels;
-mod registering;
+pub(crate) mod registering;
 
 use crate::command::Command;
 use crate::history::History;

@@ -4,12 +4,14 @@ ghost use Rattle.std.specs.Str.{bytes_eq};
 ghost use Rattle.schema_drafts.specs.declared.error.SchemaError.{SchemaError};
 ghost use Rattle.schema_registry.specs.declared.limits.TheConstants.{MOST_SCHEMAS};
 ghost use Rattle.schema_registry.specs.Accepting.{declaration_of, id_for, registry_after, with_schema};
-ghost use Rattle.schema_registry.specs.Answers.{AreSafe, Gives, GivesId, answer_to, is_full, pairs_of};
-ghost use Rattle.schema_registry.specs.Command.{RegisterCommand};
+ghost use Rattle.schema_registry.specs.Answers.{AreAccepted, AreSafe, Gives, GivesId, answer_to, is_full, pairs_of};
+ghost use Rattle.schema_registry.specs.Command.{RegisterCommand, command_of};
 ghost use Rattle.schema_registry.specs.Lists.{level_of, versions_of, with_text};
-ghost use Rattle.schema_registry.specs.Tables.{Registers, entry_of, ids_in, number_of};
+ghost use Rattle.schema_registry.specs.Subject.{is_subject};
+ghost use Rattle.schema_registry.specs.Tables.{AsksToRegister, Registers, entry_of, ids_in, number_of};
 
 use super::Registry;
+use crate::command::Command;
 use crate::compatible::{compared, goes_with_all};
 use crate::history::History;
 use crate::limits::MOST_SUBJECTS;
@@ -139,6 +141,22 @@ impl Registry {
             return Err(Refusal::Full);
         }
         Ok(self.add(subject, schema, history)?)
+    }
+
+    /// Does what a command asks that registers a schema, which was parsed from its text.
+    pub(crate) fn register_parsed(
+        &mut self,
+        command: &Command,
+        subject: String,
+        schema: Schema,
+    ) -> Result<u32, Refusal>
+        requires { AsksToRegister (command_of command.now) (string_bytes subject) schema }
+        ensures answer { GivesId (registry_after self.old) (string_bytes subject) schema result }
+        ensures accepted { AreAccepted self.old }
+    {
+        self.is_accepted();
+        let history = self.history.and(command);
+        self.register(subject, schema, history)
     }
 
     /// Registers the schema of a text.
