@@ -87,6 +87,11 @@ ask_again avro_schema_tests schema_tests::{reads_primitives,reads_a_record,keeps
 ask_again avro_schema_tests schema_tests::{numbers_nodes_in_order_of_appearance,names_stand_in_their_namespaces,reads_defaults_by_type,refuses_defaults_of_other_types}
 ask_again avro_schema_tests schema_tests::{a_name_is_one_however_it_is_told,names_of_other_namespaces_are_others}
 ask_again resolver_tests data_tests::payloads_are_read_and_written outcome_tests::{outcomes_of_pairs,readers_that_are_safe} resolving_tests::{fields_go_by_name,mismatches}
+ask_again isa_tests program_tests::{keeps_lists_and_shares_them,a_program_shows_its_parts}
+ask_again assembler_tests assembling_tests::{listings_come_back,lines_of_no_form,numbers_and_operands} listing_tests::the_listing_of_a_map_and_a_miss
+ask_again avro_loader_tests image_tests::{both_versions_are_loaded_and_saved_as_the_second,things_of_each_kind_are_loaded_and_saved,faults_of_tables_are_told_at_their_places}
+ask_again program_compiler_tests program_tests::{list_of_longs_to_itself,record_to_itself_and_by_aliases}
+ask_again commands_tests compile_tests::{writes_listings,writes_images,tells_bad_schemas}
 ask_again commands_tests run_tests::{answers_schemas,answers_lines_that_are_no_payloads,answers_what_is_no_text,answers_worked_rows}
 echo "$passed passed, $failed failed"
 [ $failed = 0 ]

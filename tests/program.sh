@@ -24,5 +24,11 @@ printf '"float"\n' | "$program" transcode >"$out" 2>"$err"; want 'bad schema' 1 
 printf '%s03\n' "$schemas" | "$program" transcode >/dev/full 2>"$err"; status=$?; : >"$out"; (exit $status); want 'full device' 3 none none
 "$program" transcode <&- >"$out" 2>"$err"; want 'closed input' 3 none none
 printf '%s' "$schemas" | "$program" transcode >"$out" 2>"$err"; want 'no payload' 0 none none
+printf '%s' "$schemas" | "$program" compile >"$out" 2>"$err"; want compile 0 some none
+printf '%s' "$schemas" | "$program" compile --image >"$out" 2>"$err"; want 'compile --image' 0 some none
+printf '%sno message\n' "$schemas" | "$program" compile >"$out" 2>"$err"; want 'compile and a further line' 0 some none
+printf '"int"\n"float"\n' | "$program" compile >"$out" 2>"$err"; want 'compile and a bad schema' 1 some none
+printf '%s' "$schemas" | "$program" transcode --image >"$out" 2>"$err"; want 'transcode --image' 2 none some
+printf '%s' "$schemas" | "$program" compile >/dev/full 2>"$err"; status=$?; : >"$out"; (exit $status); want 'compile to a full device' 3 none none
 echo "$passed passed, $failed failed"
 [ "$failed" = 0 ]

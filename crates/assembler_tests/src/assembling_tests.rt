@@ -1,8 +1,9 @@
 //! Listings assembled: faults from outside data, and both ways.
 
-use assembler::{AsmError, AsmErrorKind, AsmFault, assemble, disassemble};
-use std::alloc::Global;
-use std::fmt::Write;
+use crate::again::{assembled, listed};
+use assembler::{AsmError, AsmErrorKind, AsmFault};
+use std::alloc::{AllocError, Global};
+use std::test::Fail;
 
 /// The program of a list of longs, by a union of null and the list itself.
 const LONG_LIST: &str = "avro program 1
@@ -38,149 +39,141 @@ miss 0 NoSymbol 3 0
 ";
 
 /// Whether a text is the listing of a program, which is written so again.
-fn comes_back(alloc: Global, text: &str) -> bool {
-    match assemble(alloc, text.as_bytes()) {
-        Ok(program) => match disassemble(alloc, &program) {
-            Ok(again) => again.as_str() == text,
-            Err(_) => false,
-        },
-        Err(_) => false,
-    }
+fn comes_back(alloc: Global, text: &str) -> Result<bool, AllocError> {
+    let Ok(program) = assembled(alloc, text.as_bytes()) else {
+        return Ok(false);
+    };
+    let again = listed(alloc, &program)?;
+    Ok(again.as_str() == text)
 }
 
-/// Whether a text, after the header, has this fault.
-fn has_fault(alloc: Global, lines: &str, line: usize, kind: AsmErrorKind) -> bool {
-    let Ok(text) = format!(in alloc; "avro program 1\n{lines}") else {
-        return false;
-    };
-    match assemble(alloc, text.as_bytes()) {
-        Ok(_) => false,
-        Err(error) => error == AsmError::Fault(AsmFault { line, kind }),
-    }
+/// The error of lines after the header.
+fn error_of(alloc: Global, lines: &str) -> Result<Option<AsmError>, AllocError> {
+    let text = format!(in alloc; "avro program 1\n{lines}")?;
+    Ok(assembled(alloc, text.as_bytes()).err())
+}
+
+/// A fault at a line, counted from 1.
+fn fault(line: usize, kind: AsmErrorKind) -> Option<AsmError> {
+    Some(AsmError::Fault(AsmFault { line, kind }))
 }
 
 #[test]
-fn listings_come_back(rt: HostRuntime) {
-    assert!(rt; comes_back(rt.alloc(), LONG_LIST));
-    assert!(rt; comes_back(rt.alloc(), EACH_KIND));
-    assert!(rt; comes_back(rt.alloc(), "avro program 1\n0 HALT\n"));
+fn listings_come_back(rt: HostRuntime) -> Result<(), Fail> {
+    for text in [LONG_LIST, EACH_KIND, "avro program 1\n0 HALT\n"] {
+        let same = comes_back(rt.alloc(), text)?;
+        assert!(rt; same);
+    }
+    Ok(())
 }
 
 #[test]
 fn headers(rt: HostRuntime) {
-    let bad = AsmError::Fault(AsmFault {
-        line: 1,
-        kind: AsmErrorKind::BadHeader,
-    });
-    assert!(rt; assemble(rt.alloc(), b"").err() == Some(bad));
-    assert!(rt; assemble(rt.alloc(), b"avro program 2\n0 HALT\n").err() == Some(bad));
-    let cut = AsmError::Fault(AsmFault {
-        line: 1,
-        kind: AsmErrorKind::BadLine,
-    });
-    assert!(rt; assemble(rt.alloc(), b"avro program 1").err() == Some(cut));
+    let texts = [
+        ("", AsmErrorKind::BadHeader),
+        ("avro program 2\n0 HALT\n", AsmErrorKind::BadHeader),
+        ("avro program 1", AsmErrorKind::BadLine),
+    ];
+    for (text, kind) in texts {
+        let answer = assembled(rt.alloc(), text.as_bytes());
+        assert!(rt; answer.err() == fault(1, kind));
+    }
 }
 
 #[test]
-fn lines_of_no_form(rt: HostRuntime) {
-    let a = rt.alloc();
-    assert!(rt; has_fault(a, "const 0 0A\n", 2, AsmErrorKind::BadLine));
-    assert!(rt; has_fault(a, "const 0  00\n0 HALT\n", 2, AsmErrorKind::BadLine));
-    assert!(rt; has_fault(a, "const 0 \n0 HALT\n", 2, AsmErrorKind::BadLine));
-    assert!(rt; has_fault(a, "const 00 00\n0 HALT\n", 2, AsmErrorKind::BadLine));
-    assert!(rt; has_fault(a, "map 0 01\n0 HALT\n", 2, AsmErrorKind::BadLine));
-    assert!(rt; has_fault(a, "map 0 !\n0 HALT\n", 2, AsmErrorKind::BadLine));
-    assert!(rt; has_fault(a, "map 0 \n0 HALT\n", 2, AsmErrorKind::BadLine));
-    assert!(rt; has_fault(a, "map 0 1\nconst 0 00\n0 HALT\n", 3, AsmErrorKind::BadLine));
-    assert!(rt; has_fault(a, "miss 0 NoWord 1 1\n0 HALT\n", 2, AsmErrorKind::BadLine));
-    assert!(rt; has_fault(a, "miss 0 NoMatch 1\n0 HALT\n", 2, AsmErrorKind::BadLine));
-    assert!(rt; has_fault(a, "0 HALT 1\n", 2, AsmErrorKind::BadLine));
-    assert!(rt; has_fault(a, "0 JUMP\n", 2, AsmErrorKind::BadLine));
-    assert!(rt; has_fault(a, "0 HALT", 2, AsmErrorKind::BadLine));
-    assert!(rt; has_fault(a, "0 HALT\n\n", 3, AsmErrorKind::BadLine));
-    assert!(rt; has_fault(a, "0 HALT\nconst 0 00\n", 3, AsmErrorKind::BadLine));
+fn lines_of_no_form(rt: HostRuntime) -> Result<(), Fail> {
+    let cases = [
+        ("const 0 0A\n", 2),
+        ("const 0  00\n0 HALT\n", 2),
+        ("const 0 \n0 HALT\n", 2),
+        ("const 00 00\n0 HALT\n", 2),
+        ("map 0 01\n0 HALT\n", 2),
+        ("map 0 !\n0 HALT\n", 2),
+        ("map 0 \n0 HALT\n", 2),
+        ("map 0 1\nconst 0 00\n0 HALT\n", 3),
+        ("miss 0 NoWord 1 1\n0 HALT\n", 2),
+        ("miss 0 NoMatch 1\n0 HALT\n", 2),
+        ("0 HALT 1\n", 2),
+        ("0 JUMP\n", 2),
+        ("0 HALT", 2),
+        ("0 HALT\n\n", 3),
+        ("0 HALT\nconst 0 00\n", 3),
+    ];
+    for (lines, line) in cases {
+        let found = error_of(rt.alloc(), lines)?;
+        assert!(rt; found == fault(line, AsmErrorKind::BadLine));
+    }
+    Ok(())
 }
 
 #[test]
-fn numbers_and_operands(rt: HostRuntime) {
-    let a = rt.alloc();
-    assert!(rt; has_fault(a, "const 1 00\n0 HALT\n", 2, AsmErrorKind::BadIndex));
-    assert!(rt; has_fault(a, "0 HALT\n2 HALT\n", 3, AsmErrorKind::BadIndex));
-    assert!(rt;
-        has_fault(
-            a,
+fn numbers_and_operands(rt: HostRuntime) -> Result<(), Fail> {
+    let cases = [
+        ("const 1 00\n0 HALT\n", 2, AsmErrorKind::BadIndex),
+        ("0 HALT\n2 HALT\n", 3, AsmErrorKind::BadIndex),
+        (
             "99999999999999999999999999 HALT\n",
             2,
-            AsmErrorKind::BadIndex
-        )
-    );
-    assert!(rt; has_fault(a, "0 JUMP 1\n", 2, AsmErrorKind::OutOfRange));
-    assert!(rt;
-        has_fault(
-            a,
+            AsmErrorKind::BadIndex,
+        ),
+        ("0 JUMP 1\n", 2, AsmErrorKind::OutOfRange),
+        (
             "0 JUMP 99999999999999999999999999\n",
             2,
-            AsmErrorKind::OutOfRange
-        )
-    );
-    assert!(rt;
-        has_fault(
-            a,
+            AsmErrorKind::OutOfRange,
+        ),
+        (
             "map 0 4095\nmap 1 4096\n0 HALT\n",
             3,
-            AsmErrorKind::OutOfRange
-        )
-    );
-    assert!(rt; has_fault(a, "jumps 0 1\n0 HALT\n", 2, AsmErrorKind::OutOfRange));
-    assert!(rt;
-        has_fault(
-            a,
+            AsmErrorKind::OutOfRange,
+        ),
+        ("jumps 0 1\n0 HALT\n", 2, AsmErrorKind::OutOfRange),
+        (
             "miss 0 NoMatch 0 1024\n0 HALT\n",
             2,
-            AsmErrorKind::OutOfRange
-        )
-    );
-    assert!(rt; has_fault(a, "0 JUMP 9\n1 HALT\n2  HALT\n", 4, AsmErrorKind::BadLine));
-    assert!(rt; has_fault(a, "0 JUMP 9\n2 HALT\n3  HALT\n", 3, AsmErrorKind::BadIndex));
+            AsmErrorKind::OutOfRange,
+        ),
+        ("0 JUMP 9\n1 HALT\n2  HALT\n", 4, AsmErrorKind::BadLine),
+        ("0 JUMP 9\n2 HALT\n3  HALT\n", 3, AsmErrorKind::BadIndex),
+        ("", 2, AsmErrorKind::NoCode),
+        ("const 0 00\nmap 0 5000\n", 4, AsmErrorKind::NoCode),
+    ];
+    for (lines, line, kind) in cases {
+        let found = error_of(rt.alloc(), lines)?;
+        assert!(rt; found == fault(line, kind));
+    }
+    Ok(())
 }
 
 #[test]
-fn limits(rt: HostRuntime) {
-    let mut text = String::new(rt.alloc());
-    text.push_str("map 0").expect(&rt, "memory");
+fn limits(rt: HostRuntime) -> Result<(), Fail> {
+    let mut text = String::from_str(rt.alloc(), "map 0")?;
     for _ in 0..4096 {
-        text.push_str(" 1").expect(&rt, "memory");
+        text.push_str(" 1")?;
     }
-    let within = format!(in rt.alloc(); "avro program 1\n{}\n0 HALT\n", text.as_str()).expect(
-        &rt, "memory",
-    );
-    assert!(rt; comes_back(rt.alloc(), within.as_str()));
-    text.push_str(" 1\n").expect(&rt, "memory");
-    assert!(rt; has_fault(rt.alloc(), text.as_str(), 2, AsmErrorKind::TooLarge));
+    let within = format!(in rt.alloc(); "avro program 1\n{}\n0 HALT\n", text.as_str())?;
+    let same = comes_back(rt.alloc(), within.as_str())?;
+    assert!(rt; same);
+    text.push_str(" 1\n")?;
+    let found = error_of(rt.alloc(), text.as_str())?;
+    assert!(rt; found == fault(2, AsmErrorKind::TooLarge));
+    Ok(())
 }
 
 #[test]
-fn many_instructions(rt: HostRuntime) {
-    let mut text = String::new(rt.alloc());
-    text.push_str("avro program 1\n").expect(&rt, "memory");
+fn many_instructions(rt: HostRuntime) -> Result<(), Fail> {
+    let mut text = String::from_str(rt.alloc(), "avro program 1\n")?;
     for address in 0..3000 {
-        write!(text, "{address} JUMP {address}\n").expect(&rt, "memory");
+        let line = format!(in rt.alloc(); "{address} JUMP {address}\n")?;
+        text.push_str(line.as_str())?;
     }
-    assert!(rt; comes_back(rt.alloc(), text.as_str()));
-}
-
-#[test]
-fn no_code(rt: HostRuntime) {
-    let a = rt.alloc();
-    assert!(rt; has_fault(a, "", 2, AsmErrorKind::NoCode));
-    assert!(rt; has_fault(a, "const 0 00\nmap 0 5000\n", 4, AsmErrorKind::NoCode));
+    let same = comes_back(rt.alloc(), text.as_str())?;
+    assert!(rt; same);
+    Ok(())
 }
 
 #[test]
 fn lines_that_are_no_utf_8(rt: HostRuntime) {
-    let fault = AsmError::Fault(AsmFault {
-        line: 2,
-        kind: AsmErrorKind::BadLine,
-    });
-    assert!(rt; assemble(rt.alloc(), b"avro program 1\n0 HALT \xff\n").err() == Some(fault));
+    let answer = assembled(rt.alloc(), b"avro program 1\n0 HALT \xff\n");
+    assert!(rt; answer.err() == fault(2, AsmErrorKind::BadLine));
 }

@@ -2,6 +2,8 @@
 #![tactic(auto)]
 
 #[cfg(test)]
+mod again;
+#[cfg(test)]
 mod assembling_tests;
 #[cfg(test)]
 mod listing_tests;

@@ -1,6 +1,6 @@
 //! The listings of programs.
 
-use assembler::disassemble;
+use crate::again::listed;
 use isa::{Entry, Instr, Lists, Parts, Program};
 use outcome::{Mismatch, MismatchKind};
 use std::alloc::{AllocError, Global};
@@ -80,17 +80,17 @@ fn with_a_miss(alloc: Global) -> Result<Parts, AllocError> {
 
 #[test]
 fn the_listing_of_a_list(rt: HostRuntime) {
-    let parts = long_list(rt.alloc()).expect(&rt, "memory");
+    let parts = long_list(rt.alloc()).expect(&rt, "no memory");
     let program = Program::new(parts).expect(&rt, "a program");
-    let listing = disassemble(rt.alloc(), &program).expect(&rt, "memory");
+    let listing = listed(rt.alloc(), &program).expect(&rt, "no memory");
     assert!(rt; listing.as_str() == LONG_LIST);
 }
 
 #[test]
 fn the_listing_of_a_map_and_a_miss(rt: HostRuntime) {
-    let parts = with_a_miss(rt.alloc()).expect(&rt, "memory");
+    let parts = with_a_miss(rt.alloc()).expect(&rt, "no memory");
     let program = Program::new(parts).expect(&rt, "a program");
-    let listing = disassemble(rt.alloc(), &program).expect(&rt, "memory");
+    let listing = listed(rt.alloc(), &program).expect(&rt, "no memory");
     assert!(rt;
         listing.as_str()
             == "avro program 1\nmap 0 10 !0\nmap 1\nmiss 0 NoSymbol 3 0\n0 ENUM 0\n1 SFIXED 16\n2 HALT\n"

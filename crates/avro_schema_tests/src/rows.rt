@@ -78,7 +78,8 @@ BadNumber {"type":"fixed","name":"F","size":null}
 TooLarge {"type":"fixed","name":"F","size":1048577}"#;
 
 /// Lines of a fault's name and a text with aliases.
-pub(crate) const ALIAS_FAULTS: &str = r#"Unknown {"type":"record","name":"Q","fields":[],"aliases":"A"}
+pub(crate) const ALIAS_FAULTS: &str =
+    r#"Unknown {"type":"record","name":"Q","fields":[],"aliases":"A"}
 Unknown {"type":"record","name":"Q","fields":[],"aliases":null}
 Unknown {"type":"fixed","name":"Q","size":1,"aliases":["A",1]}
 Unknown {"type":"enum","name":"Q","symbols":[],"aliases":{"A":"B"}}

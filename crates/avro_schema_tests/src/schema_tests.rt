@@ -1,8 +1,6 @@
 //! What texts declare, and each of their faults.
 
-use crate::rows::{
-    ALIAS_FAULTS, BAD_DEFAULTS, FAULTS, FURTHER_FAULTS, FURTHER_NAMES, PRIMITIVES,
-};
+use crate::rows::{ALIAS_FAULTS, BAD_DEFAULTS, FAULTS, FURTHER_FAULTS, FURTHER_NAMES, PRIMITIVES};
 use avro_schema::{Datum, Kind, Name, Schema, SchemaError, parsed_schema_is_declared};
 use std::alloc::{AllocError, Global};
 use std::process::Abort;
@@ -97,7 +95,10 @@ fn record_text(alloc: Global, fields: u32) -> Result<String, SchemaError> {
 
 #[test]
 fn reads_primitives(rt: HostRuntime) {
-    let lines: Vec<&str> = PRIMITIVES.lines().collect(rt.alloc()).expect(&rt, "no memory");
+    let lines: Vec<&str> = PRIMITIVES
+        .lines()
+        .collect(rt.alloc())
+        .expect(&rt, "no memory");
     for row in lines.chunks(3) {
         let [text, kind, compact] = row else {
             panic!(&rt; "rows have three lines");
@@ -152,13 +153,19 @@ fn with_default(alloc: Global, type_: &str, default: &str) -> Result<String, Sch
 
 #[test]
 fn refuses_defaults_of_other_types(rt: HostRuntime) {
-    let lines: Vec<&str> = BAD_DEFAULTS.lines().collect(rt.alloc()).expect(&rt, "no memory");
+    let lines: Vec<&str> = BAD_DEFAULTS
+        .lines()
+        .collect(rt.alloc())
+        .expect(&rt, "no memory");
     for row in lines.chunks(2) {
         let [type_, default] = row else {
             panic!(&rt; "rows have two lines");
         };
         let text = with_default(rt.alloc(), type_, default).expect(&rt, "no memory");
-        assert!(rt; fault_of(rt.alloc(), text.as_str()) == Some(SchemaError::BadDefault), "{text}");
+        assert!(rt;
+            fault_of(rt.alloc(), text.as_str()) == Some(SchemaError::BadDefault),
+            "{text}"
+        );
     }
 }
 
@@ -196,15 +203,45 @@ fn reads_defaults_by_type(rt: HostRuntime) {
     assert_default(&rt, r#""null""#, "null", &Datum::Null);
     assert_default(&rt, r#""boolean""#, "true", &Datum::Boolean(true));
     assert_default(&rt, r#""int""#, "-2147483648", &Datum::Int(-2147483648));
-    assert_default(&rt, r#""long""#, "9223372036854775807", &Datum::Long(9223372036854775807));
+    assert_default(
+        &rt,
+        r#""long""#,
+        "9223372036854775807",
+        &Datum::Long(9223372036854775807),
+    );
     assert_default(&rt, r#""bytes""#, r#""a\u00ff""#, &Datum::Bytes(two));
-    assert_default(&rt, r#"{"type":"fixed","name":"F","size":2}"#, r#""a\u00ff""#, &Datum::Fixed(again));
+    assert_default(
+        &rt,
+        r#"{"type":"fixed","name":"F","size":2}"#,
+        r#""a\u00ff""#,
+        &Datum::Fixed(again),
+    );
     assert_default(&rt, r#""string""#, r#""\u00e9""#, &Datum::Text(text));
-    assert_default(&rt, r#"{"type":"enum","name":"E","symbols":["A","B"]}"#, r#""B""#, &Datum::Enum(1));
+    assert_default(
+        &rt,
+        r#"{"type":"enum","name":"E","symbols":["A","B"]}"#,
+        r#""B""#,
+        &Datum::Enum(1),
+    );
     assert_default(&rt, r#"["null","int"]"#, "null", &Datum::Union(0, first));
-    assert_default(&rt, r#"{"type":"array","items":"int"}"#, "[-1,2]", &Datum::Array(items));
-    assert_default(&rt, r#"{"type":"map","values":"long"}"#, r#"{"b":2,"a":1}"#, &Datum::Map(pairs));
-    assert_default(&rt, r#"{"type":"record","name":"R","fields":[{"name":"a","type":"boolean"}]}"#, r#"{"x":[],"a":false}"#, &Datum::Record(fields));
+    assert_default(
+        &rt,
+        r#"{"type":"array","items":"int"}"#,
+        "[-1,2]",
+        &Datum::Array(items),
+    );
+    assert_default(
+        &rt,
+        r#"{"type":"map","values":"long"}"#,
+        r#"{"b":2,"a":1}"#,
+        &Datum::Map(pairs),
+    );
+    assert_default(
+        &rt,
+        r#"{"type":"record","name":"R","fields":[{"name":"a","type":"boolean"}]}"#,
+        r#"{"x":[],"a":false}"#,
+        &Datum::Record(fields),
+    );
 }
 
 #[test]
@@ -231,7 +268,9 @@ fn names_stand_in_their_namespaces(rt: HostRuntime) {
         {"name":"i","type":"C"}]}}]}"#;
     let schema = parsed(rt.alloc(), nested).expect(&rt, "a schema");
     assert!(rt; schema.len() == 7);
-    assert!(rt; are_nodes(rt.alloc(), &schema, "a.B a.C D a.E map array b.c.F").expect(&rt, "no memory"));
+    assert!(rt;
+        are_nodes(rt.alloc(), &schema, "a.B a.C D a.E map array b.c.F").expect(&rt, "no memory")
+    );
     if let Kind::Enum {
         symbols,
         default,
@@ -270,7 +309,10 @@ fn a_name_is_one_however_it_is_told(rt: HostRuntime) {
 
 #[test]
 fn names_of_other_namespaces_are_others(rt: HostRuntime) {
-    let lines: Vec<&str> = FURTHER_NAMES.lines().collect(rt.alloc()).expect(&rt, "no memory");
+    let lines: Vec<&str> = FURTHER_NAMES
+        .lines()
+        .collect(rt.alloc())
+        .expect(&rt, "no memory");
     for row in lines.chunks(2) {
         let [names, further] = row else {
             panic!(&rt; "rows have two lines");

@@ -1,5 +1,5 @@
 -- Answers to lines, one after the other.
-use Rattle.std.proofs.Common.{◌≡◌, ℕ, List, [], ◌∷◌, ◌++◌, refl, sym, ap, ◌∙◌, append_assoc, append-nil}
+use Rattle.std.proofs.Common.{◌≡◌, ℕ, List, [], ◌∷◌, ◌++◌, refl, sym, ap, ◌∙◌, append_assoc, append-nil, subst}
 use Rattle.avro_types.specs.Node.{Node}
 use Rattle.commands.specs.Answer.{IsAnswer, IsAnswers}
 
@@ -27,6 +27,14 @@ continues_one W R whole left later line done answer written ended split so_far h
     let joined : done ++ (answer ++ 10 ∷ more) ≡ ended ++ more =
     sym (ap (λ t. t ++ more) (end ∙ ap (λ t. t ++ 10 ∷ []) put) ∙ append_assoc (done ++ answer) (10 ∷ []) more ∙ append_assoc done answer (10 ∷ more)) in
     rw joined at (so_far (answer ++ 10 ∷ more) now)
+
+-- the same by a pair of schemas that is still the first one
+pub continues_by : (W R V S : List Node) (whole left later : List (List ℕ)) (line done answer written ended : List ℕ) → V ≡ W → S ≡ R → left ≡ line ∷ later
+    → Continues W R whole left done → IsAnswer V S line answer → written ≡ done ++ answer → ended ≡ written ++ 10 ∷ []
+    → Continues W R whole later ended
+continues_by W R V S whole left later line done answer written ended writer reader split so_far here put end =
+    let there = subst (λ x. IsAnswer x R line answer) writer (subst (λ x. IsAnswer V x line answer) reader here) in
+    continues_one W R whole left later line done answer written ended split so_far there put end
 
 pub continues_all : (W R : List Node) (whole left : List (List ℕ)) (done : List ℕ) → left ≡ [] → Continues W R whole left done → IsAnswers W R whole done
 continues_all W R whole left done none so_far =

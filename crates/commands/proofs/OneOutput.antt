@@ -28,6 +28,9 @@ OneOutcome = (W R : List Node) (payload : List ℕ) (a b : Outcome) → IsOutcom
 abbrev IsCompiled : Bool → List ℕ → Status → Option Program → Type 0
 IsCompiled image output status o = MatchOption o (IsRefused ProgramTooLarge output status) (λ P. (output ≡ text_of_program image P) × (status ≡ Answered))
 
+abbrev AreAnswered : List Node → List Node → List (List ℕ) → List ℕ → Status → Option Program → Type 0
+AreAnswered W R payloads output status o = MatchOption o (IsRefused ProgramTooLarge output status) (λ P. IsAnswers W R payloads output × (status ≡ Answered))
+
 abbrev IsOutputFor : Verb → List (List ℕ) → List ℕ → Status → Result (List Node × List Node) Refusal → Type 0
 IsOutputFor verb later output status r = MatchResult r (λ pair. IsOutputOf verb pair.0 pair.1 later output status) (λ refusal. IsRefused refusal output status)
 
@@ -58,7 +61,11 @@ module _ (some : SomeOutcome) (W R : List Node) where
 
 module _ (some : SomeOutcome) (W R : List Node) (later : List (List ℕ)) where
   some_of : (verb : Verb) → (output : List ℕ) × (status : Status) × IsOutputOf verb W R later output status
-  some_of Transcode = let o = some_answers some W R later in (o.0, Answered, (o.1, refl))
+  some_of Transcode = at (code_of W R)
+    where
+      at : (o : Option Program) → (output : List ℕ) × (status : Status) × AreAnswered W R later output status o
+      at None = (text_of ProgramTooLarge ++ 10 ∷ [], Refused, (refl, refl))
+      at (Some P) = let o = some_answers some W R later in (o.0, Answered, (o.1, refl))
   some_of (Compile image) = at (code_of W R)
     where
       at : (o : Option Program) → (output : List ℕ) × (status : Status) × IsCompiled image output status o
@@ -100,7 +107,11 @@ module _ (one : OneOutcome) (W R : List Node) where
 
 module _ (one : OneOutcome) (W R : List Node) (later : List (List ℕ)) (a b : List ℕ) (s t : Status) where
   one_of : (verb : Verb) → IsOutputOf verb W R later a s → IsOutputOf verb W R later b t → (a ≡ b) × (s ≡ t)
-  one_of Transcode p q = (one_answers one W R later a b p.0 q.0, p.1 ∙ sym q.1)
+  one_of Transcode p q = at (code_of W R) p q
+    where
+      at : (o : Option Program) → AreAnswered W R later a s o → AreAnswered W R later b t o → (a ≡ b) × (s ≡ t)
+      at None p q = (p.0 ∙ sym q.0, p.1 ∙ sym q.1)
+      at (Some P) p q = (one_answers one W R later a b p.0 q.0, p.1 ∙ sym q.1)
   one_of (Compile image) p q = at (code_of W R) p q
     where
       at : (o : Option Program) → IsCompiled image a s o → IsCompiled image b t o → (a ≡ b) × (s ≡ t)

@@ -22,7 +22,8 @@ text_of_program image P = if image then encode_lower (image_of P) ++ 10 ∷ [] e
 
 -- a verb's output for a pair of schemas and the lines after them
 abbrev pub IsOutputOf : Verb → List Node → List Node → List (List ℕ) → List ℕ → Status → Type 0
-IsOutputOf Transcode W R payloads output status = IsAnswers W R payloads output × (status ≡ Answered)
+IsOutputOf Transcode W R payloads output status =
+    MatchOption (code_of W R) (IsRefused ProgramTooLarge output status) (λ P. IsAnswers W R payloads output × (status ≡ Answered))
 IsOutputOf (Compile image) W R later output status =
     MatchOption (code_of W R) (IsRefused ProgramTooLarge output status) (λ P. (output ≡ text_of_program image P) × (status ≡ Answered))
 

@@ -3,8 +3,9 @@ ghost use Rattle.outcome.specs.Outcome.{outcome_of};
 ghost use Rattle.commands.specs.Answer.{IsAnswer, IsPayloadAnswer, hex_of, line_of};
 
 use crate::payload::payload_of;
-use avro_types::Nodes;
-use resolver::{Outcome, TranscodeError, transcode_tree};
+use machine::Transcoder;
+use outcome::Outcome;
+use resolver::TranscodeError;
 use std::alloc::{AllocError, Global};
 use std::fmt::Write;
 
@@ -48,15 +49,15 @@ pub(crate) fn push_outcome(
 /// Appends the answer to a payload, without its LF.
 pub(crate) fn push_payload_answer(
     alloc: Global,
-    writer: &Nodes,
-    reader: &Nodes,
+    transcoder: &mut Transcoder,
     payload: &[u8],
     output: &mut String,
 ) -> Result<(), AllocError>
-    ensures { OnOk result ((answer : List ℕ) × IsPayloadAnswer writer.now reader.now answer payload.now
+    ensures pushed { OnOk result ((answer : List ℕ) × IsPayloadAnswer transcoder.old.writer transcoder.old.reader answer payload.now
         × (string_bytes output.new ≡ string_bytes output.old ++ answer)) }
+    ensures kept { transcoder.new ≡ transcoder.old }
 {
-    match transcode_tree(alloc, writer, reader, payload) {
+    match transcoder.transcode(payload) {
         Ok(outcome) => push_outcome(alloc, output, &outcome),
         Err(TranscodeError::TooLarge) => output.push_str("too large"),
         Err(TranscodeError::NoMemory) => Err(AllocError),
@@ -66,16 +67,16 @@ pub(crate) fn push_payload_answer(
 /// Appends the answer to a line, without its LF.
 pub(crate) fn push_answer(
     alloc: Global,
-    writer: &Nodes,
-    reader: &Nodes,
+    transcoder: &mut Transcoder,
     line: &[u8],
     output: &mut String,
 ) -> Result<(), AllocError>
-    ensures { OnOk result ((answer : List ℕ) × IsAnswer writer.now reader.now line.now answer
+    ensures pushed { OnOk result ((answer : List ℕ) × IsAnswer transcoder.old.writer transcoder.old.reader line.now answer
         × (string_bytes output.new ≡ string_bytes output.old ++ answer)) }
+    ensures kept { transcoder.new ≡ transcoder.old }
 {
     match payload_of(alloc, line)? {
-        Some(payload) => push_payload_answer(alloc, writer, reader, &payload, output),
+        Some(payload) => push_payload_answer(alloc, transcoder, &payload, output),
         None => output.push_str("bad hex"),
     }
 }

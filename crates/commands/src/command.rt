@@ -65,7 +65,7 @@ fn answered(alloc: Global, verb: &Verb, input: &[u8]) -> Result<String, Refusal>
     let schemas = schemas_of(alloc, input)?;
     let (writer, reader) = (schemas.writer.nodes(), schemas.reader.nodes());
     match verb {
-        Verb::Transcode => Ok(transcode(alloc, writer, reader, schemas.later)?),
+        Verb::Transcode => transcode(alloc, writer, reader, schemas.later),
         Verb::Compile { image } => compile(alloc, writer, reader, *image),
     }
 }

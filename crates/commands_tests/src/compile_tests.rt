@@ -89,12 +89,18 @@ fn many_records(rt: &impl AllocGlobal, records: usize) -> Result<String, Fail> {
     let mut input = String::from_str(rt.alloc(), "[")?;
     for number in 1..=records {
         let comma = if number > 1 { "," } else { "" };
-        write!(input, "{comma}{{\"type\":\"record\",\"name\":\"n{number}.R\",\"fields\":[]}}")?;
+        write!(
+            input,
+            "{comma}{{\"type\":\"record\",\"name\":\"n{number}.R\",\"fields\":[]}}"
+        )?;
     }
     input.push_str("]\n{\"type\":\"record\",\"name\":\"R\",\"fields\":[")?;
     for number in 0..200 {
         let comma = if number > 0 { "," } else { "" };
-        write!(input, "{comma}{{\"name\":\"f{number}\",\"type\":\"int\",\"default\":0}}")?;
+        write!(
+            input,
+            "{comma}{{\"name\":\"f{number}\",\"type\":\"int\",\"default\":0}}"
+        )?;
     }
     input.push_str("]}\n")?;
     Ok(input)

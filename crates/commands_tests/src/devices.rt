@@ -92,6 +92,6 @@ pub(crate) fn assert_writes(
         reader = input;
         done = run(rt.alloc(), verb, &mut reader, &mut written);
     }
-    assert!(rt; done == Ok(status));
+    assert_eq!(rt; done, Ok(status));
     assert!(rt; written.as_slice() == output);
 }

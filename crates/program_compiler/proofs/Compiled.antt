@@ -43,12 +43,12 @@ module _ (s t : Section → ℕ) (same : (x : Section) → s x ≡ t x) where
 
   numbered_same : (ls : List Line) → numbered s ls ≡ numbered t ls
   numbered_same ls = ap (λ code. record {
-      code = code;
-      constants = constants_in ls;
-      maps = map (map (entry_of (misses_in ls))) (named_in maps_of ls);
-      jumps = jumps_from 0 ls;
-      misses = misses_in ls;
-    }) (code_same (constants_in ls) (misses_in ls) 0 0 0 ls)
+    code = code;
+    constants = constants_in ls;
+    maps = map (map (entry_of (misses_in ls))) (named_in maps_of ls);
+    jumps = jumps_from 0 ls;
+    misses = misses_in ls;
+  }) (code_same (constants_in ls) (misses_in ls) 0 0 0 ls)
 
 checked_some : (ls : List Line) (P Q : Program) → checked ls P ≡ Some Q → (are_whole ls ≡ true) × (P ≡ Q)
 checked_some ls P Q h = go (are_whole ls) (is_within_limits P) refl h

@@ -110,10 +110,10 @@ module _ {A : Type 0} (same : A → A → Bool) where
 
 -- ---- keys
 
-nat_at : (a b : ℕ) → is_eq (nat_cmp a b) ≡ (b == a)
+pub nat_at : (a b : ℕ) → is_eq (nat_cmp a b) ≡ (b == a)
 nat_at a b = grind arith
 
-then_at : (a b : Ordering) → is_eq (ordering_then a b) ≡ (is_eq a && is_eq b)
+pub then_at : (a b : Ordering) → is_eq (ordering_then a b) ≡ (is_eq a && is_eq b)
 then_at Less b = refl
 then_at Equal b = refl
 then_at Greater b = refl

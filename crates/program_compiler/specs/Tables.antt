@@ -1,13 +1,16 @@
 -- Things in a row, each once, and where each is found.
-use Rattle.std.specs.Prelude.{◌≡◌, ℕ, Bool, List, Option, Some, None, if◌then◌else◌}
+use Rattle.std.specs.Prelude.{◌≡◌, ℕ, Bool, List, map, slice_get, Option, Some, None, if◌then◌else◌}
 use Rattle.std.specs.declared.cmp.Ordering.{Ordering}
 use Rattle.std.specs.Ordering.{nat_cmp, ordering_then}
 use Rattle.std.specs.Cmp.Lexicographic.{slice_cmp}
-use Rattle.std.specs.BTreeMap.{get}
+use Rattle.std.specs.BTreeMap.{BTreeMap, get}
 use Rattle.std.specs.Global.{Vec}
 use Rattle.std.specs.Str.{bytes_eq}
 use Rattle.outcome.specs.declared.mismatch.Mismatch.{Mismatch}
-use Rattle.program_code.specs.Numbering.{has, kind_number, number, same_miss}
+use Rattle.avro_types.specs.Node.{Node}
+use Rattle.isa.specs.declared.entry.Entry.{Entry}
+use Rattle.program_code.specs.Numbering.{entry_of, has, kind_number, number, same_miss}
+use Rattle.program_lines.specs.Lines.{targets_of}
 use Rattle.program_compiler.specs.declared.constants.Constants.TheInside as constants
 use Rattle.program_compiler.specs.declared.misses.Misses.TheInside as misses
 
@@ -31,3 +34,11 @@ AreMisses s = (m : Mismatch) → get key_cmp s.numbers (key_of m) ≡ found same
 
 abbrev pub AreConstants : constants.Inside → Type 0
 AreConstants s = (v : Vec ℕ) → get bytes_cmp s.numbers v ≡ found bytes_eq v.items s.list
+
+abbrev pub pair_cmp : ℕ × ℕ → ℕ × ℕ → Ordering
+pair_cmp p q = ordering_then (nat_cmp p.0 q.0) (nat_cmp p.1 q.1)
+
+-- under a pair of enums stands the number of a map that has its entries
+abbrev pub AreShared : List Node → List Node → List Mismatch → BTreeMap (ℕ × ℕ) ℕ → List (List Entry) → Type 0
+AreShared W R misses numbers maps = (pair : ℕ × ℕ) (n : ℕ) → get pair_cmp numbers pair ≡ Some n
+    → slice_get maps n ≡ Some (map (entry_of misses) (targets_of W R pair.0 pair.1))

@@ -62,10 +62,7 @@ fn noted(
 }
 
 /// The jump tables of lines, or none where an address takes more than 32 bits.
-pub(crate) fn gather_jumps(
-    alloc: Global,
-    lines: &[Line],
-) -> Result<Option<Lists<u32>>, AllocError>
+pub(crate) fn gather_jumps(alloc: Global, lines: &[Line]) -> Result<Option<Lists<u32>>, AllocError>
     ensures { IfOk result (λ o. (W R : List Node) → MatchOption o (AreWide (jumps_from 0 (lines_in W R lines.now))) (λ jumps. jumps ≡ jumps_from 0 (lines_in W R lines.now))) }
 {
     let mut jumps = Lists::new(alloc);

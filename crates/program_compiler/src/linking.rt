@@ -140,11 +140,7 @@ fn counted(counts: Counts, line: &Line) -> Counts
 }
 
 /// The code of all lines.
-pub(crate) fn link(
-    alloc: Global,
-    r: &Nodes,
-    tables: &Tables,
-) -> Result<Vec<Instr>, CompileError>
+pub(crate) fn link(alloc: Global, r: &Nodes, tables: &Tables) -> Result<Vec<Instr>, CompileError>
     requires { length tables.now.listing.now.lines ≤ MOST_INSTRS }
     ensures { (W : List Node) → LinksAll (lines_in W r.now tables.now.listing.now.lines) (code_from (start_at tables.now.listing.now) tables.now.constants.now tables.now.misses.now 0 0 0 (lines_in W r.now tables.now.listing.now.lines)) result }
 {

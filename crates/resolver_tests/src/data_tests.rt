@@ -4,9 +4,7 @@ use crate::again::{parsed, read_again, written};
 use crate::lines::{bytes_of, is_answer, malformed_line, written_line};
 use crate::rows::DATA;
 use avro_bytes::{Fault, MOST_UNITS, MalformedKind, Meter, WireForm, read_and_skip};
-use avro_datum::{
-    NodeForm, PayloadError, WriteError, write,
-};
+use avro_datum::{NodeForm, PayloadError, WriteError, write};
 use avro_schema::Datum;
 use resolver::MOST_OUTPUT;
 use std::process::Abort;
@@ -68,11 +66,11 @@ fn skipping_is_reading_less_the_value(rt: HostRuntime) -> Result<(), Fail> {
     let many = Meter {
         depth: 0,
         units: MOST_UNITS,
-};
+    };
     let refused = Fault::Malformed {
         kind: MalformedKind::TooMany,
         at: 1,
-};
+    };
     assert_eq!(rt; form.skip(&payload, 1, many), Err(refused));
     Ok(())
 }
@@ -103,7 +101,7 @@ fn a_thousand_records_nest(rt: HostRuntime) -> Result<(), Fail> {
     let refused = PayloadError::Malformed {
         kind: MalformedKind::TooDeep,
         at: 1000,
-};
+    };
     assert_eq!(rt;
         read_again(rt.alloc(), schema.nodes(), &deeper).err(),
         Some(refused)

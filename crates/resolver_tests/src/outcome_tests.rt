@@ -3,9 +3,7 @@
 use crate::again::{outcome, parsed, readable};
 use crate::lines::{bytes_of, is_answer, outcome_line};
 use crate::rows::{OUTCOMES, SAFETY};
-use resolver::{
-    MOST_PAYLOAD, TranscodeError, transcode_tree,
-};
+use resolver::{MOST_PAYLOAD, TranscodeError, transcode_tree};
 use std::test::Fail;
 
 #[test]
@@ -20,7 +18,10 @@ fn outcomes_of_pairs(rt: HostRuntime) -> Result<(), Fail> {
         let (w, r) = (parsed(alloc, writer)?, parsed(alloc, reader)?);
         let bytes = bytes_of(alloc, payload)?;
         let found = outcome_line(alloc, &outcome(alloc, &w, &r, &bytes)?)?;
-        assert!(rt; is_answer(&found, answer), "{writer} {reader} {payload}: {found}");
+        assert!(rt;
+            is_answer(&found, answer),
+            "{writer} {reader} {payload}: {found}"
+        );
     }
     Ok(())
 }

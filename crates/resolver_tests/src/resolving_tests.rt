@@ -3,8 +3,7 @@
 use crate::again::parsed;
 use avro_schema::{Datum, Schema};
 use resolver::{
-    Mismatch, MismatchKind, Place, ResolveError, TranscodeError, matches, place_of,
-    resolve,
+    Mismatch, MismatchKind, Place, ResolveError, TranscodeError, matches, place_of, resolve,
 };
 use std::alloc::{AllocError, Global};
 use std::test::Fail;
@@ -18,8 +17,7 @@ const REORDERED: &str =
     r#"{"type":"record","name":"T","fields":[{"name":"b","type":"string"},{"name":"a","type":"long"}]}"#;
 
 /// One that lacks a field.
-const SHORTER: &str =
-    r#"{"type":"record","name":"T","fields":[{"name":"b","type":"string"}]}"#;
+const SHORTER: &str = r#"{"type":"record","name":"T","fields":[{"name":"b","type":"string"}]}"#;
 
 /// One with a field more.
 const LONGER: &str =
@@ -81,14 +79,14 @@ fn mismatches(rt: HostRuntime) -> Result<(), Fail> {
         kind: MismatchKind::NoDefault,
         writer_node: 0,
         reader_node: 3,
-};
+    };
     let found = resolved(alloc, &writer, &parsed(alloc, LONGER)?);
     assert!(rt; found.err() == Some(ResolveError::Mismatch(lacking)));
     let other = Mismatch {
         kind: MismatchKind::NoMatch,
         writer_node: 1,
         reader_node: 1,
-};
+    };
     let found = resolved(alloc, &writer, &parsed(alloc, RETYPED)?);
     assert!(rt; found.err() == Some(ResolveError::Mismatch(other)));
     Ok(())

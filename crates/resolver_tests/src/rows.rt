@@ -1,7 +1,8 @@
 //! Worked rows: what comes in, line by line, and then the answer.
 
 /// A schema, a payload, and what its datum is written as, or the first fault.
-pub(crate) const DATA: &str = r#"{"type":"record","name":"T","fields":[{"name":"a","type":"long"},{"name":"b","type":"string"}]}
+pub(crate) const DATA: &str =
+    r#"{"type":"record","name":"T","fields":[{"name":"a","type":"long"},{"name":"b","type":"string"}]}
 3606666f6f
 written 3606666f6f
 {"type":"record","name":"T","fields":[{"name":"a","type":"long"},{"name":"b","type":"string"}]}
@@ -142,7 +143,8 @@ malformed Truncated at 3
 "#;
 
 /// A writer's schema, a reader's, a payload, and its outcome.
-pub(crate) const OUTCOMES: &str = r#"{"type":"record","name":"T","fields":[{"name":"a","type":"long"},{"name":"b","type":"string"}]}
+pub(crate) const OUTCOMES: &str =
+    r#"{"type":"record","name":"T","fields":[{"name":"a","type":"long"},{"name":"b","type":"string"}]}
 {"type":"record","name":"T","fields":[{"name":"a","type":"long"},{"name":"b","type":"string"}]}
 3606666f6f
 done 3606666f6f
@@ -281,7 +283,8 @@ done 00
 "#;
 
 /// A writer's schema, a reader's, and whether that is safe with it.
-pub(crate) const SAFETY: &str = r#"{"type":"record","name":"T","fields":[{"name":"a","type":"long"},{"name":"b","type":"string"}]}
+pub(crate) const SAFETY: &str =
+    r#"{"type":"record","name":"T","fields":[{"name":"a","type":"long"},{"name":"b","type":"string"}]}
 {"type":"record","name":"T","fields":[{"name":"a","type":"long"},{"name":"b","type":"string"},{"name":"d","type":"int"}]}
 unsafe
 {"type":"record","name":"T","fields":[{"name":"a","type":"long"},{"name":"b","type":"string"}]}

@@ -1,0 +1,29 @@
+//! Calls that are made again where memory ran out the first time.
+
+use avro_loader::{LoadError, load, migrate, save};
+use isa::Program;
+use std::alloc::{AllocError, Global};
+
+/// An image's program, read again where memory ran out the first time.
+pub(crate) fn loaded(alloc: Global, image: &[u8]) -> Result<Program, LoadError> {
+    match load(alloc, image) {
+        Err(LoadError::NoMemory) => load(alloc, image),
+        answer => answer,
+    }
+}
+
+/// A program's image, written again where memory ran out the first time.
+pub(crate) fn saved(alloc: Global, program: &Program) -> Result<Vec<u8>, AllocError> {
+    match save(alloc, program) {
+        Err(AllocError) => save(alloc, program),
+        answer => answer,
+    }
+}
+
+/// An image in version 2, written again where memory ran out the first time.
+pub(crate) fn migrated(alloc: Global, image: &[u8]) -> Result<Vec<u8>, LoadError> {
+    match migrate(alloc, image) {
+        Err(LoadError::NoMemory) => migrate(alloc, image),
+        answer => answer,
+    }
+}

@@ -1,0 +1,3 @@
+mod Alone
+mod Ending
+mod PairRuns

@@ -1,0 +1,16 @@
+use Rattle.std.proofs.Common.{subst}
+use Rattle.machine.specs.Run.{IsKept}
+use Rattle.machine.proofs.PairRuns.{ends_early, ends_in_outcome, within_bound}
+use Rattle.machine.proofs.run.Run.ends_with_the_outcome.Goals as goal
+
+pub returns-clause-end : goal.returns-clause-end
+returns-clause-end c =
+    ends_in_outcome c.args.w.now c.args.r.now c.args.self.now (subst IsKept c.self.view_is c.self.invariant) c.requires c.program_ends_with_the_outcome.ensures.each_end c.program_ends_with_the_outcome.ensures.early_end
+
+pub returns-clause-early : goal.returns-clause-early
+returns-clause-early c =
+    ends_early c.args.w.now c.args.r.now c.args.self.now (subst IsKept c.self.view_is c.self.invariant) c.requires c.program_ends_with_the_outcome.ensures.early_end
+
+pub returns-clause-bound : goal.returns-clause-bound
+returns-clause-bound c =
+    within_bound c.args.w.now c.args.r.now c.args.self.now (subst IsKept c.self.view_is c.self.invariant) c.requires c.program_ends_with_the_outcome.ensures.simulated c.runs_alone_are_counted_and_stay.ensures.ends c.rows_stay_within_bounds.ensures.begins c.rows_stay_within_bounds.ensures.stays

@@ -1,0 +1,4 @@
+pub mod Run
+pub mod Pair
+pub mod Ending
+pub mod Transcoding

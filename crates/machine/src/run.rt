@@ -1,0 +1,153 @@
+ghost use Rattle.std.specs.Prelude.{◌≡◌, ◌≤◌, ◌+◌, ◌++◌, OnOk, OnErr, option_map, Some, false, true};
+ghost use Rattle.program_code.specs.Code.{code_of};
+ghost use Rattle.simulation.specs.Alone.{run_alone};
+ghost use Rattle.stepper.specs.Running.{end_of};
+ghost use Rattle.stepper.specs.Slice.{IsWhy, Rows};
+ghost use Rattle.machine.specs.Ending.{EarlyEndIsOutcome, EndIsOutcome, IsWithinBound};
+
+use avro_types::Nodes;
+use isa::{End, Program, rows_stay_within_bounds};
+use simulation::{program_ends_with_the_outcome, runs_alone_are_counted_and_stay};
+use std::alloc::{AllocError, Global};
+use std::marker::Model;
+use stepper::{Machine, Slice, machines_go_on_with_more_input};
+
+/// A run of a program on bytes that come in pieces.
+///
+/// However they are cut and whoever takes the rows, its machine is the program run alone on all bytes so far.
+#[derive(Drop)]
+pub struct Run<'p> {
+    program: &'p Program,
+    input: Vec<u8>,
+    ended: bool,
+    machine: Machine,
+}
+
+impl<'p> Model for Run<'p> {
+    ghost use Rattle.machine.specs.Run.{IsKept, Run, run_of};
+
+    ghost Value = { Run };
+
+    ghost view = { λ r. run_of r.program.now r.input.items r.ended r.machine };
+
+    ghost invariant = { λ r. IsKept (run_of r.program.now r.input.items r.ended r.machine) };
+}
+
+impl<'p> Run<'p> {
+    ghost use Rattle.machine.specs.Run.{begun};
+
+    /// The run before its first row, on no bytes yet. It takes no memory.
+    pub fn new(alloc: Global, program: &'p Program) -> Run<'p>
+        ensures { result ≡ begun program.now }
+    {
+        machines_go_on_with_more_input();
+        Run {
+            program,
+            input: Vec::new(alloc),
+            ended: false,
+            machine: Machine::new(alloc),
+        }
+    }
+
+    /// What `new` gives for the same program, in the same room.
+    pub fn reset(&mut self)
+        ensures { self.new ≡ begun self.old.program }
+    {
+        machines_go_on_with_more_input();
+        self.input.clear();
+        self.ended = false;
+        self.machine.reset();
+    }
+
+    /// More bytes, behind those that came.
+    pub fn push(&mut self, piece: &[u8]) -> Result<(), AllocError>
+        requires { self.old.ended ≡ false }
+        ensures pushed { OnOk result (self.new ≡ record self.old { input = self.old.input ++ piece.now }) }
+        ensures refused { OnErr result (self.new ≡ self.old) }
+    {
+        machines_go_on_with_more_input();
+        runs_alone_are_counted_and_stay();
+        self.input.extend_from_slice(piece)
+    }
+
+    /// No more bytes come.
+    pub fn close(&mut self)
+        ensures { self.new ≡ record self.old { ended = true } }
+    {
+        runs_alone_are_counted_and_stay();
+        self.ended = true;
+    }
+
+    /// Rows, at most so many, none at a breakpoint at which no content is begun, and none that cannot be counted.
+    pub fn slice(&mut self, breaks: &[u32], k: u64) -> Slice
+        ensures rows { Rows self.old.program self.old.input self.old.ended breaks.now result.rows
+            self.old.machine.state self.new.machine.state }
+        ensures most { result.rows ≤ k }
+        ensures count { self.new.machine.state.count ≡ self.old.machine.state.count + result.rows }
+        ensures why { IsWhy self.old.program self.old.input self.old.ended breaks.now result.why k result.rows
+            self.new.machine.state }
+        ensures kept { self.new ≡ record self.old { machine = self.new.machine } }
+    {
+        runs_alone_are_counted_and_stay();
+        self.machine
+            .slice(self.program, &self.input, self.ended, breaks, k)
+    }
+
+    /// The law that its machine is the program run alone on the bytes that came, as many rows on as it has counted.
+    pub fn is_alone(&self)
+        ensures { run_alone self.now.program self.now.input self.now.ended self.now.machine.state.count
+            ≡ Some self.now.machine.state }
+    {
+        let _opened = &self.machine;
+    }
+
+    /// The law that where its program is that of a pair of schemas, it ends with the outcome of the bytes that came,
+    /// and within the row bound where they are all. So a slice of that many rows with no breakpoint ends it, unless
+    /// memory runs out.
+    pub fn ends_with_the_outcome(&self, w: &Nodes, r: &Nodes)
+        requires { code_of w.now r.now ≡ Some self.now.program }
+        ensures end { EndIsOutcome w.now r.now self.now }
+        ensures early { EarlyEndIsOutcome w.now r.now self.now }
+        ensures bound { IsWithinBound self.now }
+    {
+        let _opened = &self.machine;
+        program_ends_with_the_outcome(w, r);
+        runs_alone_are_counted_and_stay();
+        rows_stay_within_bounds();
+    }
+
+    /// The program that is run.
+    pub fn program(&self) -> &'p Program
+        ensures { result.now ≡ self.now.program }
+    {
+        self.program
+    }
+
+    /// All bytes that came.
+    pub fn input(&self) -> &[u8]
+        ensures { result.now ≡ self.now.input }
+    {
+        self.input.as_slice()
+    }
+
+    /// Whether no more bytes come.
+    pub fn is_closed(&self) -> bool
+        ensures { result ≡ self.now.ended }
+    {
+        self.ended
+    }
+
+    /// The machine, to read its state.
+    pub fn machine(&self) -> &Machine
+        ensures { result.now ≡ self.now.machine }
+    {
+        &self.machine
+    }
+
+    /// How it ended.
+    pub fn into_end(self) -> Option<End>
+        ensures { option_map end_of result ≡ self.entry.machine.state.end }
+    {
+        self.machine.into_end()
+    }
+}

@@ -1,0 +1,10 @@
+pub mod Roping
+pub mod Writing
+pub mod Joining
+pub mod Laying
+pub mod Placing
+pub mod Putting
+pub mod Texts
+pub mod Framing
+pub mod Keeping
+pub mod Closing

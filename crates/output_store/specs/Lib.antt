@@ -1,0 +1,5 @@
+pub mod Segments
+pub mod Ropes
+pub mod Buffers
+pub mod Frames
+pub mod Store

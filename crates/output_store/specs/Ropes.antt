@@ -1,0 +1,27 @@
+-- Ropes: lists of segments, each of a segment between two earlier ones. All of this is this project's own.
+use Rattle.std.specs.Prelude.{ℕ, suc, ◌≤◌, List, [], ◌∷◌, ◌++◌, get_or}
+use Rattle.output_store.specs.declared.ropes.Joint.{Joint}
+use Rattle.output_store.specs.declared.segment.Segment.{Segment}
+
+abbrev pub rope_at : List (List Segment) → ℕ → List Segment
+rope_at ropes number = get_or ropes number []
+
+abbrev pub joined_by : List (List Segment) → Joint → List Segment
+joined_by ropes j = rope_at ropes j.before ++ j.segment ∷ rope_at ropes j.behind
+
+-- earlier ropes, and then one of each joint
+abbrev pub ropes_from : List (List Segment) → List Joint → List (List Segment)
+ropes_from ropes [] = ropes
+ropes_from ropes (j ∷ joints) = ropes_from (ropes ++ joined_by ropes j ∷ []) joints
+
+abbrev pub ropes_of : List Joint → List (List Segment)
+ropes_of joints = ropes_from ([] ∷ []) joints
+
+-- a joint of ropes up to a number
+pub record IsJoint (number : ℕ) (j : Joint) : Type 0 where
+  pub before : j.before ≤ number
+  pub behind : j.behind ≤ number
+
+abbrev pub AreJoints : ℕ → List Joint → Type 0
+AreJoints number [] = Unit {0}
+AreJoints number (j ∷ joints) = IsJoint number j × AreJoints (suc number) joints

@@ -1,0 +1,3 @@
+pub mod Running
+pub mod Contract
+pub mod Slice

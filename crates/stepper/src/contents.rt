@@ -1,0 +1,341 @@
+ghost use Rattle.std.specs.Prelude.{◌≡◌, ◌≤◌, ◌<◌, ◌+◌, ◌-◌, length, min, pos, take, drop, [], option_map, OnOk, OnErr, Some, None, true};
+ghost use Rattle.avro_bytes.specs.declared.limits.TheConstants.{MOST_CONTENT};
+ghost use Rattle.avro_bytes.specs.Shortest.{shortest};
+ghost use Rattle.isa.specs.declared.limits.TheConstants.{MOST_INSTRS, MOST_PIECE};
+ghost use Rattle.isa.specs.Table.{begun, content, ends_part, fixed, if_current, moved, moves, next};
+ghost use Rattle.stepper.specs.Contract.{HasRoom, Stays, Takes, move_of};
+ghost use Rattle.stepper.specs.Running.{HasMoved, IsCheck, IsOn, check_of, part_of};
+
+use crate::check::TextCheck;
+use crate::machine::{Machine, Part};
+use crate::step::Step;
+use avro_bytes::{Fault, MalformedKind, read_length};
+use isa::{End, MOST_PIECE, Program, Trap};
+use outcome::Outcome;
+use std::alloc::AllocError;
+
+/// How a content moves.
+#[derive(Clone, Copy, Debug)]
+pub enum Moving {
+    /// It is added.
+    Bytes,
+    /// It is added, and has to be UTF-8.
+    Text,
+    /// It is added, and the miss of this number is told where it is no UTF-8.
+    BytesText(u32),
+    /// It is passed over.
+    SkipBytes,
+    /// It is passed over, and has to be UTF-8.
+    SkipText,
+}
+
+impl Moving {
+    /// What is known before its first byte.
+    fn check(self) -> TextCheck
+        ensures { IsCheck (check_of result) [] }
+    {
+        match self {
+            Moving::Bytes | Moving::SkipBytes => TextCheck::unknown(),
+            _ => TextCheck::empty(),
+        }
+    }
+}
+
+impl Machine {
+    /// Bytes move.
+    fn put(&mut self, moving: Moving, bytes: &[u8]) -> Result<(), AllocError>
+        requires { HasRoom moving self.old.state }
+        ensures put { OnOk result (self.new.state ≡ (move_of moving).put bytes.now self.old.state) }
+        ensures refused { OnErr result (self.new ≡ self.old) }
+    {
+        match moving {
+            Moving::SkipBytes | Moving::SkipText => Ok(()),
+            _ => self.add(bytes),
+        }
+    }
+
+    /// A length moves.
+    fn put_length(&mut self, moving: Moving, len: usize) -> Result<(), AllocError>
+        requires room { HasRoom moving self.old.state }
+        requires few { len ≤ MOST_CONTENT }
+        ensures put { OnOk result (self.new.state ≡ (move_of moving).put (shortest (pos len)) self.old.state) }
+        ensures refused { OnErr result (self.new ≡ self.old) }
+    {
+        match moving {
+            Moving::SkipBytes | Moving::SkipText => Ok(()),
+            _ => self.add_long(len as i64),
+        }
+    }
+
+    /// The content that moves.
+    fn part(&self) -> Option<Part>
+        ensures { option_map part_of result ≡ self.now.state.part }
+    {
+        self.part
+    }
+
+    /// What is known of it.
+    pub(crate) fn check(&self) -> TextCheck
+        ensures { check_of result ≡ self.now.check }
+    {
+        self.check
+    }
+
+    /// At a place, behind which a content goes on.
+    fn goes_on(&mut self, part: Part, check: TextCheck, to: usize) -> Step
+        ensures step { result ≡ Step.Moved }
+        ensures moved { self.new ≡ record self.old { state = record self.old.state { pos = to; part = Some (part_of part) }; check = check_of check } }
+    {
+        self.pos = to;
+        self.part = Some(part);
+        self.check = check;
+        Step::Moved
+    }
+
+    /// At the next instruction, after a whole content.
+    fn pass_whole(&mut self, to: usize) -> Step
+        requires { self.old.state.pc < MOST_INSTRS }
+        ensures step { result ≡ Step.Moved }
+        ensures whole { self.new ≡ record self.old { state = record (next to self.old.state) { part = None }; check = None } }
+    {
+        self.pc += 1;
+        self.pos = to;
+        self.part = None;
+        self.check = TextCheck::unknown();
+        Step::Moved
+    }
+
+    /// A length was read: it moves, and the content is to follow, unless it is empty.
+    fn begin(&mut self, moving: Moving, len: usize, to: usize, input: &[u8]) -> Step
+        requires pc { self.old.state.pc < MOST_INSTRS }
+        requires room { HasRoom moving self.old.state }
+        requires few { len ≤ MOST_CONTENT }
+        requires within { to ≤ length input.now }
+        requires whole { self.old.state.part ≡ None }
+        requires on { IsOn input.now self.old }
+        ensures takes { Takes (Some (begun (move_of moving) len to self.old.state)) result self.old self.new }
+        ensures on { IsOn input.now self.new }
+        ensures stays { Stays self.old.state self.new.state }
+    {
+        if self.put_length(moving, len).is_err() {
+            return Step::NoMemory;
+        }
+        if len == 0 {
+            return self.next(to);
+        }
+        self.goes_on(
+            Part {
+                left: len,
+                from: to,
+            },
+            moving.check(),
+            to,
+        )
+    }
+
+    /// Some bytes of a content move, after which there are more.
+    fn move_piece(
+        &mut self,
+        moving: Moving,
+        part: Part,
+        check: TextCheck,
+        program: &Program,
+        input: &[u8],
+        ended: bool,
+    ) -> Step
+        requires room { HasRoom moving self.old.state }
+        requires there { self.old.state.pos + MOST_PIECE ≤ length input.now }
+        requires left { MOST_PIECE < part.left }
+        requires on { IsOn input.now self.old }
+        requires part { HasMoved input.now self.old.state.pos (check_of check) (part_of part) }
+        ensures takes { Takes (Some (moved program.now input.now ended (move_of moving) (part_of part) MOST_PIECE self.old.state)) result self.old self.new }
+        ensures on { IsOn input.now self.new }
+        ensures stays { Stays self.old.state self.new.state }
+    {
+        let pos = self.pos();
+        let to = pos + MOST_PIECE;
+        if self.put(moving, &input[pos..to]).is_err() {
+            return Step::NoMemory;
+        }
+        let check = check.pass(input, part.from, pos, to);
+        let left = Part {
+            left: part.left - MOST_PIECE,
+            from: part.from,
+        };
+        self.goes_on(left, check, to)
+    }
+
+    /// The last bytes of a content move.
+    fn end_part(
+        &mut self,
+        moving: Moving,
+        part: Part,
+        check: TextCheck,
+        program: &Program,
+        input: &[u8],
+        ended: bool,
+    ) -> Step
+        requires pc { self.old.state.pc < MOST_INSTRS }
+        requires room { HasRoom moving self.old.state }
+        requires there { self.old.state.pos + part.left ≤ length input.now }
+        requires on { IsOn input.now self.old }
+        requires part { HasMoved input.now self.old.state.pos (check_of check) (part_of part) }
+        ensures takes { Takes (ends_part program.now input.now ended (move_of moving) (part_of part) self.old.state) result self.old self.new }
+        ensures on { IsOn input.now self.new }
+        ensures stays { Stays self.old.state self.new.state }
+    {
+        let pos = self.pos();
+        let to = pos + part.left;
+        let bytes = &input[pos..to];
+        match moving {
+            Moving::Bytes | Moving::SkipBytes => {
+                if self.put(moving, bytes).is_err() {
+                    return Step::NoMemory;
+                }
+                self.pass_whole(to)
+            }
+            Moving::Text | Moving::SkipText => {
+                if !check.is_text(input, part.from, pos, to) {
+                    return self.stop(End::Out(Outcome::Malformed {
+                        kind: MalformedKind::BadText,
+                        at: part.from,
+                    }));
+                }
+                if self.put(moving, bytes).is_err() {
+                    return Step::NoMemory;
+                }
+                self.pass_whole(to)
+            }
+            Moving::BytesText(miss) => {
+                if self.put(moving, bytes).is_err() {
+                    return Step::NoMemory;
+                }
+                if !check.is_text(input, part.from, pos, to) {
+                    self.miss(miss);
+                }
+                self.pass_whole(to)
+            }
+        }
+    }
+
+    /// So many bytes of a content as are there move.
+    fn move_part(
+        &mut self,
+        moving: Moving,
+        part: Part,
+        check: TextCheck,
+        program: &Program,
+        input: &[u8],
+        ended: bool,
+    ) -> Step
+        requires pc { self.old.state.pc < MOST_INSTRS }
+        requires room { HasRoom moving self.old.state }
+        requires on { IsOn input.now self.old }
+        requires part { HasMoved input.now self.old.state.pos (check_of check) (part_of part) }
+        ensures takes { Takes (moves program.now input.now ended (move_of moving) (part_of part) self.old.state) result self.old self.new }
+        ensures on { IsOn input.now self.new }
+        ensures stays { Stays self.old.state self.new.state }
+    {
+        let there = input.len() - self.pos();
+        if there < part.left.min(MOST_PIECE) {
+            return self.refuse(Fault::Need, program, input, ended);
+        }
+        if part.left > MOST_PIECE {
+            return self.move_piece(moving, part, check, program, input, ended);
+        }
+        self.end_part(moving, part, check, program, input, ended)
+    }
+
+    /// A content after its length.
+    pub(crate) fn content(
+        &mut self,
+        moving: Moving,
+        program: &Program,
+        input: &[u8],
+        ended: bool,
+    ) -> Step
+        requires pc { self.old.state.pc < MOST_INSTRS }
+        requires room { HasRoom moving self.old.state }
+        requires on { IsOn input.now self.old }
+        ensures takes { Takes (content program.now input.now ended (move_of moving) self.old.state self.old.state.part) result self.old self.new }
+        ensures on { IsOn input.now self.new }
+        ensures stays { Stays self.old.state self.new.state }
+    {
+        match self.part() {
+            Some(part) => self.move_part(moving, part, self.check(), program, input, ended),
+            None => match read_length(input, self.pos(), self.meter()) {
+                Ok((len, to, _)) => self.begin(moving, len, to, input),
+                Err(fault) => self.refuse(fault, program, input, ended),
+            },
+        }
+    }
+
+    /// A content of so many bytes.
+    pub(crate) fn fixed(
+        &mut self,
+        moving: Moving,
+        size: usize,
+        program: &Program,
+        input: &[u8],
+        ended: bool,
+    ) -> Step
+        requires pc { self.old.state.pc < MOST_INSTRS }
+        requires room { HasRoom moving self.old.state }
+        requires on { IsOn input.now self.old }
+        ensures takes { Takes (fixed program.now input.now ended (move_of moving) size self.old.state self.old.state.part) result self.old self.new }
+        ensures on { IsOn input.now self.new }
+        ensures stays { Stays self.old.state self.new.state }
+    {
+        match self.part() {
+            Some(part) => self.move_part(moving, part, self.check(), program, input, ended),
+            None if size == 0 => self.next(self.pos()),
+            None => {
+                let part = Part {
+                    left: size,
+                    from: self.pos(),
+                };
+                self.move_part(moving, part, TextCheck::unknown(), program, input, ended)
+            }
+        }
+    }
+
+    /// A content after its length, which is added.
+    pub(crate) fn kept_content(
+        &mut self,
+        moving: Moving,
+        program: &Program,
+        input: &[u8],
+        ended: bool,
+    ) -> Step
+        requires pc { self.old.state.pc < MOST_INSTRS }
+        requires on { IsOn input.now self.old }
+        ensures takes { Takes (if_current self.old.state.store.frames self.old.state (content program.now input.now ended (move_of moving) self.old.state self.old.state.part)) result self.old self.new }
+        ensures on { IsOn input.now self.new }
+        ensures stays { Stays self.old.state self.new.state }
+    {
+        if !self.has_current() {
+            return self.trap(Trap::NoBuffer);
+        }
+        self.content(moving, program, input, ended)
+    }
+
+    /// A content of so many bytes, which is added.
+    pub(crate) fn kept_fixed(
+        &mut self,
+        size: usize,
+        program: &Program,
+        input: &[u8],
+        ended: bool,
+    ) -> Step
+        requires pc { self.old.state.pc < MOST_INSTRS }
+        requires on { IsOn input.now self.old }
+        ensures takes { Takes (if_current self.old.state.store.frames self.old.state (fixed program.now input.now ended (move_of Moving.Bytes) size self.old.state self.old.state.part)) result self.old self.new }
+        ensures on { IsOn input.now self.new }
+        ensures stays { Stays self.old.state self.new.state }
+    {
+        if !self.has_current() {
+            return self.trap(Trap::NoBuffer);
+        }
+        self.fixed(Moving::Bytes, size, program, input, ended)
+    }
+}

@@ -1,0 +1,22 @@
+//! The machine: rows of the instruction table, taken one by one or in slices.
+#![tactic(auto)]
+
+mod attempts;
+mod blocks;
+mod check;
+mod contents;
+mod flow;
+mod held;
+mod laws;
+mod machine;
+mod numbers;
+mod positions;
+mod readings;
+mod records;
+mod slice;
+mod step;
+
+pub use laws::machines_go_on_with_more_input;
+pub use machine::{Machine, Part};
+pub use slice::{Slice, Why};
+pub use step::Step;

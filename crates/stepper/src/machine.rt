@@ -1,0 +1,236 @@
+ghost use Rattle.std.specs.Prelude.{◌≡◌, ◌≤◌, ◌<◌, ◌+◌, ℕ, [], ◌∷◌, ◌++◌, length, is_some, option_to_list, OnOk, OnErr, Some, None, false, true};
+ghost use Rattle.avro_bytes.specs.declared.meter.Meter.{Meter};
+ghost use Rattle.isa.specs.declared.limits.TheConstants.{MOST_INSTRS};
+ghost use Rattle.isa.specs.State.{has_current, meter_of};
+ghost use Rattle.avro_bytes.specs.Shortest.{shortest};
+ghost use Rattle.isa.specs.Table.{added, next, stop, trap};
+ghost use Rattle.output_store.specs.Store.{Appends};
+ghost use Rattle.stepper.specs.Contract.{Takes, refused};
+ghost use Rattle.stepper.specs.Running.{end_of};
+
+use crate::check::TextCheck;
+use crate::step::Step;
+use avro_bytes::{Fault, MalformedKind, Meter, put_long};
+use isa::{End, Program, Trap};
+use outcome::Outcome;
+use output_store::Store;
+use std::alloc::{AllocError, Global};
+use std::marker::Model;
+
+/// A content of which bytes are still to move.
+#[derive(Clone, Copy, Debug)]
+pub struct Part {
+    pub left: usize,
+    /// Where its first byte stands.
+    pub from: usize,
+}
+
+/// A run of a program: callers see it as a state of the instruction table, and how that is kept.
+#[derive(Drop)]
+pub struct Machine {
+    pub(crate) pc: usize,
+    pub(crate) pos: usize,
+    pub(crate) calls: Vec<usize>,
+    pub(crate) store: Store,
+    pub(crate) part: Option<Part>,
+    pub(crate) check: TextCheck,
+    pub(crate) count: u64,
+    pub(crate) end: Option<End>,
+    pub(crate) scratch: Vec<u8>,
+    pub(crate) alloc: Global,
+}
+
+impl Model for Machine {
+    ghost use Rattle.stepper.specs.Running.{Running, running_of};
+
+    ghost Value = { Running };
+
+    ghost view = { λ m. running_of m.pc m.pos m.calls.items m.store m.part m.check m.count m.end };
+}
+
+impl Machine {
+    ghost use Rattle.stepper.specs.Running.{start};
+
+    /// The state before a run. It takes no memory.
+    pub fn new(alloc: Global) -> Machine
+        ensures { result ≡ start }
+    {
+        Machine {
+            pc: 0,
+            pos: 0,
+            calls: Vec::new(alloc),
+            store: Store::new(alloc),
+            part: None,
+            check: TextCheck::unknown(),
+            count: 0,
+            end: None,
+            scratch: Vec::new(alloc),
+            alloc,
+        }
+    }
+
+    /// What `new` gives, in the same room.
+    pub fn reset(&mut self)
+        ensures { self.new ≡ start }
+    {
+        self.pc = 0;
+        self.pos = 0;
+        self.calls.clear();
+        self.store.reset();
+        self.part = None;
+        self.check = TextCheck::unknown();
+        self.count = 0;
+        self.end = None;
+    }
+
+    /// The address of the next instruction.
+    pub fn pc(&self) -> usize
+        ensures { result ≡ self.now.state.pc }
+    {
+        self.pc
+    }
+
+    /// How many rows were taken.
+    pub fn count(&self) -> u64
+        ensures { result ≡ self.now.state.count }
+    {
+        self.count
+    }
+
+    /// The place of the next byte.
+    pub fn pos(&self) -> usize
+        ensures { result ≡ self.now.state.pos }
+    {
+        self.pos
+    }
+
+    /// How much is open, and how many units there were.
+    pub(crate) fn meter(&self) -> Meter
+        ensures { result ≡ meter_of self.now.state }
+    {
+        self.store.meter()
+    }
+
+    /// Whether there is a current buffer.
+    pub(crate) fn has_current(&self) -> bool
+        ensures { result ≡ has_current self.now.state.store.frames }
+    {
+        self.store.has_current()
+    }
+
+    /// The run ends.
+    pub(crate) fn stop(&mut self, end: End) -> Step
+        ensures step { result ≡ Step.Moved }
+        ensures stopped { stop (end_of end) self.old.state ≡ Some self.new.state }
+        ensures kept { self.new ≡ record self.old { state = self.new.state } }
+    {
+        self.end = Some(end);
+        Step::Moved
+    }
+
+    /// The run ends with a trap.
+    pub(crate) fn trap(&mut self, trap: Trap) -> Step
+        ensures step { result ≡ Step.Moved }
+        ensures stopped { Rattle.isa.specs.Table.trap trap self.old.state ≡ Some self.new.state }
+        ensures kept { self.new ≡ record self.old { state = self.new.state } }
+    {
+        self.stop(End::Trap(trap))
+    }
+
+    /// Bytes are missing, or cannot be read.
+    pub(crate) fn refuse(
+        &mut self,
+        fault: Fault,
+        program: &Program,
+        input: &[u8],
+        ended: bool,
+    ) -> Step
+        ensures takes { Takes (refused program.now input.now ended fault self.old.state) result self.old self.new }
+        ensures pos { self.new.state.pos ≡ self.old.state.pos }
+        ensures part { self.new.state.part ≡ self.old.state.part }
+        ensures check { self.new.check ≡ self.old.check }
+    {
+        match fault {
+            Fault::Malformed { kind, at } => self.stop(End::Out(Outcome::Malformed { kind, at })),
+            Fault::Need if ended => self.stop(End::Out(Outcome::Malformed {
+                kind: MalformedKind::Truncated,
+                at: input.len(),
+            })),
+            Fault::Need => Step::Waits,
+            Fault::NoMemory => Step::NoMemory,
+        }
+    }
+
+    /// At the next instruction, with the bytes up to a place read.
+    pub(crate) fn next(&mut self, to: usize) -> Step
+        requires { self.old.state.pc < MOST_INSTRS }
+        ensures step { result ≡ Step.Moved }
+        ensures next { self.new ≡ record self.old { state = next to self.old.state } }
+    {
+        self.pc += 1;
+        self.pos = to;
+        Step::Moved
+    }
+
+    /// At an address, with the bytes up to a place read.
+    pub(crate) fn jump(&mut self, address: usize, to: usize) -> Step
+        ensures step { result ≡ Step.Moved }
+        ensures jumped { self.new ≡ record self.old { state = record self.old.state { pc = address; pos = to } } }
+    {
+        self.pc = address;
+        self.pos = to;
+        Step::Moved
+    }
+
+    /// How many calls are open.
+    pub fn calls(&self) -> usize
+        ensures { result ≡ length self.now.state.calls }
+    {
+        self.calls.len()
+    }
+
+    /// A call of a routine at an address.
+    pub(crate) fn push_call(&mut self, address: usize) -> Step
+        requires { self.old.state.pc < MOST_INSTRS }
+        ensures takes { Takes (Some (record self.old.state { pc = address; calls = (self.old.state.pc + 1) ∷ self.old.state.calls })) result self.old self.new }
+        ensures pos { self.new.state.pos ≡ self.old.state.pos }
+        ensures part { self.new.state.part ≡ self.old.state.part }
+    {
+        if self.calls.push(self.pc + 1).is_err() {
+            return Step::NoMemory;
+        }
+        self.pc = address;
+        Step::Moved
+    }
+
+    /// The address to return to, of the newest call, which is closed.
+    pub(crate) fn pop_call(&mut self) -> Option<usize>
+        ensures popped { option_to_list result ++ self.new.state.calls ≡ self.old.state.calls }
+        ensures some { is_some result ≡ false → self.old.state.calls ≡ [] }
+        ensures kept { self.new ≡ record self.old { state = record self.old.state { calls = self.new.state.calls } } }
+    {
+        self.calls.pop()
+    }
+
+    /// Bytes at the end of the current buffer.
+    pub(crate) fn add(&mut self, bytes: &[u8]) -> Result<(), AllocError>
+        requires { has_current self.old.state.store.frames ≡ true }
+        ensures added { OnOk result (self.new.state ≡ added bytes.now self.old.state) }
+        ensures check { self.new.check ≡ self.old.check }
+        ensures refused { OnErr result (self.new ≡ self.old) }
+    {
+        self.store.add(bytes)
+    }
+
+    /// The shortest spelling of a number at the end of the current buffer.
+    pub(crate) fn add_long(&mut self, n: i64) -> Result<(), AllocError>
+        requires { has_current self.old.state.store.frames ≡ true }
+        ensures added { OnOk result (self.new.state ≡ added (shortest n) self.old.state) }
+        ensures check { self.new.check ≡ self.old.check }
+        ensures refused { OnErr result (self.new ≡ self.old) }
+    {
+        self.scratch.clear();
+        put_long(&mut self.scratch, n)?;
+        self.store.add(&self.scratch)
+    }
+}

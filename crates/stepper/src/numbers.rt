@@ -1,0 +1,126 @@
+ghost use Rattle.std.specs.Prelude.{◌≡◌, ◌≤◌, ◌<◌, length, None};
+ghost use Rattle.isa.specs.declared.instr.Instr.TheVariants as op;
+ghost use Rattle.isa.specs.declared.limits.TheConstants.{MOST_INSTRS};
+ghost use Rattle.isa.specs.Row.{row};
+ghost use Rattle.stepper.specs.Contract.{Takes};
+
+use crate::machine::Machine;
+use crate::step::Step;
+use avro_bytes::{read_boolean, read_int, read_long};
+use isa::{Program, Trap};
+
+impl Machine {
+    /// A boolean moves.
+    pub(crate) fn boolean(&mut self, program: &Program, input: &[u8], ended: bool) -> Step
+        requires pc { self.old.state.pc < MOST_INSTRS }
+        requires within { self.old.state.pos ≤ length input.now }
+        requires whole { self.old.state.part ≡ None }
+        ensures takes { Takes (row program.now input.now ended op.Bool self.old.state) result self.old self.new }
+        ensures within { self.new.state.pos ≤ length input.now }
+        ensures whole { self.new.state.part ≡ None }
+    {
+        if !self.has_current() {
+            return self.trap(Trap::NoBuffer);
+        }
+        match read_boolean(input, self.pos(), self.meter()) {
+            Ok((value, to, _)) => {
+                if self.add(&[u8::from(value)]).is_err() {
+                    return Step::NoMemory;
+                }
+                self.next(to)
+            }
+            Err(fault) => self.refuse(fault, program, input, ended),
+        }
+    }
+
+    /// An int moves, in its shortest spelling.
+    pub(crate) fn int(&mut self, program: &Program, input: &[u8], ended: bool) -> Step
+        requires pc { self.old.state.pc < MOST_INSTRS }
+        requires within { self.old.state.pos ≤ length input.now }
+        requires whole { self.old.state.part ≡ None }
+        ensures takes { Takes (row program.now input.now ended op.Int self.old.state) result self.old self.new }
+        ensures within { self.new.state.pos ≤ length input.now }
+        ensures whole { self.new.state.part ≡ None }
+    {
+        if !self.has_current() {
+            return self.trap(Trap::NoBuffer);
+        }
+        match read_int(input, self.pos(), self.meter()) {
+            Ok((value, to, _)) => {
+                if self.add_long(value.into()).is_err() {
+                    return Step::NoMemory;
+                }
+                self.next(to)
+            }
+            Err(fault) => self.refuse(fault, program, input, ended),
+        }
+    }
+
+    /// A long moves, in its shortest spelling.
+    pub(crate) fn long(&mut self, program: &Program, input: &[u8], ended: bool) -> Step
+        requires pc { self.old.state.pc < MOST_INSTRS }
+        requires within { self.old.state.pos ≤ length input.now }
+        requires whole { self.old.state.part ≡ None }
+        ensures takes { Takes (row program.now input.now ended op.Long self.old.state) result self.old self.new }
+        ensures within { self.new.state.pos ≤ length input.now }
+        ensures whole { self.new.state.part ≡ None }
+    {
+        if !self.has_current() {
+            return self.trap(Trap::NoBuffer);
+        }
+        match read_long(input, self.pos(), self.meter()) {
+            Ok((value, to, _)) => {
+                if self.add_long(value).is_err() {
+                    return Step::NoMemory;
+                }
+                self.next(to)
+            }
+            Err(fault) => self.refuse(fault, program, input, ended),
+        }
+    }
+
+    /// A boolean is skipped.
+    pub(crate) fn skip_boolean(&mut self, program: &Program, input: &[u8], ended: bool) -> Step
+        requires pc { self.old.state.pc < MOST_INSTRS }
+        requires within { self.old.state.pos ≤ length input.now }
+        requires whole { self.old.state.part ≡ None }
+        ensures takes { Takes (row program.now input.now ended op.SkipBool self.old.state) result self.old self.new }
+        ensures within { self.new.state.pos ≤ length input.now }
+        ensures whole { self.new.state.part ≡ None }
+    {
+        match read_boolean(input, self.pos(), self.meter()) {
+            Ok((_, to, _)) => self.next(to),
+            Err(fault) => self.refuse(fault, program, input, ended),
+        }
+    }
+
+    /// An int is skipped.
+    pub(crate) fn skip_int(&mut self, program: &Program, input: &[u8], ended: bool) -> Step
+        requires pc { self.old.state.pc < MOST_INSTRS }
+        requires within { self.old.state.pos ≤ length input.now }
+        requires whole { self.old.state.part ≡ None }
+        ensures takes { Takes (row program.now input.now ended op.SkipInt self.old.state) result self.old self.new }
+        ensures within { self.new.state.pos ≤ length input.now }
+        ensures whole { self.new.state.part ≡ None }
+    {
+        match read_int(input, self.pos(), self.meter()) {
+            Ok((_, to, _)) => self.next(to),
+            Err(fault) => self.refuse(fault, program, input, ended),
+        }
+    }
+
+    /// A long is skipped.
+    pub(crate) fn skip_long(&mut self, program: &Program, input: &[u8], ended: bool) -> Step
+        requires pc { self.old.state.pc < MOST_INSTRS }
+        requires within { self.old.state.pos ≤ length input.now }
+        requires whole { self.old.state.part ≡ None }
+        ensures takes { Takes (row program.now input.now ended op.SkipLong self.old.state) result self.old self.new }
+        ensures within { self.new.state.pos ≤ length input.now }
+        ensures whole { self.new.state.part ≡ None }
+    {
+        match read_long(input, self.pos(), self.meter()) {
+            Ok((_, to, _)) => self.next(to),
+            Err(fault) => self.refuse(fault, program, input, ended),
+        }
+    }
+}

@@ -1,0 +1,10 @@
+use Rattle.std.proofs.Common.{◌≤◌, length, take}
+use Rattle.stepper.specs.Running.{IsOn, IsUnder}
+use Rattle.stepper_tests.proofs.programs.run.Given as goal
+
+abbrev pub invariant-turns : goal.invariant-turns
+invariant-turns l = record {
+  within : l.end ≤ length l.input;
+  under : IsUnder l.program l.machine.state;
+  on : IsOn (take l.end l.input) l.machine;
+}

@@ -1,0 +1,13 @@
+//! Tests of `stepper`, in a crate of their own, so that the library is proved once.
+#![tactic(auto)]
+
+#[cfg(test)]
+mod arena_tests;
+#[cfg(test)]
+mod programs;
+#[cfg(test)]
+mod row_tests;
+#[cfg(test)]
+mod slice_tests;
+#[cfg(test)]
+mod text_tests;
