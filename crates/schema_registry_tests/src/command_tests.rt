@@ -1,7 +1,7 @@
 //! What a registry answers to commands in a row.
 
 use crate::lines::answer_to;
-use crate::rows::{BACKWARD, LEVELS, REFUSALS, SUBJECTS};
+use crate::rows::{FORWARD, FULL, LATEST, OWN, REFUSALS, SUBJECTS, TRANSITIVE, VERSIONS};
 use schema_registry::{Level, Refusal, Registry};
 use std::process::Abort;
 use std::test::Fail;
@@ -22,12 +22,32 @@ fn assert_rows(rt: &(impl Abort + AllocGlobal), rows: &str) -> Result<(), Fail> 
 
 #[test]
 fn answers_each_question(rt: HostRuntime) -> Result<(), Fail> {
-    assert_rows(&rt, BACKWARD)
+    assert_rows(&rt, VERSIONS)
 }
 
 #[test]
-fn goes_by_the_level(rt: HostRuntime) -> Result<(), Fail> {
-    assert_rows(&rt, LEVELS)
+fn forward_compares_the_other_way(rt: HostRuntime) -> Result<(), Fail> {
+    assert_rows(&rt, FORWARD)
+}
+
+#[test]
+fn full_compares_both_ways(rt: HostRuntime) -> Result<(), Fail> {
+    assert_rows(&rt, FULL)
+}
+
+#[test]
+fn backward_compares_the_latest(rt: HostRuntime) -> Result<(), Fail> {
+    assert_rows(&rt, LATEST)
+}
+
+#[test]
+fn transitive_levels_compare_all(rt: HostRuntime) -> Result<(), Fail> {
+    assert_rows(&rt, TRANSITIVE)
+}
+
+#[test]
+fn a_subject_has_a_level_of_its_own(rt: HostRuntime) -> Result<(), Fail> {
+    assert_rows(&rt, OWN)
 }
 
 #[test]
@@ -38,6 +58,22 @@ fn shares_ids_over_subjects(rt: HostRuntime) -> Result<(), Fail> {
 #[test]
 fn refuses_in_order(rt: HostRuntime) -> Result<(), Fail> {
     assert_rows(&rt, REFUSALS)
+}
+
+#[test]
+fn maps_grow(rt: HostRuntime) -> Result<(), Fail> {
+    let mut registry = Registry::new(rt.alloc());
+    for number in 1..=30_u32 {
+        let text = format!(in rt.alloc(); "{{\"type\":\"fixed\",\"name\":\"F\",\"size\":{number}}}")?;
+        let first = format!(in rt.alloc(); "id {number}")?;
+        let set = format!(in rt.alloc(); "set s{number} NONE")?;
+        let own = format!(in rt.alloc(); "register s{number} {text}")?;
+        let shared = format!(in rt.alloc(); "register s1 {text}")?;
+        for (line, wanted) in [(&set, "NONE"), (&own, &first), (&shared, &first)] {
+            assert_eq!(rt; answer_to(rt.alloc(), &mut registry, line)?.as_str(), wanted, "{line}");
+        }
+    }
+    Ok(())
 }
 
 #[test]

@@ -48,7 +48,7 @@ fn check(alloc: Global, word: &str, rest: &str) -> Result<Command, Refusal> {
 }
 
 /// The command of a line.
-pub(crate) fn command_of(alloc: Global, line: &str) -> Result<Command, Refusal> {
+fn command_of(alloc: Global, line: &str) -> Result<Command, Refusal> {
     let (verb, words) = line.split_once(' ').unwrap_or((line, ""));
     let (word, rest) = words.split_once(' ').unwrap_or((words, ""));
     match verb {
@@ -120,21 +120,30 @@ fn refusal_line(alloc: Global, refusal: Refusal) -> Result<String, AllocError> {
     }
 }
 
-/// What a registry answers to a line, asked again where memory ran out the first time.
-fn answered(alloc: Global, registry: &mut Registry, line: &str) -> Result<Reply, Refusal> {
-    match registry.apply(command_of(alloc, line)?) {
-        Err(Refusal::NoMemory) => registry.apply(command_of(alloc, line)?),
-        answer => answer,
+/// What a registry answers to a line.
+fn asked(
+    alloc: Global,
+    registry: &mut Registry,
+    line: &str,
+) -> Result<Result<Reply, Refusal>, AllocError> {
+    match command_of(alloc, line) {
+        Ok(command) => Ok(registry.apply(command)),
+        Err(Refusal::NoMemory) => Err(AllocError),
+        Err(refusal) => Ok(Err(refusal)),
     }
 }
 
-/// What a registry answers to a line, as a line.
+/// What a registry answers to a line, as a line. Where it has no memory it is asked once more.
 pub(crate) fn answer_to(
     alloc: Global,
     registry: &mut Registry,
     line: &str,
 ) -> Result<String, AllocError> {
-    match answered(alloc, registry, line) {
+    let answer = match asked(alloc, registry, line)? {
+        Err(Refusal::NoMemory) => asked(alloc, registry, line)?,
+        answer => answer,
+    };
+    match answer {
         Ok(reply) => reply_line(alloc, &reply),
         Err(refusal) => refusal_line(alloc, refusal),
     }

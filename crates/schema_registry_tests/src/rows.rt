@@ -1,7 +1,7 @@
 //! Worked rows: lines of a command, each with the line of its answer behind it.
 
 /// Under BACKWARD: the record T, again, with a field more, and with a default for it; and then all questions.
-pub(crate) const BACKWARD: &str = r#"level s
+pub(crate) const VERSIONS: &str = r#"level s
 BACKWARD
 subjects
 names
@@ -53,8 +53,8 @@ versions s
 numbers 1 2 3
 "#;
 
-/// Under FORWARD, FULL, and levels that name all versions.
-pub(crate) const LEVELS: &str = r#"set s FORWARD
+/// Under FORWARD the older schema reads what the new one writes.
+pub(crate) const FORWARD: &str = r#"set s FORWARD
 FORWARD
 register s {"type":"record","name":"T","fields":[{"name":"a","type":"long"},{"name":"b","type":"string"}]}
 id 1
@@ -62,60 +62,100 @@ register s {"type":"record","name":"T","fields":[{"name":"a","type":"long"},{"na
 id 2
 register s {"type":"record","name":"T","fields":[{"name":"a","type":"long"}]}
 refused Incompatible
-set f FULL
+check s 1 {"type":"record","name":"T","fields":[{"name":"a","type":"long"}]}
+compatible false
+check s 1 {"type":"record","name":"T","fields":[{"name":"a","type":"long"},{"name":"b","type":"string"},{"name":"d","type":"int"}]}
+compatible true
+"#;
+
+/// Under FULL each reads what the other writes.
+pub(crate) const FULL: &str = r#"set s FULL
 FULL
-register f {"type":"record","name":"T","fields":[{"name":"a","type":"long"},{"name":"b","type":"string"}]}
+register s {"type":"record","name":"T","fields":[{"name":"a","type":"long"},{"name":"b","type":"string"}]}
 id 1
-register f {"type":"record","name":"T","fields":[{"name":"a","type":"long"},{"name":"b","type":"string"},{"name":"d","type":"int"}]}
+register s {"type":"record","name":"T","fields":[{"name":"a","type":"long"},{"name":"b","type":"string"},{"name":"d","type":"int"}]}
 refused Incompatible
-register f {"type":"record","name":"T","fields":[{"name":"a","type":"long"}]}
+register s {"type":"record","name":"T","fields":[{"name":"a","type":"long"}]}
 refused Incompatible
-register f {"type":"record","name":"T","fields":[{"name":"a","type":"long"},{"name":"b","type":"string"},{"name":"d","type":"int","default":0}]}
+register s {"type":"record","name":"T","fields":[{"name":"a","type":"long"},{"name":"b","type":"string"},{"name":"d","type":"int","default":0}]}
+id 2
+check s 1 {"type":"record","name":"T","fields":[{"name":"a","type":"long"}]}
+compatible false
+check s latest {"type":"record","name":"T","fields":[{"name":"a","type":"long"},{"name":"b","type":"string"},{"name":"d","type":"int","default":0}]}
+compatible true
+"#;
+
+/// Under BACKWARD the latest version alone is compared.
+pub(crate) const LATEST: &str = r#"register s {"type":"record","name":"V","fields":[{"name":"a","type":"long"}]}
+id 1
+register s {"type":"record","name":"V","fields":[{"name":"a","type":"long"},{"name":"b","type":"string","default":""}]}
+id 2
+register s {"type":"record","name":"V","fields":[{"name":"a","type":"long"},{"name":"b","type":"string"}]}
 id 3
+"#;
+
+/// Under a transitive level all versions are compared.
+pub(crate) const TRANSITIVE: &str = r#"set b BACKWARD_TRANSITIVE
+BACKWARD_TRANSITIVE
 register b {"type":"record","name":"V","fields":[{"name":"a","type":"long"}]}
-id 4
+id 1
 register b {"type":"record","name":"V","fields":[{"name":"a","type":"long"},{"name":"b","type":"string","default":""}]}
-id 5
+id 2
 register b {"type":"record","name":"V","fields":[{"name":"a","type":"long"},{"name":"b","type":"string"}]}
-id 6
+refused Incompatible
+set f FORWARD_TRANSITIVE
+FORWARD_TRANSITIVE
+register f {"type":"record","name":"V","fields":[{"name":"a","type":"long"},{"name":"b","type":"string"}]}
+id 3
+register f {"type":"record","name":"V","fields":[{"name":"a","type":"long"},{"name":"b","type":"string","default":""}]}
+id 2
+register f {"type":"record","name":"V","fields":[{"name":"a","type":"long"}]}
+refused Incompatible
+set u FULL_TRANSITIVE
+FULL_TRANSITIVE
+register u {"type":"record","name":"V","fields":[{"name":"a","type":"long"},{"name":"b","type":"string"}]}
+id 3
+register u {"type":"record","name":"V","fields":[{"name":"a","type":"long"},{"name":"b","type":"string","default":""}]}
+id 2
+register u {"type":"record","name":"V","fields":[{"name":"a","type":"long"}]}
+refused Incompatible
+set u FULL
+FULL
+register u {"type":"record","name":"V","fields":[{"name":"a","type":"long"}]}
+id 1
+versions u
+numbers 1 2 3
+"#;
+
+/// A subject's own level goes before the global one.
+pub(crate) const OWN: &str = r#"register s "int"
+id 1
+register t "int"
+id 1
 set t BACKWARD_TRANSITIVE
 BACKWARD_TRANSITIVE
-register t {"type":"record","name":"V","fields":[{"name":"a","type":"long"}]}
-id 4
-register t {"type":"record","name":"V","fields":[{"name":"a","type":"long"},{"name":"b","type":"string","default":""}]}
-id 5
-register t {"type":"record","name":"V","fields":[{"name":"a","type":"long"},{"name":"b","type":"string"}]}
-refused Incompatible
-set ft FORWARD_TRANSITIVE
-FORWARD_TRANSITIVE
-register ft {"type":"record","name":"V","fields":[{"name":"a","type":"long"},{"name":"b","type":"string"}]}
-id 6
-register ft {"type":"record","name":"V","fields":[{"name":"a","type":"long"},{"name":"b","type":"string","default":""}]}
-id 5
-register ft {"type":"record","name":"V","fields":[{"name":"a","type":"long"}]}
-refused Incompatible
-set fu FULL_TRANSITIVE
-FULL_TRANSITIVE
-register fu {"type":"record","name":"V","fields":[{"name":"a","type":"long"},{"name":"b","type":"string"}]}
-id 6
-register fu {"type":"record","name":"V","fields":[{"name":"a","type":"long"},{"name":"b","type":"string","default":""}]}
-id 5
-register fu {"type":"record","name":"V","fields":[{"name":"a","type":"long"}]}
-refused Incompatible
 set * NONE
 NONE
 level *
 NONE
-level b
+level s
 NONE
 level t
 BACKWARD_TRANSITIVE
-register b "int"
-id 7
-register t "int"
+register s "string"
+id 2
+register t "string"
 refused Incompatible
+check s 1 "null"
+compatible true
+check t 1 "null"
+compatible false
+set t NONE
+NONE
+register t "string"
+id 2
 subjects
-names b f ft fu s t
+names s t
 "#;
 
 /// One schema under two subjects, and what counts as a name.

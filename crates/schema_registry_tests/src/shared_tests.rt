@@ -1,6 +1,9 @@
 //! A registry that threads share.
 
-use schema_registry::{Command, Level, Refusal, Reply, SharedRegistry};
+ghost use Rattle.std.specs.Prelude.{◌≡◌, IfOk};
+ghost use Rattle.schema_registry.specs.Shared.{IsReceiptOf, receipt_id};
+
+use schema_registry::{Command, Level, Receipt, Refusal, Reply, SharedRegistry};
 use std::alloc::Global;
 use std::process::Abort;
 use std::sync::Wait;
@@ -27,7 +30,37 @@ const COMPACT_TEXTS: &str = r#""null"
 {"items":"int","type":"array"}
 {"name":"F","size":2,"type":"fixed"}"#;
 
-/// Registers a text, and once more where memory ran out the first time.
+/// Registers a text under a subject.
+fn register_once<R: Wait>(
+    rt: &R,
+    alloc: Global,
+    shared: &SharedRegistry,
+    subject: &str,
+    text: &str,
+) -> Result<(u32, Receipt), Refusal>
+    ensures { IfOk result (λ r. IsReceiptOf shared.now r.1 × (receipt_id r.1 ≡ r.0)) }
+{
+    let name = String::from_str(alloc, subject)?;
+    shared.register(rt, name, String::from_str(alloc, text)?)
+}
+
+/// Registers a text, and once more where memory ran out.
+fn register<R: Wait>(
+    rt: &R,
+    alloc: Global,
+    shared: &SharedRegistry,
+    subject: &str,
+    text: &str,
+) -> Result<(u32, Receipt), Refusal>
+    ensures { IfOk result (λ r. IsReceiptOf shared.now r.1 × (receipt_id r.1 ≡ r.0)) }
+{
+    match register_once(rt, alloc, shared, subject, text) {
+        Err(Refusal::NoMemory) => register_once(rt, alloc, shared, subject, text),
+        answer => answer,
+    }
+}
+
+/// Registers a text, and tells the id with the text that its receipt shows, which agrees with one that is found.
 fn registered<R: Wait>(
     rt: &R,
     alloc: Global,
@@ -35,8 +68,10 @@ fn registered<R: Wait>(
     subject: &str,
     text: &str,
 ) -> Result<(u32, String), Refusal> {
-    let name = String::from_str(alloc, subject)?;
-    let (id, mut receipt) = shared.register(rt, name, String::from_str(alloc, text)?)?;
+    let (id, mut receipt) = register(rt, alloc, shared, subject, text)?;
+    if let Some((_, mut found)) = shared.find(id) {
+        shared.agree(&mut receipt, &mut found);
+    }
     let shown = shared.schema(&mut receipt);
     Ok((id, String::from_str(alloc, shown.text())?))
 }
@@ -98,11 +133,12 @@ fn four_threads_register_the_same_texts(rt: HostRuntime) -> Result<(), Fail> {
 #[test]
 fn receipts_of_one_id_agree(rt: HostRuntime) -> Result<(), Fail> {
     let shared = shared_registry(&rt, rt.alloc())?;
-    let subject = String::from_str(rt.alloc(), "s")?;
-    let text = String::from_str(rt.alloc(), " \"int\"")?;
-    let (id, mut one) = shared.register(&rt, subject, text)?;
-    assert!(rt; id == 1 && one.id() == 1);
-    let (schema, mut two) = shared.find(id).expect(&rt, "a schema");
+    let (id, text) = registered(&rt, rt.alloc(), &shared, "s", " \"int\"")?;
+    assert!(rt; id == 1);
+    assert_eq!(rt; text.as_str(), "\"int\"");
+    let (schema, mut one) = shared.find(id).expect(&rt, "a schema");
+    let (_, mut two) = shared.find(id).expect(&rt, "a schema");
+    assert!(rt; one.id() == 1 && two.id() == 1);
     assert_eq!(rt; schema.text(), "\"int\"");
     shared.agree(&mut one, &mut two);
     assert_eq!(rt; shared.schema(&mut one).text(), "\"int\"");
@@ -119,26 +155,28 @@ fn finds_only_what_is_registered(rt: HostRuntime) -> Result<(), Fail> {
     Ok(())
 }
 
-/// The refusal of a text under a subject, if it is refused.
-fn refusal_of<R: Wait>(
+/// Whether a text under a subject is refused so, and nothing is shown for it.
+fn assert_refused<R: Wait + Abort + AllocGlobal>(
     rt: &R,
-    alloc: Global,
     shared: &SharedRegistry,
     subject: &str,
     text: &str,
-) -> Option<Refusal> {
-    registered(rt, alloc, shared, subject, text).err()
+    wanted: &str,
+) -> Result<(), Fail> {
+    let answer = registered(rt, rt.alloc(), shared, subject, text);
+    let refusal = answer.err().map(|refusal| refusal.name());
+    assert_eq!(rt; refusal.unwrap_or("none"), wanted, "{text}");
+    Ok(())
 }
 
 #[test]
 fn refuses_as_a_registry_does(rt: HostRuntime) -> Result<(), Fail> {
     let shared = SharedRegistry::new(rt.alloc())?;
-    assert!(rt; refusal_of(&rt, rt.alloc(), &shared, "", "x") == Some(Refusal::BadSubject));
-    let fault = refusal_of(&rt, rt.alloc(), &shared, "s", "x");
-    assert!(rt; matches!(fault, Some(Refusal::BadSchema(_))));
-    assert!(rt; refusal_of(&rt, rt.alloc(), &shared, "s", "\"int\"").is_none());
-    let unread = refusal_of(&rt, rt.alloc(), &shared, "s", "\"string\"");
-    assert!(rt; unread == Some(Refusal::Incompatible));
+    assert_refused(&rt, &shared, "", "x", "BadSubject")?;
+    assert_refused(&rt, &shared, "s", "x", "BadSchema")?;
+    assert_refused(&rt, &shared, "s", "\"int\"", "none")?;
+    assert_refused(&rt, &shared, "s", "\"string\"", "Incompatible")?;
+    assert!(rt; shared.find(2).is_none());
     let unknown = shared.apply(&rt, Command::Schema { id: 2 });
     assert!(rt; matches!(unknown, Err(Refusal::NoSchema)));
     Ok(())
