@@ -36,7 +36,9 @@ fn register_all<R: Wait>(
 
 /// How many of so many ids, which go round, show a schema.
 fn find_all(shared: &SharedRegistry, count: u32, finds: u32) -> usize {
-    (0..finds).filter(|turn| shared.find(turn % count.max(1) + 1).is_some()).count()
+    (0..finds)
+        .filter(|turn| shared.find(turn % count.max(1) + 1).is_some())
+        .count()
 }
 
 /// The words of the command line as numbers.

@@ -1,4 +1,5 @@
--- What a registry holds, as three lists, and what is found in them.
+-- What a registry holds, as three lists, and what is found in them (Confluent Schema Registry API, "Schemas", "Subjects", "Config").
+-- That ids and versions have no gaps, and what is marked below, is ours.
 use Rattle.std.specs.Prelude.{ℕ, zero, suc, ◌+◌, ◌-◌, ◌==◌, List, [], ◌∷◌, map, filter, find, length, Bool, true, false, Option, Some, None, is_some, option_map, unwrap_or, slice_get}
 use Rattle.std.specs.List.{filter_map, position_from}
 use Rattle.std.specs.Ordering.{nat_cmp}
@@ -60,7 +61,7 @@ abbrev pub version_at : Version → List Entry → Option Entry
 version_at Latest entries = numbered entries (length entries)
 version_at (Number n) entries = numbered entries n
 
--- names, each once, in the order of their bytes
+-- names, each once, in the order of their bytes (our own order)
 abbrev pub Names : Type 0
 Names = finite.FinMap (slice_cmp nat_cmp) (Unit {0})
 
@@ -86,7 +87,7 @@ level_set subject ls = option_map (λ l. l.1) (find (λ l. is_same l.0 subject) 
 abbrev pub global_level : List (Option (List ℕ) × Level) → Level
 global_level ls = unwrap_or (level_set None ls) levels.Backward
 
--- a subject's own level, and else the global one, which is BACKWARD at first
+-- a subject's own level, and else the global one (our own rule where a level is asked for), which is BACKWARD at first
 abbrev pub level_of : Option (List ℕ) → List (Option (List ℕ) × Level) → Level
 level_of None ls = global_level ls
 level_of (Some subject) ls = unwrap_or (level_set (Some subject) ls) (global_level ls)

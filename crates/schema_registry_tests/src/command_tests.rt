@@ -64,13 +64,19 @@ fn refuses_in_order(rt: HostRuntime) -> Result<(), Fail> {
 fn maps_grow(rt: HostRuntime) -> Result<(), Fail> {
     let mut registry = Registry::new(rt.alloc());
     for number in 1..=30_u32 {
-        let text = format!(in rt.alloc(); "{{\"type\":\"fixed\",\"name\":\"F\",\"size\":{number}}}")?;
+        let text = format!(in rt.alloc();
+            "{{\"type\":\"fixed\",\"name\":\"F\",\"size\":{number}}}"
+        )?;
         let first = format!(in rt.alloc(); "id {number}")?;
         let set = format!(in rt.alloc(); "set s{number} NONE")?;
         let own = format!(in rt.alloc(); "register s{number} {text}")?;
         let shared = format!(in rt.alloc(); "register s1 {text}")?;
         for (line, wanted) in [(&set, "NONE"), (&own, &first), (&shared, &first)] {
-            assert_eq!(rt; answer_to(rt.alloc(), &mut registry, line)?.as_str(), wanted, "{line}");
+            assert_eq!(rt;
+                answer_to(rt.alloc(), &mut registry, line)?.as_str(),
+                wanted,
+                "{line}"
+            );
         }
     }
     Ok(())

@@ -1,7 +1,7 @@
 //! Where a registry is full.
 
 use crate::lines::answer_to;
-use schema_registry::{MOST_LEVELS, MOST_SCHEMAS, MOST_SUBJECTS, Registry, limits_are_these};
+use schema_registry::{MOST_LEVELS, MOST_SCHEMAS, MOST_SUBJECTS, Registry};
 use std::alloc::{AllocError, Global};
 use std::process::Abort;
 use std::test::Fail;
@@ -33,7 +33,6 @@ fn assert_answer(
 
 #[test]
 fn ids_come_to_an_end(rt: HostRuntime) -> Result<(), Fail> {
-    limits_are_these();
     let mut registry = Registry::new(rt.alloc());
     assert_answer(&rt, &mut registry, "set * NONE", "NONE")?;
     for size in 1..=MOST_SCHEMAS {

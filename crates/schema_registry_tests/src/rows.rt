@@ -86,7 +86,8 @@ compatible true
 "#;
 
 /// Under BACKWARD the latest version alone is compared.
-pub(crate) const LATEST: &str = r#"register s {"type":"record","name":"V","fields":[{"name":"a","type":"long"}]}
+pub(crate) const LATEST: &str =
+    r#"register s {"type":"record","name":"V","fields":[{"name":"a","type":"long"}]}
 id 1
 register s {"type":"record","name":"V","fields":[{"name":"a","type":"long"},{"name":"b","type":"string","default":""}]}
 id 2
