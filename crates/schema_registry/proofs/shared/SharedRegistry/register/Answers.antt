@@ -18,12 +18,12 @@ returns-in_err-schema-clause-answer g c =
     let p = err_from_is_err_and c.from_residual.result c.from_residual.ensures.1 in
     let named : is_subject (string_bytes c.args.subject) ≡ true = search rules in
     rw (p.1, p.2) (λ known _.
-        let bad = c.in_err-schema.ensures known in
-        record {
-          commands = [];
-          accepted = no_command;
-          answer = schema-refused no_lists (string_bytes c.args.subject) (string_bytes c.args.text) bad.0 c.in_err-schema.field-0.0 named (rw c.deref-2.ensures at bad.2) bad.1;
-        })
+    let bad = c.in_err-schema.ensures known in
+    record {
+      commands = [];
+      accepted = no_command;
+      answer = schema-refused no_lists (string_bytes c.args.subject) (string_bytes c.args.text) bad.0 c.in_err-schema.field-0.0 named (rw c.deref-2.ensures at bad.2) bad.1;
+    })
 
 pub returns-in_err-id-clause-answer : goal.returns-in_err-id-clause-answer
 returns-in_err-id-clause-answer g c =
