@@ -6,3 +6,4 @@ pub mod Named
 pub mod Kept
 pub mod Told
 pub mod Added
+pub mod Crossing
