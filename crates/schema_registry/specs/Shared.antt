@@ -41,6 +41,9 @@ IsSomeAnswer c (Ok reply) = IsAnswered c (Ok reply)
 IsSomeAnswer c (Err refusal) = refusal ≢ NoMemory → refusal ≢ Clash → IsAnswered c (Err refusal)
 
 -- the same of the id that a registration gives
+abbrev pub IsSomeIdOf : Command → Result (ℕ × Receipt) Refusal → Type 0
+IsSomeIdOf c (Ok r) = IsAnswered c (Ok (IdReply r.0))
+IsSomeIdOf c (Err refusal) = refusal ≢ NoMemory → refusal ≢ Clash → IsAnswered c (Err refusal)
+
 abbrev pub IsSomeId : List ℕ → List ℕ → Result (ℕ × Receipt) Refusal → Type 0
-IsSomeId subject text (Ok r) = IsAnswered (RegisterCommand subject text) (Ok (IdReply r.0))
-IsSomeId subject text (Err refusal) = refusal ≢ NoMemory → refusal ≢ Clash → IsAnswered (RegisterCommand subject text) (Err refusal)
+IsSomeId subject text result = IsSomeIdOf (RegisterCommand subject text) result

@@ -9,7 +9,7 @@ pub enum Version {
 }
 
 /// What a registry is asked to do, or to tell.
-#[derive(Debug, Drop)]
+#[derive(Drop)]
 pub enum Command {
     /// Gives the schema of a text an id, and makes it a version of the subject.
     Register {

@@ -1,7 +1,7 @@
 use crate::level::Level;
 
 /// What a registry replies to a command that it accepts.
-#[derive(Debug, Drop)]
+#[derive(Drop)]
 pub enum Reply {
     Id(u32),
     /// A version of a subject: its number, and its schema's id and compact text.

@@ -2,6 +2,7 @@ ghost use Rattle.std.specs.Prelude.{◌≡◌, Some, IfErr, IfOk, IfSome, string
 ghost use Rattle.schema_registry.specs.Accepting.{compacted};
 ghost use Rattle.schema_registry.specs.Command.{command_of};
 ghost use Rattle.schema_registry.specs.Reply.{answer_of};
+ghost use Rattle.schema_registry.specs.Tables.{AsksToRegister};
 
 use crate::command::Command;
 use crate::limits::MOST_SCHEMAS;
@@ -43,7 +44,7 @@ impl Receipt {
 }
 
 impl SharedRegistry {
-    ghost use Rattle.schema_registry.specs.Shared.{IsReceiptOf, IsSomeAnswer, IsSomeId, receipt_id, receipt_schema};
+    ghost use Rattle.schema_registry.specs.Shared.{IsReceiptOf, IsSomeAnswer, IsSomeId, IsSomeIdOf, receipt_id, receipt_schema};
 
     /// An empty registry.
     pub fn new(alloc: Global) -> Result<SharedRegistry, AllocError> {
@@ -111,12 +112,27 @@ impl SharedRegistry {
             return Err(Refusal::BadSubject);
         }
         let schema = parse_schema(self.alloc, &text)?;
+        let name = subject.clone()?;
+        self.register_parsed(rt, &Command::Register { subject, text }, name, schema)
+    }
+
+    /// Does what a command asks that registers a schema, which was parsed from its text, and shows the schema.
+    fn register_parsed<R: Wait>(
+        &self,
+        rt: &R,
+        command: &Command,
+        subject: String,
+        schema: Schema,
+    ) -> Result<(u32, Receipt), Refusal>
+        requires { AsksToRegister (command_of command.now) (string_bytes subject) schema }
+        ensures receipt { IfOk result (λ r. IsReceiptOf self.now r.1 × (receipt_id r.1 ≡ r.0)
+            × IfSome (receipt_schema r.1) (λ s. s.text ≡ schema.text)) }
+        ensures answer { IsSomeIdOf (command_of command.now) result }
+    {
         let kept = schema.copy()?;
         let shown = Box::new(self.alloc, schema.copy()?)?;
-        let name = subject.clone()?;
-        let command = Command::Register { subject, text };
         let mut registry = self.registry.lock(rt);
-        let id = registry.register_parsed(&command, name, schema)?;
+        let id = registry.register_parsed(command, subject, schema)?;
         let receipt = self.show(id, shown, &kept)?;
         Ok((id, receipt))
     }
@@ -148,11 +164,16 @@ impl SharedRegistry {
                 let (id, _) = self.register(rt, subject, text)?;
                 Ok(Reply::Id(id))
             }
-            other => {
-                let mut registry = self.registry.lock(rt);
-                registry.is_accepted();
-                registry.apply(other)
-            }
+            other => self.apply_to_registry(rt, other),
         }
+    }
+
+    /// Does or answers what a command asks that shows no schema in a cell.
+    fn apply_to_registry<R: Wait>(&self, rt: &R, command: Command) -> Result<Reply, Refusal>
+        ensures { IsSomeAnswer (command_of command) (answer_of result) }
+    {
+        let mut registry = self.registry.lock(rt);
+        registry.is_accepted();
+        registry.apply(command)
     }
 }

@@ -25,23 +25,3 @@ returns-in_err-schema-clause-answer g c =
       answer = schema-refused no_lists (string_bytes c.args.subject) (string_bytes c.args.text) bad.0 c.in_err-schema.field-0.0 named (rw c.deref-2.ensures at bad.2) bad.1;
     })
 
-pub returns-in_err-id-clause-answer : goal.returns-in_err-id-clause-answer
-returns-in_err-id-clause-answer g c =
-    let p = err_from_is_err_and c.from_residual-in_err-id.result c.from_residual-in_err-id.ensures.1 in
-    let named : is_subject (string_bytes c.args.subject) ≡ true = search rules in
-    rw (p.1, p.2) (λ known _. record {
-      commands = c.deref_mut.result.now;
-      accepted = c.in_err-id.ensures.accepted;
-      answer = registered-refusal (registry_after c.deref_mut.result.now) (string_bytes c.args.subject) (string_bytes c.args.text) c.in_ok-schema.schema named
-          (rw c.deref-2.ensures at c.in_ok-schema.ensures) c.in_err-id.field-0.0 (rw c.in_ok-name.ensures.cases at (c.in_err-id.ensures.answer known));
-    })
-
-pub returns-clause-answer : goal.returns-clause-answer
-returns-clause-answer g c =
-    let named : is_subject (string_bytes c.args.subject) ≡ true = search rules in
-    record {
-      commands = c.deref_mut.result.now;
-      accepted = c.in_ok-id.ensures.accepted;
-      answer = registered-answer (registry_after c.deref_mut.result.now) (string_bytes c.args.subject) (string_bytes c.args.text) c.in_ok-schema.schema named
-          (rw c.deref-2.ensures at c.in_ok-schema.ensures) (IdReply c.in_ok-id.id) (rw c.in_ok-name.ensures.cases at c.in_ok-id.ensures.answer);
-    }
