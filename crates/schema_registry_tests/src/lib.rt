@@ -2,6 +2,8 @@
 #![tactic(auto)]
 
 #[cfg(test)]
+mod answers;
+#[cfg(test)]
 mod command_tests;
 #[cfg(test)]
 mod limit_tests;

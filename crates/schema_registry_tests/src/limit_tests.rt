@@ -1,100 +1,93 @@
 //! Where a registry is full.
 
-use crate::lines::answer_to;
-use schema_registry::{MOST_LEVELS, MOST_SCHEMAS, MOST_SUBJECTS, Registry};
-use std::alloc::{AllocError, Global};
+use crate::answers::answered_after;
+use schema_registry::{MOST_LEVELS, MOST_SCHEMAS, MOST_SUBJECTS};
 use std::process::Abort;
 use std::test::Fail;
 
-/// The answer to the registration of a fixed of so many bytes.
-fn register_fixed(
-    alloc: Global,
-    registry: &mut Registry,
-    subject: &str,
-    size: usize,
-) -> Result<String, AllocError> {
-    let line = format!(in alloc;
-        "register {subject} {{\"type\":\"fixed\",\"name\":\"F\",\"size\":{size}}}"
-    )?;
-    answer_to(alloc, registry, &line)
-}
+/// A schema for each id.
+const EACH_ID: &str = r#"set s NONE
+NONE
+register s {"type":"fixed","name":"F","size":#}
+id #
+"#;
 
-/// Whether the answer to a command is this one.
-fn assert_answer(
+/// What is answered once each id has a schema.
+const NO_IDS: &str = r#"register s {"type":"fixed","name":"F","size":0}
+refused Full
+register u {"type":"fixed","name":"F","size":0}
+refused Full
+register s {"type":"fixed","name":"F","size":7}
+id 7
+register u {"type":"fixed","name":"F","size":4096}
+id 4096
+subjects
+names s u
+"#;
+
+/// A version for each subject.
+const EACH_SUBJECT: &str = r#"register s# "int"
+id 1
+"#;
+
+/// What is answered once there are as many subjects as there may be.
+const NO_SUBJECTS: &str = r#"register other "int"
+refused Full
+register other "long"
+refused Full
+register s7 "string"
+refused Incompatible
+register s7 "long"
+id 2
+versions s7
+numbers 1 2
+versions other
+refused NoSubject
+"#;
+
+/// A level for each subject.
+const EACH_LEVEL: &str = "set s# NONE
+NONE
+";
+
+/// What is answered once as many subjects have a level as may have one.
+const NO_LEVELS: &str = "set other FULL
+refused Full
+level other
+BACKWARD
+set s4095 FULL
+FULL
+set * FORWARD
+FORWARD
+level s4095
+FULL
+level other
+FORWARD
+";
+
+/// Whether a registry that is full answers each command as its row has it.
+fn assert_full(
     rt: &(impl Abort + AllocGlobal),
-    registry: &mut Registry,
-    line: &str,
-    wanted: &str,
+    filling: &str,
+    count: usize,
+    rows: &str,
 ) -> Result<(), Fail> {
-    let answer = answer_to(rt.alloc(), registry, line)?;
-    assert_eq!(rt; answer.as_str(), wanted, "{line}");
+    let answered = answered_after(rt.alloc(), filling, count, rows)?;
+    assert_eq!(rt; answered.as_str(), rows);
     Ok(())
 }
 
 #[test]
 fn ids_come_to_an_end(rt: HostRuntime) -> Result<(), Fail> {
-    let mut registry = Registry::new(rt.alloc());
-    assert_answer(&rt, &mut registry, "set * NONE", "NONE")?;
-    for size in 1..=MOST_SCHEMAS {
-        let answer = register_fixed(rt.alloc(), &mut registry, "s", size)?;
-        let wanted = format!(in rt.alloc(); "id {size}")?;
-        assert_eq!(rt; answer.as_str(), wanted.as_str());
-    }
-    assert_eq!(rt;
-        register_fixed(rt.alloc(), &mut registry, "s", 0)?.as_str(),
-        "refused Full"
-    );
-    assert_eq!(rt;
-        register_fixed(rt.alloc(), &mut registry, "u", 0)?.as_str(),
-        "refused Full"
-    );
-    assert_eq!(rt;
-        register_fixed(rt.alloc(), &mut registry, "s", 7)?.as_str(),
-        "id 7"
-    );
-    assert_eq!(rt;
-        register_fixed(rt.alloc(), &mut registry, "u", 4_096)?.as_str(),
-        "id 4096"
-    );
-    assert_answer(&rt, &mut registry, "subjects", "names s u")
+    assert_full(&rt, EACH_ID, MOST_SCHEMAS, NO_IDS)
 }
 
 #[test]
 fn subjects_come_to_an_end(rt: HostRuntime) -> Result<(), Fail> {
-    let mut registry = Registry::new(rt.alloc());
-    for number in 0..MOST_SUBJECTS {
-        let line = format!(in rt.alloc(); "register s{number} \"int\"")?;
-        assert_answer(&rt, &mut registry, &line, "id 1")?;
-    }
-    assert_answer(&rt, &mut registry, "register other \"int\"", "refused Full")?;
-    assert_answer(
-        &rt,
-        &mut registry,
-        "register other \"long\"",
-        "refused Full",
-    )?;
-    assert_answer(
-        &rt,
-        &mut registry,
-        "register s7 \"string\"",
-        "refused Incompatible",
-    )?;
-    assert_answer(&rt, &mut registry, "register s7 \"long\"", "id 2")?;
-    assert_answer(&rt, &mut registry, "versions s7", "numbers 1 2")?;
-    assert_answer(&rt, &mut registry, "versions other", "refused NoSubject")
+    assert_full(&rt, EACH_SUBJECT, MOST_SUBJECTS, NO_SUBJECTS)
 }
 
 #[test]
 fn levels_come_to_an_end(rt: HostRuntime) -> Result<(), Fail> {
-    let mut registry = Registry::new(rt.alloc());
-    for number in 0..MOST_LEVELS {
-        let line = format!(in rt.alloc(); "set s{number} NONE")?;
-        assert_answer(&rt, &mut registry, &line, "NONE")?;
-    }
-    assert_answer(&rt, &mut registry, "set other FULL", "refused Full")?;
-    assert_answer(&rt, &mut registry, "level other", "BACKWARD")?;
-    assert_answer(&rt, &mut registry, "set s4095 FULL", "FULL")?;
-    assert_answer(&rt, &mut registry, "set * FORWARD", "FORWARD")?;
-    assert_answer(&rt, &mut registry, "level s4095", "FULL")?;
-    assert_answer(&rt, &mut registry, "level other", "FORWARD")
+    assert_full(&rt, EACH_LEVEL, MOST_LEVELS, NO_LEVELS)
 }

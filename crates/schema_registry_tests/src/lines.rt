@@ -48,7 +48,7 @@ fn check(alloc: Global, word: &str, rest: &str) -> Result<Command, Refusal> {
 }
 
 /// The command of a line.
-fn command_of(alloc: Global, line: &str) -> Result<Command, Refusal> {
+pub(crate) fn command_of(alloc: Global, line: &str) -> Result<Command, Refusal> {
     let (verb, words) = line.split_once(' ').unwrap_or((line, ""));
     let (word, rest) = words.split_once(' ').unwrap_or((words, ""));
     match verb {
@@ -120,31 +120,34 @@ fn refusal_line(alloc: Global, refusal: Refusal) -> Result<String, AllocError> {
     }
 }
 
-/// What a registry answers to a line.
-fn asked(
+/// An answer as a line, but for want of memory.
+pub(crate) fn answer_line(
     alloc: Global,
-    registry: &mut Registry,
-    line: &str,
-) -> Result<Result<Reply, Refusal>, AllocError> {
-    match command_of(alloc, line) {
-        Ok(command) => Ok(registry.apply(command)),
+    answer: Result<Reply, Refusal>,
+) -> Result<String, AllocError> {
+    match answer {
+        Ok(reply) => reply_line(alloc, &reply),
         Err(Refusal::NoMemory) => Err(AllocError),
-        Err(refusal) => Ok(Err(refusal)),
+        Err(refusal) => refusal_line(alloc, refusal),
     }
 }
 
-/// What a registry answers to a line, as a line. Where it has no memory it is asked once more.
+/// What a registry answers to a line, as a line.
+fn answer_once(alloc: Global, registry: &mut Registry, line: &str) -> Result<String, AllocError> {
+    match command_of(alloc, line) {
+        Ok(command) => answer_line(alloc, registry.apply(command)),
+        Err(refusal) => answer_line(alloc, Err(refusal)),
+    }
+}
+
+/// The same, and once more where memory ran out.
 pub(crate) fn answer_to(
     alloc: Global,
     registry: &mut Registry,
     line: &str,
 ) -> Result<String, AllocError> {
-    let answer = match asked(alloc, registry, line)? {
-        Err(Refusal::NoMemory) => asked(alloc, registry, line)?,
+    match answer_once(alloc, registry, line) {
+        Err(_) => answer_once(alloc, registry, line),
         answer => answer,
-    };
-    match answer {
-        Ok(reply) => reply_line(alloc, &reply),
-        Err(refusal) => refusal_line(alloc, refusal),
     }
 }

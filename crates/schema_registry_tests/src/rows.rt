@@ -263,3 +263,46 @@ numbers 1
 subjects
 names s
 "#;
+
+/// What levels are called.
+pub(crate) const LEVELS: &str = "set s BACKWARD
+BACKWARD
+set s BACKWARD_TRANSITIVE
+BACKWARD_TRANSITIVE
+set s FORWARD
+FORWARD
+set s FORWARD_TRANSITIVE
+FORWARD_TRANSITIVE
+set s FULL
+FULL
+set s FULL_TRANSITIVE
+FULL_TRANSITIVE
+set s NONE
+NONE
+set s BACKWARDS
+refused BadLevel
+set s
+refused BadLevel
+level s
+NONE
+";
+
+/// A level and a version for the subject of a number, and a version more for the first one.
+pub(crate) const NUMBERED: &str = r#"set s# NONE
+NONE
+register s# {"type":"fixed","name":"F","size":#}
+id #
+register s1 {"type":"fixed","name":"F","size":#}
+id #
+"#;
+
+/// What is answered once 30 numbers had these.
+pub(crate) const MANY: &str = r#"versions s30
+numbers 1
+version s1 latest
+entry s1 30 30 {"name":"F","size":30,"type":"fixed"}
+level s30
+NONE
+lookup s1 {"type":"fixed","name":"F","size":15}
+entry s1 15 15 {"name":"F","size":15,"type":"fixed"}
+"#;

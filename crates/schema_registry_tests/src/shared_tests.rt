@@ -3,12 +3,14 @@
 ghost use Rattle.std.specs.Prelude.{◌≡◌, IfOk};
 ghost use Rattle.schema_registry.specs.Shared.{IsReceiptOf, receipt_id};
 
-use schema_registry::{Command, Level, Receipt, Refusal, Reply, SharedRegistry};
-use std::alloc::Global;
+use crate::lines::{answer_line, command_of};
+use schema_registry::{Command, Level, Receipt, Refusal, SharedRegistry};
+use std::alloc::{AllocError, Global};
 use std::process::Abort;
 use std::sync::Wait;
 use std::test::Fail;
 use std::thread;
+use std::thread::Threads;
 
 /// Texts of eight schemas.
 const TEXTS: &str = r#""null"
@@ -20,28 +22,59 @@ const TEXTS: &str = r#""null"
 {"type":"array","items":"int"}
 {"type":"fixed","name":"F","size":2}"#;
 
-/// The compact texts of the same schemas.
-const COMPACT_TEXTS: &str = r#""null"
-"boolean"
-"int"
-"long"
-"bytes"
-"string"
-{"items":"int","type":"array"}
-{"name":"F","size":2,"type":"fixed"}"#;
+/// What is shown once the eight were registered in this order, by however many threads.
+const SHOWN: &str = r#"1 "null"
+2 "boolean"
+3 "int"
+4 "long"
+5 "bytes"
+6 "string"
+7 {"items":"int","type":"array"}
+8 {"name":"F","size":2,"type":"fixed"}
+"#;
 
-/// Registers a text under a subject.
+/// Commands with their answers, and look-ups of ids with the texts that they show.
+const ROWS: &str = r#"find 1
+none
+register  x
+refused BadSubject
+register s x
+refused BadSchema NotJson
+register s "int"
+id 1
+find 1
+"int"
+register s "string"
+refused Incompatible
+find 2
+none
+schema 2
+refused NoSchema
+register u "string"
+id 2
+find 2
+"string"
+find 0
+none
+find 4096
+none
+find 4097
+none
+find 4294967295
+none
+"#;
+
+/// Registers a text.
 fn register_once<R: Wait>(
     rt: &R,
     alloc: Global,
     shared: &SharedRegistry,
-    subject: &str,
     text: &str,
 ) -> Result<(u32, Receipt), Refusal>
     ensures { IfOk result (λ r. IsReceiptOf shared.now r.1 × (receipt_id r.1 ≡ r.0)) }
 {
-    let name = String::from_str(alloc, subject)?;
-    shared.register(rt, name, String::from_str(alloc, text)?)
+    let subject = String::from_str(alloc, "s")?;
+    shared.register(rt, subject, String::from_str(alloc, text)?)
 }
 
 /// Registers a text, and once more where memory ran out.
@@ -49,44 +82,69 @@ fn register<R: Wait>(
     rt: &R,
     alloc: Global,
     shared: &SharedRegistry,
-    subject: &str,
     text: &str,
 ) -> Result<(u32, Receipt), Refusal>
     ensures { IfOk result (λ r. IsReceiptOf shared.now r.1 × (receipt_id r.1 ≡ r.0)) }
 {
-    match register_once(rt, alloc, shared, subject, text) {
-        Err(Refusal::NoMemory) => register_once(rt, alloc, shared, subject, text),
+    match register_once(rt, alloc, shared, text) {
+        Err(Refusal::NoMemory) => register_once(rt, alloc, shared, text),
         answer => answer,
     }
 }
 
-/// Registers a text, and tells the id with the text that its receipt shows, which agrees with one that is found.
+/// The text that is shown under an id, or `none`.
+fn found(shared: &SharedRegistry, id: u32) -> &str {
+    match shared.find(id) {
+        Some((schema, _)) => schema.text(),
+        None => "none",
+    }
+}
+
+/// The text that a receipt of an id shows, which agrees with one that is found.
+fn shown<'a>(shared: &'a SharedRegistry, id: u32, receipt: &mut Receipt) -> &'a str
+    requires { IsReceiptOf shared.now receipt.old × (receipt_id receipt.old ≡ id) }
+{
+    if let Some((_, mut other)) = shared.find(id) {
+        shared.agree(receipt, &mut other);
+    }
+    shared.schema(receipt).text()
+}
+
+/// Registers a text, and tells the id with the text that its receipt shows.
 fn registered<R: Wait>(
     rt: &R,
     alloc: Global,
     shared: &SharedRegistry,
-    subject: &str,
     text: &str,
-) -> Result<(u32, String), Refusal> {
-    let (id, mut receipt) = register(rt, alloc, shared, subject, text)?;
-    if let Some((_, mut found)) = shared.find(id) {
-        shared.agree(&mut receipt, &mut found);
-    }
-    let shown = shared.schema(&mut receipt);
-    Ok((id, String::from_str(alloc, shown.text())?))
+) -> Result<String, Refusal> {
+    let (id, mut receipt) = register(rt, alloc, shared, text)?;
+    let text = shown(shared, id, &mut receipt);
+    Ok(format!(in alloc; "{id} {text}\n")?)
 }
 
-/// Registers the eight texts, and tells the id of each with the text that its receipt shows.
+/// Registers the eight texts, and tells what the receipt of each shows.
 fn registered_all<R: Wait>(
     rt: &R,
     alloc: Global,
     shared: &SharedRegistry,
-) -> Result<Vec<(u32, String)>, Refusal> {
-    let mut all = Vec::new(alloc);
+) -> Result<String, Refusal> {
+    let mut lines = String::new(alloc);
     for text in TEXTS.lines() {
-        all.push(registered(rt, alloc, shared, "s", text)?)?;
+        let line = registered(rt, alloc, shared, text)?;
+        lines.push_str(&line)?;
     }
-    Ok(all)
+    Ok(lines)
+}
+
+/// What is found under the ids from 1 to 8.
+fn found_all(alloc: Global, shared: &SharedRegistry) -> Result<String, AllocError> {
+    let mut lines = String::new(alloc);
+    for id in 1..=8_u32 {
+        let text = found(shared, id);
+        let line = format!(in alloc; "{id} {text}\n")?;
+        lines.push_str(&line)?;
+    }
+    Ok(lines)
 }
 
 /// A shared registry at which every schema is compatible.
@@ -100,98 +158,97 @@ fn shared_registry<R: Wait>(rt: &R, alloc: Global) -> Result<SharedRegistry, Ref
     Ok(shared)
 }
 
-/// Whether what a thread was shown is the texts, each under an id from 1 to 8 of its own, which shows it now too.
-fn assert_shown(rt: &impl Abort, shared: &SharedRegistry, found: &[(u32, String)]) {
-    let mut ids: u32 = 0;
-    for ((id, text), wanted) in found.iter().zip(COMPACT_TEXTS.lines()) {
-        assert_eq!(rt; text.as_str(), wanted);
-        let (schema, _) = shared.find(*id).expect(rt, "a schema");
-        assert_eq!(rt; schema.text(), wanted);
-        assert!(rt; 1 <= *id && *id <= 8);
-        ids |= 1 << *id;
+/// What is shown to each of four threads that register the eight texts, and found after them.
+fn shown_to_threads<R: Threads + Wait + Sync>(rt: &R, alloc: Global) -> Result<String, Refusal> {
+    let shared = shared_registry(rt, alloc)?;
+    let all = thread::map_indices(rt, alloc, 4, &|_| registered_all(rt, alloc, &shared))?;
+    let mut shown = found_all(alloc, &shared)?;
+    for lines in all {
+        shown.push_str(&lines?)?;
     }
-    assert!(rt; found.len() == 8 && ids == 0b1_1111_1110);
+    Ok(shown)
 }
 
 #[test]
 fn four_threads_register_the_same_texts(rt: HostRuntime) -> Result<(), Fail> {
-    let shared = shared_registry(&rt, rt.alloc())?;
-    let all = thread::map_indices(
-        &rt,
-        rt.alloc(),
-        4,
-        &|_| { registered_all(&rt, rt.alloc(), &shared) },
-    )?;
-    assert!(rt; all.len() == 4);
-    for found in all {
-        assert_shown(&rt, &shared, &found?);
-    }
-    assert!(rt; shared.find(9).is_none());
+    let shown = shown_to_threads(&rt, rt.alloc())?;
+    assert_eq!(rt; shown.as_str(), SHOWN.repeat(rt.alloc(), 5)?.as_str());
     Ok(())
+}
+
+/// What is shown for a text that is registered twice.
+fn registered_twice<R: Wait>(rt: &R, alloc: Global) -> Result<String, Refusal> {
+    let shared = shared_registry(rt, alloc)?;
+    let mut lines = registered(rt, alloc, &shared, " \"int\"")?;
+    let again = registered(rt, alloc, &shared, "\"int\" ")?;
+    lines.push_str(&again)?;
+    Ok(lines)
 }
 
 #[test]
 fn receipts_of_one_id_agree(rt: HostRuntime) -> Result<(), Fail> {
-    let shared = shared_registry(&rt, rt.alloc())?;
-    let (id, text) = registered(&rt, rt.alloc(), &shared, "s", " \"int\"")?;
-    assert!(rt; id == 1);
-    assert_eq!(rt; text.as_str(), "\"int\"");
-    let (schema, mut one) = shared.find(id).expect(&rt, "a schema");
-    let (_, mut two) = shared.find(id).expect(&rt, "a schema");
-    assert!(rt; one.id() == 1 && two.id() == 1);
-    assert_eq!(rt; schema.text(), "\"int\"");
-    shared.agree(&mut one, &mut two);
-    assert_eq!(rt; shared.schema(&mut one).text(), "\"int\"");
-    assert_eq!(rt; shared.schema(&mut two).text(), "\"int\"");
+    let lines = registered_twice(&rt, rt.alloc())?;
+    assert_eq!(rt; lines.as_str(), "1 \"int\"\n1 \"int\"\n");
     Ok(())
 }
 
-#[test]
-fn finds_only_what_is_registered(rt: HostRuntime) -> Result<(), Fail> {
-    let shared = SharedRegistry::new(rt.alloc())?;
-    for id in [0, 1, 4_096, 4_097, 4_294_967_295] {
-        assert!(rt; shared.find(id).is_none());
-    }
-    Ok(())
-}
-
-/// Whether a text under a subject is refused so, and nothing is shown for it.
-fn assert_refused<R: Wait + Abort + AllocGlobal>(
+/// What a shared registry answers to a command, or shows under an id.
+fn answer_once<R: Wait>(
     rt: &R,
+    alloc: Global,
     shared: &SharedRegistry,
-    subject: &str,
-    text: &str,
-    wanted: &str,
-) -> Result<(), Fail> {
-    let answer = registered(rt, rt.alloc(), shared, subject, text);
-    let refusal = answer.err().map(|refusal| refusal.name());
-    assert_eq!(rt; refusal.unwrap_or("none"), wanted, "{text}");
-    Ok(())
+    line: &str,
+) -> Result<String, AllocError> {
+    if let Some(word) = line.strip_prefix("find ") {
+        let id = word.parse::<u32>().unwrap_or(0);
+        return String::from_str(alloc, found(shared, id));
+    }
+    match command_of(alloc, line) {
+        Ok(command) => answer_line(alloc, shared.apply(rt, command)),
+        Err(refusal) => answer_line(alloc, Err(refusal)),
+    }
+}
+
+/// The same, and once more where memory ran out.
+fn answer_to<R: Wait>(
+    rt: &R,
+    alloc: Global,
+    shared: &SharedRegistry,
+    line: &str,
+) -> Result<String, AllocError> {
+    match answer_once(rt, alloc, shared, line) {
+        Err(_) => answer_once(rt, alloc, shared, line),
+        answer => answer,
+    }
+}
+
+/// Rows with the answers that a shared registry gives to their commands.
+fn answered_by<R: Wait>(
+    rt: &R,
+    alloc: Global,
+    shared: &SharedRegistry,
+    rows: &str,
+) -> Result<String, AllocError> {
+    let mut answered = String::new(alloc);
+    for (place, line) in rows.lines().enumerate() {
+        if place % 2 == 0 {
+            let answer = answer_to(rt, alloc, shared, line)?;
+            let row = format!(in alloc; "{line}\n{answer}\n")?;
+            answered.push_str(&row)?;
+        }
+    }
+    Ok(answered)
+}
+
+/// Rows with the answers that a new shared registry gives to their commands.
+fn answered<R: Wait>(rt: &R, alloc: Global, rows: &str) -> Result<String, AllocError> {
+    let shared = SharedRegistry::new(alloc)?;
+    answered_by(rt, alloc, &shared, rows)
 }
 
 #[test]
-fn refuses_as_a_registry_does(rt: HostRuntime) -> Result<(), Fail> {
-    let shared = SharedRegistry::new(rt.alloc())?;
-    assert_refused(&rt, &shared, "", "x", "BadSubject")?;
-    assert_refused(&rt, &shared, "s", "x", "BadSchema")?;
-    assert_refused(&rt, &shared, "s", "\"int\"", "none")?;
-    assert_refused(&rt, &shared, "s", "\"string\"", "Incompatible")?;
-    assert!(rt; shared.find(2).is_none());
-    let unknown = shared.apply(&rt, Command::Schema { id: 2 });
-    assert!(rt; matches!(unknown, Err(Refusal::NoSchema)));
-    Ok(())
-}
-
-#[test]
-fn a_registration_by_apply_is_shown(rt: HostRuntime) -> Result<(), Fail> {
-    let shared = SharedRegistry::new(rt.alloc())?;
-    let register = Command::Register {
-        subject: String::from_str(rt.alloc(), "s")?,
-        text: String::from_str(rt.alloc(), "\"long\"")?,
-    };
-    let reply = shared.apply(&rt, register)?;
-    assert!(rt; matches!(reply, Reply::Id(1)));
-    let (schema, _) = shared.find(1).expect(&rt, "a schema");
-    assert_eq!(rt; schema.text(), "\"long\"");
+fn answers_as_a_registry_does(rt: HostRuntime) -> Result<(), Fail> {
+    let answered = answered(&rt, rt.alloc(), ROWS)?;
+    assert_eq!(rt; answered.as_str(), ROWS);
     Ok(())
 }
