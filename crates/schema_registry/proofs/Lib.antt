@@ -7,3 +7,4 @@ pub mod Kept
 pub mod Told
 pub mod Added
 pub mod Crossing
+pub mod SomeAnswer

@@ -89,7 +89,7 @@ fn names_line(alloc: Global, names: &[String]) -> Result<String, AllocError> {
 }
 
 /// A reply as a line.
-fn reply_line(alloc: Global, reply: &Reply) -> Result<String, AllocError> {
+pub(crate) fn reply_line(alloc: Global, reply: &Reply) -> Result<String, AllocError> {
     match reply {
         Reply::Id(id) => format!(in alloc; "id {id}"),
         Reply::Entry {
@@ -106,48 +106,39 @@ fn reply_line(alloc: Global, reply: &Reply) -> Result<String, AllocError> {
     }
 }
 
-/// A refusal as a line, with the fault of a schema.
-fn refusal_line(alloc: Global, refusal: Refusal) -> Result<String, AllocError> {
-    match refusal {
-        Refusal::BadSchema(fault) => {
+/// A reply or a refusal as a line, but for want of memory.
+pub(crate) fn answer_line(
+    alloc: Global,
+    reply: Result<String, Refusal>,
+) -> Result<String, AllocError> {
+    match reply {
+        Ok(line) => Ok(line),
+        Err(Refusal::NoMemory) => Err(AllocError),
+        Err(Refusal::BadSchema(fault)) => {
             let name = fault.name();
             format!(in alloc; "refused BadSchema {name}")
         }
-        other => {
-            let name = other.name();
+        Err(refusal) => {
+            let name = refusal.name();
             format!(in alloc; "refused {name}")
         }
     }
 }
 
-/// An answer as a line, but for want of memory.
-pub(crate) fn answer_line(
-    alloc: Global,
-    answer: Result<Reply, Refusal>,
-) -> Result<String, AllocError> {
-    match answer {
-        Ok(reply) => reply_line(alloc, &reply),
-        Err(Refusal::NoMemory) => Err(AllocError),
-        Err(refusal) => refusal_line(alloc, refusal),
-    }
+/// What a registry replies to the command of a line, as a line.
+fn reply_to(alloc: Global, registry: &mut Registry, line: &str) -> Result<String, Refusal> {
+    let reply = registry.apply(command_of(alloc, line)?)?;
+    Ok(reply_line(alloc, &reply)?)
 }
 
-/// What a registry answers to a line, as a line.
-fn answer_once(alloc: Global, registry: &mut Registry, line: &str) -> Result<String, AllocError> {
-    match command_of(alloc, line) {
-        Ok(command) => answer_line(alloc, registry.apply(command)),
-        Err(refusal) => answer_line(alloc, Err(refusal)),
-    }
-}
-
-/// The same, and once more where memory ran out.
+/// What a registry answers to the command of a line, as a line. Where it has no memory it is asked once more.
 pub(crate) fn answer_to(
     alloc: Global,
     registry: &mut Registry,
     line: &str,
 ) -> Result<String, AllocError> {
-    match answer_once(alloc, registry, line) {
-        Err(_) => answer_once(alloc, registry, line),
+    match answer_line(alloc, reply_to(alloc, registry, line)) {
+        Err(_) => answer_line(alloc, reply_to(alloc, registry, line)),
         answer => answer,
     }
 }

@@ -3,8 +3,8 @@
 ghost use Rattle.std.specs.Prelude.{◌≡◌, IfOk};
 ghost use Rattle.schema_registry.specs.Shared.{IsReceiptOf, receipt_id};
 
-use crate::lines::{answer_line, command_of};
-use schema_registry::{Command, Level, Receipt, Refusal, SharedRegistry};
+use crate::lines::{answer_line, command_of, reply_line};
+use schema_registry::{Receipt, Refusal, SharedRegistry};
 use std::alloc::{AllocError, Global};
 use std::process::Abort;
 use std::sync::Wait;
@@ -33,7 +33,7 @@ const SHOWN: &str = r#"1 "null"
 8 {"name":"F","size":2,"type":"fixed"}
 "#;
 
-/// Commands with their answers, and look-ups of ids with the texts that they show.
+/// Commands with their answers, look-ups of ids with the texts that they show, and registrations with their receipts.
 const ROWS: &str = r#"find 1
 none
 register  x
@@ -54,6 +54,16 @@ register u "string"
 id 2
 find 2
 "string"
+receipt "int"
+1 "int"
+receipt  "int"
+1 "int"
+receipt "string"
+refused Incompatible
+receipt "long"
+3 "long"
+find 3
+"long"
 find 0
 none
 find 4096
@@ -65,7 +75,7 @@ none
 "#;
 
 /// Registers a text.
-fn register_once<R: Wait>(
+fn register<R: Wait>(
     rt: &R,
     alloc: Global,
     shared: &SharedRegistry,
@@ -75,21 +85,6 @@ fn register_once<R: Wait>(
 {
     let subject = String::from_str(alloc, "s")?;
     shared.register(rt, subject, String::from_str(alloc, text)?)
-}
-
-/// Registers a text, and once more where memory ran out.
-fn register<R: Wait>(
-    rt: &R,
-    alloc: Global,
-    shared: &SharedRegistry,
-    text: &str,
-) -> Result<(u32, Receipt), Refusal>
-    ensures { IfOk result (λ r. IsReceiptOf shared.now r.1 × (receipt_id r.1 ≡ r.0)) }
-{
-    match register_once(rt, alloc, shared, text) {
-        Err(Refusal::NoMemory) => register_once(rt, alloc, shared, text),
-        answer => answer,
-    }
 }
 
 /// The text that is shown under an id, or `none`.
@@ -119,7 +114,7 @@ fn registered<R: Wait>(
 ) -> Result<String, Refusal> {
     let (id, mut receipt) = register(rt, alloc, shared, text)?;
     let text = shown(shared, id, &mut receipt);
-    Ok(format!(in alloc; "{id} {text}\n")?)
+    Ok(format!(in alloc; "{id} {text}")?)
 }
 
 /// Registers the eight texts, and tells what the receipt of each shows.
@@ -132,6 +127,7 @@ fn registered_all<R: Wait>(
     for text in TEXTS.lines() {
         let line = registered(rt, alloc, shared, text)?;
         lines.push_str(&line)?;
+        lines.push_str("\n")?;
     }
     Ok(lines)
 }
@@ -147,82 +143,38 @@ fn found_all(alloc: Global, shared: &SharedRegistry) -> Result<String, AllocErro
     Ok(lines)
 }
 
-/// A shared registry at which every schema is compatible.
-fn shared_registry<R: Wait>(rt: &R, alloc: Global) -> Result<SharedRegistry, Refusal> {
-    let shared = SharedRegistry::new(alloc)?;
-    let level = Command::SetLevel {
-        subject: None,
-        level: Level::None,
-    };
-    shared.apply(rt, level)?;
-    Ok(shared)
-}
-
-/// What is shown to each of four threads that register the eight texts, and found after them.
-fn shown_to_threads<R: Threads + Wait + Sync>(rt: &R, alloc: Global) -> Result<String, Refusal> {
-    let shared = shared_registry(rt, alloc)?;
-    let all = thread::map_indices(rt, alloc, 4, &|_| registered_all(rt, alloc, &shared))?;
-    let mut shown = found_all(alloc, &shared)?;
-    for lines in all {
-        shown.push_str(&lines?)?;
-    }
-    Ok(shown)
-}
-
-#[test]
-fn four_threads_register_the_same_texts(rt: HostRuntime) -> Result<(), Fail> {
-    let shown = shown_to_threads(&rt, rt.alloc())?;
-    assert_eq!(rt; shown.as_str(), SHOWN.repeat(rt.alloc(), 5)?.as_str());
-    Ok(())
-}
-
-/// What is shown for a text that is registered twice.
-fn registered_twice<R: Wait>(rt: &R, alloc: Global) -> Result<String, Refusal> {
-    let shared = shared_registry(rt, alloc)?;
-    let mut lines = registered(rt, alloc, &shared, " \"int\"")?;
-    let again = registered(rt, alloc, &shared, "\"int\" ")?;
-    lines.push_str(&again)?;
-    Ok(lines)
-}
-
-#[test]
-fn receipts_of_one_id_agree(rt: HostRuntime) -> Result<(), Fail> {
-    let lines = registered_twice(&rt, rt.alloc())?;
-    assert_eq!(rt; lines.as_str(), "1 \"int\"\n1 \"int\"\n");
-    Ok(())
-}
-
-/// What a shared registry answers to a command, or shows under an id.
-fn answer_once<R: Wait>(
+/// What a shared registry replies to a line: to a command, to `find` the text under an id, to `receipt` what is shown for a text.
+fn reply_to<R: Wait>(
     rt: &R,
     alloc: Global,
     shared: &SharedRegistry,
     line: &str,
-) -> Result<String, AllocError> {
+) -> Result<String, Refusal> {
     if let Some(word) = line.strip_prefix("find ") {
         let id = word.parse::<u32>().unwrap_or(0);
-        return String::from_str(alloc, found(shared, id));
+        return Ok(String::from_str(alloc, found(shared, id))?);
     }
-    match command_of(alloc, line) {
-        Ok(command) => answer_line(alloc, shared.apply(rt, command)),
-        Err(refusal) => answer_line(alloc, Err(refusal)),
+    if let Some(text) = line.strip_prefix("receipt ") {
+        return registered(rt, alloc, shared, text);
     }
+    let reply = shared.apply(rt, command_of(alloc, line)?)?;
+    Ok(reply_line(alloc, &reply)?)
 }
 
-/// The same, and once more where memory ran out.
+/// What a shared registry answers to a line. Where it has no memory it is asked once more.
 fn answer_to<R: Wait>(
     rt: &R,
     alloc: Global,
     shared: &SharedRegistry,
     line: &str,
 ) -> Result<String, AllocError> {
-    match answer_once(rt, alloc, shared, line) {
-        Err(_) => answer_once(rt, alloc, shared, line),
+    match answer_line(alloc, reply_to(rt, alloc, shared, line)) {
+        Err(_) => answer_line(alloc, reply_to(rt, alloc, shared, line)),
         answer => answer,
     }
 }
 
-/// Rows with the answers that a shared registry gives to their commands.
+/// Rows with the answers that a shared registry gives to their lines.
 fn answered_by<R: Wait>(
     rt: &R,
     alloc: Global,
@@ -240,7 +192,7 @@ fn answered_by<R: Wait>(
     Ok(answered)
 }
 
-/// Rows with the answers that a new shared registry gives to their commands.
+/// Rows with the answers that a new shared registry gives to their lines.
 fn answered<R: Wait>(rt: &R, alloc: Global, rows: &str) -> Result<String, AllocError> {
     let shared = SharedRegistry::new(alloc)?;
     answered_by(rt, alloc, &shared, rows)
@@ -250,5 +202,27 @@ fn answered<R: Wait>(rt: &R, alloc: Global, rows: &str) -> Result<String, AllocE
 fn answers_as_a_registry_does(rt: HostRuntime) -> Result<(), Fail> {
     let answered = answered(&rt, rt.alloc(), ROWS)?;
     assert_eq!(rt; answered.as_str(), ROWS);
+    Ok(())
+}
+
+/// What is found once four threads have registered the eight texts, or what another one was shown.
+fn shown_to_threads<R: Threads + Wait + Sync>(rt: &R, alloc: Global) -> Result<String, Refusal> {
+    let shared = SharedRegistry::new(alloc)?;
+    answer_to(rt, alloc, &shared, "set * NONE")?;
+    let all = thread::map_indices(rt, alloc, 4, &|_| registered_all(rt, alloc, &shared))?;
+    let found = found_all(alloc, &shared)?;
+    for shown in all {
+        let shown = shown?;
+        if shown != found {
+            return Ok(shown);
+        }
+    }
+    Ok(found)
+}
+
+#[test]
+fn four_threads_register_the_same_texts(rt: HostRuntime) -> Result<(), Fail> {
+    let shown = shown_to_threads(&rt, rt.alloc())?;
+    assert_eq!(rt; shown.as_str(), SHOWN);
     Ok(())
 }
