@@ -1,4 +1,4 @@
-ghost use Rattle.std.specs.Prelude.{◌≡◌, ◌<◌, ◌≤◌, length, Some, slice_get, IfOk};
+ghost use Rattle.std.specs.Prelude.{◌≡◌, ◌<◌, ◌≤◌, length, Some, slice_get, string_bytes, IfOk};
 ghost use Rattle.std.specs.Option.{ok_or};
 ghost use Rattle.serde_json.specs.Data.{Data, depth};
 ghost use Rattle.serde_json.specs.Read.{max_depth, read};
@@ -7,7 +7,7 @@ ghost use Rattle.avro_types.specs.Conforming.{DefaultsConform};
 ghost use Rattle.avro_types.specs.Node.{node_of, nodes_of};
 ghost use Rattle.avro_types.specs.WellFormed.{NodeIsWellFormed};
 ghost use Rattle.schema_drafts.specs.Fault.{Tells};
-ghost use Rattle.avro_schema.specs.Schema.{Parses, declared};
+ghost use Rattle.avro_schema.specs.Schema.{Parses, TextGives, declared};
 ghost use Rattle.avro_schema.specs.SchemaLaw.{ReadsAsSchema};
 
 use crate::numbers::has_float;
@@ -16,21 +16,29 @@ use schema_defaults::{all_defaults, nodes_with};
 use schema_drafts::{Drafts, Namespace, SchemaError};
 use schema_walk::walk;
 use serde_json::Value;
-use std::alloc::Global;
+use std::alloc::{AllocError, Global};
 use std::marker::Model;
+use std::sync::Arc;
 
 /// A schema: its compact text, and its nodes.
 ///
 /// Nodes are numbered in order of appearance, a type before its parts, so the root is node 0. Callers see it as a
-/// `Declaration`.
+/// `Declaration`. Copies share both.
 #[derive(Debug, Drop)]
 pub struct Schema {
+    parts: Arc<Parts, Global>,
+}
+
+/// What the copies of a schema share.
+#[derive(Debug, Drop)]
+struct Parts {
     text: String,
     nodes: Nodes,
 }
 
 impl Model for Schema {
     ghost use Rattle.std.specs.Prelude.{string_bytes};
+    ghost use Rattle.std.specs.Arc.{arc_value};
     ghost use Rattle.avro_types.specs.DatumCode.{datum_coded};
     ghost use Rattle.avro_schema.specs.Schema.{Declaration, TextGives};
     ghost use Rattle.std.specs.Coded.{codes};
@@ -39,9 +47,9 @@ impl Model for Schema {
 
     ghost coded = { Prim.hlevel (codes, datum_coded) };
 
-    ghost view = { λ s. record { text = string_bytes s.text; nodes = s.nodes } };
+    ghost view = { λ s. record { text = string_bytes (arc_value s.parts).text; nodes = (arc_value s.parts).nodes } };
 
-    ghost invariant = { λ s. TextGives (string_bytes s.text) s.nodes };
+    ghost invariant = { λ s. TextGives (string_bytes (arc_value s.parts).text) (arc_value s.parts).nodes };
 }
 
 impl Schema {
@@ -58,24 +66,38 @@ impl Schema {
         }
         let kinds = kinds_in(alloc, &value)?;
         let text = value.to_string(alloc)?;
-        Ok(Schema {
-            text,
-            nodes: Nodes::new(kinds),
-        })
+        Ok(Schema::of_parts(alloc, text, Nodes::new(kinds))?)
+    }
+
+    /// The schema of a text and the nodes that it gives.
+    fn of_parts(alloc: Global, text: String, nodes: Nodes) -> Result<Schema, AllocError>
+        requires { TextGives (string_bytes text) nodes }
+        ensures { IfOk result (λ schema. schema ≡ record { text = string_bytes text; nodes = nodes }) }
+    {
+        let parts = Arc::new(alloc, Parts { text, nodes })?;
+        Ok(Schema { parts })
+    }
+
+    /// The same schema once more.
+    pub fn copy(&self) -> Result<Schema, AllocError>
+        ensures { IfOk result (λ schema. schema ≡ self.now) }
+    {
+        let parts = self.parts.clone()?;
+        Ok(Schema { parts })
     }
 
     /// Its compact JSON text: no spaces, the keys of each object sorted.
     pub fn text(&self) -> &str
         ensures { result.now ≡ self.now.text }
     {
-        self.text.as_str()
+        self.parts.text.as_str()
     }
 
     /// How many nodes there are.
     pub fn len(&self) -> usize
         ensures { result ≡ length self.now.nodes }
     {
-        self.nodes.len()
+        self.parts.nodes.len()
     }
 
     /// What a node is.
@@ -84,21 +106,21 @@ impl Schema {
         ensures kind { slice_get self.now.nodes node ≡ Some (node_of result.now) }
         ensures well_formed { NodeIsWellFormed self.now.nodes node (node_of result.now) }
     {
-        self.nodes.kind(node)
+        self.parts.nodes.kind(node)
     }
 
     /// Its nodes.
     pub fn nodes(&self) -> &Nodes
         ensures { result.now ≡ self.now.nodes }
     {
-        &self.nodes
+        &self.parts.nodes
     }
 
     /// The law that its nodes are those that the JSON value of its text declares.
     pub fn is_declared(&self)
         ensures { ReadsAsSchema self.now.text self.now.nodes }
     {
-        let _opened = &self.nodes;
+        let _opened = &self.parts;
     }
 }
 

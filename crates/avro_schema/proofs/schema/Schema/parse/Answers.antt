@@ -28,8 +28,8 @@ returns-in_err-kinds c =
     let is = some-json (read c.args.text.now) (view c.in_ok-value.value) c.in_ok-value.ensures.value in
     rw (p.1, p.2) (λ known. small c.args.text.now (omega arith) ∙ walked c.args.text.now (view c.in_ok-value.value) is c.if-has_float.ensures ∙ c.in_err-kinds.ensures.declared known)
 
-pub invariant_of-result : goal.invariant_of-result
-invariant_of-result c =
+pub of_parts-requires : goal.of_parts-requires
+of_parts-requires c =
     let back : read (string_bytes c.in_ok-text.text) ≡ Some (view c.in_ok-value.value) = c.in_ok-text.ensures.reads_back c.in_ok-value.ensures.nests in
     walked (string_bytes c.in_ok-text.text) (view c.in_ok-value.value) back c.if-has_float.ensures ∙ c.in_ok-kinds.ensures.declared ∙ ap Ok (sym c.new.ensures)
 
@@ -45,7 +45,8 @@ new-requires c =
 
 pub returns : goal.returns
 returns c =
-    let is = some-json (read c.args.text.now) (view c.in_ok-value.value) c.in_ok-value.ensures.value in (
+    let is = some-json (read c.args.text.now) (view c.in_ok-value.value) c.in_ok-value.ensures.value in
+    rw c.in_ok-of_parts.ensures (
       small c.args.text.now (omega arith) ∙ walked c.args.text.now (view c.in_ok-value.value) is c.if-has_float.ensures ∙ c.in_ok-kinds.ensures.declared ∙ ap Ok (sym c.new.ensures),
       view c.in_ok-value.value,
       is,

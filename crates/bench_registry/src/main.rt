@@ -1,0 +1,90 @@
+//! Registers schemas in a shared registry, as `bench/registry.sh` measures it: so many as the first word says, then the same once more, and
+//! finds so many ids as the second word says. Prints the last id of each round and how many ids showed a schema, and to the standard error
+//! the microseconds of each.
+#![tactic(auto)]
+
+use schema_registry::{Refusal, SharedRegistry};
+use std::alloc::{AllocError, Global};
+use std::io;
+use std::process::ExitCode;
+use std::rt::{Clock, Env};
+use std::sync::Wait;
+use std::time::Instant;
+
+/// The text of a record that is compatible with the others, and another schema.
+fn text_of(alloc: Global, number: u32) -> Result<String, AllocError> {
+    format!(in alloc;
+        "{{\"type\":\"record\",\"name\":\"R\",\"fields\":[{{\"name\":\"a\",\"type\":\"long\",\"default\":{number}}}]}}"
+    )
+}
+
+/// Registers so many schemas as versions of one subject, and tells the id of the last.
+fn register_all<R: Wait>(
+    rt: &R,
+    alloc: Global,
+    shared: &SharedRegistry,
+    count: u32,
+) -> Result<u32, Refusal> {
+    let mut last = 0;
+    for number in 0..count {
+        let subject = String::from_str(alloc, "s")?;
+        let (id, _) = shared.register(rt, subject, text_of(alloc, number)?)?;
+        last = id;
+    }
+    Ok(last)
+}
+
+/// How many of so many ids, which go round, show a schema.
+fn find_all(shared: &SharedRegistry, count: u32, finds: u32) -> usize {
+    (0..finds)
+        .filter(|turn| shared.find(turn % count.max(1) + 1).is_some())
+        .count()
+}
+
+/// The words of the command line as numbers.
+fn numbers(rt: &(impl Env + AllocGlobal)) -> Option<(u32, u32)> {
+    let mut words = std::env::args(rt).ok()?.skip(1);
+    let count = words.next()?.parse::<u32>().ok()?;
+    let finds = words.next()?.parse::<u32>().ok()?;
+    Some((count, finds))
+}
+
+/// Tells what a part came to, and how long it took.
+fn tell(
+    rt: &(impl Print + Eprint + Clock + AllocGlobal),
+    part: &str,
+    came_to: usize,
+    start: &Instant,
+) -> io::Result<()> {
+    let micros = start.elapsed(rt)?.as_micros();
+    println!(rt; "{part} {came_to}")?;
+    eprintln!(rt; "{part} {micros}")
+}
+
+/// Registers, registers again, and finds.
+fn measure<R: Wait + Print + Eprint + Clock + AllocGlobal>(
+    rt: &R,
+    count: u32,
+    finds: u32,
+) -> Option<()> {
+    let shared = SharedRegistry::new(rt.alloc()).ok()?;
+    for part in ["register", "again"] {
+        let start = Instant::now(rt).ok()?;
+        let last = register_all(rt, rt.alloc(), &shared, count).ok()?;
+        tell(rt, part, last as usize, &start).ok()?;
+    }
+    let start = Instant::now(rt).ok()?;
+    let found = find_all(&shared, count, finds);
+    tell(rt, "find", found, &start).ok()
+}
+
+fn main(rt: HostRuntime) -> ExitCode {
+    let done = match numbers(&rt) {
+        Some((count, finds)) => measure(&rt, count, finds),
+        None => None,
+    };
+    match done {
+        Some(()) => ExitCode::from(0),
+        None => ExitCode::from(1),
+    }
+}

@@ -1,0 +1,10 @@
+pub mod Numbers
+pub mod Ids
+pub mod Safe
+pub mod Entries
+pub mod Named
+pub mod Kept
+pub mod Told
+pub mod Added
+pub mod Crossing
+pub mod SomeAnswer

@@ -1,0 +1,101 @@
+-- Pairs that are safe, one list of them behind another.
+use Rattle.std.proofs.Common.{◌≡◌, ◌≤◌, ◌<◌, ℕ, zero, suc, ◌+◌, ◌-◌, List, [], ◌∷◌, ◌++◌, length, take, drop, get_or, ◌&&◌, Bool, true, false, Option, Some, None, refl, sym, ap, subst, ◌∙◌, arith, add-one, cond, inl, inr, Result, Ok}
+use Rattle.std.specs.Prelude.{IsTrue, ◌↔◌}
+use Rattle.std.specs.List.{filter_map, flat_map}
+use Rattle.avro_schema.specs.Schema.{Declaration}
+use Rattle.resolver.specs.Safety.{IsSafe}
+use Rattle.std.proofs.Math.Seq.{drop-cons}
+use Rattle.schema_registry.specs.declared.level.Level.{Level}
+use Rattle.schema_registry.specs.Lists.{numbered}
+use Rattle.schema_registry.specs.Answers.{AreSafe, IsAnswer, Pair, WhereSafe, last_of, pairs_with}
+use Rattle.schema_registry.specs.Reply.{Reply, CompatibleReply}
+use Rattle.schema_registry.specs.declared.refusal.Refusal.{Refusal}
+
+pub safe-append : (ps qs : List Pair) → AreSafe ps → AreSafe qs → AreSafe (ps ++ qs)
+safe-append [] qs a b = b
+safe-append (p ∷ ps) qs a b = (a.0, safe-append ps qs a.1 b)
+
+pub safe-front : (ps qs : List Pair) → AreSafe (ps ++ qs) → AreSafe ps
+safe-front [] qs h = tt
+safe-front (p ∷ ps) qs h = (h.0, safe-front ps qs h.1)
+
+pub safe-back : (ps qs : List Pair) → AreSafe (ps ++ qs) → AreSafe qs
+safe-back [] qs h = h
+safe-back (p ∷ ps) qs h = safe-back ps qs h.1
+
+-- a test that stands for the safety of some pairs
+abbrev pub Tests : Bool → List Pair → Type 0
+Tests b ps = IsTrue b ↔ AreSafe ps
+
+pub tests-none : Tests true []
+tests-none = ((λ _. tt), (λ _. refl))
+
+pub tests-one : (b : Bool) (p : Pair) → (IsTrue b ↔ IsSafe p.0.nodes p.1.nodes) → Tests b (p ∷ [])
+tests-one b p h = ((λ e. (h.0 e, tt)), (λ a. h.1 a.0))
+
+pub tests-both : (b c : Bool) (ps qs : List Pair) → Tests b ps → Tests c qs → Tests (b && c) (ps ++ qs)
+tests-both true c ps qs h k = ((λ e. safe-append ps qs (h.0 refl) (k.0 e)), (λ a. k.1 (safe-back ps qs a)))
+tests-both false c ps qs h k = ((λ e. absurd (let no : ⊥ = cc in no)), (λ a. h.1 (safe-front ps qs a)))
+
+-- ---- a new schema beside older ones
+
+module _ (level : Level) (new : Declaration) (schemas : List Declaration) where
+  abbrev pub beside : List ℕ → List Pair
+  beside ids = flat_map (pairs_with level new) (filter_map (numbered schemas) ids)
+
+  -- what is left is safe just where all are
+  abbrev pub Leaves : List ℕ → List ℕ → Type 0
+  Leaves ids rest = AreSafe (beside rest) ↔ AreSafe (beside ids)
+
+  beside-known : (id : ℕ) (rest : List ℕ) (o : Option Declaration) (old : Declaration) → numbered schemas id ≡ o → o ≡ Some old → beside (id ∷ rest) ≡ pairs_with level new old ++ beside rest
+  beside-known id rest o old is some = rw (is, some) refl
+
+  beside-unknown : (id : ℕ) (rest : List ℕ) → numbered schemas id ≡ None → beside (id ∷ rest) ≡ beside rest
+  beside-unknown id rest is = rw is refl
+
+  module _ (ids : List ℕ) (i : ℕ) (lt : i < length ids) (left : Leaves ids (drop i ids)) where
+    head : drop i ids ≡ get_or ids i 0 ∷ drop (i + 1) ids
+    head = rw add-one (drop-cons ids i 0 lt)
+
+    pub leaves-unknown : numbered schemas (get_or ids i 0) ≡ None → Leaves ids (drop (i + 1) ids)
+    leaves-unknown is = subst (λ ps. AreSafe ps ↔ AreSafe (beside ids)) (ap beside head ∙ beside-unknown (get_or ids i 0) (drop (i + 1) ids) is) left
+
+    module _ (old : Declaration) (is : numbered schemas (get_or ids i 0) ≡ Some old) where
+      all-left : beside (drop i ids) ≡ pairs_with level new old ++ beside (drop (i + 1) ids)
+      all-left = ap beside head ∙ beside-known (get_or ids i 0) (drop (i + 1) ids) (Some old) old is refl
+
+      pub leaves-safe : AreSafe (pairs_with level new old) → Leaves ids (drop (i + 1) ids)
+      leaves-safe safe = (
+        (λ rest. left.0 (subst AreSafe (sym all-left) (safe-append (pairs_with level new old) (beside (drop (i + 1) ids)) safe rest))),
+        (λ all. safe-back (pairs_with level new old) (beside (drop (i + 1) ids)) (subst AreSafe all-left (left.1 all))),
+      )
+
+      pub leaves-unsafe : (AreSafe (pairs_with level new old) → ⊥) → AreSafe (beside ids) → ⊥
+      leaves-unsafe unsafe all = unsafe (safe-front (pairs_with level new old) (beside (drop (i + 1) ids)) (subst AreSafe all-left (left.1 all)))
+
+-- the last of some ids
+pub last-drop : {A : Type 0} (x : A) (xs : List A) → drop (length xs) (x ∷ xs) ≡ last_of (x ∷ xs)
+last-drop x [] = refl
+last-drop x (y ∷ ys) = last-drop y ys
+
+take-last : {A : Type 0} (x : A) (xs : List A) → take 1 (last_of (x ∷ xs)) ≡ last_of (x ∷ xs)
+take-last x [] = refl
+take-last x (y ∷ ys) = take-last y ys
+
+pub last-range : (xs : List ℕ) → 0 < length xs → take (length xs - (length xs - 1)) (drop (length xs - 1) xs) ≡ last_of xs
+last-range [] lt = absurd (omega arith)
+last-range (x ∷ xs) lt =
+    let e : suc (length xs) - 1 ≡ length xs = omega arith in
+    let one : suc (length xs) - length xs ≡ 1 = omega arith in
+    rw (e, one, last-drop x xs) (take-last x xs)
+
+-- ---- what is answered where a test stands for the safety of some pairs
+
+pub tested : (b : Bool) (pairs : List Pair) (forth back : Result Reply Refusal) → Tests b pairs → IsAnswer (WhereSafe pairs forth back) (cond b forth back)
+tested true pairs forth back test = inl (test.0 refl, refl)
+tested false pairs forth back test = inr ((λ safe. let t = test.1 safe in let no : ⊥ = cc in no), refl)
+
+pub tested-reply : (b : Bool) (pairs : List Pair) → Tests b pairs
+    → IsAnswer (WhereSafe pairs (Ok (CompatibleReply true)) (Ok (CompatibleReply false))) (Ok (CompatibleReply b))
+tested-reply true pairs test = inl (test.0 refl, refl)
+tested-reply false pairs test = inr ((λ safe. let t = test.1 safe in let no : ⊥ = cc in no), refl)

@@ -1,0 +1,60 @@
+-- Answers, where the refusals before them do not come.
+use Rattle.std.proofs.Common.{◌≡◌, ◌≢◌, ℕ, List, [], ◌∷◌, length, map, Bool, true, false, Option, Some, None, Ok, Err, cond, refl, sym, ap, ◌∙◌}
+use Rattle.schema_drafts.specs.declared.error.SchemaError.{SchemaError}
+use Rattle.avro_schema.specs.Schema.{Declaration}
+use Rattle.schema_registry.specs.declared.command.Version.{Version}
+use Rattle.schema_registry.specs.declared.refusal.Refusal.TheVariants.{BadSchema, BadSubject, Full, NoSubject, NoVersion, NoSchema}
+use Rattle.schema_registry.specs.declared.refusal.Refusal.{Refusal}
+use Rattle.schema_registry.specs.declared.level.Level.{Level}
+use Rattle.schema_registry.specs.declared.limits.TheConstants.{MOST_LEVELS}
+use Rattle.schema_registry.specs.Accepting.{declaration_of}
+use Rattle.schema_registry.specs.Answers.{Answer, IsAnswer, Told, answer_to, check_answer, entry_answer, has_no_room, registration, where_some, where_versions}
+use Rattle.schema_registry.specs.Command.{LookupCommand, CheckCommand, RegisterCommand, SetLevelCommand, VersionsCommand, VersionCommand}
+use Rattle.schema_registry.specs.Lists.{Entry, Lists, numbered, subjects_with_level, version_at, versions_of, with_text}
+use Rattle.schema_registry.specs.Reply.{Reply, LevelReply, NumbersReply}
+use Rattle.schema_registry.specs.Subject.{is_subject, is_version}
+use Rattle.schema_registry.specs.Tables.{numbers_from, versions_from}
+use Rattle.schema_registry.proofs.Entries.{numbers-from}
+
+where-there : (s ids : List ℕ) (answer : List Entry → Answer) → ids ≢ [] → where_versions (versions_from s 1 ids) answer ≡ answer (versions_from s 1 ids)
+where-there s [] answer some = absurd (some refl)
+where-there s (i ∷ ids) answer some = refl
+
+module _ (lists : Lists) (s ids : List ℕ) (named : is_subject s ≡ true) (some : ids ≢ []) (known : versions_of s lists.entries ≡ versions_from s 1 ids) where
+  pub versions-is : answer_to lists (VersionsCommand s) ≡ Told (Ok (NumbersReply (numbers_from 1 (length ids))))
+  versions-is = rw (named, known, where-there s ids (λ versions. Told (Ok (NumbersReply (map (λ (e : Entry). e.version) versions)))) some)
+      (ap (λ ns. Told (Ok (NumbersReply ns))) (numbers-from s 1 ids))
+
+  pub version-is : (version : Version) → is_version version ≡ true
+      → answer_to lists (VersionCommand s version) ≡ where_some (version_at version (versions_from s 1 ids)) NoVersion (entry_answer lists)
+  version-is version right = rw (named, right, known, where-there s ids (λ versions. where_some (version_at version versions) NoVersion (entry_answer lists)) some) refl
+
+  module _ (text : List ℕ) (schema : Declaration) (is : declaration_of text ≡ Ok schema) where
+    pub lookup-is : answer_to lists (LookupCommand s text) ≡ where_some (with_text schema.text lists.schemas (versions_of s lists.entries)) NoSchema (entry_answer lists)
+    lookup-is = rw (named, is, known, where-there s ids (λ versions. where_some (with_text schema.text lists.schemas versions) NoSchema (entry_answer lists)) some) refl
+
+    pub check-is : (version : Version) → is_version version ≡ true → answer_to lists (CheckCommand s version text)
+        ≡ where_some (version_at version (versions_from s 1 ids)) NoVersion (λ e. where_some (numbered lists.schemas e.id) NoSchema (check_answer lists s schema))
+    check-is version right =
+        rw (named, right, is, known, where-there s ids (λ versions. where_some (version_at version versions) NoVersion (λ e. where_some (numbered lists.schemas e.id) NoSchema (check_answer lists s schema))) some) refl
+
+-- a level is set where there is room for its subject
+pub level-is : (lists : Lists) (s : List ℕ) (level : Level) (b : Bool) → is_subject s ≡ true → has_no_room (subjects_with_level lists.levels) s MOST_LEVELS ≡ b
+    → answer_to lists (SetLevelCommand (Some s) level) ≡ cond b (Told (Err Full)) (Told (Ok (LevelReply level)))
+level-is lists s level b named room = rw (named, room) refl
+
+-- a registration is answered by the schema of its text
+pub registered-answer : (lists : Lists) (s text : List ℕ) (schema : Declaration) → is_subject s ≡ true → declaration_of text ≡ Ok schema → (reply : Reply)
+    → IsAnswer (registration lists s schema) (Ok reply) → IsAnswer (answer_to lists (RegisterCommand s text)) (Ok reply)
+registered-answer lists s text schema named is reply answer = rw (named, is) answer
+
+pub registered-refusal : (lists : Lists) (s text : List ℕ) (schema : Declaration) → is_subject s ≡ true → declaration_of text ≡ Ok schema → (refusal : Refusal)
+    → IsAnswer (registration lists s schema) (Err refusal) → IsAnswer (answer_to lists (RegisterCommand s text)) (Err refusal)
+registered-refusal lists s text schema named is refusal answer = rw (named, is) answer
+
+pub subject-refused : (lists : Lists) (s text : List ℕ) → is_subject s ≡ false → IsAnswer (answer_to lists (RegisterCommand s text)) (Err BadSubject)
+subject-refused lists s text named = rw named refl
+
+pub schema-refused : (lists : Lists) (s text : List ℕ) (fault : SchemaError) (refusal : Refusal) → is_subject s ≡ true → declaration_of text ≡ Err fault → refusal ≡ BadSchema fault
+    → IsAnswer (answer_to lists (RegisterCommand s text)) (Err refusal)
+schema-refused lists s text fault refusal named bad is = rw (named, bad, is) refl

@@ -1,0 +1,10 @@
+pub mod Command
+pub mod Reply
+pub mod Level
+pub mod Refusal
+pub mod Subject
+pub mod Lists
+pub mod Accepting
+pub mod Answers
+pub mod Tables
+pub mod Shared

@@ -1,0 +1,49 @@
+-- What is said of a registry that threads share: receipts, and answers in some state.
+use Rattle.std.specs.Prelude.{◌≡◌, ◌≢◌, ℕ, ◌-◌, ◌<◌, ◌≤◌, List, Option, Result, Ok, Err, IsSome, slice_index_or}
+use Rattle.std.specs.Global.{Global}
+use Rattle.once_cell.specs.Once.{cell_name}
+use Rattle.avro_schema.specs.Schema.{Declaration}
+use Rattle.schema_registry.specs.declared.limits.TheConstants.{MOST_SCHEMAS}
+use Rattle.schema_registry.specs.declared.refusal.Refusal.{Refusal}
+use Rattle.schema_registry.specs.declared.refusal.Refusal.TheVariants.{Clash, NoMemory}
+use Rattle.schema_registry.specs.declared.shared.Receipt.{Receipt}
+use Rattle.schema_registry.specs.declared.shared.SharedRegistry.{SharedRegistry}
+use Rattle.schema_registry.specs.Command.{Command, RegisterCommand}
+use Rattle.schema_registry.specs.Reply.{Reply, IdReply}
+use Rattle.schema_registry.specs.Accepting.{registry_after}
+use Rattle.schema_registry.specs.Answers.{AreAccepted, IsAnswer, answer_to}
+
+-- the id of a receipt
+abbrev pub receipt_id : Receipt → ℕ
+receipt_id r = r.id
+
+-- the schema that a receipt stands for
+abbrev pub receipt_schema : Receipt → Option Declaration
+receipt_schema r = r.note.known
+
+-- a cell of the registry by its id
+abbrev pub IsCellOf : SharedRegistry → ℕ → ℕ → Type 0
+IsCellOf shared id name = (0 < id) × (id ≤ MOST_SCHEMAS) × ((d : Global × ℕ) → cell_name (slice_index_or shared.cells.items (id - 1) d) ≡ name)
+
+-- a receipt that this registry gave, and that stands for a schema
+abbrev pub IsReceiptOf : SharedRegistry → Receipt → Type 0
+IsReceiptOf shared r = IsCellOf shared r.id r.note.cell × IsSome r.note.known
+
+-- what is answered to a command after some commands, each of which was accepted in its turn
+pub record IsAnswered (c : Command) (result : Result Reply Refusal) : Type 0 where
+  pub commands : List Command
+  pub accepted : AreAccepted commands
+  pub answer : IsAnswer (answer_to (registry_after commands) c) result
+
+-- the answer is such a one, but for want of memory and a cell that holds another schema
+abbrev pub IsSomeAnswer : Command → Result Reply Refusal → Type 0
+IsSomeAnswer c (Ok reply) = IsAnswered c (Ok reply)
+IsSomeAnswer c (Err refusal) = refusal ≢ NoMemory → refusal ≢ Clash → IsAnswered c (Err refusal)
+
+-- the same of the id that a registration gives
+abbrev pub IsSomeIdOf : Command → Result (ℕ × Receipt) Refusal → Type 0
+IsSomeIdOf c (Ok r) = IsAnswered c (Ok (IdReply r.0))
+IsSomeIdOf c (Err refusal) = refusal ≢ NoMemory → refusal ≢ Clash → IsAnswered c (Err refusal)
+
+abbrev pub IsSomeId : List ℕ → List ℕ → Result (ℕ × Receipt) Refusal → Type 0
+IsSomeId subject text result = IsSomeIdOf (RegisterCommand subject text) result

@@ -1,0 +1,26 @@
+//! Schemas under ids, and the versions of subjects (Confluent Schema Registry API, "Subjects", "Compatibility").
+#![tactic(auto)]
+
+mod command;
+mod compatible;
+mod history;
+mod level;
+mod limits;
+mod refusal;
+mod registry;
+mod reply;
+mod room;
+mod schemas;
+mod shared;
+mod subject;
+mod versions;
+
+pub use command::{Command, Version};
+pub use level::Level;
+pub use limits::{
+    LONGEST_SUBJECT, MOST_LEVELS, MOST_SCHEMAS, MOST_SUBJECTS, MOST_VERSION, limits_are_these,
+};
+pub use refusal::Refusal;
+pub use registry::Registry;
+pub use reply::Reply;
+pub use shared::{Receipt, SharedRegistry};

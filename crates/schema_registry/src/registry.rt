@@ -1,0 +1,98 @@
+ghost use Rattle.std.specs.Prelude.{◌≡◌, [], ◌∷◌, ◌++◌, OnOk, OnErr};
+ghost use Rattle.schema_registry.specs.Accepting.{registry_after};
+ghost use Rattle.schema_registry.specs.Answers.{AreAccepted, Gives, answer_to};
+ghost use Rattle.schema_registry.specs.Command.{command_of};
+
+mod asking;
+mod levels;
+pub(crate) mod registering;
+
+use crate::command::Command;
+use crate::history::History;
+use crate::level::Level;
+use crate::refusal::Refusal;
+use crate::reply::Reply;
+use crate::schemas::SchemaTable;
+use crate::versions::Versions;
+use std::alloc::Global;
+use std::collections::BTreeMap;
+use std::marker::Model;
+
+/// Schemas under ids, the versions of subjects, and levels. Callers see it as the list of the commands that it has
+/// accepted.
+#[derive(Drop)]
+pub struct Registry {
+    alloc: Global,
+    schemas: SchemaTable,
+    subjects: BTreeMap<String, Versions>,
+    levels: BTreeMap<String, Level>,
+    global: Level,
+    history: History,
+}
+
+impl Model for Registry {
+    ghost use Rattle.std.specs.Prelude.{List};
+    ghost use Rattle.schema_registry.specs.Command.{Command};
+    ghost use Rattle.schema_registry.specs.Accepting.{registry_after};
+    ghost use Rattle.schema_registry.specs.Answers.{AreAccepted};
+    ghost use Rattle.schema_registry.specs.Tables.{Holds};
+
+    ghost Value = { List Command };
+
+    ghost view = { λ r. r.history.commands };
+
+    ghost invariant = { λ r.
+        Holds r.schemas r.subjects r.levels r.global (registry_after r.history.commands)
+        × AreAccepted r.history.commands };
+}
+
+impl Registry {
+    /// An empty registry.
+    pub fn new(alloc: Global) -> Registry
+        ensures { result ≡ [] }
+    {
+        Registry {
+            alloc,
+            schemas: SchemaTable::new(alloc),
+            subjects: BTreeMap::new(alloc),
+            levels: BTreeMap::new(alloc),
+            global: Level::Backward,
+            history: History::new(),
+        }
+    }
+
+    /// Does or answers what a command asks, or refuses it; then nothing changes.
+    pub fn apply(&mut self, command: Command) -> Result<Reply, Refusal>
+        ensures answer { Gives (answer_to (registry_after self.old) (command_of command)) result }
+        ensures ok { OnOk result (self.new ≡ self.old ++ command_of command ∷ []) }
+        ensures err { OnErr result (self.new ≡ self.old) }
+    {
+        let history = self.history.and(&command);
+        let reply = match command {
+            Command::Register { subject, text } => return self.register_text(
+                subject, text, history,
+            ),
+            Command::SetLevel { subject, level } => return self.set_level(subject, level, history),
+            Command::Lookup { subject, text } => self.lookup(subject, &text)?,
+            Command::Check {
+                subject,
+                version,
+                text,
+            } => self.check(&subject, version, &text)?,
+            Command::Versions { subject } => self.versions(&subject)?,
+            Command::Version { subject, version } => self.version(subject, version)?,
+            Command::Subjects => self.subjects()?,
+            Command::Schema { id } => self.schema(id)?,
+            Command::Level { subject } => self.level(subject)?,
+        };
+        self.history = history;
+        Ok(reply)
+    }
+
+    /// The law that each of its commands was accepted after those before it.
+    pub fn is_accepted(&self)
+        ensures { AreAccepted self.now }
+    {
+        let _opened = &self.global;
+    }
+}

@@ -1,0 +1,76 @@
+ghost use Rattle.std.specs.Prelude.{◌≡◌, ◌≢◌, ◌∷◌, [], ◌++◌, Ok, Err, ℕ, List, Some, true, false, MatchResult, OnOk, OnErr, if◌then◌else◌, option_map, string_bytes};
+ghost use Rattle.std.specs.BTreeMap.{IsOrdered, IsUnchanged, get_by_text};
+ghost use Rattle.std.specs.Str.{bytes_eq};
+ghost use Rattle.std.specs.String.{string_cmp};
+ghost use Rattle.schema_registry.specs.Accepting.{registry_after};
+ghost use Rattle.schema_registry.specs.Answers.{Gives, answer_to};
+ghost use Rattle.schema_registry.specs.Command.{SetLevelCommand};
+ghost use Rattle.schema_registry.specs.Lists.{level_of};
+ghost use Rattle.schema_registry.specs.Tables.{lacks_room};
+
+use super::Registry;
+use crate::history::History;
+use crate::level::Level;
+use crate::limits::MOST_LEVELS;
+use crate::refusal::Refusal;
+use crate::reply::Reply;
+use crate::room::lacks_room;
+use crate::subject::is_subject;
+use std::collections::BTreeMap;
+
+/// Puts a level under a name, where there is room for it.
+fn put_level(
+    levels: &mut BTreeMap<String, Level>,
+    subject: String,
+    level: Level,
+) -> Result<(), Refusal>
+    ensures put { OnOk result ((s : List ℕ) → get_by_text levels.new s
+        ≡ (if bytes_eq (string_bytes subject) s then Some level else get_by_text levels.old s)) }
+    ensures full { MatchResult result (λ _. lacks_room levels.old (string_bytes subject) MOST_LEVELS ≡ false)
+        (λ e. e ≢ Refusal.NoMemory → (e ≡ Refusal.Full) × (lacks_room levels.old (string_bytes subject) MOST_LEVELS ≡ true)) }
+    ensures ordered { IsOrdered string_cmp levels.old }
+    ensures err { OnErr result (IsUnchanged levels.old levels.new) }
+{
+    if lacks_room(levels, &subject, MOST_LEVELS) {
+        return Err(Refusal::Full);
+    }
+    levels.insert(subject, level)?;
+    Ok(())
+}
+
+impl Registry {
+    /// The level of a subject, which is its own or else the global one; without a subject the global one.
+    pub(super) fn level_of(&self, subject: Option<&str>) -> Level
+        ensures { result ≡ level_of (option_map (λ s. s.now) subject.entry) (registry_after self.now).levels }
+    {
+        match subject {
+            Some(subject) => self.levels.get(subject).copied().unwrap_or(self.global),
+            None => self.global,
+        }
+    }
+
+    /// Sets the level of a subject, or the global one, and keeps the history.
+    pub(super) fn set_level(
+        &mut self,
+        subject: Option<String>,
+        level: Level,
+        history: History,
+    ) -> Result<Reply, Refusal>
+        requires { history.commands ≡ self.old ++ SetLevelCommand (option_map string_bytes subject) level ∷ [] }
+        ensures answer { Gives (answer_to (registry_after self.old) (SetLevelCommand (option_map string_bytes subject) level)) result }
+        ensures ok { OnOk result (self.new ≡ history.commands) }
+        ensures err { OnErr result (self.new ≡ self.old) }
+    {
+        let Some(subject) = subject else {
+            self.global = level;
+            self.history = history;
+            return Ok(Reply::LevelIs(level));
+        };
+        if !is_subject(&subject) {
+            return Err(Refusal::BadSubject);
+        }
+        put_level(&mut self.levels, subject, level)?;
+        self.history = history;
+        Ok(Reply::LevelIs(level))
+    }
+}

@@ -1,0 +1,180 @@
+ghost use Rattle.std.specs.Prelude.{◌≡◌, ◌≢◌, ◌↔◌, ◌≤◌, [], ◌∷◌, ◌++◌, ℕ, List, Ok, Err, Some, None, true, false, is_some, IfOk, IsTrue, MatchResult, OnOk, OnErr, if◌then◌else◌, option_map, string_bytes};
+ghost use Rattle.std.specs.BTreeMap.{IsUnchanged, get_by_text};
+ghost use Rattle.std.specs.Str.{bytes_eq};
+ghost use Rattle.schema_drafts.specs.declared.error.SchemaError.{SchemaError};
+ghost use Rattle.schema_registry.specs.declared.limits.TheConstants.{MOST_SCHEMAS};
+ghost use Rattle.schema_registry.specs.Accepting.{declaration_of, id_for, registry_after, with_schema};
+ghost use Rattle.schema_registry.specs.Answers.{AreAccepted, AreSafe, Gives, GivesId, answer_to, is_full, pairs_of};
+ghost use Rattle.schema_registry.specs.Command.{RegisterCommand, command_of};
+ghost use Rattle.schema_registry.specs.Lists.{level_of, versions_of, with_text};
+ghost use Rattle.schema_registry.specs.Subject.{is_subject};
+ghost use Rattle.schema_registry.specs.Tables.{AsksToRegister, Registers, entry_of, ids_in, number_of};
+
+use super::Registry;
+use crate::command::Command;
+use crate::compatible::{compared, goes_with_all};
+use crate::history::History;
+use crate::limits::MOST_SUBJECTS;
+use crate::refusal::Refusal;
+use crate::reply::Reply;
+use crate::room::lacks_room;
+use crate::subject::is_subject;
+use crate::versions::Versions;
+use avro_schema::{Schema, SchemaError};
+use std::alloc::{AllocError, Global};
+use std::collections::BTreeMap;
+
+/// The schema that a text declares.
+pub(crate) fn parse_schema(alloc: Global, text: &str) -> Result<Schema, Refusal>
+    ensures { MatchResult result (λ s. declaration_of text.now ≡ Ok s)
+        (λ e. e ≢ Refusal.NoMemory → (f : SchemaError) × (e ≡ Refusal.BadSchema f) × (declaration_of text.now ≡ Err f)) }
+{
+    match Schema::parse(alloc, text) {
+        Ok(schema) => Ok(schema),
+        Err(SchemaError::NoMemory) => Err(Refusal::NoMemory),
+        Err(error) => Err(Refusal::BadSchema(error)),
+    }
+}
+
+/// Makes the schema of an id the next version of a subject.
+fn add_version(
+    alloc: Global,
+    subjects: &mut BTreeMap<String, Versions>,
+    subject: String,
+    id: u32,
+) -> Result<(), AllocError>
+    requires new { number_of id (ids_in (get_by_text subjects.old (string_bytes subject))) ≡ None }
+    requires known { id ≤ MOST_SCHEMAS }
+    ensures ok { OnOk result ((s : List ℕ) → get_by_text subjects.new s
+        ≡ (if bytes_eq (string_bytes subject) s then Some (ids_in (get_by_text subjects.old s) ++ id ∷ []) else get_by_text subjects.old s)) }
+    ensures err { OnErr result ((s : List ℕ) → get_by_text subjects.new s ≡ get_by_text subjects.old s) }
+{
+    if let Some(versions) = subjects.get_mut(subject.as_str()) {
+        versions.add(id)?;
+        return Ok(());
+    }
+    let versions = Versions::one(alloc, id)?;
+    subjects.insert(subject, versions)?;
+    Ok(())
+}
+
+impl Registry {
+    /// The version of a subject that has a schema, and the schema's id.
+    pub(super) fn version_with(&self, subject: &str, schema: &Schema) -> Option<(u32, u32)>
+        ensures { option_map (λ p. entry_of subject.now p.0 p.1) result
+            ≡ with_text schema.now.text (registry_after self.now).schemas (versions_of subject.now (registry_after self.now).entries) }
+    {
+        let id = self.schemas.id_of(schema.text())?;
+        let number = self.subjects.get(subject)?.number_of(id)?;
+        Some((number, id))
+    }
+
+    /// Whether a schema goes together with those of a subject's versions that the level names.
+    fn is_compatible(&self, subject: &str, schema: &Schema) -> Result<bool, AllocError>
+        ensures { IfOk result (λ b. IsTrue b ↔ AreSafe (pairs_of (registry_after self.now)
+            (level_of (Some subject.now) (registry_after self.now).levels) schema.now
+            (versions_of subject.now (registry_after self.now).entries))) }
+    {
+        let Some(versions) = self.subjects.get(subject) else {
+            return Ok(true);
+        };
+        let level = self.level_of(Some(subject));
+        let ids = compared(level, versions.ids());
+        Ok(goes_with_all(self.alloc, level, schema, &self.schemas, ids)?)
+    }
+
+    /// Whether there is no room for a schema, or for a subject.
+    fn is_full(&self, subject: &str, schema: &Schema) -> bool
+        ensures { result ≡ is_full (registry_after self.now) schema.now subject.now }
+    {
+        self.schemas.is_full_for(schema.text())
+            || lacks_room(&self.subjects, subject, MOST_SUBJECTS)
+    }
+
+    /// Adds a version that the subject lacks, and keeps the history.
+    fn add(&mut self, subject: String, schema: Schema, history: History) -> Result<u32, AllocError>
+        requires command { Registers self.old (string_bytes subject) schema history.commands }
+        requires lacking { with_text schema.text (registry_after self.old).schemas
+            (versions_of (string_bytes subject) (registry_after self.old).entries) ≡ None }
+        requires compatible { AreSafe (pairs_of (registry_after self.old)
+            (level_of (Some (string_bytes subject)) (registry_after self.old).levels) schema
+            (versions_of (string_bytes subject) (registry_after self.old).entries)) }
+        requires room { is_full (registry_after self.old) schema (string_bytes subject) ≡ false }
+        ensures id { IfOk result (λ id. id ≡ id_for schema (registry_after self.old).schemas) }
+        ensures ok { OnOk result (self.new ≡ history.commands) }
+        ensures err { OnErr result (self.new ≡ self.old) }
+    {
+        let count = self.schemas.len();
+        let id = self.schemas.id_for(self.alloc, schema)?;
+        match add_version(self.alloc, &mut self.subjects, subject, id) {
+            Ok(()) => {
+                self.history = history;
+                Ok(id)
+            }
+            Err(_) => {
+                self.schemas.cut_to(count);
+                Err(AllocError)
+            }
+        }
+    }
+
+    /// Gives a schema its id, and makes it a version of the subject.
+    pub(crate) fn register(
+        &mut self,
+        subject: String,
+        schema: Schema,
+        history: History,
+    ) -> Result<u32, Refusal>
+        requires { Registers self.old (string_bytes subject) schema history.commands }
+        ensures answer { GivesId (registry_after self.old) (string_bytes subject) schema result }
+        ensures ok { OnOk result (self.new ≡ history.commands) }
+        ensures err { OnErr result (self.new ≡ self.old) }
+    {
+        if let Some((_, id)) = self.version_with(&subject, &schema) {
+            self.history = history;
+            return Ok(id);
+        }
+        if !self.is_compatible(&subject, &schema)? {
+            return Err(Refusal::Incompatible);
+        }
+        if self.is_full(&subject, &schema) {
+            return Err(Refusal::Full);
+        }
+        Ok(self.add(subject, schema, history)?)
+    }
+
+    /// Does what a command asks that registers a schema, which was parsed from its text.
+    pub(crate) fn register_parsed(
+        &mut self,
+        command: &Command,
+        subject: String,
+        schema: Schema,
+    ) -> Result<u32, Refusal>
+        requires { AsksToRegister (command_of command.now) (string_bytes subject) schema }
+        ensures answer { GivesId (registry_after self.old) (string_bytes subject) schema result }
+        ensures accepted { AreAccepted self.old }
+    {
+        self.is_accepted();
+        let history = self.history.and(command);
+        self.register(subject, schema, history)
+    }
+
+    /// Registers the schema of a text.
+    pub(super) fn register_text(
+        &mut self,
+        subject: String,
+        text: String,
+        history: History,
+    ) -> Result<Reply, Refusal>
+        requires { history.commands ≡ self.old ++ RegisterCommand (string_bytes subject) (string_bytes text) ∷ [] }
+        ensures answer { Gives (answer_to (registry_after self.old) (RegisterCommand (string_bytes subject) (string_bytes text))) result }
+        ensures ok { OnOk result (self.new ≡ history.commands) }
+        ensures err { OnErr result (self.new ≡ self.old) }
+    {
+        if !is_subject(&subject) {
+            return Err(Refusal::BadSubject);
+        }
+        let schema = parse_schema(self.alloc, &text)?;
+        Ok(Reply::Id(self.register(subject, schema, history)?))
+    }
+}

@@ -1,0 +1,179 @@
+ghost use Rattle.std.specs.Prelude.{◌≡◌, Some, IfErr, IfOk, IfSome, string_bytes, vec_len};
+ghost use Rattle.schema_registry.specs.Accepting.{compacted};
+ghost use Rattle.schema_registry.specs.Command.{command_of};
+ghost use Rattle.schema_registry.specs.Reply.{answer_of};
+ghost use Rattle.schema_registry.specs.Tables.{AsksToRegister};
+
+use crate::command::Command;
+use crate::limits::MOST_SCHEMAS;
+use crate::refusal::Refusal;
+use crate::registry::Registry;
+use crate::registry::registering::parse_schema;
+use crate::reply::Reply;
+use crate::subject::is_subject;
+use avro_schema::Schema;
+use once_cell::race::{Note, OnceBox};
+use std::alloc::{AllocError, Global};
+use std::sync::{Mutex, Wait};
+
+/// What stands for the schema of an id, for good and in every thread.
+#[derive(Drop)]
+pub struct Receipt {
+    id: u32,
+    note: Note<Schema>,
+}
+
+/// A registry that threads share, with a cell for each id that shows its schema without the lock.
+#[derive(Drop)]
+pub struct SharedRegistry {
+    alloc: Global,
+    registry: Mutex<Registry>,
+    cells: Vec<OnceBox<Schema>>,
+    ghost sized: { vec_len cells ≡ 4096 },
+}
+
+impl Receipt {
+    ghost use Rattle.schema_registry.specs.Shared.{receipt_id};
+
+    /// The id of its schema.
+    pub fn id(&self) -> u32
+        ensures { result ≡ receipt_id self.now }
+    {
+        self.id
+    }
+}
+
+impl SharedRegistry {
+    ghost use Rattle.schema_registry.specs.Shared.{IsReceiptOf, IsSomeAnswer, IsSomeId, IsSomeIdOf, receipt_id, receipt_schema};
+
+    /// An empty registry.
+    pub fn new(alloc: Global) -> Result<SharedRegistry, AllocError> {
+        let mut cells = Vec::new(alloc);
+        for _ in 0..MOST_SCHEMAS {
+            cells.push(OnceBox::new(alloc))?;
+        }
+        Ok(SharedRegistry {
+            alloc,
+            registry: Mutex::new(Registry::new(alloc)),
+            cells,
+        })
+    }
+
+    /// The schema of an id, where this thread can see one.
+    pub fn find(&self, id: u32) -> Option<(&Schema, Receipt)>
+        ensures { IfSome result (λ r. IsReceiptOf self.now r.1 × (receipt_id r.1 ≡ id) × (receipt_schema r.1 ≡ Some r.0.now)) }
+    {
+        if id == 0 || id as usize > MOST_SCHEMAS {
+            return None;
+        }
+        let cell = &self.cells[id as usize - 1];
+        let mut note = cell.note();
+        let schema = cell.get_as(&mut note)?;
+        Some((schema, Receipt { id, note }))
+    }
+
+    /// The schema of a receipt.
+    pub fn schema<'a>(&'a self, receipt: &mut Receipt) -> &'a Schema
+        requires { IsReceiptOf self.now receipt.old }
+        ensures same { (receipt_id receipt.new ≡ receipt_id receipt.old)
+            × (receipt_schema receipt.new ≡ receipt_schema receipt.old) × IsReceiptOf self.now receipt.new }
+        ensures schema { receipt_schema receipt.old ≡ Some result.now }
+    {
+        let cell = &self.cells[receipt.id as usize - 1];
+        match cell.get_as(&mut receipt.note) {
+            Some(schema) => schema,
+            None => unreachable!(),
+        }
+    }
+
+    /// The law that two receipts of one id stand for one schema.
+    pub fn agree(&self, one: &mut Receipt, two: &mut Receipt)
+        requires one { IsReceiptOf self.now one.old }
+        requires two { IsReceiptOf self.now two.old }
+        requires id { receipt_id one.old ≡ receipt_id two.old }
+        ensures same { (one.new ≡ one.old) × (two.new ≡ two.old) }
+        ensures agree { receipt_schema one.old ≡ receipt_schema two.old }
+    {
+        one.note.compare(two.note.again());
+    }
+
+    /// Registers the schema of a text, and sets the cell of its id before the lock is given up.
+    pub fn register<R: Wait>(
+        &self,
+        rt: &R,
+        subject: String,
+        text: String,
+    ) -> Result<(u32, Receipt), Refusal>
+        ensures receipt { IfOk result (λ r. IsReceiptOf self.now r.1 × (receipt_id r.1 ≡ r.0)
+            × IfSome (receipt_schema r.1) (λ s. s.text ≡ compacted (string_bytes text))) }
+        ensures answer { IsSomeId (string_bytes subject) (string_bytes text) result }
+    {
+        if !is_subject(&subject) {
+            return Err(Refusal::BadSubject);
+        }
+        let schema = parse_schema(self.alloc, &text)?;
+        let name = subject.clone()?;
+        self.register_parsed(rt, &Command::Register { subject, text }, name, schema)
+    }
+
+    /// Does what a command asks that registers a schema, which was parsed from its text, and shows the schema.
+    fn register_parsed<R: Wait>(
+        &self,
+        rt: &R,
+        command: &Command,
+        subject: String,
+        schema: Schema,
+    ) -> Result<(u32, Receipt), Refusal>
+        requires { AsksToRegister (command_of command.now) (string_bytes subject) schema }
+        ensures receipt { IfOk result (λ r. IsReceiptOf self.now r.1 × (receipt_id r.1 ≡ r.0)
+            × IfSome (receipt_schema r.1) (λ s. s.text ≡ schema.text)) }
+        ensures answer { IsSomeIdOf (command_of command.now) result }
+    {
+        let kept = schema.copy()?;
+        let shown = Box::new(self.alloc, schema.copy()?)?;
+        let mut registry = self.registry.lock(rt);
+        let id = registry.register_parsed(command, subject, schema)?;
+        let receipt = self.show(id, shown, &kept)?;
+        Ok((id, receipt))
+    }
+
+    /// Shows a schema in the cell of its id.
+    fn show(&self, id: u32, shown: Box<Schema>, kept: &Schema) -> Result<Receipt, Refusal>
+        ensures receipt { IfOk result (λ r. IsReceiptOf self.now r × (receipt_id r ≡ id)
+            × IfSome (receipt_schema r) (λ s. s.text ≡ kept.now.text)) }
+        ensures clash { IfErr result (λ e. e ≡ Refusal.Clash) }
+    {
+        if id == 0 || id as usize > MOST_SCHEMAS {
+            return Err(Refusal::Clash);
+        }
+        let cell = &self.cells[id as usize - 1];
+        let mut note = cell.note();
+        let seen = cell.get_or_init_as(move || shown, &mut note);
+        if seen.text() != kept.text() {
+            return Err(Refusal::Clash);
+        }
+        Ok(Receipt { id, note })
+    }
+
+    /// Does or answers what a command asks, or refuses it.
+    pub fn apply<R: Wait>(&self, rt: &R, command: Command) -> Result<Reply, Refusal>
+        ensures { IsSomeAnswer (command_of command) (answer_of result) }
+    {
+        match command {
+            Command::Register { subject, text } => {
+                let (id, _) = self.register(rt, subject, text)?;
+                Ok(Reply::Id(id))
+            }
+            other => self.apply_to_registry(rt, other),
+        }
+    }
+
+    /// Does or answers what a command asks that shows no schema in a cell.
+    fn apply_to_registry<R: Wait>(&self, rt: &R, command: Command) -> Result<Reply, Refusal>
+        ensures { IsSomeAnswer (command_of command) (answer_of result) }
+    {
+        let mut registry = self.registry.lock(rt);
+        registry.is_accepted();
+        registry.apply(command)
+    }
+}

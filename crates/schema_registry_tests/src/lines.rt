@@ -1,0 +1,144 @@
+//! Commands and replies as lines, as the rows have them.
+
+use schema_registry::{Command, Level, Refusal, Registry, Reply, Version};
+use std::alloc::{AllocError, Global};
+
+/// The subject of a word, where `*` is none.
+fn subject_of(alloc: Global, word: &str) -> Result<Option<String>, AllocError> {
+    if word == "*" {
+        return Ok(None);
+    }
+    Ok(Some(String::from_str(alloc, word)?))
+}
+
+/// The version of a word.
+fn version_of(word: &str) -> Result<Version, Refusal> {
+    if word == "latest" {
+        return Ok(Version::Latest);
+    }
+    match word.parse::<u32>() {
+        Ok(number) => Ok(Version::Number(number)),
+        Err(_) => Err(Refusal::BadVersion),
+    }
+}
+
+/// The command about a subject.
+fn about_subject(alloc: Global, verb: &str, word: &str, rest: &str) -> Result<Command, Refusal> {
+    let subject = String::from_str(alloc, word)?;
+    let text = String::from_str(alloc, rest)?;
+    match verb {
+        "register" => Ok(Command::Register { subject, text }),
+        "lookup" => Ok(Command::Lookup { subject, text }),
+        "versions" => Ok(Command::Versions { subject }),
+        _ => Ok(Command::Version {
+            subject,
+            version: version_of(rest)?,
+        }),
+    }
+}
+
+/// The command to check a text against a version.
+fn check(alloc: Global, word: &str, rest: &str) -> Result<Command, Refusal> {
+    let (version, text) = rest.split_once(' ').unwrap_or((rest, ""));
+    Ok(Command::Check {
+        subject: String::from_str(alloc, word)?,
+        version: version_of(version)?,
+        text: String::from_str(alloc, text)?,
+    })
+}
+
+/// The command of a line.
+pub(crate) fn command_of(alloc: Global, line: &str) -> Result<Command, Refusal> {
+    let (verb, words) = line.split_once(' ').unwrap_or((line, ""));
+    let (word, rest) = words.split_once(' ').unwrap_or((words, ""));
+    match verb {
+        "set" => Ok(Command::SetLevel {
+            subject: subject_of(alloc, word)?,
+            level: Level::parse(rest)?,
+        }),
+        "check" => check(alloc, word, rest),
+        "subjects" => Ok(Command::Subjects),
+        "schema" => Ok(Command::Schema {
+            id: word.parse::<u32>().unwrap_or(0),
+        }),
+        "level" => Ok(Command::Level {
+            subject: subject_of(alloc, word)?,
+        }),
+        _ => about_subject(alloc, verb, word, rest),
+    }
+}
+
+/// Numbers with a space before each.
+fn numbers_line(alloc: Global, numbers: &[u32]) -> Result<String, AllocError> {
+    let mut line = String::from_str(alloc, "numbers")?;
+    for number in numbers {
+        let word = format!(in alloc; " {number}")?;
+        line.push_str(&word)?;
+    }
+    Ok(line)
+}
+
+/// Names with a space before each.
+fn names_line(alloc: Global, names: &[String]) -> Result<String, AllocError> {
+    let mut line = String::from_str(alloc, "names")?;
+    for name in names {
+        line.push_str(" ")?;
+        line.push_str(name)?;
+    }
+    Ok(line)
+}
+
+/// A reply as a line.
+pub(crate) fn reply_line(alloc: Global, reply: &Reply) -> Result<String, AllocError> {
+    match reply {
+        Reply::Id(id) => format!(in alloc; "id {id}"),
+        Reply::Entry {
+            subject,
+            version,
+            id,
+            text,
+        } => format!(in alloc; "entry {subject} {version} {id} {text}"),
+        Reply::Compatible(yes) => format!(in alloc; "compatible {yes}"),
+        Reply::Numbers(numbers) => numbers_line(alloc, numbers),
+        Reply::Names(names) => names_line(alloc, names),
+        Reply::Text(text) => format!(in alloc; "text {text}"),
+        Reply::LevelIs(level) => String::from_str(alloc, level.name()),
+    }
+}
+
+/// A reply or a refusal as a line, but for want of memory.
+pub(crate) fn answer_line(
+    alloc: Global,
+    reply: Result<String, Refusal>,
+) -> Result<String, AllocError> {
+    match reply {
+        Ok(line) => Ok(line),
+        Err(Refusal::NoMemory) => Err(AllocError),
+        Err(Refusal::BadSchema(fault)) => {
+            let name = fault.name();
+            format!(in alloc; "refused BadSchema {name}")
+        }
+        Err(refusal) => {
+            let name = refusal.name();
+            format!(in alloc; "refused {name}")
+        }
+    }
+}
+
+/// What a registry replies to the command of a line, as a line.
+fn reply_to(alloc: Global, registry: &mut Registry, line: &str) -> Result<String, Refusal> {
+    let reply = registry.apply(command_of(alloc, line)?)?;
+    Ok(reply_line(alloc, &reply)?)
+}
+
+/// What a registry answers to the command of a line, as a line. Where it has no memory it is asked once more.
+pub(crate) fn answer_to(
+    alloc: Global,
+    registry: &mut Registry,
+    line: &str,
+) -> Result<String, AllocError> {
+    match answer_line(alloc, reply_to(alloc, registry, line)) {
+        Err(_) => answer_line(alloc, reply_to(alloc, registry, line)),
+        answer => answer,
+    }
+}
