@@ -4,7 +4,6 @@ use crate::rows::{ALIAS_FAULTS, BAD_DEFAULTS, FAULTS, FURTHER_FAULTS, FURTHER_NA
 use avro_schema::{Datum, Kind, Name, Schema, SchemaError, parsed_schema_is_declared};
 use std::alloc::{AllocError, Global};
 use std::process::Abort;
-use std::test::Fail;
 
 /// Whether a full name is this text.
 fn is_full(name: &Name, text: &str) -> bool {
@@ -88,17 +87,26 @@ fn assert_parses(rt: &(impl Abort + AllocGlobal), text: &str, kinds: &str, compa
     assert!(rt; is_schema(&schema, kinds, compact), "{text}");
 }
 
+/// The lines of a table.
+fn lines<'a>(rt: &(impl Abort + AllocGlobal), table: &'a str) -> Vec<&'a str> {
+    table.lines().collect(rt.alloc()).expect(rt, "no memory")
+}
+
+/// Whether a row of three lines, a text, its kind and its compact text, is so.
+fn assert_primitive(rt: &(impl Abort + AllocGlobal), row: &[&str]) {
+    let [text, kind, compact] = row else {
+        panic!(rt; "rows have three lines");
+    };
+    assert_parses(rt, text, kind, compact);
+}
+
 #[test]
-fn reads_primitives(rt: HostRuntime) -> Result<(), AllocError> {
-    let lines: Vec<&str> = PRIMITIVES.lines().collect(rt.alloc())?;
+fn reads_primitives(rt: HostRuntime) {
+    let lines = lines(&rt, PRIMITIVES);
     for row in lines.chunks(3) {
-        let [text, kind, compact] = row else {
-            panic!(&rt; "rows have three lines");
-        };
-        assert_parses(&rt, text, kind, compact);
+        assert_primitive(&rt, row);
     }
     assert_parses(&rt, " \"long\"\n", "long", "\"long\"");
-    Ok(())
 }
 
 /// Whether a schema is a record of two fields, `a` and `int`.
@@ -149,20 +157,24 @@ fn default_fault(alloc: Global, type_: &str, default: &str) -> Result<&'static s
     Ok(fault_name(alloc, &text))
 }
 
+/// Whether a row of two lines, a type and a default that is none of its data, is so.
+fn assert_bad_default(rt: &(impl Abort + AllocGlobal), row: &[&str]) {
+    let [type_, default] = row else {
+        panic!(rt; "rows have two lines");
+    };
+    let fault = default_fault(rt.alloc(), type_, default).expect(rt, "no memory");
+    assert!(rt;
+        fault == SchemaError::BadDefault.name(),
+        "{type_} {default}"
+    );
+}
+
 #[test]
-fn refuses_defaults_of_other_types(rt: HostRuntime) -> Result<(), AllocError> {
-    let lines: Vec<&str> = BAD_DEFAULTS.lines().collect(rt.alloc())?;
+fn refuses_defaults_of_other_types(rt: HostRuntime) {
+    let lines = lines(&rt, BAD_DEFAULTS);
     for row in lines.chunks(2) {
-        let [type_, default] = row else {
-            panic!(&rt; "rows have two lines");
-        };
-        let fault = default_fault(rt.alloc(), type_, default)?;
-        assert!(rt;
-            fault == SchemaError::BadDefault.name(),
-            "{type_} {default}"
-        );
+        assert_bad_default(&rt, row);
     }
-    Ok(())
 }
 
 /// The default of the one field of a schema's root.
@@ -174,90 +186,91 @@ fn first_default(schema: &Schema) -> Option<&Datum> {
     }
 }
 
-/// Whether a text's schema has this default.
+/// Whether the schema of a text is parsed and has this default.
 fn has_default(alloc: Global, text: &str, datum: &Datum) -> Result<bool, SchemaError> {
     let schema = parsed(alloc, text)?;
     Ok(first_default(&schema) == Some(datum))
 }
 
+/// Whether a text's schema has this default.
+fn assert_has_default(rt: &(impl Abort + AllocGlobal), text: &str, datum: &Datum) {
+    assert!(rt; has_default(rt.alloc(), text, datum) == Ok(true), "{text}");
+}
+
 /// Whether a field's default of a type is read as a datum.
-fn assert_default(
-    rt: &(impl Abort + AllocGlobal),
-    type_: &str,
-    default: &str,
-    datum: &Datum,
-) -> Result<(), AllocError> {
-    let text = with_default(rt.alloc(), type_, default)?;
-    assert!(rt; has_default(rt.alloc(), &text, datum) == Ok(true), "{text}");
-    Ok(())
+fn assert_default(rt: &(impl Abort + AllocGlobal), type_: &str, default: &str, datum: Datum) {
+    let text = with_default(rt.alloc(), type_, default).expect(rt, "no memory");
+    assert_has_default(rt, &text, &datum);
 }
 
 #[test]
-fn reads_defaults_by_type(rt: HostRuntime) -> Result<(), AllocError> {
-    assert_default(&rt, r#""null""#, "null", &Datum::Null)?;
-    assert_default(&rt, r#""boolean""#, "true", &Datum::Boolean(true))?;
-    assert_default(&rt, r#""int""#, "-2147483648", &Datum::Int(-2147483648))?;
+fn reads_defaults_by_type(rt: HostRuntime) {
+    assert_default(&rt, r#""null""#, "null", Datum::Null);
+    assert_default(&rt, r#""boolean""#, "true", Datum::Boolean(true));
+    assert_default(&rt, r#""int""#, "-2147483648", Datum::Int(-2147483648));
     let most = Datum::Long(9223372036854775807);
-    assert_default(&rt, r#""long""#, "9223372036854775807", &most)?;
-    let second = Datum::Enum(1);
-    let type_ = r#"{"type":"enum","name":"E","symbols":["A","B"]}"#;
-    assert_default(&rt, type_, r#""B""#, &second)?;
-    assert_bytes(&rt)?;
-    assert_text(&rt)?;
-    assert_union(&rt)?;
-    assert_array(&rt)?;
-    assert_map(&rt)?;
-    assert_record(&rt)
+    assert_default(&rt, r#""long""#, "9223372036854775807", most);
+    assert_bytes(&rt);
+    assert_fixed(&rt);
+    assert_text(&rt);
+    let letters = r#"{"type":"enum","name":"E","symbols":["A","B"]}"#;
+    assert_default(&rt, letters, r#""B""#, Datum::Enum(1));
+    assert_union(&rt);
+    assert_array(&rt);
+    assert_map(&rt);
+    assert_record(&rt);
 }
 
-/// Whether defaults of bytes are read.
-fn assert_bytes(rt: &(impl Abort + AllocGlobal)) -> Result<(), AllocError> {
-    let bytes = Datum::Bytes(vec![in rt.alloc(); 97u8, 255u8]?);
-    assert_default(rt, r#""bytes""#, r#""a\u00ff""#, &bytes)?;
-    let fixed = Datum::Fixed(vec![in rt.alloc(); 97u8, 255u8]?);
+fn assert_bytes(rt: &(impl Abort + AllocGlobal)) {
+    let bytes = vec![in rt.alloc(); 97u8, 255u8].expect(rt, "no memory");
+    assert_default(rt, r#""bytes""#, r#""a\u00ff""#, Datum::Bytes(bytes));
+}
+
+fn assert_fixed(rt: &(impl Abort + AllocGlobal)) {
+    let bytes = vec![in rt.alloc(); 97u8, 255u8].expect(rt, "no memory");
     let type_ = r#"{"type":"fixed","name":"F","size":2}"#;
-    assert_default(rt, type_, r#""a\u00ff""#, &fixed)
+    assert_default(rt, type_, r#""a\u00ff""#, Datum::Fixed(bytes));
 }
 
-/// Whether a default of a text is read.
-fn assert_text(rt: &(impl Abort + AllocGlobal)) -> Result<(), AllocError> {
-    let text = Datum::Text(String::from_str(rt.alloc(), "\u{e9}")?);
-    assert_default(rt, r#""string""#, r#""\u00e9""#, &text)
+fn assert_text(rt: &(impl Abort + AllocGlobal)) {
+    let text = String::from_str(rt.alloc(), "\u{e9}").expect(rt, "no memory");
+    assert_default(rt, r#""string""#, r#""\u00e9""#, Datum::Text(text));
 }
 
-/// Whether a default of a union is read.
-fn assert_union(rt: &(impl Abort + AllocGlobal)) -> Result<(), AllocError> {
-    let first = Datum::Union(0, Box::new(rt.alloc(), Datum::Null)?);
-    assert_default(rt, r#"["null","int"]"#, "null", &first)
+fn assert_union(rt: &(impl Abort + AllocGlobal)) {
+    let first = Box::new(rt.alloc(), Datum::Null).expect(rt, "no memory");
+    assert_default(rt, r#"["null","int"]"#, "null", Datum::Union(0, first));
 }
 
-/// Whether a default of an array is read.
-fn assert_array(rt: &(impl Abort + AllocGlobal)) -> Result<(), AllocError> {
-    let items = Datum::Array(vec![in rt.alloc(); Datum::Int(-1), Datum::Int(2)]?);
+fn assert_array(rt: &(impl Abort + AllocGlobal)) {
+    let items = vec![in rt.alloc(); Datum::Int(-1), Datum::Int(2)].expect(rt, "no memory");
     let type_ = r#"{"type":"array","items":"int"}"#;
-    assert_default(rt, type_, "[-1,2]", &items)
+    assert_default(rt, type_, "[-1,2]", Datum::Array(items));
+}
+
+/// A pair of a map.
+fn pair(alloc: Global, key: &str, value: i64) -> Result<(String, Datum), AllocError> {
+    Ok((String::from_str(alloc, key)?, Datum::Long(value)))
 }
 
 /// The pairs of a map: `a` and 1, `b` and 2.
 fn pairs(alloc: Global) -> Result<Vec<(String, Datum)>, AllocError> {
     let mut pairs = Vec::new(alloc);
-    pairs.push((String::from_str(alloc, "a")?, Datum::Long(1)))?;
-    pairs.push((String::from_str(alloc, "b")?, Datum::Long(2)))?;
+    pairs.push(pair(alloc, "a", 1)?)?;
+    pairs.push(pair(alloc, "b", 2)?)?;
     Ok(pairs)
 }
 
-/// Whether a default of a map is read, and its keys are in order.
-fn assert_map(rt: &(impl Abort + AllocGlobal)) -> Result<(), AllocError> {
-    let map = Datum::Map(pairs(rt.alloc())?);
+fn assert_map(rt: &(impl Abort + AllocGlobal)) {
+    let pairs = pairs(rt.alloc()).expect(rt, "no memory");
     let type_ = r#"{"type":"map","values":"long"}"#;
-    assert_default(rt, type_, r#"{"b":2,"a":1}"#, &map)
+    assert_default(rt, type_, r#"{"b":2,"a":1}"#, Datum::Map(pairs));
 }
 
-/// Whether a default of a record is read.
-fn assert_record(rt: &(impl Abort + AllocGlobal)) -> Result<(), AllocError> {
-    let record = Datum::Record(vec![in rt.alloc(); Datum::Boolean(false)]?);
+fn assert_record(rt: &(impl Abort + AllocGlobal)) {
+    let fields = vec![in rt.alloc(); Datum::Boolean(false)].expect(rt, "no memory");
     let type_ = r#"{"type":"record","name":"R","fields":[{"name":"a","type":"boolean"}]}"#;
-    assert_default(rt, type_, r#"{"x":[],"a":false}"#, &record)
+    assert_default(rt, type_, r#"{"x":[],"a":false}"#, Datum::Record(fields));
 }
 
 /// Whether the third node of a schema of four is a union of these.
@@ -329,11 +342,13 @@ fn tells_of_further(alloc: Global, line: &str) -> Result<bool, AllocError> {
 }
 
 #[test]
-fn a_name_is_one_however_it_is_told(rt: HostRuntime) -> Result<(), AllocError> {
+fn a_name_is_one_however_it_is_told(rt: HostRuntime) {
     for line in FURTHER_FAULTS.lines() {
-        assert!(rt; tells_of_further(rt.alloc(), line)?, "{line}");
+        assert!(rt;
+            tells_of_further(rt.alloc(), line).expect(&rt, "no memory"),
+            "{line}"
+        );
     }
-    Ok(())
 }
 
 /// Whether a text's schema has these nodes.
@@ -348,16 +363,23 @@ fn has_further(alloc: Global, further: &str, names: &str) -> Result<bool, Schema
     has_nodes(alloc, &text, names)
 }
 
+/// Whether a row of two lines, the nodes and the type of a further field, is so.
+fn assert_further(rt: &(impl Abort + AllocGlobal), row: &[&str]) {
+    let [names, further] = row else {
+        panic!(rt; "rows have two lines");
+    };
+    assert!(rt;
+        has_further(rt.alloc(), further, names) == Ok(true),
+        "{further}"
+    );
+}
+
 #[test]
-fn names_of_other_namespaces_are_others(rt: HostRuntime) -> Result<(), Fail> {
-    let lines: Vec<&str> = FURTHER_NAMES.lines().collect(rt.alloc())?;
+fn names_of_other_namespaces_are_others(rt: HostRuntime) {
+    let lines = lines(&rt, FURTHER_NAMES);
     for row in lines.chunks(2) {
-        let [names, further] = row else {
-            panic!(&rt; "rows have two lines");
-        };
-        assert!(rt; has_further(rt.alloc(), further, names)?, "{further}");
+        assert_further(&rt, row);
     }
-    Ok(())
 }
 
 /// How many nodes a text's schema has.
@@ -366,66 +388,80 @@ fn nodes_of(alloc: Global, text: &str) -> Result<usize, SchemaError> {
     Ok(schema.len())
 }
 
-fn push_enum(text: &mut String, symbols: u32) -> Result<(), AllocError> {
-    text.push_str(r#"{"type":"enum","name":"E","symbols":["#)?;
-    for number in 0..symbols {
-        let comma = if number > 0 { "," } else { "" };
-        write!(text, "{comma}\"S{number}\"")?;
+/// Appends a text so many times.
+fn push_times(text: &mut String, piece: &str, times: usize) -> Result<(), AllocError> {
+    for _ in 0..times {
+        text.push_str(piece)?;
     }
-    text.push_str("]}")?;
     Ok(())
 }
 
-/// The nodes of an enum with so many symbols.
-fn nodes_of_enum(alloc: Global, symbols: u32) -> Result<usize, SchemaError> {
+/// Parts of a text that has a list: what comes before its second item, what each further item has around its number,
+/// and what comes after the list.
+#[derive(Clone, Copy)]
+struct Listed<'a> {
+    head: &'a str,
+    before: &'static str,
+    after: &'static str,
+    tail: &'static str,
+}
+
+fn push_listed(text: &mut String, listed: &Listed<'_>, items: u32) -> Result<(), AllocError> {
+    text.push_str(listed.head)?;
+    for number in 1..items {
+        write!(text, "{}{number}{}", listed.before, listed.after)?;
+    }
+    text.push_str(listed.tail)?;
+    Ok(())
+}
+
+/// A text whose list has so many items.
+fn listed_text(alloc: Global, listed: &Listed<'_>, items: u32) -> Result<String, AllocError> {
     let mut text = String::new(alloc);
-    push_enum(&mut text, symbols)?;
+    push_listed(&mut text, listed, items)?;
+    Ok(text)
+}
+
+/// How many nodes the schema of such a text has.
+fn nodes_of_listed(alloc: Global, listed: &Listed<'_>, items: u32) -> Result<usize, SchemaError> {
+    let text = listed_text(alloc, listed, items)?;
     nodes_of(alloc, &text)
 }
 
 #[test]
 fn bounds_symbols(rt: HostRuntime) {
-    assert!(rt; nodes_of_enum(rt.alloc(), 4096) == Ok(1));
-    assert!(rt; nodes_of_enum(rt.alloc(), 4097) == Err(SchemaError::TooLarge));
-}
-
-fn push_fields(text: &mut String, fields: u32) -> Result<(), AllocError> {
-    text.push_str(
-        r#"{"type":"record","name":"T","fields":[{"name":"f0","type":{"type":"fixed","name":"F","size":0}}"#,
-    )?;
-    for number in 1..fields {
-        write!(text, ",{{\"name\":\"f{number}\",\"type\":\"F\"}}")?;
-    }
-    text.push_str("]}")?;
-    Ok(())
-}
-
-/// The nodes of a record whose fields, so many, are all of the first one's type.
-fn nodes_of_fields(alloc: Global, fields: u32) -> Result<usize, SchemaError> {
-    let mut text = String::new(alloc);
-    push_fields(&mut text, fields)?;
-    nodes_of(alloc, &text)
+    let symbols = Listed {
+        head: r#"{"type":"enum","name":"E","symbols":["S0""#,
+        before: ",\"S",
+        after: "\"",
+        tail: "]}",
+    };
+    assert!(rt; nodes_of_listed(rt.alloc(), &symbols, 4096) == Ok(1));
+    assert!(rt; nodes_of_listed(rt.alloc(), &symbols, 4097) == Err(SchemaError::TooLarge));
 }
 
 #[test]
 fn bounds_fields(rt: HostRuntime) {
-    assert!(rt; nodes_of_fields(rt.alloc(), 1024) == Ok(2));
-    assert!(rt; nodes_of_fields(rt.alloc(), 1025) == Err(SchemaError::TooLarge));
+    // All fields are of the first one's type.
+    let fields = Listed {
+        head: r#"{"type":"record","name":"T","fields":[{"name":"f0","type":{"type":"fixed","name":"F","size":0}}"#,
+        before: ",{\"name\":\"f",
+        after: "\",\"type\":\"F\"}",
+        tail: "]}",
+    };
+    assert!(rt; nodes_of_listed(rt.alloc(), &fields, 1024) == Ok(2));
+    assert!(rt; nodes_of_listed(rt.alloc(), &fields, 1025) == Err(SchemaError::TooLarge));
 }
 
-fn push_arrays(text: &mut String, levels: u32) -> Result<(), AllocError> {
-    for _ in 0..levels {
-        text.push_str(r#"{"type":"array","items":"#)?;
-    }
+/// Appends the text of an int inside so many arrays.
+fn push_arrays(text: &mut String, levels: usize) -> Result<(), AllocError> {
+    push_times(text, r#"{"type":"array","items":"#, levels)?;
     text.push_str(r#""int""#)?;
-    for _ in 0..levels {
-        text.push_str("}")?;
-    }
-    Ok(())
+    push_times(text, "}", levels)
 }
 
 /// The nodes of an int inside so many arrays.
-fn nodes_of_arrays(alloc: Global, levels: u32) -> Result<usize, SchemaError> {
+fn nodes_of_arrays(alloc: Global, levels: usize) -> Result<usize, SchemaError> {
     let mut text = String::new(alloc);
     push_arrays(&mut text, levels)?;
     nodes_of(alloc, &text)
@@ -437,35 +473,22 @@ fn bounds_nesting(rt: HostRuntime) {
     assert!(rt; nodes_of_arrays(rt.alloc(), 128) == Err(SchemaError::NotJson));
 }
 
-fn push_record(text: &mut String, fields: u32) -> Result<(), AllocError> {
-    text.push_str(r#"{"type":"record","name":"T","fields":["#)?;
-    for number in 0..fields {
-        let comma = if number > 0 { "," } else { "" };
-        write!(text, "{comma}{{\"name\":\"f{number}\",\"type\":\"int\"}}")?;
-    }
-    text.push_str("]}")?;
-    Ok(())
-}
-
-/// The nodes of a record with so many fields of type `int`.
-fn nodes_of_record(alloc: Global, fields: u32) -> Result<usize, SchemaError> {
-    let mut text = String::new(alloc);
-    push_record(&mut text, fields)?;
-    nodes_of(alloc, &text)
-}
-
 #[test]
 fn bounds_nodes(rt: HostRuntime) {
-    assert!(rt; nodes_of_record(rt.alloc(), 1023) == Ok(1024));
-    assert!(rt; nodes_of_record(rt.alloc(), 1024) == Err(SchemaError::TooLarge));
+    let ints = Listed {
+        head: r#"{"type":"record","name":"T","fields":[{"name":"f0","type":"int"}"#,
+        before: ",{\"name\":\"f",
+        after: "\",\"type\":\"int\"}",
+        tail: "]}",
+    };
+    assert!(rt; nodes_of_listed(rt.alloc(), &ints, 1023) == Ok(1024));
+    assert!(rt; nodes_of_listed(rt.alloc(), &ints, 1024) == Err(SchemaError::TooLarge));
 }
 
 /// The nodes of a text that ends in so many spaces.
 fn nodes_before_spaces(alloc: Global, text: &str, spaces: usize) -> Result<usize, SchemaError> {
     let mut text = String::from_str(alloc, text)?;
-    for _ in 0..spaces {
-        text.push_str(" ")?;
-    }
+    push_times(&mut text, " ", spaces)?;
     nodes_of(alloc, &text)
 }
 
@@ -541,29 +564,42 @@ fn aliases_stand_in_the_namespace_of_their_type(rt: HostRuntime) {
     assert_aliases(&rt, &schema);
 }
 
-/// Appends a fixed in a namespace of so many bytes, with so many aliases that stand in it.
-fn push_aliased(text: &mut String, namespace: u32, aliases: u32) -> Result<(), AllocError> {
+/// Appends the text of a fixed in a namespace of so many bytes, to its first alias.
+fn push_fixed(text: &mut String, namespace: usize) -> Result<(), AllocError> {
     text.push_str(r#"{"type":"fixed","size":1,"namespace":""#)?;
-    for _ in 0..namespace {
-        text.push_str("n")?;
-    }
+    push_times(text, "n", namespace)?;
     text.push_str(r#"","name":"F","aliases":["A""#)?;
-    for number in 1..aliases {
-        write!(text, ",\"a{number}\"")?;
-    }
-    text.push_str("]}")?;
     Ok(())
 }
 
-/// The schema of such a fixed.
-fn aliased(alloc: Global, namespace: u32, aliases: u32) -> Result<Schema, SchemaError> {
+/// Such a text.
+fn fixed_text(alloc: Global, namespace: usize) -> Result<String, AllocError> {
     let mut text = String::new(alloc);
-    push_aliased(&mut text, namespace, aliases)?;
+    push_fixed(&mut text, namespace)?;
+    Ok(text)
+}
+
+/// A fixed in a namespace of so many bytes, with so many aliases that stand in it.
+fn aliased_text(alloc: Global, namespace: usize, aliases: u32) -> Result<String, AllocError> {
+    let head = fixed_text(alloc, namespace)?;
+    let listed = Listed {
+        head: &head,
+        before: ",\"a",
+        after: "\"",
+        tail: "]}",
+    };
+    listed_text(alloc, &listed, aliases)
+}
+
+/// The schema of such a fixed.
+fn aliased(alloc: Global, namespace: usize, aliases: u32) -> Result<Schema, SchemaError> {
+    let text = aliased_text(alloc, namespace, aliases)?;
     parsed(alloc, &text)
 }
 
 /// Whether the aliases of a schema are those of the next test.
 fn assert_shared(rt: &impl Abort, schema: &Schema) {
+    assert!(rt; schema.len() == 1);
     let Kind::Fixed { name, aliases, .. } = schema.kind(0) else {
         panic!(rt; "no fixed");
     };

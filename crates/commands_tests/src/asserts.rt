@@ -63,8 +63,17 @@ pub(crate) fn assert_joined(
     input: &[&str],
     output: &[&str],
     status: u8,
-) -> Result<(), AllocError> {
-    let input = joined(rt.alloc(), input)?;
+) {
+    let input = joined(rt.alloc(), input).expect(rt, "no memory");
     assert_writes(rt, verb, input.as_bytes(), output, status);
-    Ok(())
+}
+
+/// So many times a text.
+pub(crate) fn repeated(rt: &(impl Abort + AllocGlobal), text: &str, times: usize) -> String {
+    text.repeat(rt.alloc(), times).expect(rt, "no memory")
+}
+
+/// The lines of a table.
+pub(crate) fn lines<'a>(rt: &(impl Abort + AllocGlobal), table: &'a str) -> Vec<&'a str> {
+    table.lines().collect(rt.alloc()).expect(rt, "no memory")
 }

@@ -42,48 +42,44 @@ fn assert_compiles(
     input: &[&str],
     output: &str,
     status: u8,
-) -> Result<(), AllocError> {
-    assert_joined(rt, &Verb::Compile { image }, input, &[output], status)
+) {
+    assert_joined(rt, &Verb::Compile { image }, input, &[output], status);
 }
 
 #[test]
-fn writes_listings(rt: HostRuntime) -> Result<(), AllocError> {
-    assert_compiles(&rt, false, &[LIST, "\n", LIST, "\n"], LISTING_OF_LIST, 0)?;
-    assert_compiles(&rt, false, &[LIST, "\n", LIST], LISTING_OF_LIST, 0)
+fn writes_listings(rt: HostRuntime) {
+    assert_compiles(&rt, false, &[LIST, "\n", LIST, "\n"], LISTING_OF_LIST, 0);
+    assert_compiles(&rt, false, &[LIST, "\n", LIST], LISTING_OF_LIST, 0);
 }
 
 #[test]
-fn ignores_later_lines(rt: HostRuntime) -> Result<(), AllocError> {
+fn ignores_later_lines(rt: HostRuntime) {
     let input = [LIST, "\n", LIST, "\n{\nbad hex\n"];
-    assert_compiles(&rt, false, &input, LISTING_OF_LIST, 0)
+    assert_compiles(&rt, false, &input, LISTING_OF_LIST, 0);
 }
 
 #[test]
-fn writes_images(rt: HostRuntime) -> Result<(), AllocError> {
+fn writes_images(rt: HostRuntime) {
     let input = [RECORD, "\n", RECORD, "\n"];
-    assert_compiles(&rt, true, &input, IMAGE_OF_RECORD, 0)
+    assert_compiles(&rt, true, &input, IMAGE_OF_RECORD, 0);
 }
 
 /// Whether neither a listing nor an image is written for an input, but this.
-fn assert_refuses(
-    rt: &(impl Abort + AllocGlobal),
-    input: &str,
-    output: &str,
-) -> Result<(), AllocError> {
-    assert_compiles(rt, false, &[input], output, 1)?;
-    assert_compiles(rt, true, &[input], output, 1)
+fn assert_refuses(rt: &(impl Abort + AllocGlobal), input: &str, output: &str) {
+    assert_compiles(rt, false, &[input], output, 1);
+    assert_compiles(rt, true, &[input], output, 1);
 }
 
 #[test]
-fn tells_bad_schemas(rt: HostRuntime) -> Result<(), AllocError> {
-    assert_refuses(&rt, "", "bad schema 1 NotJson\n")?;
+fn tells_bad_schemas(rt: HostRuntime) {
+    assert_refuses(&rt, "", "bad schema 1 NotJson\n");
     assert_refuses(
         &rt,
         "\"float\"\n\"nobody\"\n",
         "bad schema 1 OutOfProfile\n",
-    )?;
-    assert_refuses(&rt, "\"long\"\n", "bad schema 2 NotJson\n")?;
-    assert_refuses(&rt, "\"long\"\n\"nobody\"\n", "bad schema 2 Unknown\n")
+    );
+    assert_refuses(&rt, "\"long\"\n", "bad schema 2 NotJson\n");
+    assert_refuses(&rt, "\"long\"\n\"nobody\"\n", "bad schema 2 Unknown\n");
 }
 
 /// Appends so many records without fields, of full names that differ.
@@ -128,7 +124,7 @@ fn many_records(alloc: Global, records: usize) -> Result<String, AllocError> {
 }
 
 #[test]
-fn tells_programs_that_are_too_large(rt: HostRuntime) -> Result<(), AllocError> {
-    let input = many_records(rt.alloc(), 648)?;
-    assert_refuses(&rt, &input, "program too large\n")
+fn tells_programs_that_are_too_large(rt: HostRuntime) {
+    let input = many_records(rt.alloc(), 648).expect(&rt, "no memory");
+    assert_refuses(&rt, &input, "program too large\n");
 }

@@ -1,6 +1,6 @@
 //! What is written for an input, and devices that fail.
 
-use crate::asserts::{assert_joined, assert_writes};
+use crate::asserts::{assert_joined, assert_writes, lines, repeated};
 use crate::devices::{Drip, NEVER, Trickle};
 use crate::rows::ROWS;
 use commands::{RunError, Verb, input_has_one_output, run};
@@ -20,23 +20,17 @@ const FAR: &str =
     "{\"type\":\"record\",\"name\":\"T\",\"fields\":[{\"name\":\"f\",\"type\":{\"type\":\"fixed\",\"name\":\"F\",\"size\":299}},{\"name\":\"s\",\"type\":\"string\"}]}";
 
 /// Whether `transcode` writes an output for an input in pieces and ends with a status.
-fn assert_answers(
-    rt: &(impl Abort + AllocGlobal),
-    input: &[&str],
-    output: &[&str],
-    status: u8,
-) -> Result<(), AllocError> {
-    assert_joined(rt, &Verb::Transcode, input, output, status)
+fn assert_answers(rt: &(impl Abort + AllocGlobal), input: &[&str], output: &[&str], status: u8) {
+    assert_joined(rt, &Verb::Transcode, input, output, status);
 }
 
 #[test]
-fn answers_lines_that_are_no_payloads(rt: HostRuntime) -> Result<(), AllocError> {
+fn answers_lines_that_are_no_payloads(rt: HostRuntime) {
     input_has_one_output();
     for line in ["0", "0A", "Ff", "0g", "00\r", " 00", "\u{e9}", "-"] {
         let input = ["\"long\"\n\"long\"\n", line, "\n7f"];
-        assert_answers(&rt, &input, &["bad hex\ndone 7f\n"], 0)?;
+        assert_answers(&rt, &input, &["bad hex\ndone 7f\n"], 0);
     }
-    Ok(())
 }
 
 /// Fields of type `int`, so many with a default and one without.
@@ -59,23 +53,23 @@ fn assert_answers_zeros(
     zeros: usize,
     after: &str,
     output: &str,
-) -> Result<(), AllocError> {
-    let zeros = "00".repeat(rt.alloc(), zeros)?;
+) {
+    let zeros = repeated(rt, "00", zeros);
     let input = [schema, "\n", schema, "\n", &zeros, after];
-    assert_answers(rt, &input, &[output], 0)
+    assert_answers(rt, &input, &[output], 0);
 }
 
 #[test]
-fn answers_with_great_numbers(rt: HostRuntime) -> Result<(), AllocError> {
-    assert_answers_zeros(&rt, FAR, 299, "02ff\n", "malformed BadText at 300\n")?;
-    let fields = fields(rt.alloc(), 11)?;
+fn answers_with_great_numbers(rt: HostRuntime) {
+    assert_answers_zeros(&rt, FAR, 299, "02ff\n", "malformed BadText at 300\n");
+    let fields = fields(rt.alloc(), 11).expect(&rt, "no memory");
     let lacking = [
         EMPTY,
         "\n{\"type\":\"record\",\"name\":\"T\",\"fields\":[",
         &fields,
         "]}\n\n",
     ];
-    assert_answers(&rt, &lacking, &["mismatch NoDefault 0 12\n"], 0)
+    assert_answers(&rt, &lacking, &["mismatch NoDefault 0 12\n"], 0);
 }
 
 #[test]
@@ -84,7 +78,7 @@ fn answers_what_is_no_text(rt: HostRuntime) {
     assert_writes(&rt, &Verb::Transcode, input, &["bad schema 1 NotJson\n"], 1);
 }
 
-/// Whether a run that is read by a device writes an output and ends so, and how often the device is called.
+/// Whether a run that is read by a device ends so and writes an output, and how often the device is called.
 fn assert_reads(
     rt: &(impl Abort + AllocGlobal),
     fails_at: usize,
@@ -94,8 +88,10 @@ fn assert_reads(
     let mut reader = Trickle::new(EXAMPLE, fails_at);
     let mut written = Vec::new(rt.alloc());
     let done = run(rt.alloc(), &Verb::Transcode, &mut reader, &mut written);
-    assert_eq!(rt; done, end, "at {fails_at}");
-    assert_eq!(rt; written.as_slice(), output, "at {fails_at}");
+    assert!(rt;
+        done == end && written.as_slice() == output,
+        "at {fails_at}"
+    );
     reader.calls
 }
 
@@ -110,35 +106,40 @@ fn fails_at_each_read_in_turn(rt: HostRuntime) {
 }
 
 /// How a run ends that is written to a device.
-fn drips(rt: &impl AllocGlobal, writer: &mut Drip) -> Result<u8, RunError> {
+fn drips(alloc: Global, writer: &mut Drip) -> Result<u8, RunError> {
     let mut reader = EXAMPLE;
-    run(rt.alloc(), &Verb::Transcode, &mut reader, writer)
+    run(alloc, &Verb::Transcode, &mut reader, writer)
+}
+
+/// Whether a device took all, and it was passed on.
+fn has_all(writer: &Drip) -> bool {
+    writer.taken.as_slice() == EXAMPLE_OUTPUT && writer.passed_on == EXAMPLE_OUTPUT.len()
 }
 
 /// Whether a run to a device that never fails writes all, and how often the device is called.
 fn assert_writes_all(rt: &(impl Abort + AllocGlobal)) -> usize {
     let mut writer = Drip::new(rt.alloc(), NEVER);
-    let done = drips(rt, &mut writer);
-    assert_eq!(rt; done, Ok(0));
-    assert_eq!(rt; writer.taken.as_slice(), EXAMPLE_OUTPUT);
-    assert_eq!(rt; writer.passed_on, EXAMPLE_OUTPUT.len());
+    let done = drips(rt.alloc(), &mut writer);
+    assert!(rt; done == Ok(0) && has_all(&writer));
     writer.calls
 }
 
-/// Whether a device took what comes before a call, at which it failed.
-fn assert_is_cut(rt: &impl Abort, writer: &Drip, call: usize) {
-    assert_eq!(rt; writer.passed_on, 0, "at {call}");
-    assert!(rt; EXAMPLE_OUTPUT.starts_with(&writer.taken), "at {call}");
+/// Whether a device took what comes before a call, at which it failed, and nothing was passed on.
+fn is_cut(writer: &Drip, call: usize) -> bool {
     let interrupted = call.wrapping_add(1) / 3;
-    assert_eq!(rt; writer.taken.len() + interrupted, call, "at {call}");
+    writer.passed_on == 0
+        && EXAMPLE_OUTPUT.starts_with(&writer.taken)
+        && writer.taken.len() + interrupted == call
 }
 
 /// Whether a run to a device that fails at a call ends so.
 fn assert_fails_at(rt: &(impl Abort + AllocGlobal), call: usize) {
     let mut writer = Drip::new(rt.alloc(), call);
-    let done = drips(rt, &mut writer);
-    assert_eq!(rt; done, Err(RunError::Write), "at {call}");
-    assert_is_cut(rt, &writer, call);
+    let done = drips(rt.alloc(), &mut writer);
+    assert!(rt;
+        done == Err(RunError::Write) && is_cut(&writer, call),
+        "at {call}"
+    );
 }
 
 #[test]
@@ -149,47 +150,49 @@ fn fails_at_each_write_in_turn(rt: HostRuntime) {
     }
 }
 
+/// Whether the schemas of an input, and no payload, are answered so.
+fn assert_refuses(rt: &(impl Abort + AllocGlobal), input: &str, output: &str) {
+    assert_writes(rt, &Verb::Transcode, input.as_bytes(), &[output], 1);
+}
+
 #[test]
-fn answers_schemas(rt: HostRuntime) -> Result<(), AllocError> {
-    let table: [(&str, &str, u8); 9] = [
-        ("", "bad schema 1 NotJson\n", 1),
-        ("{\n\"long\"\n02\n", "bad schema 1 NotJson\n", 1),
-        ("\"long\"", "bad schema 2 NotJson\n", 1),
-        ("\"long\"\n\"nobody\"\n02", "bad schema 2 Unknown\n", 1),
-        ("{\n\"nobody\"\n", "bad schema 1 NotJson\n", 1),
-        ("\"float\"\n{\n", "bad schema 1 OutOfProfile\n", 1),
-        ("[\"int\",\"int\"]\n\"int\"\n", "bad schema 1 BadUnion\n", 1),
-        ("\"long\"\n\"long\"\n", "", 0),
-        ("\"long\"\n\"long\"", "", 0),
-    ];
-    for (input, output, status) in table {
-        assert_answers(&rt, &[input], &[output], status)?;
-    }
-    Ok(())
+fn answers_schemas(rt: HostRuntime) {
+    assert_refuses(&rt, "", "bad schema 1 NotJson\n");
+    assert_refuses(&rt, "{\n\"long\"\n02\n", "bad schema 1 NotJson\n");
+    assert_refuses(&rt, "\"long\"", "bad schema 2 NotJson\n");
+    assert_refuses(&rt, "\"long\"\n\"nobody\"\n02", "bad schema 2 Unknown\n");
+    assert_refuses(&rt, "{\n\"nobody\"\n", "bad schema 1 NotJson\n");
+    assert_refuses(&rt, "\"float\"\n{\n", "bad schema 1 OutOfProfile\n");
+    assert_refuses(
+        &rt,
+        "[\"int\",\"int\"]\n\"int\"\n",
+        "bad schema 1 BadUnion\n",
+    );
+    assert_answers(&rt, &["\"long\"\n\"long\"\n"], &[], 0);
+    assert_answers(&rt, &["\"long\"\n\"long\""], &[], 0);
 }
 
 /// Whether a row of four lines, two schemas, a payload and its answer, is answered so.
-fn assert_row(rt: &(impl Abort + AllocGlobal), row: &[&str]) -> Result<(), AllocError> {
+fn assert_row(rt: &(impl Abort + AllocGlobal), row: &[&str]) {
     let [writer, reader, payload, answer] = row else {
         assert!(rt; false, "rows have four lines");
-        return Ok(());
+        return;
     };
     let input = [writer, "\n", reader, "\n", payload, "\n"];
-    assert_answers(rt, &input, &[answer, "\n"], 0)
+    assert_answers(rt, &input, &[answer, "\n"], 0);
 }
 
 #[test]
-fn answers_worked_rows(rt: HostRuntime) -> Result<(), AllocError> {
-    let lines: Vec<&str> = ROWS.lines().collect(rt.alloc())?;
+fn answers_worked_rows(rt: HostRuntime) {
+    let lines = lines(&rt, ROWS);
     for row in lines.chunks(4) {
-        assert_row(&rt, row)?;
+        assert_row(&rt, row);
     }
-    Ok(())
 }
 
 #[test]
-fn measures_payloads(rt: HostRuntime) -> Result<(), AllocError> {
+fn measures_payloads(rt: HostRuntime) {
     let trailing = "malformed Trailing at 1\n";
-    assert_answers_zeros(&rt, "\"long\"", 16_777_216, "", trailing)?;
-    assert_answers_zeros(&rt, "\"long\"", 16_777_217, "", "too large\n")
+    assert_answers_zeros(&rt, "\"long\"", 16_777_216, "", trailing);
+    assert_answers_zeros(&rt, "\"long\"", 16_777_217, "", "too large\n");
 }
