@@ -5,6 +5,7 @@ use avro_loader::{ImageFault, LoadError};
 use isa::{Entry, Instr, Program};
 use outcome::{Mismatch, MismatchKind};
 use std::alloc::{AllocError, Global};
+use std::process::Abort;
 
 /// The image of a record of a long and a string to itself, in version 1.
 const IMAGE_1: &str = "4156525001 00000000 00000000 00000000 00000000 00000009 \
@@ -72,12 +73,42 @@ fn fault_with(
     Ok(fault_of(alloc, &changed))
 }
 
-#[test]
-fn both_versions_are_loaded_and_saved_as_the_second(rt: HostRuntime) {
-    let alloc = rt.alloc();
-    let first = bytes(alloc, IMAGE_1).expect(&rt, "no memory");
-    let second = bytes(alloc, IMAGE_2).expect(&rt, "no memory");
+/// Whether the program of an image has a code.
+fn assert_code(rt: &(impl Abort + AllocGlobal), image: &[u8], code: &[Instr]) {
+    let program = loaded(rt.alloc(), image).expect(rt, "an image");
+    assert!(rt; program.code() == code);
+}
+
+/// The image that the program of an image is saved as.
+fn saved_again(alloc: Global, image: &[u8]) -> Result<Vec<u8>, LoadError> {
+    let program = loaded(alloc, image)?;
+    Ok(saved(alloc, &program)?)
+}
+
+/// Whether the program of an image is saved as this image.
+fn assert_saved(rt: &(impl Abort + AllocGlobal), image: &[u8], other: &[u8]) {
+    let again = saved_again(rt.alloc(), image).expect(rt, "an image");
+    assert!(rt; again.as_slice() == other);
+}
+
+/// Whether an image is migrated to this image.
+fn assert_migrated(rt: &(impl Abort + AllocGlobal), image: &[u8], other: &[u8]) {
+    let again = migrated(rt.alloc(), image).expect(rt, "an image");
+    assert!(rt; again.as_slice() == other);
+}
+
+/// Whether two images are one program's in the two versions.
+fn assert_versions(rt: &(impl Abort + AllocGlobal), first: &[u8], second: &[u8], code: &[Instr]) {
     assert!(rt; first.len() == 42 && second.len() == 44);
+    assert_code(rt, first, code);
+    assert_code(rt, second, code);
+    assert_saved(rt, first, second);
+    assert_migrated(rt, first, second);
+    assert_migrated(rt, second, second);
+}
+
+#[test]
+fn both_versions_are_loaded_and_saved_as_the_second(rt: HostRuntime) -> Result<(), AllocError> {
     let code = [
         Instr::Call(2),
         Instr::Halt,
@@ -89,20 +120,14 @@ fn both_versions_are_loaded_and_saved_as_the_second(rt: HostRuntime) {
         Instr::EndRecord,
         Instr::Return,
     ];
-    let old: Program = loaded(alloc, &first).expect(&rt, "an image");
-    assert!(rt; old.code() == code.as_slice());
-    let new = loaded(alloc, &second).expect(&rt, "an image");
-    assert!(rt; new.code() == code.as_slice());
-    assert!(rt; saved(alloc, &old).expect(&rt, "no memory").as_slice() == second.as_slice());
-    assert!(rt; migrated(alloc, &first).expect(&rt, "an image").as_slice() == second.as_slice());
-    assert!(rt; migrated(alloc, &second).expect(&rt, "an image").as_slice() == second.as_slice());
+    let first = bytes(rt.alloc(), IMAGE_1)?;
+    let second = bytes(rt.alloc(), IMAGE_2)?;
+    assert_versions(&rt, &first, &second, &code);
+    Ok(())
 }
 
-#[test]
-fn things_of_each_kind_are_loaded_and_saved(rt: HostRuntime) {
-    let alloc = rt.alloc();
-    let image = bytes(alloc, IMAGE_OF_ALL).expect(&rt, "no memory");
-    let program = loaded(alloc, &image).expect(&rt, "an image");
+/// Whether a program has a thing of each kind, which are these.
+fn assert_has_all(rt: &impl Abort, program: &Program) {
     assert!(rt; program.constants().get(0) == Some([2u8, 255].as_slice()));
     assert!(rt; program.maps().get(0) == Some([Entry::Position(3), Entry::Miss(0)].as_slice()));
     assert!(rt; program.jumps().get(0) == Some([0u32, 5].as_slice()));
@@ -112,17 +137,23 @@ fn things_of_each_kind_are_loaded_and_saved(rt: HostRuntime) {
         reader_node: 2,
     };
     assert!(rt; program.misses() == [miss].as_slice());
-    assert!(rt; saved(alloc, &program).expect(&rt, "no memory").as_slice() == image.as_slice());
 }
 
 #[test]
-fn an_enum_has_four_bytes_for_its_symbols(rt: HostRuntime) {
-    let alloc = rt.alloc();
-    let image = bytes(alloc, IMAGE_OF_ENUM).expect(&rt, "no memory");
-    let program = loaded(alloc, &image).expect(&rt, "an image");
-    let code = [Instr::SkipEnum(3), Instr::Halt];
-    assert!(rt; program.code() == code.as_slice());
-    assert!(rt; saved(alloc, &program).expect(&rt, "no memory").as_slice() == image.as_slice());
+fn things_of_each_kind_are_loaded_and_saved(rt: HostRuntime) -> Result<(), AllocError> {
+    let image = bytes(rt.alloc(), IMAGE_OF_ALL)?;
+    let program = loaded(rt.alloc(), &image).expect(&rt, "an image");
+    assert_has_all(&rt, &program);
+    assert_saved(&rt, &image, &image);
+    Ok(())
+}
+
+#[test]
+fn an_enum_has_four_bytes_for_its_symbols(rt: HostRuntime) -> Result<(), AllocError> {
+    let image = bytes(rt.alloc(), IMAGE_OF_ENUM)?;
+    assert_code(&rt, &image, &[Instr::SkipEnum(3), Instr::Halt]);
+    assert_saved(&rt, &image, &image);
+    Ok(())
 }
 
 #[test]
@@ -178,25 +209,37 @@ fn every_front_is_truncated_and_nothing_follows(rt: HostRuntime) {
     }
 }
 
-#[test]
-fn bytes_that_are_loaded_are_an_image(rt: HostRuntime) {
-    let alloc = rt.alloc();
-    for text in [IMAGE_1, IMAGE_2, IMAGE_OF_ALL] {
-        let image = bytes(alloc, text).expect(&rt, "no memory");
-        for at in 0..image.len() {
-            for byte in 0..=255u8 {
-                let mut changed = image.clone().expect(&rt, "no memory");
-                changed[at] = byte;
-                if let Ok(program) = loaded(alloc, &changed) {
-                    let saved = saved(alloc, &program).expect(&rt, "no memory");
-                    let is_first = changed.starts_with(b"AVRP\x01");
-                    assert!(rt; is_first || saved.as_slice() == changed.as_slice());
-                    assert!(rt;
-                        migrated(alloc, &changed).expect(&rt, "an image").as_slice()
-                            == saved.as_slice()
-                    );
-                }
-            }
+/// Whether a program of bytes is saved as they are, where these are in version 2, and they are migrated to the same.
+fn assert_program_of(rt: &(impl Abort + AllocGlobal), bytes: &[u8], program: &Program) {
+    let saved = saved(rt.alloc(), program).expect(rt, "no memory");
+    assert!(rt; bytes.starts_with(b"AVRP\x01") || saved.as_slice() == bytes);
+    assert_migrated(rt, bytes, &saved);
+}
+
+/// Whether bytes are no image, or their program is saved so.
+fn assert_image(rt: &(impl Abort + AllocGlobal), bytes: &[u8]) {
+    if let Ok(program) = loaded(rt.alloc(), bytes) {
+        assert_program_of(rt, bytes, &program);
+    }
+}
+
+/// The same of an image with each byte at each place.
+fn assert_changed(rt: &(impl Abort + AllocGlobal), image: &[u8]) -> Result<(), AllocError> {
+    for at in 0..image.len() {
+        for byte in 0..=255u8 {
+            let mut changed = Vec::from_slice(rt.alloc(), image)?;
+            changed[at] = byte;
+            assert_image(rt, &changed);
         }
     }
+    Ok(())
+}
+
+#[test]
+fn bytes_that_are_loaded_are_an_image(rt: HostRuntime) -> Result<(), AllocError> {
+    for text in [IMAGE_1, IMAGE_2, IMAGE_OF_ALL] {
+        let image = bytes(rt.alloc(), text)?;
+        assert_changed(&rt, &image)?;
+    }
+    Ok(())
 }

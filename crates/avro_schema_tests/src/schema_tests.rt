@@ -5,18 +5,16 @@ use avro_schema::{Datum, Kind, Name, Schema, SchemaError, parsed_schema_is_decla
 use std::alloc::{AllocError, Global};
 use std::process::Abort;
 
-/// The text of a full name.
-fn full_text(alloc: Global, name: &Name) -> Result<String, AllocError> {
-    let mut full = String::from_str(alloc, name.namespace())?;
-    if !name.namespace().is_empty() {
-        full.push_str(".")?;
+/// Whether a full name is this text.
+fn is_full(name: &Name, text: &str) -> bool {
+    match text.rsplit_once('.') {
+        Some((namespace, last)) => name.namespace() == namespace && name.last() == last,
+        None => name.namespace().is_empty() && name.last() == text,
     }
-    full.push_str(name.last())?;
-    Ok(full)
 }
 
-/// The word or the full name of a kind.
-fn kind_text(alloc: Global, kind: &Kind) -> Result<String, AllocError> {
+/// Whether a kind has this word or full name.
+fn is_kind(kind: &Kind, text: &str) -> bool {
     let word = match kind {
         Kind::Null => "null",
         Kind::Boolean => "boolean",
@@ -28,34 +26,28 @@ fn kind_text(alloc: Global, kind: &Kind) -> Result<String, AllocError> {
         Kind::Map(_) => "map",
         Kind::Union(_) => "union",
         Kind::Record { name, .. } | Kind::Enum { name, .. } | Kind::Fixed { name, .. } => {
-            return full_text(alloc, name);
+            return is_full(name, text);
         }
     };
-    String::from_str(alloc, word)
+    word == text
 }
 
-/// The words and full names of the kinds of a schema's nodes, with a space between them.
-fn nodes_text(alloc: Global, schema: &Schema) -> Result<String, AllocError> {
-    let mut text = String::new(alloc);
+/// Whether the kinds of a schema's nodes are these words and full names, with a space between them.
+fn are_nodes(schema: &Schema, kinds: &str) -> bool {
+    let mut left = kinds;
     for node in 0..schema.len() {
-        if node > 0 {
-            text.push_str(" ")?;
+        let (word, rest) = left.split_once(' ').unwrap_or((left, ""));
+        if !is_kind(schema.kind(node), word) {
+            return false;
         }
-        let kind = kind_text(alloc, schema.kind(node))?;
-        text.push_str(&kind)?;
+        left = rest;
     }
-    Ok(text)
+    left.is_empty()
 }
 
-/// Whether the kinds of a schema's nodes are these words and full names.
-fn are_nodes(alloc: Global, schema: &Schema, kinds: &str) -> Result<bool, AllocError> {
-    let text = nodes_text(alloc, schema)?;
-    Ok(text.as_str() == kinds)
-}
-
-/// Whether a schema's compact text is this one.
-fn is_compact(schema: &Schema, text: &str) -> bool {
-    schema.text() == text
+/// Whether a schema's nodes and its compact text are these.
+fn is_schema(schema: &Schema, kinds: &str, compact: &str) -> bool {
+    are_nodes(schema, kinds) && schema.text() == compact
 }
 
 /// What a text is parsed to, asked again where memory ran out the first time.
@@ -66,49 +58,66 @@ fn parsed(alloc: Global, text: &str) -> Result<Schema, SchemaError> {
     }
 }
 
-fn fault_of(alloc: Global, text: &str) -> Option<SchemaError> {
-    parsed(alloc, text).err()
+/// The name of a text's fault.
+fn fault_name(alloc: Global, text: &str) -> &'static str {
+    match parsed(alloc, text) {
+        Ok(_) => "no fault",
+        Err(fault) => fault.name(),
+    }
 }
 
-/// Whether each line, of a fault's name and a text, tells what the text's fault is.
+/// Whether a line, of a fault's name and a text, tells what the text's fault is.
+fn tells(alloc: Global, line: &str) -> bool {
+    match line.split_once(' ') {
+        Some((name, text)) => fault_name(alloc, text) == name,
+        None => false,
+    }
+}
+
+/// Whether each such line does.
 fn assert_faults(rt: &(impl Abort + AllocGlobal), lines: &str) {
     for line in lines.lines() {
-        let (name, text) = line.split_once(' ').expect(rt, "a fault and a text");
-        let fault = fault_of(rt.alloc(), text).expect(rt, "a fault");
-        assert_eq!(rt; fault.name(), name, "{text}");
+        assert!(rt; tells(rt.alloc(), line), "{line}");
     }
 }
 
-/// A record with so many fields of type `int`.
-fn record_text(alloc: Global, fields: u32) -> Result<String, SchemaError> {
-    let mut text = String::from_str(alloc, r#"{"type":"record","name":"T","fields":["#)?;
-    for number in 0..fields {
-        if number > 0 {
-            text.push_str(",")?;
-        }
-        let field = format!(in alloc; "{{\"name\":\"f{number}\",\"type\":\"int\"}}")?;
-        text.push_str(field.as_str())?;
-    }
-    text.push_str("]}")?;
-    Ok(text)
+/// Whether a text is parsed to a schema of these nodes and this compact text.
+fn assert_parses(rt: &(impl Abort + AllocGlobal), text: &str, kinds: &str, compact: &str) {
+    let schema = parsed(rt.alloc(), text).expect(rt, "a schema");
+    assert!(rt; is_schema(&schema, kinds, compact), "{text}");
+}
+
+/// The lines of a table.
+fn lines<'a>(rt: &(impl Abort + AllocGlobal), table: &'a str) -> Vec<&'a str> {
+    table.lines().collect(rt.alloc()).expect(rt, "no memory")
+}
+
+/// Whether a row of three lines, a text, its kind and its compact text, is so.
+fn assert_primitive(rt: &(impl Abort + AllocGlobal), row: &[&str]) {
+    let [text, kind, compact] = row else {
+        panic!(rt; "rows have three lines");
+    };
+    assert_parses(rt, text, kind, compact);
 }
 
 #[test]
 fn reads_primitives(rt: HostRuntime) {
-    let lines: Vec<&str> = PRIMITIVES
-        .lines()
-        .collect(rt.alloc())
-        .expect(&rt, "no memory");
+    let lines = lines(&rt, PRIMITIVES);
     for row in lines.chunks(3) {
-        let [text, kind, compact] = row else {
-            panic!(&rt; "rows have three lines");
-        };
-        let schema = parsed(rt.alloc(), text).expect(&rt, "a schema");
-        assert!(rt; are_nodes(rt.alloc(), &schema, kind).expect(&rt, "no memory"));
-        assert!(rt; is_compact(&schema, compact));
+        assert_primitive(&rt, row);
     }
-    let schema = parsed(rt.alloc(), " \"long\"\n").expect(&rt, "a schema");
-    assert!(rt; schema.text() == "\"long\"");
+    assert_parses(&rt, " \"long\"\n", "long", "\"long\"");
+}
+
+/// Whether a schema is a record of two fields, `a` and `int`.
+fn assert_two_fields(rt: &impl Abort, schema: &Schema) {
+    schema.is_declared();
+    assert!(rt; schema.len() == 3);
+    if let Kind::Record { fields, .. } = schema.kind(0) {
+        assert!(rt; fields.len() == 2);
+        assert!(rt; fields[0].name.as_str() == "a" && fields[0].node == 1);
+        assert!(rt; fields[1].name.as_str() == "int" && fields[1].node == 2);
+    }
 }
 
 #[test]
@@ -116,26 +125,18 @@ fn reads_a_record(rt: HostRuntime) {
     parsed_schema_is_declared();
     let text = r#"{ "type": "record", "name": "T", "doc": 7, "aliases": ["U"],
         "fields": [ {"name": "a", "type": "long", "order": "ignore"}, {"name": "int", "type": "string"} ] }"#;
-    let schema = parsed(rt.alloc(), text).expect(&rt, "a schema");
-    schema.is_declared();
-    assert!(rt; schema.len() == 3);
-    assert!(rt; are_nodes(rt.alloc(), &schema, "T long string").expect(&rt, "no memory"));
-    if let Kind::Record { fields, .. } = schema.kind(0) {
-        assert!(rt; fields.len() == 2);
-        assert!(rt; fields[0].name.as_str() == "a" && fields[0].node == 1);
-        assert!(rt; fields[1].name.as_str() == "int" && fields[1].node == 2);
-    }
     let compact =
         r#"{"aliases":["U"],"doc":7,"fields":[{"name":"a","order":"ignore","type":"long"},{"name":"int","type":"string"}],"name":"T","type":"record"}"#;
-    assert!(rt; schema.text() == compact);
+    assert_parses(&rt, text, "T long string", compact);
+    let schema = parsed(rt.alloc(), text).expect(&rt, "a schema");
+    assert_two_fields(&rt, &schema);
 }
 
 #[test]
 fn keeps_the_last_of_a_repeated_key(rt: HostRuntime) {
     let text = r#"{"type":"int","name":"1","type":"record","name":"_1","fields":[]}"#;
-    let schema = parsed(rt.alloc(), text).expect(&rt, "a schema");
-    assert!(rt; schema.len() == 1);
-    assert!(rt; schema.text() == r#"{"fields":[],"name":"_1","type":"record"}"#);
+    let compact = r#"{"fields":[],"name":"_1","type":"record"}"#;
+    assert_parses(&rt, text, "_1", compact);
 }
 
 #[test]
@@ -144,28 +145,35 @@ fn tells_the_first_fault(rt: HostRuntime) {
 }
 
 /// The text of a record whose one field has this type and default.
-fn with_default(alloc: Global, type_: &str, default: &str) -> Result<String, SchemaError> {
-    let text = format!(in alloc;
+fn with_default(alloc: Global, type_: &str, default: &str) -> Result<String, AllocError> {
+    format!(in alloc;
         "{{\"type\":\"record\",\"name\":\"T\",\"fields\":[{{\"name\":\"f\",\"type\":{type_},\"default\":{default}}}]}}"
-    )?;
-    Ok(text)
+    )
+}
+
+/// The name of such a text's fault.
+fn default_fault(alloc: Global, type_: &str, default: &str) -> Result<&'static str, AllocError> {
+    let text = with_default(alloc, type_, default)?;
+    Ok(fault_name(alloc, &text))
+}
+
+/// Whether a row of two lines, a type and a default that is none of its data, is so.
+fn assert_bad_default(rt: &(impl Abort + AllocGlobal), row: &[&str]) {
+    let [type_, default] = row else {
+        panic!(rt; "rows have two lines");
+    };
+    let fault = default_fault(rt.alloc(), type_, default).expect(rt, "no memory");
+    assert!(rt;
+        fault == SchemaError::BadDefault.name(),
+        "{type_} {default}"
+    );
 }
 
 #[test]
 fn refuses_defaults_of_other_types(rt: HostRuntime) {
-    let lines: Vec<&str> = BAD_DEFAULTS
-        .lines()
-        .collect(rt.alloc())
-        .expect(&rt, "no memory");
+    let lines = lines(&rt, BAD_DEFAULTS);
     for row in lines.chunks(2) {
-        let [type_, default] = row else {
-            panic!(&rt; "rows have two lines");
-        };
-        let text = with_default(rt.alloc(), type_, default).expect(&rt, "no memory");
-        assert!(rt;
-            fault_of(rt.alloc(), text.as_str()) == Some(SchemaError::BadDefault),
-            "{text}"
-        );
+        assert_bad_default(&rt, row);
     }
 }
 
@@ -178,70 +186,101 @@ fn first_default(schema: &Schema) -> Option<&Datum> {
     }
 }
 
+/// Whether the schema of a text is parsed and has this default.
+fn has_default(alloc: Global, text: &str, datum: &Datum) -> Result<bool, SchemaError> {
+    let schema = parsed(alloc, text)?;
+    Ok(first_default(&schema) == Some(datum))
+}
+
+/// Whether a text's schema has this default.
+fn assert_has_default(rt: &(impl Abort + AllocGlobal), text: &str, datum: &Datum) {
+    assert!(rt; has_default(rt.alloc(), text, datum) == Ok(true), "{text}");
+}
+
 /// Whether a field's default of a type is read as a datum.
-fn assert_default(rt: &(impl Abort + AllocGlobal), type_: &str, default: &str, datum: &Datum) {
+fn assert_default(rt: &(impl Abort + AllocGlobal), type_: &str, default: &str, datum: Datum) {
     let text = with_default(rt.alloc(), type_, default).expect(rt, "no memory");
-    let schema = parsed(rt.alloc(), text.as_str()).expect(rt, "a schema");
-    assert!(rt; first_default(&schema) == Some(datum), "{text}");
+    assert_has_default(rt, &text, &datum);
 }
 
 #[test]
 fn reads_defaults_by_type(rt: HostRuntime) {
-    let alloc = rt.alloc();
-    let two = vec![in alloc; 97u8, 255u8].expect(&rt, "no memory");
-    let again = two.clone().expect(&rt, "no memory");
-    let text = String::from_str(alloc, "\u{e9}").expect(&rt, "no memory");
-    let first = Box::new(alloc, Datum::Null).expect(&rt, "no memory");
-    let items = vec![in alloc; Datum::Int(-1), Datum::Int(2)].expect(&rt, "no memory");
-    let key = String::from_str(alloc, "a").expect(&rt, "no memory");
-    let other = String::from_str(alloc, "b").expect(&rt, "no memory");
-    let pairs = vec![in alloc; (key, Datum::Long(1)), (other, Datum::Long(2))].expect(
-        &rt,
-        "no memory",
-    );
-    let fields = vec![in alloc; Datum::Boolean(false)].expect(&rt, "no memory");
-    assert_default(&rt, r#""null""#, "null", &Datum::Null);
-    assert_default(&rt, r#""boolean""#, "true", &Datum::Boolean(true));
-    assert_default(&rt, r#""int""#, "-2147483648", &Datum::Int(-2147483648));
-    assert_default(
-        &rt,
-        r#""long""#,
-        "9223372036854775807",
-        &Datum::Long(9223372036854775807),
-    );
-    assert_default(&rt, r#""bytes""#, r#""a\u00ff""#, &Datum::Bytes(two));
-    assert_default(
-        &rt,
-        r#"{"type":"fixed","name":"F","size":2}"#,
-        r#""a\u00ff""#,
-        &Datum::Fixed(again),
-    );
-    assert_default(&rt, r#""string""#, r#""\u00e9""#, &Datum::Text(text));
-    assert_default(
-        &rt,
-        r#"{"type":"enum","name":"E","symbols":["A","B"]}"#,
-        r#""B""#,
-        &Datum::Enum(1),
-    );
-    assert_default(&rt, r#"["null","int"]"#, "null", &Datum::Union(0, first));
-    assert_default(
-        &rt,
-        r#"{"type":"array","items":"int"}"#,
-        "[-1,2]",
-        &Datum::Array(items),
-    );
-    assert_default(
-        &rt,
-        r#"{"type":"map","values":"long"}"#,
-        r#"{"b":2,"a":1}"#,
-        &Datum::Map(pairs),
-    );
-    assert_default(
-        &rt,
-        r#"{"type":"record","name":"R","fields":[{"name":"a","type":"boolean"}]}"#,
-        r#"{"x":[],"a":false}"#,
-        &Datum::Record(fields),
-    );
+    assert_default(&rt, r#""null""#, "null", Datum::Null);
+    assert_default(&rt, r#""boolean""#, "true", Datum::Boolean(true));
+    assert_default(&rt, r#""int""#, "-2147483648", Datum::Int(-2147483648));
+    let most = Datum::Long(9223372036854775807);
+    assert_default(&rt, r#""long""#, "9223372036854775807", most);
+    assert_bytes(&rt);
+    assert_fixed(&rt);
+    assert_text(&rt);
+    let letters = r#"{"type":"enum","name":"E","symbols":["A","B"]}"#;
+    assert_default(&rt, letters, r#""B""#, Datum::Enum(1));
+    assert_union(&rt);
+    assert_array(&rt);
+    assert_map(&rt);
+    assert_record(&rt);
+}
+
+fn assert_bytes(rt: &(impl Abort + AllocGlobal)) {
+    let bytes = vec![in rt.alloc(); 97u8, 255u8].expect(rt, "no memory");
+    assert_default(rt, r#""bytes""#, r#""a\u00ff""#, Datum::Bytes(bytes));
+}
+
+fn assert_fixed(rt: &(impl Abort + AllocGlobal)) {
+    let bytes = vec![in rt.alloc(); 97u8, 255u8].expect(rt, "no memory");
+    let type_ = r#"{"type":"fixed","name":"F","size":2}"#;
+    assert_default(rt, type_, r#""a\u00ff""#, Datum::Fixed(bytes));
+}
+
+fn assert_text(rt: &(impl Abort + AllocGlobal)) {
+    let text = String::from_str(rt.alloc(), "\u{e9}").expect(rt, "no memory");
+    assert_default(rt, r#""string""#, r#""\u00e9""#, Datum::Text(text));
+}
+
+fn assert_union(rt: &(impl Abort + AllocGlobal)) {
+    let first = Box::new(rt.alloc(), Datum::Null).expect(rt, "no memory");
+    assert_default(rt, r#"["null","int"]"#, "null", Datum::Union(0, first));
+}
+
+fn assert_array(rt: &(impl Abort + AllocGlobal)) {
+    let items = vec![in rt.alloc(); Datum::Int(-1), Datum::Int(2)].expect(rt, "no memory");
+    let type_ = r#"{"type":"array","items":"int"}"#;
+    assert_default(rt, type_, "[-1,2]", Datum::Array(items));
+}
+
+/// A pair of a map.
+fn pair(alloc: Global, key: &str, value: i64) -> Result<(String, Datum), AllocError> {
+    Ok((String::from_str(alloc, key)?, Datum::Long(value)))
+}
+
+/// The pairs of a map: `a` and 1, `b` and 2.
+fn pairs(alloc: Global) -> Result<Vec<(String, Datum)>, AllocError> {
+    let mut pairs = Vec::new(alloc);
+    pairs.push(pair(alloc, "a", 1)?)?;
+    pairs.push(pair(alloc, "b", 2)?)?;
+    Ok(pairs)
+}
+
+fn assert_map(rt: &(impl Abort + AllocGlobal)) {
+    let pairs = pairs(rt.alloc()).expect(rt, "no memory");
+    let type_ = r#"{"type":"map","values":"long"}"#;
+    assert_default(rt, type_, r#"{"b":2,"a":1}"#, Datum::Map(pairs));
+}
+
+fn assert_record(rt: &(impl Abort + AllocGlobal)) {
+    let fields = vec![in rt.alloc(); Datum::Boolean(false)].expect(rt, "no memory");
+    let type_ = r#"{"type":"record","name":"R","fields":[{"name":"a","type":"boolean"}]}"#;
+    assert_default(rt, type_, r#"{"x":[],"a":false}"#, Datum::Record(fields));
+}
+
+/// Whether the third node of a schema of four is a union of these.
+fn assert_members(rt: &impl Abort, schema: &Schema, nodes: &[usize]) {
+    assert!(rt; schema.len() == 4);
+    let members = match schema.kind(2) {
+        Kind::Union(members) => members.as_slice(),
+        _ => &[],
+    };
+    assert!(rt; members == nodes);
 }
 
 #[test]
@@ -249,28 +288,13 @@ fn numbers_nodes_in_order_of_appearance(rt: HostRuntime) {
     let list =
         r#"{"type":"record","name":"LongList","fields":[{"name":"value","type":"long"},{"name":"next","type":["null","LongList"]}]}"#;
     let schema = parsed(rt.alloc(), list).expect(&rt, "a schema");
-    assert!(rt; schema.len() == 4);
-    let members = match schema.kind(2) {
-        Kind::Union(members) => members.as_slice(),
-        _ => &[],
-    };
-    assert!(rt; members == [3, 0].as_slice());
+    assert_members(&rt, &schema, &[3, 0]);
 }
 
-#[test]
-fn names_stand_in_their_namespaces(rt: HostRuntime) {
-    let nested =
-        r#"{"type":"record","name":"a.B","fields":[{"name":"c","type":{"type":"record","name":"C","fields":[
-        {"name":"d","type":{"type":"record","name":"D","namespace":"","fields":[{"name":"e","type":"D"}]}},
-        {"name":"f","type":{"type":"enum","name":"E","symbols":["A","B"],"default":"B"}},
-        {"name":"g","type":{"type":"map","values":{"type":"array","items":"a.E"}}},
-        {"name":"h","type":{"type":"fixed","name":"b.c.F","namespace":3,"size":1048576}},
-        {"name":"i","type":"C"}]}}]}"#;
-    let schema = parsed(rt.alloc(), nested).expect(&rt, "a schema");
+/// Whether a schema is the one of the next test.
+fn assert_nested(rt: &impl Abort, schema: &Schema) {
     assert!(rt; schema.len() == 7);
-    assert!(rt;
-        are_nodes(rt.alloc(), &schema, "a.B a.C D a.E map array b.c.F").expect(&rt, "no memory")
-    );
+    assert!(rt; are_nodes(schema, "a.B a.C D a.E map array b.c.F"));
     if let Kind::Enum {
         symbols,
         default,
@@ -290,6 +314,19 @@ fn names_stand_in_their_namespaces(rt: HostRuntime) {
     }
 }
 
+#[test]
+fn names_stand_in_their_namespaces(rt: HostRuntime) {
+    let nested =
+        r#"{"type":"record","name":"a.B","fields":[{"name":"c","type":{"type":"record","name":"C","fields":[
+        {"name":"d","type":{"type":"record","name":"D","namespace":"","fields":[{"name":"e","type":"D"}]}},
+        {"name":"f","type":{"type":"enum","name":"E","symbols":["A","B"],"default":"B"}},
+        {"name":"g","type":{"type":"map","values":{"type":"array","items":"a.E"}}},
+        {"name":"h","type":{"type":"fixed","name":"b.c.F","namespace":3,"size":1048576}},
+        {"name":"i","type":"C"}]}}]}"#;
+    let schema = parsed(rt.alloc(), nested).expect(&rt, "a schema");
+    assert_nested(&rt, &schema);
+}
+
 /// A record `a.R` that defines the fixed `a.F`, and has a field of a further type.
 fn record_with(alloc: Global, further: &str) -> Result<String, AllocError> {
     format!(in alloc;
@@ -297,117 +334,170 @@ fn record_with(alloc: Global, further: &str) -> Result<String, AllocError> {
     )
 }
 
+/// Whether a line, of a fault's name and the type of a further field, tells the fault.
+fn tells_of_further(alloc: Global, line: &str) -> Result<bool, AllocError> {
+    let (name, further) = line.split_once(' ').unwrap_or((line, ""));
+    let text = record_with(alloc, further)?;
+    Ok(fault_name(alloc, &text) == name)
+}
+
 #[test]
 fn a_name_is_one_however_it_is_told(rt: HostRuntime) {
     for line in FURTHER_FAULTS.lines() {
-        let (name, further) = line.split_once(' ').expect(&rt, "a fault and a text");
-        let text = record_with(rt.alloc(), further).expect(&rt, "no memory");
-        let fault = fault_of(rt.alloc(), text.as_str()).expect(&rt, "a fault");
-        assert_eq!(rt; fault.name(), name, "{further}");
+        assert!(rt;
+            tells_of_further(rt.alloc(), line).expect(&rt, "no memory"),
+            "{line}"
+        );
     }
+}
+
+/// Whether a text's schema has these nodes.
+fn has_nodes(alloc: Global, text: &str, names: &str) -> Result<bool, SchemaError> {
+    let schema = parsed(alloc, text)?;
+    Ok(are_nodes(&schema, names))
+}
+
+/// Whether these are the nodes with a further field of this type.
+fn has_further(alloc: Global, further: &str, names: &str) -> Result<bool, SchemaError> {
+    let text = record_with(alloc, further)?;
+    has_nodes(alloc, &text, names)
+}
+
+/// Whether a row of two lines, the nodes and the type of a further field, is so.
+fn assert_further(rt: &(impl Abort + AllocGlobal), row: &[&str]) {
+    let [names, further] = row else {
+        panic!(rt; "rows have two lines");
+    };
+    assert!(rt;
+        has_further(rt.alloc(), further, names) == Ok(true),
+        "{further}"
+    );
 }
 
 #[test]
 fn names_of_other_namespaces_are_others(rt: HostRuntime) {
-    let lines: Vec<&str> = FURTHER_NAMES
-        .lines()
-        .collect(rt.alloc())
-        .expect(&rt, "no memory");
+    let lines = lines(&rt, FURTHER_NAMES);
     for row in lines.chunks(2) {
-        let [names, further] = row else {
-            panic!(&rt; "rows have two lines");
-        };
-        let text = record_with(rt.alloc(), further).expect(&rt, "no memory");
-        let schema = parsed(rt.alloc(), text.as_str()).expect(&rt, "a schema");
-        assert!(rt; are_nodes(rt.alloc(), &schema, names).expect(&rt, "no memory"));
+        assert_further(&rt, row);
     }
 }
 
-/// An enum with so many symbols.
-fn enum_text(alloc: Global, symbols: u32) -> Result<String, SchemaError> {
-    let mut text = String::from_str(alloc, r#"{"type":"enum","name":"E","symbols":["#)?;
-    for number in 0..symbols {
-        if number > 0 {
-            text.push_str(",")?;
-        }
-        let symbol = format!(in alloc; "\"S{number}\"")?;
-        text.push_str(symbol.as_str())?;
+/// How many nodes a text's schema has.
+fn nodes_of(alloc: Global, text: &str) -> Result<usize, SchemaError> {
+    let schema = parsed(alloc, text)?;
+    Ok(schema.len())
+}
+
+/// Appends a text so many times.
+fn push_times(text: &mut String, piece: &str, times: usize) -> Result<(), AllocError> {
+    for _ in 0..times {
+        text.push_str(piece)?;
     }
-    text.push_str("]}")?;
+    Ok(())
+}
+
+/// Parts of a text that has a list: what comes before its second item, what each further item has around its number,
+/// and what comes after the list.
+#[derive(Clone, Copy)]
+struct Listed<'a> {
+    head: &'a str,
+    before: &'static str,
+    after: &'static str,
+    tail: &'static str,
+}
+
+fn push_listed(text: &mut String, listed: &Listed<'_>, items: u32) -> Result<(), AllocError> {
+    text.push_str(listed.head)?;
+    for number in 1..items {
+        write!(text, "{}{number}{}", listed.before, listed.after)?;
+    }
+    text.push_str(listed.tail)?;
+    Ok(())
+}
+
+/// A text whose list has so many items.
+fn listed_text(alloc: Global, listed: &Listed<'_>, items: u32) -> Result<String, AllocError> {
+    let mut text = String::new(alloc);
+    push_listed(&mut text, listed, items)?;
     Ok(text)
+}
+
+/// How many nodes the schema of such a text has.
+fn nodes_of_listed(alloc: Global, listed: &Listed<'_>, items: u32) -> Result<usize, SchemaError> {
+    let text = listed_text(alloc, listed, items)?;
+    nodes_of(alloc, &text)
 }
 
 #[test]
 fn bounds_symbols(rt: HostRuntime) {
-    let most = enum_text(rt.alloc(), 4096).expect(&rt, "no memory");
-    assert!(rt; parsed(rt.alloc(), most.as_str()).is_ok());
-    let more = enum_text(rt.alloc(), 4097).expect(&rt, "no memory");
-    assert!(rt; fault_of(rt.alloc(), more.as_str()) == Some(SchemaError::TooLarge));
-}
-
-/// A record whose fields, so many, are all of the first one's type.
-fn many_fields(alloc: Global, fields: u32) -> Result<String, SchemaError> {
-    let mut text = String::from_str(
-        alloc,
-        r#"{"type":"record","name":"T","fields":[{"name":"f0","type":{"type":"fixed","name":"F","size":0}}"#,
-    )?;
-    for number in 1..fields {
-        let field = format!(in alloc; ",{{\"name\":\"f{number}\",\"type\":\"F\"}}")?;
-        text.push_str(field.as_str())?;
-    }
-    text.push_str("]}")?;
-    Ok(text)
+    let symbols = Listed {
+        head: r#"{"type":"enum","name":"E","symbols":["S0""#,
+        before: ",\"S",
+        after: "\"",
+        tail: "]}",
+    };
+    assert!(rt; nodes_of_listed(rt.alloc(), &symbols, 4096) == Ok(1));
+    assert!(rt; nodes_of_listed(rt.alloc(), &symbols, 4097) == Err(SchemaError::TooLarge));
 }
 
 #[test]
 fn bounds_fields(rt: HostRuntime) {
-    let most = many_fields(rt.alloc(), 1024).expect(&rt, "no memory");
-    let schema = parsed(rt.alloc(), most.as_str()).expect(&rt, "a schema");
-    assert!(rt; schema.len() == 2);
-    let more = many_fields(rt.alloc(), 1025).expect(&rt, "no memory");
-    assert!(rt; fault_of(rt.alloc(), more.as_str()) == Some(SchemaError::TooLarge));
+    // All fields are of the first one's type.
+    let fields = Listed {
+        head: r#"{"type":"record","name":"T","fields":[{"name":"f0","type":{"type":"fixed","name":"F","size":0}}"#,
+        before: ",{\"name\":\"f",
+        after: "\",\"type\":\"F\"}",
+        tail: "]}",
+    };
+    assert!(rt; nodes_of_listed(rt.alloc(), &fields, 1024) == Ok(2));
+    assert!(rt; nodes_of_listed(rt.alloc(), &fields, 1025) == Err(SchemaError::TooLarge));
 }
 
-/// A schema of an int inside so many arrays.
-fn nested_arrays(alloc: Global, levels: u32) -> Result<String, SchemaError> {
-    let mut text = String::from_str(alloc, "")?;
-    for _ in 0..levels {
-        text.push_str(r#"{"type":"array","items":"#)?;
-    }
+/// Appends the text of an int inside so many arrays.
+fn push_arrays(text: &mut String, levels: usize) -> Result<(), AllocError> {
+    push_times(text, r#"{"type":"array","items":"#, levels)?;
     text.push_str(r#""int""#)?;
-    for _ in 0..levels {
-        text.push_str("}")?;
-    }
-    Ok(text)
+    push_times(text, "}", levels)
+}
+
+/// The nodes of an int inside so many arrays.
+fn nodes_of_arrays(alloc: Global, levels: usize) -> Result<usize, SchemaError> {
+    let mut text = String::new(alloc);
+    push_arrays(&mut text, levels)?;
+    nodes_of(alloc, &text)
 }
 
 #[test]
 fn bounds_nesting(rt: HostRuntime) {
-    let most = nested_arrays(rt.alloc(), 127).expect(&rt, "no memory");
-    let schema = parsed(rt.alloc(), most.as_str()).expect(&rt, "a schema");
-    assert!(rt; schema.len() == 128);
-    let more = nested_arrays(rt.alloc(), 128).expect(&rt, "no memory");
-    assert!(rt; fault_of(rt.alloc(), more.as_str()) == Some(SchemaError::NotJson));
+    assert!(rt; nodes_of_arrays(rt.alloc(), 127) == Ok(128));
+    assert!(rt; nodes_of_arrays(rt.alloc(), 128) == Err(SchemaError::NotJson));
 }
 
 #[test]
 fn bounds_nodes(rt: HostRuntime) {
-    let most = record_text(rt.alloc(), 1023).expect(&rt, "no memory");
-    let schema = parsed(rt.alloc(), most.as_str()).expect(&rt, "a schema");
-    assert!(rt; schema.len() == 1024);
-    let more = record_text(rt.alloc(), 1024).expect(&rt, "no memory");
-    assert!(rt; fault_of(rt.alloc(), more.as_str()) == Some(SchemaError::TooLarge));
+    let ints = Listed {
+        head: r#"{"type":"record","name":"T","fields":[{"name":"f0","type":"int"}"#,
+        before: ",{\"name\":\"f",
+        after: "\",\"type\":\"int\"}",
+        tail: "]}",
+    };
+    assert!(rt; nodes_of_listed(rt.alloc(), &ints, 1023) == Ok(1024));
+    assert!(rt; nodes_of_listed(rt.alloc(), &ints, 1024) == Err(SchemaError::TooLarge));
+}
+
+/// The nodes of a text that ends in so many spaces.
+fn nodes_before_spaces(alloc: Global, text: &str, spaces: usize) -> Result<usize, SchemaError> {
+    let mut text = String::from_str(alloc, text)?;
+    push_times(&mut text, " ", spaces)?;
+    nodes_of(alloc, &text)
 }
 
 #[test]
 fn bounds_text(rt: HostRuntime) {
-    let mut text = String::from_str(rt.alloc(), "\"int\"").expect(&rt, "no memory");
-    for _ in text.len()..262_144 {
-        text.push_str(" ").expect(&rt, "no memory");
-    }
-    assert!(rt; Schema::parse(rt.alloc(), text.as_str()).is_ok());
-    text.push_str(" ").expect(&rt, "no memory");
-    assert!(rt; fault_of(rt.alloc(), text.as_str()) == Some(SchemaError::TooLarge));
+    let text = "\"int\"";
+    let most = 262_144 - 5;
+    assert!(rt; nodes_before_spaces(rt.alloc(), text, most) == Ok(1));
+    assert!(rt; nodes_before_spaces(rt.alloc(), text, most + 1) == Err(SchemaError::TooLarge));
 }
 
 #[test]
@@ -429,16 +519,39 @@ fn are_texts(texts: &[String], others: &[&str]) -> bool {
 }
 
 /// Whether full names are these.
-fn are_names(alloc: Global, names: &[Name], others: &[&str]) -> Result<bool, AllocError> {
+fn are_names(names: &[Name], others: &[&str]) -> bool {
     if names.len() != others.len() {
-        return Ok(false);
+        return false;
     }
     for at in 0..others.len() {
-        if full_text(alloc, &names[at])?.as_str() != others[at] {
-            return Ok(false);
+        if !is_full(&names[at], others[at]) {
+            return false;
         }
     }
-    Ok(true)
+    true
+}
+
+/// Whether the aliases of a schema are those of the next test.
+fn assert_aliases(rt: &impl Abort, schema: &Schema) {
+    assert!(rt; schema.len() == 5);
+    let Kind::Record {
+        aliases,
+        fields,
+        ..
+    } = schema.kind(0)
+    else {
+        panic!(rt; "no record");
+    };
+    assert!(rt; are_names(aliases, &["a.c", "x.y", "a.c"]) && fields.len() == 3);
+    assert!(rt; are_texts(&fields[0].aliases, &["e", "e", "int"]) && fields[1].aliases.is_empty());
+    let Kind::Fixed { aliases, .. } = schema.kind(1) else {
+        panic!(rt; "no fixed");
+    };
+    assert!(rt; are_names(aliases, &["int", "n.long"]));
+    let Kind::Enum { aliases, .. } = schema.kind(2) else {
+        panic!(rt; "no enum");
+    };
+    assert!(rt; are_names(aliases, &["m.F"]));
 }
 
 #[test]
@@ -448,55 +561,57 @@ fn aliases_stand_in_the_namespace_of_their_type(rt: HostRuntime) {
         {"name":"g","type":{"type":"enum","name":"m.E","symbols":[],"aliases":["F"]}},
         {"name":"h","type":{"type":"array","items":{"type":"string","aliases":3},"aliases":3}}]}"#;
     let schema = parsed(rt.alloc(), text).expect(&rt, "a schema");
-    assert!(rt; schema.len() == 5);
-    let Kind::Record {
-        aliases,
-        fields,
-        ..
-    } = schema.kind(0)
-    else {
-        panic!(&rt; "no record");
-    };
-    assert!(rt;
-        are_names(rt.alloc(), aliases, &["a.c", "x.y", "a.c"]).expect(&rt, "no memory")
-            && fields.len() == 3
-    );
-    assert!(rt; are_texts(&fields[0].aliases, &["e", "e", "int"]) && fields[1].aliases.is_empty());
-    let Kind::Fixed { aliases, .. } = schema.kind(1) else {
-        panic!(&rt; "no fixed");
-    };
-    assert!(rt; are_names(rt.alloc(), aliases, &["int", "n.long"]).expect(&rt, "no memory"));
-    let Kind::Enum { aliases, .. } = schema.kind(2) else {
-        panic!(&rt; "no enum");
-    };
-    assert!(rt; are_names(rt.alloc(), aliases, &["m.F"]).expect(&rt, "no memory"));
+    assert_aliases(&rt, &schema);
 }
 
-/// A fixed in a namespace of so many bytes, with so many aliases that stand in it.
-fn aliased_text(alloc: Global, namespace: u32, aliases: u32) -> Result<String, SchemaError> {
-    let mut text = String::from_str(alloc, r#"{"type":"fixed","size":1,"namespace":""#)?;
-    for _ in 0..namespace {
-        text.push_str("n")?;
-    }
+/// Appends the text of a fixed in a namespace of so many bytes, to its first alias.
+fn push_fixed(text: &mut String, namespace: usize) -> Result<(), AllocError> {
+    text.push_str(r#"{"type":"fixed","size":1,"namespace":""#)?;
+    push_times(text, "n", namespace)?;
     text.push_str(r#"","name":"F","aliases":["A""#)?;
-    for number in 1..aliases {
-        let alias = format!(in alloc; ",\"a{number}\"")?;
-        text.push_str(alias.as_str())?;
-    }
-    text.push_str("]}")?;
+    Ok(())
+}
+
+/// Such a text.
+fn fixed_text(alloc: Global, namespace: usize) -> Result<String, AllocError> {
+    let mut text = String::new(alloc);
+    push_fixed(&mut text, namespace)?;
     Ok(text)
 }
 
-#[test]
-fn aliases_share_a_long_namespace(rt: HostRuntime) {
-    let text = aliased_text(rt.alloc(), 60_000, 5_000).expect(&rt, "no memory");
-    let schema = parsed(rt.alloc(), text.as_str()).expect(&rt, "a schema");
+/// A fixed in a namespace of so many bytes, with so many aliases that stand in it.
+fn aliased_text(alloc: Global, namespace: usize, aliases: u32) -> Result<String, AllocError> {
+    let head = fixed_text(alloc, namespace)?;
+    let listed = Listed {
+        head: &head,
+        before: ",\"a",
+        after: "\"",
+        tail: "]}",
+    };
+    listed_text(alloc, &listed, aliases)
+}
+
+/// The schema of such a fixed.
+fn aliased(alloc: Global, namespace: usize, aliases: u32) -> Result<Schema, SchemaError> {
+    let text = aliased_text(alloc, namespace, aliases)?;
+    parsed(alloc, &text)
+}
+
+/// Whether the aliases of a schema are those of the next test.
+fn assert_shared(rt: &impl Abort, schema: &Schema) {
+    assert!(rt; schema.len() == 1);
     let Kind::Fixed { name, aliases, .. } = schema.kind(0) else {
-        panic!(&rt; "no fixed");
+        panic!(rt; "no fixed");
     };
     assert!(rt; name.namespace().len() == 60_000 && aliases.len() == 5_000);
     let first = &aliases[0];
     assert!(rt; first.last() == "A" && first.namespace() == name.namespace());
     let last = &aliases[4_999];
     assert!(rt; last.last() == "a4999" && last.namespace() == name.namespace());
+}
+
+#[test]
+fn aliases_share_a_long_namespace(rt: HostRuntime) {
+    let schema = aliased(rt.alloc(), 60_000, 5_000).expect(&rt, "a schema");
+    assert_shared(&rt, &schema);
 }

@@ -1,9 +1,9 @@
 //! What is written for the program of a pair of schemas.
 
-use crate::devices::assert_writes;
+use crate::asserts::assert_joined;
 use commands::Verb;
+use std::alloc::{AllocError, Global};
 use std::process::Abort;
-use std::test::Fail;
 
 /// A record of a long and a string.
 const RECORD: &str =
@@ -35,81 +35,96 @@ jumps 0 7 9
 const IMAGE_OF_RECORD: &str =
     "415652500200000000000000000000000000000000000000091c000000021f1100021200000312000105131d\n";
 
-/// Whether `compile` writes an output for an input and ends with a status.
+/// Whether `compile` writes an output for an input in pieces and ends with a status.
 fn assert_compiles(
     rt: &(impl Abort + AllocGlobal),
     image: bool,
-    input: &str,
+    input: &[&str],
     output: &str,
     status: u8,
 ) {
-    let verb = Verb::Compile { image };
-    assert_writes(rt, &verb, input.as_bytes(), output.as_bytes(), status);
+    assert_joined(rt, &Verb::Compile { image }, input, &[output], status);
 }
 
 #[test]
-fn writes_listings(rt: HostRuntime) -> Result<(), Fail> {
-    let input = format!(in rt.alloc(); "{LIST}\n{LIST}\n")?;
+fn writes_listings(rt: HostRuntime) {
+    assert_compiles(&rt, false, &[LIST, "\n", LIST, "\n"], LISTING_OF_LIST, 0);
+    assert_compiles(&rt, false, &[LIST, "\n", LIST], LISTING_OF_LIST, 0);
+}
+
+#[test]
+fn ignores_later_lines(rt: HostRuntime) {
+    let input = [LIST, "\n", LIST, "\n{\nbad hex\n"];
     assert_compiles(&rt, false, &input, LISTING_OF_LIST, 0);
-    let unended = format!(in rt.alloc(); "{LIST}\n{LIST}")?;
-    assert_compiles(&rt, false, &unended, LISTING_OF_LIST, 0);
-    Ok(())
 }
 
 #[test]
-fn ignores_later_lines(rt: HostRuntime) -> Result<(), Fail> {
-    let input = format!(in rt.alloc(); "{LIST}\n{LIST}\n{{\nbad hex\n")?;
-    assert_compiles(&rt, false, &input, LISTING_OF_LIST, 0);
-    Ok(())
-}
-
-#[test]
-fn writes_images(rt: HostRuntime) -> Result<(), Fail> {
-    let input = format!(in rt.alloc(); "{RECORD}\n{RECORD}\n")?;
+fn writes_images(rt: HostRuntime) {
+    let input = [RECORD, "\n", RECORD, "\n"];
     assert_compiles(&rt, true, &input, IMAGE_OF_RECORD, 0);
-    Ok(())
+}
+
+/// Whether neither a listing nor an image is written for an input, but this.
+fn assert_refuses(rt: &(impl Abort + AllocGlobal), input: &str, output: &str) {
+    assert_compiles(rt, false, &[input], output, 1);
+    assert_compiles(rt, true, &[input], output, 1);
 }
 
 #[test]
 fn tells_bad_schemas(rt: HostRuntime) {
-    let table: [(&str, &str); 4] = [
-        ("", "bad schema 1 NotJson\n"),
-        ("\"float\"\n\"nobody\"\n", "bad schema 1 OutOfProfile\n"),
-        ("\"long\"\n", "bad schema 2 NotJson\n"),
-        ("\"long\"\n\"nobody\"\n", "bad schema 2 Unknown\n"),
-    ];
-    for (input, output) in table {
-        assert_compiles(&rt, false, input, output, 1);
-        assert_compiles(&rt, true, input, output, 1);
-    }
+    assert_refuses(&rt, "", "bad schema 1 NotJson\n");
+    assert_refuses(
+        &rt,
+        "\"float\"\n\"nobody\"\n",
+        "bad schema 1 OutOfProfile\n",
+    );
+    assert_refuses(&rt, "\"long\"\n", "bad schema 2 NotJson\n");
+    assert_refuses(&rt, "\"long\"\n\"nobody\"\n", "bad schema 2 Unknown\n");
 }
 
-/// A union of so many records without fields, of full names that differ, and a record of 200 fields with defaults.
-fn many_records(rt: &impl AllocGlobal, records: usize) -> Result<String, Fail> {
-    let mut input = String::from_str(rt.alloc(), "[")?;
+/// Appends so many records without fields, of full names that differ.
+fn push_records(text: &mut String, records: usize) -> Result<(), AllocError> {
     for number in 1..=records {
         let comma = if number > 1 { "," } else { "" };
         write!(
-            input,
+            text,
             "{comma}{{\"type\":\"record\",\"name\":\"n{number}.R\",\"fields\":[]}}"
         )?;
     }
-    input.push_str("]\n{\"type\":\"record\",\"name\":\"R\",\"fields\":[")?;
-    for number in 0..200 {
+    Ok(())
+}
+
+/// Appends so many fields with defaults.
+fn push_fields(text: &mut String, fields: usize) -> Result<(), AllocError> {
+    for number in 0..fields {
         let comma = if number > 0 { "," } else { "" };
         write!(
-            input,
+            text,
             "{comma}{{\"name\":\"f{number}\",\"type\":\"int\",\"default\":0}}"
         )?;
     }
-    input.push_str("]}\n")?;
-    Ok(input)
+    Ok(())
+}
+
+/// Appends a union of so many records without fields, and a record of 200 fields with defaults.
+fn push_union_and_record(text: &mut String, records: usize) -> Result<(), AllocError> {
+    text.push_str("[")?;
+    push_records(text, records)?;
+    text.push_str("]\n{\"type\":\"record\",\"name\":\"R\",\"fields\":[")?;
+    push_fields(text, 200)?;
+    text.push_str("]}\n")?;
+    Ok(())
+}
+
+/// Such a union and such a record.
+fn many_records(alloc: Global, records: usize) -> Result<String, AllocError> {
+    let mut text = String::new(alloc);
+    push_union_and_record(&mut text, records)?;
+    Ok(text)
 }
 
 #[test]
-fn tells_programs_that_are_too_large(rt: HostRuntime) -> Result<(), Fail> {
-    let input = many_records(&rt, 648)?;
-    assert_compiles(&rt, false, &input, "program too large\n", 1);
-    assert_compiles(&rt, true, &input, "program too large\n", 1);
-    Ok(())
+fn tells_programs_that_are_too_large(rt: HostRuntime) {
+    let input = many_records(rt.alloc(), 648).expect(&rt, "no memory");
+    assert_refuses(&rt, &input, "program too large\n");
 }

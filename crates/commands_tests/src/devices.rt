@@ -1,12 +1,28 @@
 //! Devices that give and take little, and fail.
 
-use commands::{RunError, Verb, run};
-use std::alloc::AllocError;
+use std::alloc::{AllocError, Global};
 use std::io::{self, ErrorKind, Read, Write};
-use std::process::Abort;
 
 /// A number of a call that is never reached.
 pub(crate) const NEVER: usize = usize::MAX;
+
+/// Counts a call of a device, which fails where it is the one that is to fail.
+fn count_call(calls: &mut usize, fails_at: usize) -> io::Result<usize> {
+    let call = *calls;
+    *calls = call.wrapping_add(1);
+    if call == fails_at {
+        return Err(io::Error::from(ErrorKind::Other));
+    }
+    Ok(call)
+}
+
+/// Counts a call that reads or writes, which is interrupted at each third one.
+fn begin_call(calls: &mut usize, fails_at: usize) -> io::Result<()> {
+    if count_call(calls, fails_at)? % 3 == 1 {
+        return Err(io::Error::from(ErrorKind::Interrupted));
+    }
+    Ok(())
+}
 
 /// A reader of memory that gives a byte at a time, fails at one call, and is interrupted at each third one.
 #[derive(Drop)]
@@ -16,16 +32,19 @@ pub(crate) struct Trickle<'a> {
     pub(crate) fails_at: usize,
 }
 
+impl<'a> Trickle<'a> {
+    pub(crate) fn new(left: &'a [u8], fails_at: usize) -> Trickle<'a> {
+        Trickle {
+            left,
+            calls: 0,
+            fails_at,
+        }
+    }
+}
+
 impl Read for Trickle<'_> {
     fn read(&mut self, buf: &mut [u8]) -> io::Result<usize> {
-        let call = self.calls;
-        self.calls = call.wrapping_add(1);
-        if call == self.fails_at {
-            return Err(io::Error::from(ErrorKind::Other));
-        }
-        if call % 3 == 1 {
-            return Err(io::Error::from(ErrorKind::Interrupted));
-        }
+        begin_call(&mut self.calls, self.fails_at)?;
         let Some((first, others)) = self.left.split_first() else {
             return Ok(0);
         };
@@ -48,16 +67,20 @@ pub(crate) struct Drip {
     pub(crate) fails_at: usize,
 }
 
+impl Drip {
+    pub(crate) fn new(alloc: Global, fails_at: usize) -> Drip {
+        Drip {
+            taken: Vec::new(alloc),
+            passed_on: 0,
+            calls: 0,
+            fails_at,
+        }
+    }
+}
+
 impl Write for Drip {
     fn write(&mut self, buf: &[u8]) -> io::Result<usize> {
-        let call = self.calls;
-        self.calls = call.wrapping_add(1);
-        if call == self.fails_at {
-            return Err(io::Error::from(ErrorKind::Other));
-        }
-        if call % 3 == 1 {
-            return Err(io::Error::from(ErrorKind::Interrupted));
-        }
+        begin_call(&mut self.calls, self.fails_at)?;
         let Some(first) = buf.first() else {
             return Ok(0);
         };
@@ -66,32 +89,8 @@ impl Write for Drip {
     }
 
     fn flush(&mut self) -> io::Result<()> {
-        let call = self.calls;
-        self.calls = call.wrapping_add(1);
-        if call == self.fails_at {
-            return Err(io::Error::from(ErrorKind::Other));
-        }
+        count_call(&mut self.calls, self.fails_at)?;
         self.passed_on = self.taken.len();
         Ok(())
     }
-}
-
-/// Whether a run on an input writes an output and ends with a status, the second time where memory ran out the first.
-pub(crate) fn assert_writes(
-    rt: &(impl Abort + AllocGlobal),
-    verb: &Verb,
-    input: &[u8],
-    output: &[u8],
-    status: u8,
-) {
-    let mut reader = input;
-    let mut written = Vec::new(rt.alloc());
-    let mut done = run(rt.alloc(), verb, &mut reader, &mut written);
-    if done == Err(RunError::NoMemory) {
-        assert!(rt; written.is_empty());
-        reader = input;
-        done = run(rt.alloc(), verb, &mut reader, &mut written);
-    }
-    assert_eq!(rt; done, Ok(status));
-    assert!(rt; written.as_slice() == output);
 }

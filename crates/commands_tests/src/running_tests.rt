@@ -1,9 +1,8 @@
 //! What is written for runs of listed programs.
 
-use crate::devices::assert_writes;
+use crate::asserts::{assert_joined, lines, repeated};
 use commands::Verb;
 use std::process::Abort;
-use std::test::Fail;
 
 /// More rows than a run here takes.
 const MANY: u64 = 1_000_000;
@@ -80,131 +79,168 @@ miss 0 NoMatch 0 0
 bad listing 3 NoCode
 ";
 
-/// Whether `run` writes an output for an input and ends with a status.
-fn assert_runs(rt: &(impl Abort + AllocGlobal), steps: u64, input: &str, output: &str, status: u8) {
-    let verb = Verb::Run { steps };
-    assert_writes(rt, &verb, input.as_bytes(), output.as_bytes(), status);
+/// The head of a program that ends at once.
+const HALT: &str = "avro program 1\n0 HALT\nend\n";
+
+/// Whether `run` writes an output for an input, both in pieces, and ends with a status.
+fn assert_runs(
+    rt: &(impl Abort + AllocGlobal),
+    steps: u64,
+    input: &[&str],
+    output: &[&str],
+    status: u8,
+) {
+    assert_joined(rt, &Verb::Run { steps }, input, output, status);
 }
 
-/// Whether each row of two lines, the lines after the header with `;` for LF, and the output, is so.
-fn assert_rows(
-    rt: &(impl Abort + AllocGlobal),
-    rows: &str,
-    end: &str,
+/// How a table of code ends: what follows the code, and the status.
+#[derive(Clone, Copy)]
+struct Ending {
+    end: &'static str,
     status: u8,
-) -> Result<(), Fail> {
-    let lines: Vec<&str> = rows.lines().collect(rt.alloc())?;
+}
+
+/// Whether a row of two lines, the lines after the header with `;` for LF, and the output, is so.
+fn assert_row(rt: &(impl Abort + AllocGlobal), row: &[&str], ending: Ending) {
+    let [code, output] = row else {
+        assert!(rt; false, "rows have two lines");
+        return;
+    };
+    let code = code.replace(rt.alloc(), ";", "\n").expect(rt, "no memory");
+    let input = ["avro program 1\n", &code, "\n", ending.end];
+    assert_runs(rt, MANY, &input, &[output, "\n"], ending.status);
+}
+
+/// Whether each such row is so.
+fn assert_rows(rt: &(impl Abort + AllocGlobal), rows: &str, ending: Ending) {
+    let lines = lines(rt, rows);
     for row in lines.chunks(2) {
-        let [code, output] = row else {
-            assert!(rt; false, "rows have two lines");
-            return Ok(());
-        };
-        let code = code.replace(rt.alloc(), ";", "\n")?;
-        let input = format!(in rt.alloc(); "avro program 1\n{code}\n{end}")?;
-        let output = format!(in rt.alloc(); "{output}\n")?;
-        assert_runs(rt, MANY, &input, &output, status);
+        assert_row(rt, row, ending);
     }
-    Ok(())
 }
 
 #[test]
-fn runs_pieces(rt: HostRuntime) -> Result<(), Fail> {
-    let list = format!(in rt.alloc(); "{LISTING_OF_LIST}02|02|04|00\n02020400\n|02||0204|00|\n")?;
+fn runs_pieces(rt: HostRuntime) {
+    let list = [LISTING_OF_LIST, "02|02|04|00\n02020400\n|02||0204|00|\n"];
     let whole = "done 02020400 count 20\ndone 02020400 count 20\ndone 02020400 count 20\n";
-    assert_runs(&rt, MANY, &list, whole, 0);
-    assert_runs(&rt, 20, &list, whole, 0);
+    assert_runs(&rt, MANY, &list, &[whole], 0);
+    assert_runs(&rt, 20, &list, &[whole], 0);
     let cut = "running count 19\nrunning count 19\nrunning count 19\n";
-    assert_runs(&rt, 19, &list, cut, 0);
-    let pair = format!(in rt.alloc(); "{LISTING_OF_PAIR}3606666f6f\n36|06666f|6f")?;
+    assert_runs(&rt, 19, &list, &[cut], 0);
+    let pair = [LISTING_OF_PAIR, "3606666f6f\n36|06666f|6f"];
     let done = "done 06666f6f0e count 11\ndone 06666f6f0e count 11\n";
-    assert_runs(&rt, MANY, &pair, done, 0);
-    Ok(())
+    assert_runs(&rt, MANY, &pair, &[done], 0);
 }
 
 #[test]
 fn counts_the_rows_of_all_pieces(rt: HostRuntime) {
     let endless = "avro program 1\n0 JUMP 0\nend\n\n|||\n";
-    assert_runs(&rt, 5, endless, "running count 5\nrunning count 5\n", 0);
-    assert_runs(&rt, 0, endless, "running count 0\nrunning count 0\n", 0);
+    let five = "running count 5\nrunning count 5\n";
+    assert_runs(&rt, 5, &[endless], &[five], 0);
+    let none = "running count 0\nrunning count 0\n";
+    assert_runs(&rt, 0, &[endless], &[none], 0);
+}
+
+/// Whether texts of these letters, apart and joined, are carried over the cuts between them.
+fn assert_runs_letters(rt: &(impl Abort + AllocGlobal), letters: &str, joined: &str) {
+    let input = [
+        LISTING_OF_TEXT,
+        "82|01",
+        letters,
+        "|c3|a9\n8201",
+        letters,
+        "|c3|28\n02|c3\n00\n",
+    ];
+    let output = [
+        "done 8201",
+        joined,
+        "c3a9 count 4\nmalformed BadText at 2 count 3\nmalformed BadText at 1 count 2\ndone 00 count 2\n",
+    ];
+    assert_runs(rt, MANY, &input, &output, 0);
 }
 
 #[test]
-fn runs_texts_that_are_cut(rt: HostRuntime) -> Result<(), Fail> {
-    let letters = "|61".repeat(rt.alloc(), 63)?;
-    let joined = "61".repeat(rt.alloc(), 63)?;
-    let input = format!(in rt.alloc();
-        "{LISTING_OF_TEXT}82|01{letters}|c3|a9\n8201{letters}|c3|28\n02|c3\n00\n"
-    )?;
-    let output = format!(in rt.alloc();
-        "done 8201{joined}c3a9 count 4\nmalformed BadText at 2 count 3\nmalformed BadText at 1 count 2\ndone 00 count 2\n"
-    )?;
-    assert_runs(&rt, MANY, &input, &output, 0);
-    Ok(())
+fn runs_texts_that_are_cut(rt: HostRuntime) {
+    let letters = repeated(&rt, "|61", 63);
+    let joined = repeated(&rt, "61", 63);
+    assert_runs_letters(&rt, &letters, &joined);
 }
 
 #[test]
-fn tells_traps(rt: HostRuntime) -> Result<(), Fail> {
-    assert_rows(&rt, TRAPS, "end\n\n", 0)
+fn tells_traps(rt: HostRuntime) {
+    let ending = Ending {
+        end: "end\n\n",
+        status: 0,
+    };
+    assert_rows(&rt, TRAPS, ending);
+}
+
+/// Whether an input is no listing for this reason.
+fn assert_is_bad(rt: &(impl Abort + AllocGlobal), input: &[&str], output: &str) {
+    assert_runs(rt, MANY, input, &[output], 1);
+}
+
+/// Whether a listing with so many zeros in a table is too large.
+fn assert_is_too_large(rt: &(impl Abort + AllocGlobal), zeros: usize) {
+    let zeros = repeated(rt, " 0", zeros);
+    let large = ["avro program 1\njumps 0", &zeros, "\n0 HALT\nend\n"];
+    assert_is_bad(rt, &large, "bad listing 2 TooLarge\n");
 }
 
 #[test]
-fn tells_bad_listings(rt: HostRuntime) -> Result<(), Fail> {
-    assert_rows(&rt, BAD_LISTINGS, "end\n02\n", 1)?;
-    assert_rows(&rt, BAD_LISTINGS, "", 1)?;
-    assert_runs(&rt, MANY, "", "bad listing 1 BadHeader\n", 1);
-    assert_runs(&rt, MANY, "end\n\n", "bad listing 1 BadHeader\n", 1);
-    assert_runs(&rt, MANY, "avro program 1\n", "bad listing 2 NoCode\n", 1);
-    let unended = "avro program 1\n0 HALT";
-    assert_runs(&rt, MANY, unended, "bad listing 2 BadLine\n", 1);
-    let zeros = " 0".repeat(rt.alloc(), 4_097)?;
-    let large = format!(in rt.alloc(); "avro program 1\njumps 0{zeros}\n0 HALT\nend\n")?;
-    assert_runs(&rt, MANY, &large, "bad listing 2 TooLarge\n", 1);
-    Ok(())
+fn tells_bad_listings(rt: HostRuntime) {
+    let ending = Ending {
+        end: "end\n02\n",
+        status: 1,
+    };
+    assert_rows(&rt, BAD_LISTINGS, ending);
+    assert_rows(&rt, BAD_LISTINGS, Ending { end: "", status: 1 });
+    assert_is_bad(&rt, &[], "bad listing 1 BadHeader\n");
+    assert_is_bad(&rt, &["end\n\n"], "bad listing 1 BadHeader\n");
+    assert_is_bad(&rt, &["avro program 1\n"], "bad listing 2 NoCode\n");
+    let unended = ["avro program 1\n0 HALT"];
+    assert_is_bad(&rt, &unended, "bad listing 2 BadLine\n");
+    assert_is_too_large(&rt, 4_097);
 }
 
 #[test]
 fn ends_listings_at_the_first_line_end(rt: HostRuntime) {
-    assert_runs(&rt, MANY, "avro program 1\n0 HALT\n", "", 0);
-    assert_runs(&rt, MANY, "avro program 1\n0 HALT\nend", "", 0);
-    let twice = "avro program 1\n0 HALT\nend\n\nend\n";
-    assert_runs(&rt, MANY, twice, "done - count 1\nbad hex\n", 0);
+    assert_runs(&rt, MANY, &["avro program 1\n0 HALT\n"], &[], 0);
+    assert_runs(&rt, MANY, &["avro program 1\n0 HALT\nend"], &[], 0);
+    let twice = [HALT, "\nend\n"];
+    assert_runs(&rt, MANY, &twice, &["done - count 1\nbad hex\n"], 0);
 }
 
 #[test]
-fn tells_what_is_no_payload(rt: HostRuntime) -> Result<(), Fail> {
-    let input = format!(in rt.alloc(); "{LISTING_OF_TEXT}0\n0A\n-\n0|0\n00|0g\n00|-\n00 \n00|\n")?;
-    let bad = "bad hex\n".repeat(rt.alloc(), 7)?;
-    let output = format!(in rt.alloc(); "{bad}done 00 count 2\n")?;
+fn tells_what_is_no_payload(rt: HostRuntime) {
+    let input = [LISTING_OF_TEXT, "0\n0A\n-\n0|0\n00|0g\n00|-\n00 \n00|\n"];
+    let bad = "bad hex\n";
+    let output = [bad, bad, bad, bad, bad, bad, bad, "done 00 count 2\n"];
     assert_runs(&rt, MANY, &input, &output, 0);
-    Ok(())
 }
 
 #[test]
-fn measures_joined_pieces(rt: HostRuntime) -> Result<(), Fail> {
-    let half = "00".repeat(rt.alloc(), 8_388_608)?;
-    let input = format!(in rt.alloc();
-        "avro program 1\n0 HALT\nend\n{half}|{half}\n{half}|{half}|00\n"
-    )?;
+fn measures_joined_pieces(rt: HostRuntime) {
+    let half = repeated(&rt, "00", 8_388_608);
+    let input = [HALT, &half, "|", &half, "\n", &half, "|", &half, "|00\n"];
     let output = "malformed Trailing at 0 count 1\ntoo large\n";
-    assert_runs(&rt, MANY, &input, output, 0);
-    Ok(())
+    assert_runs(&rt, MANY, &input, &[output], 0);
 }
 
 #[test]
-fn reads_pieces_before_it_measures_them(rt: HostRuntime) -> Result<(), Fail> {
-    let large = "00".repeat(rt.alloc(), 16_777_217)?;
-    let input = format!(in rt.alloc(); "avro program 1\n0 HALT\nend\n{large}|0\n")?;
-    assert_runs(&rt, MANY, &input, "bad hex\n", 0);
-    Ok(())
+fn reads_pieces_before_it_measures_them(rt: HostRuntime) {
+    let large = repeated(&rt, "00", 16_777_217);
+    assert_runs(&rt, MANY, &[HALT, &large, "|0\n"], &["bad hex\n"], 0);
 }
 
 #[test]
-fn tells_outputs_that_are_too_large(rt: HostRuntime) -> Result<(), Fail> {
-    let text = "61".repeat(rt.alloc(), 200_000)?;
-    let input = format!(in rt.alloc();
-        "avro program 1\nconst 0 {text}\n0 BLOCKS\n1 NEXT 4\n2 PUT 0\n3 JUMP 1\n4 HALT\nend\na00500\n00\n"
-    )?;
+fn tells_outputs_that_are_too_large(rt: HostRuntime) {
+    let text = repeated(&rt, "61", 200_000);
+    let input = [
+        "avro program 1\nconst 0 ",
+        &text,
+        "\n0 BLOCKS\n1 NEXT 4\n2 PUT 0\n3 JUMP 1\n4 HALT\nend\na00500\n00\n",
+    ];
     let output = "output too large count 1011\ndone 00 count 3\n";
-    assert_runs(&rt, MANY, &input, output, 0);
-    Ok(())
+    assert_runs(&rt, MANY, &input, &[output], 0);
 }
