@@ -24,4 +24,3 @@ returns-in_err-schema-clause-answer g c =
       accepted = no_command;
       answer = schema-refused no_lists (string_bytes c.args.subject) (string_bytes c.args.text) bad.0 c.in_err-schema.field-0.0 named (rw c.deref-2.ensures at bad.2) bad.1;
     })
-
