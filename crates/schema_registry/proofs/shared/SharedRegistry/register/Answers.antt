@@ -1,11 +1,9 @@
-use Rattle.std.proofs.Common.{◌≡◌, ◌∙◌, sym, ap, true, false, [], Ok, Err, string_bytes, rules}
+use Rattle.std.proofs.Common.{◌≡◌, true, false, [], string_bytes, rules}
 use Rattle.std.proofs.lemmas.Result.{err_from_is_err_and}
-use Rattle.schema_registry.specs.Accepting.{registry_after}
 use Rattle.schema_registry.specs.Lists.{no_lists}
 use Rattle.schema_registry.specs.Answers.{no_command}
-use Rattle.schema_registry.specs.Reply.{IdReply}
 use Rattle.schema_registry.specs.Subject.{is_subject}
-use Rattle.schema_registry.proofs.Told.{registered-answer, registered-refusal, schema-refused, subject-refused}
+use Rattle.schema_registry.proofs.Told.{schema-refused, subject-refused}
 use Rattle.schema_registry.proofs.shared.SharedRegistry.register.Goals as goal
 
 pub returns-then-not-is_subject-clause-answer : goal.returns-then-not-is_subject-clause-answer
@@ -24,4 +22,3 @@ returns-in_err-schema-clause-answer g c =
       accepted = no_command;
       answer = schema-refused no_lists (string_bytes c.args.subject) (string_bytes c.args.text) bad.0 c.in_err-schema.field-0.0 named (rw c.deref-2.ensures at bad.2) bad.1;
     })
-
