@@ -1,6 +1,5 @@
 -- The versions of a subject as entries, from the ids of their schemas.
-use Rattle.std.proofs.Common.{add-one, ◌≡◌, ◌≤◌, ◌<◌, ℕ, zero, suc, ◌+◌, ◌-◌, List, [], ◌∷◌, ◌++◌, length, map, Bool, true, false, cond, ◌==◌, Option, Some, None, slice_get, refl, sym, ap, subst, ◌∙◌, arith, eqb}
-use Rattle.std.specs.Prelude.{filter, find, if◌then◌else◌}
+use Rattle.std.proofs.Common.{◌≡◌, ℕ, zero, suc, ◌+◌, List, [], ◌∷◌, ◌++◌, length, map, Bool, true, false, cond, ◌==◌, Option, Some, slice_get, refl, sym, ap, ◌∙◌, arith}
 use Rattle.std.specs.Option.{option_map}
 use Rattle.std.specs.List.{cons_option, filter_map, flat_map, position_from}
 use Rattle.std.specs.Str.{bytes_eq}
@@ -12,7 +11,7 @@ use Rattle.schema_registry.specs.declared.level.Level.{Level}
 use Rattle.schema_registry.specs.Answers.{compared, last_of, pairs_of, pairs_with}
 use Rattle.schema_registry.specs.Level.{is_transitive}
 use Rattle.schema_registry.specs.Lists.{Entry, Lists, numbered, version_at, versions_of, with_id}
-use Rattle.schema_registry.specs.Tables.{entry_of, number_for, number_of, numbers_from, versions_from}
+use Rattle.schema_registry.specs.Tables.{entry_of, number_for, numbers_from, versions_from}
 
 -- ---- one more entry
 

@@ -1,9 +1,8 @@
 -- Schemas in the order of their ids, and under which id each text stands.
-use Rattle.std.proofs.Common.{◌≡◌, ◌≤◌, ◌<◌, ℕ, zero, suc, ◌+◌, ◌-◌, List, [], ◌∷◌, ◌++◌, length, take, Bool, true, false, cond, Option, Some, None, is_some, refl, sym, ap, subst, ◌∙◌, arith, String, Global, string_bytes, length-append}
-use Rattle.std.specs.BTreeMap.{BTreeMap, IsEmpty, UpdatesBy, get_by_text, is_at}
+use Rattle.std.proofs.Common.{◌≡◌, ◌≤◌, ◌<◌, ℕ, ◌+◌, List, [], ◌∷◌, ◌++◌, length, take, Bool, true, false, cond, Option, Some, None, is_some, refl, sym, ap, subst, ◌∙◌, arith, String, Global, string_bytes, length-append}
+use Rattle.std.specs.BTreeMap.{BTreeMap, IsEmpty, UpdatesBy, is_at}
 use Rattle.std.specs.Ordering.{nat_cmp}
 use Rattle.std.specs.Cmp.Lexicographic.{slice_cmp}
-use Rattle.std.specs.List.{position_from}
 use Rattle.std.specs.Map.{lookup}
 use Rattle.std.specs.Str.{bytes_eq}
 use Rattle.std.specs.String.{string_cmp}
@@ -12,7 +11,7 @@ use Rattle.std.proofs.lemmas.Slice.Eq.{bytes_eq-Decides}
 use Rattle.avro_types.specs.Laws.Placed.{last_not, or_last, position-behind}
 use Rattle.avro_schema.specs.Schema.{Declaration}
 use Rattle.schema_registry.specs.Lists.{id_of}
-use Rattle.schema_registry.specs.Accepting.{id_for, with_schema}
+use Rattle.schema_registry.specs.Accepting.{with_schema}
 use Rattle.schema_registry.specs.Tables.{AreIdsOf}
 
 pub no_ids : (m : BTreeMap (String Global) ℕ) → IsEmpty m → AreIdsOf m []

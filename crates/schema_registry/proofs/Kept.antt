@@ -1,10 +1,10 @@
 -- What a registry's maps find, and that they go together with its lists.
-use Rattle.std.proofs.Common.{◌≡◌, ◌≢◌, ◌≤◌, ◌<◌, ℕ, zero, suc, ◌+◌, ◌-◌, List, [], ◌∷◌, ◌++◌, length, map, Bool, true, false, cond, ◌||◌, ◌==◌, Option, Some, None, Ok, is_some, refl, sym, ap, subst, ◌∙◌, arith, String, Global, string_bytes}
-use Rattle.std.specs.Prelude.{IfSome, unwrap_or, find}
+use Rattle.std.proofs.Common.{◌≡◌, ◌≢◌, ℕ, List, [], ◌∷◌, ◌++◌, map, Bool, true, false, cond, ◌||◌, Option, Some, None, Ok, is_some, refl, sym, ap, subst, ◌∙◌, arith, String, Global, string_bytes}
+use Rattle.std.specs.Prelude.{IfSome, find}
 use Rattle.std.specs.BTreeMap.{BTreeMap, IsEmpty, get_by_text, is_at}
 use Rattle.std.specs.Cmp.Lexicographic.{slice_cmp}
 use Rattle.std.specs.FinMap as finite
-use Rattle.std.specs.List.{AllByRecursion, filter_map, list_any, position_from}
+use Rattle.std.specs.List.{filter_map, list_any}
 use Rattle.std.specs.Map.{lookup}
 use Rattle.std.specs.Option.{option_and_then, option_map}
 use Rattle.std.specs.Ordering.{eq_by_cmp, nat_cmp}
@@ -16,10 +16,10 @@ use Rattle.schema_registry.specs.declared.level.Level.{Level}
 use Rattle.schema_registry.specs.declared.level.Level.TheVariants.{Backward}
 use Rattle.schema_registry.specs.Command.{Command}
 use Rattle.schema_registry.specs.Accepting.{registry_after, taken, taken_all}
-use Rattle.schema_registry.specs.Lists.{Entry, Lists, Names, id_of, is_same, level_set, names_in, no_lists, subjects_of, subjects_with_level, versions_of, with_id, with_text}
+use Rattle.schema_registry.specs.Lists.{Entry, Lists, id_of, is_same, level_set, no_lists, subjects_of, subjects_with_level, versions_of, with_id, with_text}
 use Rattle.schema_registry.specs.Reply.{Reply}
 use Rattle.schema_registry.specs.Answers.{AreAccepted, IsAnswer, answer_to, one_more}
-use Rattle.schema_registry.specs.Tables.{Holds, IsId, entry_of, ids_in, number_of, versions_from}
+use Rattle.schema_registry.specs.Tables.{Holds, entry_of, ids_in, number_of, versions_from}
 use Rattle.schema_registry.proofs.Entries.{with_id-from}
 use Rattle.schema_registry.proofs.Named.{contains-names}
 

@@ -1,12 +1,11 @@
 -- What a registry answers, read off its lists, and in which order it refuses (our own order; the API has the codes).
-use Rattle.std.specs.Prelude.{◌≡◌, ◌≢◌, ℕ, ◌+◌, ◌&&◌, ◌||◌, List, [], ◌∷◌, ◌++◌, map, length, nat_le, Bool, true, false, not, is_some, if◌then◌else◌, Option, Some, None, Result, Ok, Err, ◌⊎◌}
+use Rattle.std.specs.Prelude.{◌≡◌, ◌≢◌, ℕ, ◌&&◌, ◌||◌, List, [], ◌∷◌, ◌++◌, map, length, nat_le, Bool, true, false, not, is_some, if◌then◌else◌, Option, Some, None, Result, Ok, Err, ◌⊎◌}
 use Rattle.std.specs.List.{AllByRecursion, filter_map, flat_map}
 use Rattle.std.specs.FinMap as finite
 use Rattle.schema_drafts.specs.declared.error.SchemaError.{SchemaError}
 use Rattle.avro_schema.specs.Schema.{Declaration}
 use Rattle.resolver.specs.Safety.{IsSafe}
 use Rattle.schema_registry.specs.declared.limits.TheConstants.{MOST_SCHEMAS, MOST_SUBJECTS, MOST_LEVELS}
-use Rattle.schema_registry.specs.declared.command.Version.{Version}
 use Rattle.schema_registry.specs.declared.level.Level.{Level}
 use Rattle.schema_registry.specs.declared.refusal.Refusal.{Refusal}
 use Rattle.schema_registry.specs.declared.refusal.Refusal.TheVariants.{BadSubject, BadVersion, BadSchema, NoSubject, NoVersion, NoSchema, Incompatible, Full, NoMemory}

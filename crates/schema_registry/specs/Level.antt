@@ -1,5 +1,5 @@
 -- The levels of compatibility (Confluent Schema Registry, "Compatibility types").
-use Rattle.std.specs.Prelude.{ℕ, List, [], ◌∷◌, ◌++◌, Bool, true, false, if◌then◌else◌, codes}
+use Rattle.std.specs.Prelude.{ℕ, List, Bool, true, false, codes}
 use Rattle.schema_registry.specs.declared.level.Level.{Level}
 use Rattle.schema_registry.specs.declared.level.Level.TheVariants as levels
 

@@ -1,6 +1,6 @@
 -- What a registry holds, as three lists, and what is found in them (Confluent Schema Registry API, "Schemas", "Subjects", "Config").
 -- That ids and versions have no gaps, and what is marked below, is ours.
-use Rattle.std.specs.Prelude.{ℕ, zero, suc, ◌+◌, ◌-◌, ◌==◌, List, [], ◌∷◌, map, filter, find, length, Bool, true, false, Option, Some, None, is_some, option_map, unwrap_or, slice_get}
+use Rattle.std.specs.Prelude.{ℕ, zero, suc, ◌==◌, List, [], map, filter, find, length, Bool, true, false, Option, Some, None, option_map, unwrap_or, slice_get}
 use Rattle.std.specs.List.{filter_map, position_from}
 use Rattle.std.specs.Ordering.{nat_cmp}
 use Rattle.std.specs.Option.{option_and_then}

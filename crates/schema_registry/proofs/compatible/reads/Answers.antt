@@ -1,6 +1,3 @@
-use Rattle.std.proofs.Common.{◌∷◌, [], subst, sym}
-use Rattle.std.specs.Prelude.{IsTrue, ◌↔◌}
-use Rattle.resolver.specs.Safety.{IsSafe}
 use Rattle.schema_registry.proofs.Safe.{tests-none, tests-one}
 use Rattle.schema_registry.proofs.compatible.reads.Goals as goal
 

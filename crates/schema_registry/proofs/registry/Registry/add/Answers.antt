@@ -1,6 +1,5 @@
-use Rattle.std.proofs.Common.{sym, subst, refl, Ok, string_bytes}
+use Rattle.std.proofs.Common.{sym, subst, refl, string_bytes}
 use Rattle.schema_registry.specs.Accepting.{id_for, registered, registry_after, with_schema}
-use Rattle.schema_registry.specs.Answers.{IsAnswer, answer_to}
 use Rattle.schema_registry.specs.Command.{RegisterCommand}
 use Rattle.schema_registry.specs.Reply.{IdReply}
 use Rattle.schema_registry.specs.Tables.{Holds}

@@ -1,4 +1,4 @@
-use Rattle.std.proofs.Common.{◌≡◌, refl, sym, subst, string_bytes, option_map}
+use Rattle.std.proofs.Common.{refl, string_bytes, option_map}
 use Rattle.schema_registry.specs.Command.{CheckCommand, LevelCommand, LookupCommand, SchemaCommand, SubjectsCommand, VersionCommand, VersionsCommand}
 use Rattle.schema_registry.specs.Reply.{reply_of}
 use Rattle.schema_registry.proofs.Kept.{question-accepted}

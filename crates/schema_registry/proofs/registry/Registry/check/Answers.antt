@@ -1,6 +1,6 @@
-use Rattle.std.proofs.Common.{◌≡◌, ◌∙◌, sym, ap, subst, refl, true, Some, Ok, Err, rules}
+use Rattle.std.proofs.Common.{◌≡◌, ◌∙◌, sym, subst, refl, true, Some, Ok, Err, rules}
 use Rattle.schema_registry.specs.declared.refusal.Refusal.TheVariants.{NoVersion}
-use Rattle.schema_registry.specs.Accepting.{declaration_of, registry_after}
+use Rattle.schema_registry.specs.Accepting.{registry_after}
 use Rattle.schema_registry.specs.Answers.{IsAnswer, pairs_with}
 use Rattle.schema_registry.specs.Lists.{level_of, numbered}
 use Rattle.schema_registry.specs.Reply.{CompatibleReply}

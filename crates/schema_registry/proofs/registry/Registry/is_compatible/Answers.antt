@@ -1,7 +1,7 @@
-use Rattle.std.proofs.Common.{◌≡◌, ◌∙◌, sym, ap, subst, Some}
+use Rattle.std.proofs.Common.{◌∙◌, sym, ap, subst, Some}
 use Rattle.schema_registry.specs.Accepting.{registry_after}
-use Rattle.schema_registry.specs.Answers.{compared, pairs_of}
-use Rattle.schema_registry.specs.Lists.{level_of, versions_of}
+use Rattle.schema_registry.specs.Answers.{pairs_of}
+use Rattle.schema_registry.specs.Lists.{level_of}
 use Rattle.schema_registry.proofs.Entries.{pairs-from}
 use Rattle.schema_registry.proofs.Kept.{versions-found}
 use Rattle.schema_registry.proofs.Safe.{Tests}

@@ -1,6 +1,6 @@
-use Rattle.std.proofs.Common.{◌≡◌, ◌∙◌, sym, ap, subst, refl, true, Err, string_bytes, rules}
+use Rattle.std.proofs.Common.{◌≡◌, sym, subst, refl, true, Err, string_bytes, rules}
 use Rattle.schema_registry.specs.declared.refusal.Refusal.TheVariants.{NoSchema}
-use Rattle.schema_registry.specs.Accepting.{declaration_of, registry_after}
+use Rattle.schema_registry.specs.Accepting.{registry_after}
 use Rattle.schema_registry.specs.Answers.{Gives, IsAnswer}
 use Rattle.schema_registry.specs.Subject.{is_subject}
 use Rattle.schema_registry.proofs.Told.{lookup-is}

@@ -1,4 +1,4 @@
-use Rattle.std.proofs.Common.{◌≡◌, ◌∙◌, sym, ap, subst, Some, None, Ok, Err, string_bytes}
+use Rattle.std.proofs.Common.{◌≡◌, ◌∙◌, sym, Some, None, string_bytes}
 use Rattle.schema_registry.specs.Accepting.{declaration_of, registry_after}
 use Rattle.schema_registry.specs.Command.{RegisterCommand}
 use Rattle.schema_registry.specs.Reply.{IdReply}

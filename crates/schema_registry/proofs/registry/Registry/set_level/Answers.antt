@@ -1,9 +1,9 @@
-use Rattle.std.proofs.Common.{◌≡◌, ◌∙◌, sym, ap, subst, refl, true, false, Some, None, Ok, Err, string_bytes, rules}
+use Rattle.std.proofs.Common.{◌≡◌, ◌∙◌, sym, subst, refl, true, false, Some, None, Ok, Err, string_bytes, rules}
 use Rattle.std.proofs.lemmas.Result.{err_from_is_err_and}
 use Rattle.schema_registry.specs.declared.limits.TheConstants.{MOST_LEVELS}
 use Rattle.schema_registry.specs.declared.refusal.Refusal.TheVariants.{Full}
 use Rattle.schema_registry.specs.Accepting.{registry_after}
-use Rattle.schema_registry.specs.Answers.{IsAnswer, has_no_room}
+use Rattle.schema_registry.specs.Answers.{IsAnswer}
 use Rattle.schema_registry.specs.Command.{SetLevelCommand}
 use Rattle.schema_registry.specs.Lists.{subjects_with_level}
 use Rattle.schema_registry.specs.Reply.{LevelReply}

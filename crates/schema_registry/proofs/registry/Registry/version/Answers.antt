@@ -1,4 +1,4 @@
-use Rattle.std.proofs.Common.{◌≡◌, ◌∙◌, sym, ap, subst, refl, true, Err, string_bytes, rules}
+use Rattle.std.proofs.Common.{◌≡◌, sym, subst, refl, true, Err, string_bytes, rules}
 use Rattle.schema_registry.specs.declared.refusal.Refusal.TheVariants.{NoVersion}
 use Rattle.schema_registry.specs.Accepting.{registry_after}
 use Rattle.schema_registry.specs.Answers.{IsAnswer}

@@ -1,4 +1,4 @@
-use Rattle.std.proofs.Common.{◌≡◌, ◌++◌, ◌∷◌, [], ◌∙◌, sym, ap, refl, subst, Some, None, string_bytes, rules}
+use Rattle.std.proofs.Common.{◌≡◌, sym, ap, subst, Some, None, string_bytes, rules}
 use Rattle.std.specs.BTreeMap.{UpdatesBy}
 use Rattle.std.specs.Ordering.{nat_cmp}
 use Rattle.std.specs.Cmp.Lexicographic.{slice_cmp}

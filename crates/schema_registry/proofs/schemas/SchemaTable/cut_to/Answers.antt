@@ -1,5 +1,4 @@
-use Rattle.std.proofs.Common.{◌≡◌, ◌≤◌, ◌<◌, ◌+◌, ◌++◌, ◌∷◌, [], length, arith, subst, rules}
-use Rattle.avro_schema.specs.Schema.{Declaration}
+use Rattle.std.proofs.Common.{◌≡◌, ◌≤◌, ◌+◌, ◌++◌, ◌∷◌, [], length, arith, subst, rules}
 use Rattle.schema_registry.specs.Tables.{AreIdsOf}
 use Rattle.schema_registry.proofs.Ids.{last-new, one_id_less}
 use Rattle.schema_registry.proofs.schemas.SchemaTable.cut_to.Goals as goal

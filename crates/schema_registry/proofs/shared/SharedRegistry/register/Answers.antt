@@ -1,11 +1,9 @@
-use Rattle.std.proofs.Common.{◌≡◌, ◌∙◌, sym, ap, true, false, [], Ok, Err, string_bytes, rules}
+use Rattle.std.proofs.Common.{◌≡◌, true, false, [], string_bytes, rules}
 use Rattle.std.proofs.lemmas.Result.{err_from_is_err_and}
-use Rattle.schema_registry.specs.Accepting.{registry_after}
 use Rattle.schema_registry.specs.Lists.{no_lists}
 use Rattle.schema_registry.specs.Answers.{no_command}
-use Rattle.schema_registry.specs.Reply.{IdReply}
 use Rattle.schema_registry.specs.Subject.{is_subject}
-use Rattle.schema_registry.proofs.Told.{registered-answer, registered-refusal, schema-refused, subject-refused}
+use Rattle.schema_registry.proofs.Told.{schema-refused, subject-refused}
 use Rattle.schema_registry.proofs.shared.SharedRegistry.register.Goals as goal
 
 pub returns-then-not-is_subject-clause-answer : goal.returns-then-not-is_subject-clause-answer
