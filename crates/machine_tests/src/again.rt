@@ -14,22 +14,34 @@ pub(crate) fn parsed(alloc: Global, text: &str) -> Result<Schema, SchemaError> {
     }
 }
 
+/// A writer's and a reader's schema.
+#[derive(Drop)]
+pub(crate) struct Pair {
+    pub(crate) writer: Schema,
+    pub(crate) reader: Schema,
+}
+
+/// The schemas of two texts.
+pub(crate) fn pair_of(alloc: Global, writer: &str, reader: &str) -> Result<Pair, SchemaError> {
+    let writer = parsed(alloc, writer)?;
+    let reader = parsed(alloc, reader)?;
+    Ok(Pair { writer, reader })
+}
+
 /// A program, compiled again where memory ran out the first time.
-pub(crate) fn compiled(alloc: Global, w: &Schema, r: &Schema) -> Result<Program, CompileError> {
-    match compile(alloc, w.nodes(), r.nodes()) {
-        Err(CompileError::NoMemory) => compile(alloc, w.nodes(), r.nodes()),
+pub(crate) fn compiled(alloc: Global, pair: &Pair) -> Result<Program, CompileError> {
+    let (w, r) = (pair.writer.nodes(), pair.reader.nodes());
+    match compile(alloc, w, r) {
+        Err(CompileError::NoMemory) => compile(alloc, w, r),
         answer => answer,
     }
 }
 
 /// A transcoder, made again where memory ran out the first time.
-pub(crate) fn transcoder<'s>(
-    alloc: Global,
-    w: &'s Schema,
-    r: &'s Schema,
-) -> Result<Transcoder<'s>, CompileError> {
-    match Transcoder::new(alloc, w.nodes(), r.nodes()) {
-        Err(CompileError::NoMemory) => Transcoder::new(alloc, w.nodes(), r.nodes()),
+pub(crate) fn transcoder(alloc: Global, pair: &Pair) -> Result<Transcoder<'_>, CompileError> {
+    let (w, r) = (pair.writer.nodes(), pair.reader.nodes());
+    match Transcoder::new(alloc, w, r) {
+        Err(CompileError::NoMemory) => Transcoder::new(alloc, w, r),
         answer => answer,
     }
 }
@@ -46,14 +58,10 @@ pub(crate) fn outcome(
 }
 
 /// The outcome of one payload, asked again where memory ran out the first time.
-pub(crate) fn transcoded(
-    alloc: Global,
-    w: &Schema,
-    r: &Schema,
-    payload: &[u8],
-) -> Result<Outcome, PairError> {
-    match transcode(alloc, w.nodes(), r.nodes(), payload) {
-        Err(PairError::NoMemory) => transcode(alloc, w.nodes(), r.nodes(), payload),
+pub(crate) fn transcoded(alloc: Global, pair: &Pair, payload: &[u8]) -> Result<Outcome, PairError> {
+    let (w, r) = (pair.writer.nodes(), pair.reader.nodes());
+    match transcode(alloc, w, r, payload) {
+        Err(PairError::NoMemory) => transcode(alloc, w, r, payload),
         answer => answer,
     }
 }

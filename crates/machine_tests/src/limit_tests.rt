@@ -1,59 +1,96 @@
 //! Payloads, programs and answers at their limits.
 
-use crate::again::{outcome, parsed, transcoded, transcoder};
-use crate::words::outcome_words;
-use machine::{PairError, TranscodeError, Transcoder};
+use crate::again::{Pair, outcome, pair_of, transcoder};
+use crate::words::{next_words, outcome_words, pair_words};
+use machine::Transcoder;
 use outcome::{MOST_PAYLOAD, Outcome};
 use std::alloc::{AllocError, Global};
+use std::process::Abort;
 use std::test::Fail;
 
-/// A union of so many records, all named R, without fields.
-fn many_records(alloc: Global, many: usize) -> Result<String, AllocError> {
-    let mut text = String::from_str(alloc, "[")?;
+/// Appends a union of so many records, all named R, without fields.
+fn push_records(text: &mut String, many: usize) -> Result<(), AllocError> {
+    text.push_str("[")?;
     for number in 0..many {
         let comma = if number == 0 { "" } else { "," };
-        let one = format!(in alloc;
+        write!(
+            text,
             "{comma}{{\"type\":\"record\",\"name\":\"n{number}.R\",\"fields\":[]}}"
         )?;
-        text.push_str(one.as_str())?;
     }
     text.push_str("]")?;
+    Ok(())
+}
+
+/// Appends a record R of so many ints that are 0 by default.
+fn push_fields(text: &mut String, many: usize) -> Result<(), AllocError> {
+    text.push_str("{\"type\":\"record\",\"name\":\"R\",\"fields\":[")?;
+    for field in 0..many {
+        let comma = if field == 0 { "" } else { "," };
+        write!(
+            text,
+            "{comma}{{\"name\":\"f{field}\",\"type\":\"int\",\"default\":0}}"
+        )?;
+    }
+    text.push_str("]}")?;
+    Ok(())
+}
+
+fn many_records(alloc: Global, many: usize) -> Result<String, AllocError> {
+    let mut text = String::new(alloc);
+    push_records(&mut text, many)?;
     Ok(text)
 }
 
-/// A record R of so many ints that are 0 by default.
 fn wide_record(alloc: Global, many: usize) -> Result<String, AllocError> {
-    let mut text = String::from_str(alloc, "{\"type\":\"record\",\"name\":\"R\",\"fields\":[")?;
-    for field in 0..many {
-        let comma = if field == 0 { "" } else { "," };
-        let one = format!(in alloc;
-            "{comma}{{\"name\":\"f{field}\",\"type\":\"int\",\"default\":0}}"
-        )?;
-        text.push_str(one.as_str())?;
-    }
-    text.push_str("]}")?;
+    let mut text = String::new(alloc);
+    push_fields(&mut text, many)?;
     Ok(text)
+}
+
+/// A pair whose program is too large.
+fn wide_pair(alloc: Global) -> Result<Pair, Fail> {
+    let writer = many_records(alloc, 648)?;
+    let reader = wide_record(alloc, 200)?;
+    Ok(pair_of(alloc, &writer, &reader)?)
 }
 
 #[test]
 fn programs_too_large(rt: HostRuntime) -> Result<(), Fail> {
-    let w = parsed(rt.alloc(), many_records(rt.alloc(), 648)?.as_str())?;
-    let r = parsed(rt.alloc(), wide_record(rt.alloc(), 200)?.as_str())?;
-    let refused = transcoded(rt.alloc(), &w, &r, &[]);
-    assert!(rt; matches!(refused, Err(PairError::ProgramTooLarge)));
+    let pair = wide_pair(rt.alloc())?;
+    let told = pair_words(rt.alloc(), &pair, &[])?;
+    assert!(rt; told.as_str() == "program too large");
+    Ok(())
+}
+
+/// Whether the next payload comes out so.
+fn assert_next(
+    rt: &(impl Abort + AllocGlobal),
+    transcoder: &mut Transcoder<'_>,
+    payload: &[u8],
+    want: &str,
+) {
+    let told = next_words(rt.alloc(), transcoder, payload).expect(rt, "no memory");
+    assert!(rt; told.as_str() == want);
+}
+
+/// Whether a payload for a pair is refused as too large, and the next one is taken.
+fn assert_refuses(
+    rt: &(impl Abort + AllocGlobal),
+    pair: &Pair,
+    payload: &[u8],
+) -> Result<(), Fail> {
+    let mut transcoder = transcoder(rt.alloc(), pair)?;
+    assert_next(rt, &mut transcoder, payload, "payload too large");
+    assert_next(rt, &mut transcoder, &[2], "done 02");
     Ok(())
 }
 
 #[test]
 fn payloads_too_large(rt: HostRuntime) -> Result<(), Fail> {
-    let int = parsed(rt.alloc(), "\"int\"")?;
     let long = vec![in rt.alloc(); 0u8; MOST_PAYLOAD + 1]?;
-    let mut transcoder = transcoder(rt.alloc(), &int, &int)?;
-    let refused = outcome(&mut transcoder, &long);
-    assert!(rt; matches!(refused, Err(TranscodeError::TooLarge)));
-    let after = outcome_words(rt.alloc(), &outcome(&mut transcoder, &[2])?)?;
-    assert_eq!(rt; after.as_str(), "done 02");
-    Ok(())
+    let pair = pair_of(rt.alloc(), "\"int\"", "\"int\"")?;
+    assert_refuses(&rt, &pair, &long)
 }
 
 /// An array of records Q, whose fields are these.
@@ -92,42 +129,97 @@ fn size(alloc: Global, outcome: &Outcome) -> Result<String, AllocError> {
     }
 }
 
+/// The size of the answer to a payload.
+fn answer_size(
+    alloc: Global,
+    transcoder: &mut Transcoder<'_>,
+    payload: &[u8],
+) -> Result<String, Fail> {
+    let outcome = outcome(transcoder, payload)?;
+    Ok(size(alloc, &outcome)?)
+}
+
 /// The size of the next answer.
 fn next_size(alloc: Global, transcoder: &mut Transcoder<'_>, hex: &str) -> Result<String, Fail> {
     let payload = hex::decode(alloc, hex)?;
-    let outcome = outcome(transcoder, &payload)?;
-    Ok(size(alloc, &outcome)?)
+    answer_size(alloc, transcoder, &payload)
+}
+
+/// Whether that is the size of the next answer.
+fn is_next_size(
+    alloc: Global,
+    transcoder: &mut Transcoder<'_>,
+    hex: &str,
+    want: &str,
+) -> Result<bool, Fail> {
+    let found = next_size(alloc, transcoder, hex)?;
+    Ok(found.as_str() == want)
+}
+
+/// Whether the next answers have these sizes.
+fn assert_next_sizes(
+    rt: &(impl Abort + AllocGlobal),
+    transcoder: &mut Transcoder<'_>,
+    rows: &[(&str, &str)],
+) -> Result<(), Fail> {
+    for (hex, want) in rows {
+        assert!(rt; is_next_size(rt.alloc(), transcoder, hex, want)?, "{hex}");
+    }
+    Ok(())
+}
+
+/// Whether payloads of a pair, one after another, have answers of these sizes.
+fn assert_sizes(
+    rt: &(impl Abort + AllocGlobal),
+    pair: &Pair,
+    rows: &[(&str, &str)],
+) -> Result<(), Fail> {
+    let mut transcoder = transcoder(rt.alloc(), pair)?;
+    assert_next_sizes(rt, &mut transcoder, rows)
+}
+
+/// A pair of arrays, of which the reader's has a long default for each item.
+fn array_pair(alloc: Global, long: &str) -> Result<Pair, Fail> {
+    let writer = array_of(alloc, "")?;
+    let reader = array_of(alloc, long)?;
+    Ok(pair_of(alloc, &writer, &reader)?)
+}
+
+fn long_array_pair(alloc: Global) -> Result<Pair, Fail> {
+    let long = long_field(alloc)?;
+    array_pair(alloc, &long)
 }
 
 #[test]
 fn answers_too_large(rt: HostRuntime) -> Result<(), Fail> {
-    let alloc = rt.alloc();
+    let pair = long_array_pair(rt.alloc())?;
+    let rows = [
+        ("a00500", "output too large"),
+        ("9e0500", "67001008 bytes"),
+        ("a00500", "output too large"),
+        ("9e0500", "67001008 bytes"),
+    ];
+    assert_sizes(&rt, &pair, &rows)
+}
+
+/// A pair of records of such an array, and of an enum of which the reader has one symbol less.
+fn record_pair(alloc: Global, long: &str) -> Result<Pair, Fail> {
+    let writer = record_of(alloc, "", "\"A\",\"B\"")?;
+    let reader = record_of(alloc, long, "\"A\"")?;
+    Ok(pair_of(alloc, &writer, &reader)?)
+}
+
+fn long_record_pair(alloc: Global) -> Result<Pair, Fail> {
     let long = long_field(alloc)?;
-    let w = parsed(alloc, array_of(alloc, "")?.as_str())?;
-    let r = parsed(alloc, array_of(alloc, long.as_str())?.as_str())?;
-    let mut transcoder = transcoder(alloc, &w, &r)?;
-    for _turn in 0..2 {
-        for (hex, want) in [("a00500", "output too large"), ("9e0500", "67001008 bytes")] {
-            let found = next_size(alloc, &mut transcoder, hex)?;
-            assert_eq!(rt; found.as_str(), want, "{hex}");
-        }
-    }
-    Ok(())
+    record_pair(alloc, &long)
 }
 
 #[test]
 fn a_mismatch_after_the_limit_is_told(rt: HostRuntime) -> Result<(), Fail> {
-    let alloc = rt.alloc();
-    let long = long_field(alloc)?;
-    let w = parsed(alloc, record_of(alloc, "", "\"A\",\"B\"")?.as_str())?;
-    let r = parsed(alloc, record_of(alloc, long.as_str(), "\"A\"")?.as_str())?;
-    let mut transcoder = transcoder(alloc, &w, &r)?;
-    for (hex, want) in [
+    let pair = long_record_pair(rt.alloc())?;
+    let rows = [
         ("a0050000", "output too large"),
         ("a0050002", "mismatch NoSymbol 3 4"),
-    ] {
-        let found = next_size(alloc, &mut transcoder, hex)?;
-        assert_eq!(rt; found.as_str(), want, "{hex}");
-    }
-    Ok(())
+    ];
+    assert_sizes(&rt, &pair, &rows)
 }
