@@ -3,7 +3,7 @@
 use isa::{Entry, Instr, Lists, Parts, Program, ProgramError};
 use outcome::{Mismatch, MismatchKind};
 use std::alloc::{AllocError, Global};
-use std::test::Fail;
+use std::process::Abort;
 
 /// A node of the writer, which matches none of the reader's.
 fn miss(reader_node: usize) -> Mismatch {
@@ -14,28 +14,37 @@ fn miss(reader_node: usize) -> Mismatch {
     }
 }
 
+/// Adds a code, a constant, a map, a jump table and a miss.
+fn fill(parts: &mut Parts, code: &[Instr]) -> Result<(), AllocError> {
+    parts.code.extend_from_slice(code)?;
+    parts.constants.push(&[2u8, 4])?;
+    parts.maps.push(&[Entry::Position(4_095), Entry::Miss(0)])?;
+    parts.jumps.push(&[0u32, 1])?;
+    parts.misses.push(miss(0))?;
+    Ok(())
+}
+
 /// The parts of a code with a constant, a map, a jump table and a miss.
 fn parts(alloc: Global, code: &[Instr]) -> Result<Parts, AllocError> {
-    let mut constants = Lists::new(alloc);
-    constants.push(&[2u8, 4])?;
-    let mut maps = Lists::new(alloc);
-    maps.push(&[Entry::Position(4_095), Entry::Miss(0)])?;
-    let mut jumps = Lists::new(alloc);
-    jumps.push(&[0u32, 1])?;
-    let mut misses = Vec::new(alloc);
-    misses.push(miss(0))?;
-    Ok(Parts {
-        code: code.to_vec(alloc)?,
-        constants,
-        maps,
-        jumps,
-        misses,
-    })
+    let mut parts = Parts {
+        code: Vec::new(alloc),
+        constants: Lists::new(alloc),
+        maps: Lists::new(alloc),
+        jumps: Lists::new(alloc),
+        misses: Vec::new(alloc),
+    };
+    fill(&mut parts, code)?;
+    Ok(parts)
+}
+
+/// The first thing that keeps parts from being a program.
+fn fault(parts: Parts) -> Option<ProgramError> {
+    Program::new(parts).err()
 }
 
 /// The first thing that keeps a code from being a program.
 fn fault_of(alloc: Global, code: &[Instr]) -> Result<Option<ProgramError>, AllocError> {
-    Ok(Program::new(parts(alloc, code)?).err())
+    Ok(fault(parts(alloc, code)?))
 }
 
 /// Adds a list, again where memory ran out the first time.
@@ -67,13 +76,16 @@ fn lists<T: Copy>(alloc: Global, list: &[T], times: usize) -> Result<Lists<T>, A
     Ok(lists)
 }
 
-#[test]
-fn keeps_lists_and_shares_them(rt: HostRuntime) -> Result<(), Fail> {
-    let mut lists = Lists::new(rt.alloc());
-    push(&mut lists, &[1u8, 2])?;
-    push(&mut lists, &[])?;
-    push_first(&mut lists)?;
-    push(&mut lists, &[3])?;
+/// Adds two numbers, none, the same two and one.
+fn push_four(lists: &mut Lists<u8>) -> Result<(), AllocError> {
+    push(lists, &[1u8, 2])?;
+    push(lists, &[])?;
+    push_first(lists)?;
+    push(lists, &[3])
+}
+
+/// Whether lists are those four.
+fn assert_four(rt: &impl Abort, lists: &Lists<u8>) {
     assert!(rt; lists.len() == 4);
     assert!(rt; lists.get(0) == Some([1u8, 2].as_slice()));
     assert!(rt; lists.get(1) == Some([0u8; 0].as_slice()));
@@ -83,17 +95,20 @@ fn keeps_lists_and_shares_them(rt: HostRuntime) -> Result<(), Fail> {
     assert!(rt; lists.first_empty() == Some(1));
     assert!(rt; lists.total_is_within(5) && !lists.total_is_within(4));
     assert!(rt; lists.are_within(2) && !lists.are_within(1));
-    Ok(())
 }
 
 #[test]
-fn a_program_shows_its_parts(rt: HostRuntime) {
-    let code = [Instr::Call(1), Instr::Halt];
-    let parts = parts(rt.alloc(), &code).expect(&rt, "no memory");
-    let program = Program::new(parts).expect(&rt, "a program");
+fn keeps_lists_and_shares_them(rt: HostRuntime) {
+    let mut lists = Lists::new(rt.alloc());
+    push_four(&mut lists).expect(&rt, "no memory");
+    assert_four(&rt, &lists);
+}
+
+/// Whether a program has a code of two instructions and one thing of each kind.
+fn assert_shows(rt: &impl Abort, program: &Program, code: &[Instr]) {
     program.is_in_range();
     assert!(rt; program.len() == 2);
-    assert!(rt; program.code() == code.as_slice());
+    assert!(rt; program.code() == code);
     assert!(rt; program.instr(1) == Some(Instr::Halt));
     assert!(rt; program.instr(2).is_none());
     assert!(rt; program.constants().get(0) == Some([2u8, 4].as_slice()));
@@ -101,6 +116,14 @@ fn a_program_shows_its_parts(rt: HostRuntime) {
     assert!(rt; program.maps().get(0) == Some(entries.as_slice()));
     assert!(rt; program.jumps().get(0) == Some([0u32, 1].as_slice()));
     assert!(rt; program.misses() == [miss(0)].as_slice());
+}
+
+#[test]
+fn a_program_shows_its_parts(rt: HostRuntime) {
+    let code = [Instr::Call(1), Instr::Halt];
+    let parts = parts(rt.alloc(), &code).expect(&rt, "no memory");
+    let program = Program::new(parts).expect(&rt, "a program");
+    assert_shows(&rt, &program, &code);
 }
 
 #[test]
@@ -152,64 +175,158 @@ fn operands_out_of_range_are_told_by_their_address(rt: HostRuntime) {
     }
 }
 
+/// Adds what is out of range to the first so many of three tables: the misses, the jump tables and the maps.
+fn push_out_of_range(parts: &mut Parts, tables: usize) -> Result<(), AllocError> {
+    if tables > 0 {
+        parts.misses.push(miss(1_024))?;
+    }
+    if tables > 1 {
+        parts.jumps.push(&[1, 0, 2])?;
+    }
+    if tables > 2 {
+        parts
+            .maps
+            .push(&[Entry::Position(0), Entry::Position(4_096)])?;
+    }
+    Ok(())
+}
+
+/// What is told of a code with so many tables out of range.
+fn fault_of_tables(
+    alloc: Global,
+    code: &[Instr],
+    tables: usize,
+) -> Result<Option<ProgramError>, AllocError> {
+    let mut parts = parts(alloc, code)?;
+    push_out_of_range(&mut parts, tables)?;
+    Ok(fault(parts))
+}
+
 #[test]
 fn tells_what_tables_have_out_of_range(rt: HostRuntime) {
+    let faults = [
+        ProgramError::Instr(0),
+        ProgramError::Miss(1),
+        ProgramError::Address(1, 2),
+        ProgramError::Entry(1, 1),
+    ];
     let code = [Instr::Jump(7), Instr::Halt];
-    let mut all = parts(rt.alloc(), &code).expect(&rt, "no memory");
-    all.misses.push(miss(1_024)).expect(&rt, "no memory");
-    all.jumps.push(&[1, 0, 2]).expect(&rt, "no memory");
-    all.maps
-        .push(&[Entry::Position(0), Entry::Position(4_096)])
-        .expect(&rt, "no memory");
-    assert!(rt; Program::new(all).err() == Some(ProgramError::Entry(1, 1)));
-    let mut all = parts(rt.alloc(), &code).expect(&rt, "no memory");
-    all.misses.push(miss(1_024)).expect(&rt, "no memory");
-    all.jumps.push(&[1, 0, 2]).expect(&rt, "no memory");
-    assert!(rt; Program::new(all).err() == Some(ProgramError::Address(1, 2)));
-    let mut all = parts(rt.alloc(), &code).expect(&rt, "no memory");
-    all.misses.push(miss(1_024)).expect(&rt, "no memory");
-    assert!(rt; Program::new(all).err() == Some(ProgramError::Miss(1)));
-    let all = parts(rt.alloc(), &code).expect(&rt, "no memory");
-    assert!(rt; Program::new(all).err() == Some(ProgramError::Instr(0)));
+    for (tables, fault) in faults.into_iter().enumerate() {
+        let found = fault_of_tables(rt.alloc(), &code, tables).expect(&rt, "no memory");
+        assert!(rt; found == Some(fault));
+    }
+}
+
+/// Adds an empty constant, and as many maps of one entry.
+fn push_empty(alloc: Global, parts: &mut Parts, maps: usize) -> Result<(), AllocError> {
+    parts.constants.push(&[])?;
+    parts.maps = lists(alloc, &[Entry::Position(0)], maps)?;
+    Ok(())
+}
+
+/// What is told of a code that is out of range, with these.
+fn fault_of_empty(alloc: Global, maps: usize) -> Result<Option<ProgramError>, AllocError> {
+    let mut parts = parts(alloc, &[Instr::Jump(7)])?;
+    push_empty(alloc, &mut parts, maps)?;
+    Ok(fault(parts))
 }
 
 #[test]
 fn tells_what_comes_before_ranges(rt: HostRuntime) {
-    let fault = fault_of(rt.alloc(), &[]).expect(&rt, "no memory");
-    assert!(rt; fault == Some(ProgramError::NoCode));
-    let mut all = parts(rt.alloc(), &[Instr::Jump(7)]).expect(&rt, "no memory");
-    all.constants.push(&[]).expect(&rt, "no memory");
-    assert!(rt; Program::new(all).err() == Some(ProgramError::EmptyConstant(1)));
-    let mut all = parts(rt.alloc(), &[Instr::Jump(7)]).expect(&rt, "no memory");
-    all.constants.push(&[]).expect(&rt, "no memory");
-    all.maps = lists(rt.alloc(), &[Entry::Position(0)], 65_537).expect(&rt, "no memory");
-    assert!(rt; Program::new(all).err() == Some(ProgramError::TooLarge));
+    let none = fault_of(rt.alloc(), &[]).expect(&rt, "no memory");
+    assert!(rt; none == Some(ProgramError::NoCode));
+    let empty = fault_of_empty(rt.alloc(), 1).expect(&rt, "no memory");
+    assert!(rt; empty == Some(ProgramError::EmptyConstant(1)));
+    let many = fault_of_empty(rt.alloc(), 65_537).expect(&rt, "no memory");
+    assert!(rt; many == Some(ProgramError::TooLarge));
+}
+
+/// As many times one list of so many equal values.
+fn long_lists<T: Copy>(
+    alloc: Global,
+    value: T,
+    len: usize,
+    times: usize,
+) -> Result<Lists<T>, AllocError> {
+    let list = vec![in alloc; value; len]?;
+    lists(alloc, &list, times)
+}
+
+/// The parts of a code of so many instructions.
+fn halts(alloc: Global, many: usize) -> Result<Parts, AllocError> {
+    let code = vec![in alloc; Instr::Halt; many]?;
+    parts(alloc, &code)
+}
+
+/// How many tables there are, and how long they are.
+#[derive(Clone, Copy)]
+struct Sizes {
+    code: usize,
+    maps: usize,
+    jumps: usize,
+    jump: usize,
+    constants: usize,
+    constant: usize,
+}
+
+/// Replaces the tables of parts.
+fn set_tables(alloc: Global, parts: &mut Parts, sizes: &Sizes) -> Result<(), AllocError> {
+    parts.maps = lists(alloc, &[Entry::Position(0)], sizes.maps)?;
+    parts.jumps = long_lists(alloc, 0u32, sizes.jump, sizes.jumps)?;
+    parts.constants = long_lists(alloc, 0u8, sizes.constant, sizes.constants)?;
+    Ok(())
+}
+
+/// What is told of parts of these sizes.
+fn fault_of_sizes(alloc: Global, sizes: &Sizes) -> Result<Option<ProgramError>, AllocError> {
+    let mut parts = halts(alloc, sizes.code)?;
+    set_tables(alloc, &mut parts, sizes)?;
+    Ok(fault(parts))
 }
 
 #[test]
 fn programs_are_taken_up_to_the_limits(rt: HostRuntime) {
-    let code = vec![in rt.alloc(); Instr::Halt; 262_144].expect(&rt, "no memory");
-    let mut all = parts(rt.alloc(), &code).expect(&rt, "no memory");
-    all.maps = lists(rt.alloc(), &[Entry::Position(0)], 65_536).expect(&rt, "no memory");
-    let entries = vec![in rt.alloc(); 0u32; 4_096].expect(&rt, "no memory");
-    all.jumps = lists(rt.alloc(), &entries, 2).expect(&rt, "no memory");
-    let bytes = vec![in rt.alloc(); 0u8; 1_048_576].expect(&rt, "no memory");
-    all.constants = lists(rt.alloc(), &bytes, 1).expect(&rt, "no memory");
-    assert!(rt; Program::new(all).is_ok());
+    let most = Sizes {
+        code: 262_144,
+        maps: 65_536,
+        jumps: 2,
+        jump: 4_096,
+        constants: 1,
+        constant: 1_048_576,
+    };
+    let fault = fault_of_sizes(rt.alloc(), &most).expect(&rt, "no memory");
+    assert!(rt; fault.is_none());
+}
+
+/// What is told of a code with constants of so many bytes, so many, in place of its own.
+fn fault_of_constants(
+    alloc: Global,
+    len: usize,
+    times: usize,
+) -> Result<Option<ProgramError>, AllocError> {
+    let mut parts = halts(alloc, 1)?;
+    parts.constants = long_lists(alloc, 0u8, len, times)?;
+    Ok(fault(parts))
+}
+
+/// What is told of a code with a jump table of so many entries in place of its own.
+fn fault_of_jumps(alloc: Global, len: usize) -> Result<Option<ProgramError>, AllocError> {
+    let mut parts = halts(alloc, 1)?;
+    parts.jumps = long_lists(alloc, 0u32, len, 1)?;
+    Ok(fault(parts))
+}
+
+/// What is told of so many instructions.
+fn fault_of_halts(alloc: Global, many: usize) -> Result<Option<ProgramError>, AllocError> {
+    Ok(fault(halts(alloc, many)?))
 }
 
 #[test]
 fn programs_past_a_limit_are_too_large(rt: HostRuntime) {
-    let code = vec![in rt.alloc(); Instr::Halt; 262_145].expect(&rt, "no memory");
-    assert!(rt;
-        fault_of(rt.alloc(), &code).expect(&rt, "no memory") == Some(ProgramError::TooLarge)
-    );
-    let mut all = parts(rt.alloc(), &[Instr::Halt]).expect(&rt, "no memory");
-    let bytes = vec![in rt.alloc(); 0u8; 524_289].expect(&rt, "no memory");
-    all.constants = lists(rt.alloc(), &bytes, 2).expect(&rt, "no memory");
-    assert!(rt; Program::new(all).err() == Some(ProgramError::TooLarge));
-    let mut all = parts(rt.alloc(), &[Instr::Halt]).expect(&rt, "no memory");
-    let entries = vec![in rt.alloc(); 0u32; 4_097].expect(&rt, "no memory");
-    all.jumps = lists(rt.alloc(), &entries, 1).expect(&rt, "no memory");
-    assert!(rt; Program::new(all).err() == Some(ProgramError::TooLarge));
+    let code = fault_of_halts(rt.alloc(), 262_145).expect(&rt, "no memory");
+    assert!(rt; code == Some(ProgramError::TooLarge));
+    let constants = fault_of_constants(rt.alloc(), 524_289, 2).expect(&rt, "no memory");
+    assert!(rt; constants == Some(ProgramError::TooLarge));
+    let jumps = fault_of_jumps(rt.alloc(), 4_097).expect(&rt, "no memory");
+    assert!(rt; jumps == Some(ProgramError::TooLarge));
 }

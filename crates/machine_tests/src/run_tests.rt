@@ -1,0 +1,190 @@
+//! Runs in pieces and slices: neither changes the end or the count.
+
+use crate::again::{compiled, pair_of, pushed};
+use crate::rows::COUNTS;
+use crate::words::end_words;
+use isa::Program;
+use machine::{Run, Slice, Why};
+use std::alloc::{AllocError, Global};
+use std::process::Abort;
+use std::test::Fail;
+
+/// More slices than any row takes.
+const TURNS: usize = 20_000;
+
+/// Rows until the run ends or waits, in slices of so many.
+fn advance(run: &mut Run<'_>, k: u64) {
+    for _turn in 0..TURNS {
+        if matches!(run.slice(&[], k).why, Why::Ended | Why::Waits) {
+            return;
+        }
+    }
+}
+
+/// What a run shows, in words.
+fn words(alloc: Global, run: &Run<'_>) -> Result<String, AllocError> {
+    let end = end_words(alloc, run.machine().end())?;
+    format!(in alloc; "{end} count {}", run.machine().count())
+}
+
+/// Takes a payload in pieces and slices of so many, to its end.
+fn drive(run: &mut Run<'_>, payload: &[u8], size: usize, k: u64) -> Result<(), AllocError> {
+    for piece in payload.chunks(size.max(1)) {
+        advance(run, k);
+        pushed(run, piece)?;
+    }
+    advance(run, k);
+    run.close();
+    advance(run, k);
+    Ok(())
+}
+
+/// What a run shows on a payload in pieces and slices of so many.
+fn cut_run(
+    alloc: Global,
+    program: &Program,
+    payload: &[u8],
+    size: usize,
+    k: u64,
+) -> Result<String, AllocError> {
+    let mut run = Run::new(alloc, program);
+    drive(&mut run, payload, size, k)?;
+    words(alloc, &run)
+}
+
+/// Whether one way to cut a payload and its rows comes to that answer.
+fn is_cut_answer(
+    alloc: Global,
+    program: &Program,
+    payload: &[u8],
+    (size, k): (usize, u64),
+    answer: &str,
+) -> Result<bool, AllocError> {
+    let found = cut_run(alloc, program, payload, size, k)?;
+    Ok(found.as_str() == answer)
+}
+
+/// Whether each way comes to that answer.
+fn is_answer(
+    alloc: Global,
+    program: &Program,
+    payload: &[u8],
+    answer: &str,
+) -> Result<bool, AllocError> {
+    for way in [(payload.len(), u64::MAX), (1, u64::MAX), (3, 2), (1, 1)] {
+        if !is_cut_answer(alloc, program, payload, way, answer)? {
+            return Ok(false);
+        }
+    }
+    Ok(true)
+}
+
+/// The same of a payload in hexadecimal.
+fn is_hex_answer(alloc: Global, program: &Program, hex: &str, answer: &str) -> Result<bool, Fail> {
+    let payload = hex::decode(alloc, hex)?;
+    Ok(is_answer(alloc, program, &payload, answer)?)
+}
+
+/// The program of a pair of schemas.
+fn program_of(alloc: Global, writer: &str, reader: &str) -> Result<Program, Fail> {
+    let pair = pair_of(alloc, writer, reader)?;
+    Ok(compiled(alloc, &pair)?)
+}
+
+/// Whether each way to cut a payload of a pair comes to that answer.
+fn is_texts_answer(
+    alloc: Global,
+    writer: &str,
+    reader: &str,
+    hex: &str,
+    answer: &str,
+) -> Result<bool, Fail> {
+    let program = program_of(alloc, writer, reader)?;
+    is_hex_answer(alloc, &program, hex, answer)
+}
+
+/// Whether a row is true.
+fn is_true(alloc: Global, row: &str) -> Result<bool, Fail> {
+    let mut parts = row.split('|');
+    let (Some(writer), Some(reader), Some(hex), Some(answer)) = (
+        parts.next(),
+        parts.next(),
+        parts.next(),
+        parts.next(),
+    ) else {
+        return Ok(false);
+    };
+    is_texts_answer(alloc, writer, reader, hex, answer)
+}
+
+#[test]
+fn cuts_and_slices_change_nothing(rt: HostRuntime) -> Result<(), Fail> {
+    for row in COUNTS.lines() {
+        assert!(rt; is_true(rt.alloc(), row)?, "{row}");
+    }
+    Ok(())
+}
+
+/// Whether a new run takes one row, waits, and ends with another one once it is closed, and can be used again.
+fn assert_waits(rt: &impl Abort, run: &mut Run<'_>) {
+    let waits = Slice {
+        rows: 1,
+        why: Why::Waits,
+    };
+    assert!(rt; run.slice(&[], 100) == waits);
+    run.close();
+    let ended = Slice {
+        rows: 1,
+        why: Why::Ended,
+    };
+    assert!(rt; run.slice(&[], 100) == ended);
+    run.reset();
+    assert!(rt; run.input().is_empty() && !run.is_closed());
+    assert!(rt; run.machine().count() == 0);
+}
+
+/// The same for a run of a program.
+fn assert_run_waits(rt: &(impl Abort + AllocGlobal), program: &Program) {
+    let mut run = Run::new(rt.alloc(), program);
+    assert_waits(rt, &mut run);
+}
+
+#[test]
+fn a_run_waits_for_bytes(rt: HostRuntime) -> Result<(), Fail> {
+    let list = "{\"type\":\"array\",\"items\":\"long\"}";
+    let program = program_of(rt.alloc(), list, list)?;
+    assert_run_waits(&rt, &program);
+    Ok(())
+}
+
+/// Whether the arena of a run on a payload is the payload, after so many rows.
+fn has_arena(run: &mut Run<'_>, payload: &[u8], k: u64) -> Result<bool, AllocError> {
+    pushed(run, payload)?;
+    run.close();
+    let _rows = run.slice(&[], k);
+    Ok(run.machine().arena() == payload)
+}
+
+/// The same for a run of a program.
+fn is_arena(alloc: Global, program: &Program, payload: &[u8], k: u64) -> Result<bool, AllocError> {
+    let mut run = Run::new(alloc, program);
+    has_arena(&mut run, payload, k)
+}
+
+/// The program of a row.
+fn program_of_row(alloc: Global, row: &str) -> Result<Program, Fail> {
+    let mut parts = row.split('|');
+    let (Some(writer), Some(reader)) = (parts.next(), parts.next()) else {
+        return Err("a row has two schemas".into());
+    };
+    program_of(alloc, writer, reader)
+}
+
+#[test]
+fn the_arena_of_a_record_whose_fields_are_swapped(rt: HostRuntime) -> Result<(), Fail> {
+    let row = COUNTS.lines().nth(7).unwrap_or("");
+    let program = program_of_row(rt.alloc(), row)?;
+    let payload = [0x36, 0x06, 0x66, 0x6f, 0x6f];
+    assert!(rt; is_arena(rt.alloc(), &program, &payload, 8)?);
+    Ok(())
+}

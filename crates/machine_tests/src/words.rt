@@ -1,0 +1,60 @@
+//! Answers in words, as the rows have them.
+
+use crate::again::{Pair, outcome, transcoded};
+use isa::End;
+use machine::{Outcome, PairError, TranscodeError, Transcoder};
+use std::alloc::{AllocError, Global};
+
+/// The outcome of a payload.
+pub(crate) fn outcome_words(alloc: Global, outcome: &Outcome) -> Result<String, AllocError> {
+    match outcome {
+        Outcome::Done(bytes) => {
+            let hex = hex::encode(alloc, bytes.as_slice())?;
+            format!(in alloc; "done {hex}")
+        }
+        Outcome::Mismatch(found) => {
+            let kind = found.kind.name();
+            format!(in alloc;
+                "mismatch {kind} {} {}",
+                found.writer_node, found.reader_node
+            )
+        }
+        Outcome::Malformed { kind, at } => {
+            let kind = kind.name();
+            format!(in alloc; "malformed {kind} at {at}")
+        }
+        Outcome::OutputTooLarge => String::from_str(alloc, "output too large"),
+    }
+}
+
+/// How a run stands.
+pub(crate) fn end_words(alloc: Global, end: Option<&End>) -> Result<String, AllocError> {
+    match end {
+        Some(End::Out(outcome)) => outcome_words(alloc, outcome),
+        Some(End::Trap(_)) => String::from_str(alloc, "trap"),
+        None => String::from_str(alloc, "running"),
+    }
+}
+
+/// The outcome of a payload by itself, or why there is none.
+pub(crate) fn pair_words(alloc: Global, pair: &Pair, payload: &[u8]) -> Result<String, AllocError> {
+    match transcoded(alloc, pair, payload) {
+        Ok(outcome) => outcome_words(alloc, &outcome),
+        Err(PairError::ProgramTooLarge) => String::from_str(alloc, "program too large"),
+        Err(PairError::TooLarge) => String::from_str(alloc, "payload too large"),
+        Err(PairError::NoMemory) => Err(AllocError),
+    }
+}
+
+/// The outcome of the next payload of several, or why there is none.
+pub(crate) fn next_words(
+    alloc: Global,
+    transcoder: &mut Transcoder<'_>,
+    payload: &[u8],
+) -> Result<String, AllocError> {
+    match outcome(transcoder, payload) {
+        Ok(outcome) => outcome_words(alloc, &outcome),
+        Err(TranscodeError::TooLarge) => String::from_str(alloc, "payload too large"),
+        Err(TranscodeError::NoMemory) => Err(AllocError),
+    }
+}
