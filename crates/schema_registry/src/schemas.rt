@@ -110,7 +110,8 @@ impl SchemaTable {
     /// Takes the schema away that came last, if one came.
     pub(crate) fn cut_to(&mut self, count: usize)
         requires one { length self.old ≤ count + 1 }
-        requires new { (s : Declaration) → self.old ≡ take count self.old ++ s ∷ [] → id_of s.text (take count self.old) ≡ None }
+        requires new { (s : Declaration) → self.old ≡ take count self.old ++ s ∷ []
+            → id_of s.text (take count self.old) ≡ None }
         ensures { self.new ≡ take count self.old }
     {
         if self.schemas.len() > count {

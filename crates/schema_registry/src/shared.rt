@@ -61,7 +61,8 @@ impl SharedRegistry {
 
     /// The schema of an id, where this thread can see one.
     pub fn find(&self, id: u32) -> Option<(&Schema, Receipt)>
-        ensures { IfSome result (λ r. IsReceiptOf self.now r.1 × (receipt_id r.1 ≡ id) × (receipt_schema r.1 ≡ Some r.0.now)) }
+        ensures { IfSome result (λ r. IsReceiptOf self.now r.1 × (receipt_id r.1 ≡ id)
+            × (receipt_schema r.1 ≡ Some r.0.now)) }
     {
         if id == 0 || id as usize > MOST_SCHEMAS {
             return None;

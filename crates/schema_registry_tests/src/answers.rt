@@ -51,8 +51,8 @@ fn answers_each(
     Ok(true)
 }
 
-/// Rows with the answers that a new registry gives to their commands after other rows, which have the numbers from 1 to a
-/// count in place of `#`; or nothing, where those are answered otherwise.
+/// Rows with the answers that a new registry gives to their commands after other rows, which have the numbers from 1 to
+/// a count in place of `#`; or nothing, where those are answered otherwise.
 pub(crate) fn answered_after(
     alloc: Global,
     numbered_rows: &str,

@@ -39,7 +39,8 @@ fn number_for(versions: &Versions, version: Version) -> u32
 
 /// The number of the version that is asked for, and the id of its schema.
 fn version_at(versions: &Versions, version: Version) -> Option<(u32, u32)>
-    ensures { (s : List ℕ) → option_map (λ p. entry_of s p.0 p.1) result ≡ version_at version (versions_from s 1 versions.now) }
+    ensures { (s : List ℕ) → option_map (λ p. entry_of s p.0 p.1) result
+        ≡ version_at version (versions_from s 1 versions.now) }
 {
     let number = number_for(versions, version);
     let id = versions.id_at(number)?;
@@ -61,7 +62,8 @@ impl Registry {
     /// The versions of a subject.
     fn versions_of(&self, subject: &str) -> Result<&Versions, Refusal>
         ensures { MatchResult result
-            (λ v. (v.now ≢ []) × (versions_of subject.now (registry_after self.now).entries ≡ versions_from subject.now 1 v.now))
+            (λ v. (v.now ≢ [])
+            × (versions_of subject.now (registry_after self.now).entries ≡ versions_from subject.now 1 v.now))
             (λ e. (e ≡ Refusal.NoSubject) × (versions_of subject.now (registry_after self.now).entries ≡ [])) }
     {
         match self.subjects.get(subject) {

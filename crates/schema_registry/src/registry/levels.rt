@@ -27,7 +27,8 @@ fn put_level(
     ensures put { OnOk result ((s : List ℕ) → get_by_text levels.new s
         ≡ (if bytes_eq (string_bytes subject) s then Some level else get_by_text levels.old s)) }
     ensures full { MatchResult result (λ _. lacks_room levels.old (string_bytes subject) MOST_LEVELS ≡ false)
-        (λ e. e ≢ Refusal.NoMemory → (e ≡ Refusal.Full) × (lacks_room levels.old (string_bytes subject) MOST_LEVELS ≡ true)) }
+        (λ e. e ≢ Refusal.NoMemory → (e ≡ Refusal.Full)
+        × (lacks_room levels.old (string_bytes subject) MOST_LEVELS ≡ true)) }
     ensures ordered { IsOrdered string_cmp levels.old }
     ensures err { OnErr result (IsUnchanged levels.old levels.new) }
 {
@@ -57,7 +58,8 @@ impl Registry {
         history: History,
     ) -> Result<Reply, Refusal>
         requires { history.commands ≡ self.old ++ SetLevelCommand (option_map string_bytes subject) level ∷ [] }
-        ensures answer { Gives (answer_to (registry_after self.old) (SetLevelCommand (option_map string_bytes subject) level)) result }
+        ensures answer { Gives (answer_to (registry_after self.old)
+            (SetLevelCommand (option_map string_bytes subject) level)) result }
         ensures ok { OnOk result (self.new ≡ history.commands) }
         ensures err { OnErr result (self.new ≡ self.old) }
     {

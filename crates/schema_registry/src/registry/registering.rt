@@ -27,7 +27,8 @@ use std::collections::BTreeMap;
 /// The schema that a text declares.
 pub(crate) fn parse_schema(alloc: Global, text: &str) -> Result<Schema, Refusal>
     ensures { MatchResult result (λ s. declaration_of text.now ≡ Ok s)
-        (λ e. e ≢ Refusal.NoMemory → (f : SchemaError) × (e ≡ Refusal.BadSchema f) × (declaration_of text.now ≡ Err f)) }
+        (λ e. e ≢ Refusal.NoMemory
+        → (f : SchemaError) × (e ≡ Refusal.BadSchema f) × (declaration_of text.now ≡ Err f)) }
 {
     match Schema::parse(alloc, text) {
         Ok(schema) => Ok(schema),
@@ -46,7 +47,8 @@ fn add_version(
     requires new { number_of id (ids_in (get_by_text subjects.old (string_bytes subject))) ≡ None }
     requires known { id ≤ MOST_SCHEMAS }
     ensures ok { OnOk result ((s : List ℕ) → get_by_text subjects.new s
-        ≡ (if bytes_eq (string_bytes subject) s then Some (ids_in (get_by_text subjects.old s) ++ id ∷ []) else get_by_text subjects.old s)) }
+        ≡ (if bytes_eq (string_bytes subject) s then Some (ids_in (get_by_text subjects.old s) ++ id ∷ [])
+        else get_by_text subjects.old s)) }
     ensures err { OnErr result ((s : List ℕ) → get_by_text subjects.new s ≡ get_by_text subjects.old s) }
 {
     if let Some(versions) = subjects.get_mut(subject.as_str()) {
@@ -62,7 +64,8 @@ impl Registry {
     /// The version of a subject that has a schema, and the schema's id.
     pub(super) fn version_with(&self, subject: &str, schema: &Schema) -> Option<(u32, u32)>
         ensures { option_map (λ p. entry_of subject.now p.0 p.1) result
-            ≡ with_text schema.now.text (registry_after self.now).schemas (versions_of subject.now (registry_after self.now).entries) }
+            ≡ with_text schema.now.text (registry_after self.now).schemas
+            (versions_of subject.now (registry_after self.now).entries) }
     {
         let id = self.schemas.id_of(schema.text())?;
         let number = self.subjects.get(subject)?.number_of(id)?;
@@ -167,7 +170,8 @@ impl Registry {
         history: History,
     ) -> Result<Reply, Refusal>
         requires { history.commands ≡ self.old ++ RegisterCommand (string_bytes subject) (string_bytes text) ∷ [] }
-        ensures answer { Gives (answer_to (registry_after self.old) (RegisterCommand (string_bytes subject) (string_bytes text))) result }
+        ensures answer { Gives (answer_to (registry_after self.old)
+            (RegisterCommand (string_bytes subject) (string_bytes text))) result }
         ensures ok { OnOk result (self.new ≡ history.commands) }
         ensures err { OnErr result (self.new ≡ self.old) }
     {
