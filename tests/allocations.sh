@@ -72,7 +72,7 @@ ask_again() {
     for ((n = 1; ; n++)); do
       refused $n "$tests" "$test" || break
       runs=$((runs + 1))
-      if [ $status = 0 ] || grep -qE 'error: .*(AllocError|AllocFailed|NoMemory)|no memory: (AllocError|AllocFailed|NoMemory)|left: Err\(Write\)' "$folder/out" "$folder/err"; then
+      if [ $status = 0 ] || grep -qE 'error: .*(AllocError|AllocFailed|NoMemory|OutOfMemory)|no memory: (AllocError|AllocFailed|NoMemory)|left: Err\(Write\)' "$folder/out" "$folder/err"; then
         count ok
       else
         count bad "$tests $test, allocation $n: $(cat "$folder/err" "$folder/out" | head -c 300)"

@@ -19,16 +19,20 @@ fn malformed(kind: MalformedKind, at: usize) -> Fault {
     Fault::Malformed { kind, at }
 }
 
-/// Whether a number is spelled by these bytes, and they are read as the number.
-fn assert_number(rt: &(impl Abort + AllocGlobal), n: i64, bytes: &[u8]) -> Result<(), AllocError> {
+/// Whether a number is spelled by these bytes.
+fn assert_spelled(rt: &(impl Abort + AllocGlobal), n: i64, bytes: &[u8]) -> Result<(), AllocError> {
     let mut out = Vec::new(rt.alloc());
     put_long(&mut out, n)?;
     assert_eq!(rt; out.as_slice(), bytes, "{n}");
+    Ok(())
+}
+
+/// Whether bytes are read as a number, which needs as many.
+fn assert_number(rt: &impl Abort, n: i64, bytes: &[u8]) {
     assert_eq!(rt; long_len(n), bytes.len(), "{n}");
     let (read, skip) = read_and_skip(&Long, bytes, 0, START);
     assert_eq!(rt; read, Ok((n, bytes.len(), START)), "{n}");
     assert_eq!(rt; skip, Ok((bytes.len(), START)), "{n}");
-    Ok(())
 }
 
 #[test]
@@ -53,7 +57,8 @@ fn numbers_of_the_specification(rt: HostRuntime) -> Result<(), AllocError> {
         ),
     ];
     for (n, bytes) in table {
-        assert_number(&rt, n, bytes)?;
+        assert_spelled(&rt, n, bytes)?;
+        assert_number(&rt, n, bytes);
     }
     Ok(())
 }
@@ -91,15 +96,16 @@ fn numbers_cut_short(rt: HostRuntime) {
     assert_eq!(rt; Long.skip(&[0x80], 0, START), Err(Fault::Need));
 }
 
-#[test]
-fn lengths_and_positions(rt: HostRuntime) {
-    limits_are_these();
-    tight_spelling_is_the_shortest();
-    content_is_a_length_and_a_fixed();
+/// Whether lengths are read, and none is less than 0.
+fn assert_lengths(rt: &impl Abort) {
     let length = malformed(MalformedKind::BadLength, 1);
     assert_eq!(rt; read_length(&[0xff, 0x04], 1, START), Ok((2, 2, START)));
     assert_eq!(rt; read_length(&[0xff, 0x01], 1, START), Err(length));
     assert_eq!(rt; read_length(&[0x80], 0, START), Err(Fault::Need));
+}
+
+/// Whether positions are read and skipped, and none passes the last one.
+fn assert_positions(rt: &impl Abort) {
     let branch = malformed(MalformedKind::BadBranch, 0);
     let position = Position {
         bad: MalformedKind::BadBranch,
@@ -109,6 +115,15 @@ fn lengths_and_positions(rt: HostRuntime) {
     assert_eq!(rt; position.skip(&[0x02], 0, START), Ok((1, START)));
     assert_eq!(rt; position.read(&[0x04], 0, START), Err(branch));
     assert_eq!(rt; position.skip(&[0x01], 0, START), Err(branch));
+}
+
+#[test]
+fn lengths_and_positions(rt: HostRuntime) {
+    limits_are_these();
+    tight_spelling_is_the_shortest();
+    content_is_a_length_and_a_fixed();
+    assert_lengths(&rt);
+    assert_positions(&rt);
     let symbol = read_position(MalformedKind::BadEnum, 1, &[0x02], 0, START);
     assert_eq!(rt; symbol, Err(malformed(MalformedKind::BadEnum, 0)));
     assert_eq!(rt; read_long(&[0xff, 0x36], 1, START), Ok((27, 2, START)));
