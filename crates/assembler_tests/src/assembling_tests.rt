@@ -2,8 +2,8 @@
 
 use crate::again::{assembled, listed};
 use assembler::{AsmError, AsmErrorKind, AsmFault};
+use isa::Program;
 use std::alloc::{AllocError, Global};
-use std::test::Fail;
 
 /// The program of a list of longs, by a union of null and the list itself.
 const LONG_LIST: &str = "avro program 1
@@ -38,13 +38,18 @@ miss 0 NoSymbol 3 0
 2 HALT
 ";
 
+/// Whether the listing of a program is this text.
+fn is_listed(alloc: Global, program: &Program, text: &str) -> Result<bool, AllocError> {
+    let listing = listed(alloc, program)?;
+    Ok(listing.as_str() == text)
+}
+
 /// Whether a text is the listing of a program, which is written so again.
 fn comes_back(alloc: Global, text: &str) -> Result<bool, AllocError> {
-    let Ok(program) = assembled(alloc, text.as_bytes()) else {
-        return Ok(false);
-    };
-    let again = listed(alloc, &program)?;
-    Ok(again.as_str() == text)
+    match assembled(alloc, text.as_bytes()) {
+        Ok(program) => is_listed(alloc, &program, text),
+        Err(_) => Ok(false),
+    }
 }
 
 /// The error of lines after the header.
@@ -59,7 +64,7 @@ fn fault(line: usize, kind: AsmErrorKind) -> Option<AsmError> {
 }
 
 #[test]
-fn listings_come_back(rt: HostRuntime) -> Result<(), Fail> {
+fn listings_come_back(rt: HostRuntime) -> Result<(), AllocError> {
     for text in [LONG_LIST, EACH_KIND, "avro program 1\n0 HALT\n"] {
         let same = comes_back(rt.alloc(), text)?;
         assert!(rt; same);
@@ -81,7 +86,7 @@ fn headers(rt: HostRuntime) {
 }
 
 #[test]
-fn lines_of_no_form(rt: HostRuntime) -> Result<(), Fail> {
+fn lines_of_no_form(rt: HostRuntime) -> Result<(), AllocError> {
     let cases = [
         ("const 0 0A\n", 2),
         ("const 0  00\n0 HALT\n", 2),
@@ -107,7 +112,7 @@ fn lines_of_no_form(rt: HostRuntime) -> Result<(), Fail> {
 }
 
 #[test]
-fn numbers_and_operands(rt: HostRuntime) -> Result<(), Fail> {
+fn numbers_and_operands(rt: HostRuntime) -> Result<(), AllocError> {
     let cases = [
         ("const 1 00\n0 HALT\n", 2, AsmErrorKind::BadIndex),
         ("0 HALT\n2 HALT\n", 3, AsmErrorKind::BadIndex),
@@ -145,31 +150,48 @@ fn numbers_and_operands(rt: HostRuntime) -> Result<(), Fail> {
     Ok(())
 }
 
-#[test]
-fn limits(rt: HostRuntime) -> Result<(), Fail> {
-    let mut text = String::from_str(rt.alloc(), "map 0")?;
-    for _ in 0..4096 {
-        text.push_str(" 1")?;
-    }
-    let within = format!(in rt.alloc(); "avro program 1\n{}\n0 HALT\n", text.as_str())?;
-    let same = comes_back(rt.alloc(), within.as_str())?;
-    assert!(rt; same);
-    text.push_str(" 1\n")?;
-    let found = error_of(rt.alloc(), text.as_str())?;
-    assert!(rt; found == fault(2, AsmErrorKind::TooLarge));
-    Ok(())
+/// Whether a map of so many entries comes back.
+fn map_comes_back(alloc: Global, entries: usize) -> Result<bool, AllocError> {
+    let entries = " 1".repeat(alloc, entries)?;
+    let text = format!(in alloc; "avro program 1\nmap 0{entries}\n0 HALT\n")?;
+    comes_back(alloc, &text)
+}
+
+/// The error of a map of so many entries.
+fn error_of_map(alloc: Global, entries: usize) -> Result<Option<AsmError>, AllocError> {
+    let entries = " 1".repeat(alloc, entries)?;
+    let lines = format!(in alloc; "map 0{entries}\n")?;
+    error_of(alloc, &lines)
 }
 
 #[test]
-fn many_instructions(rt: HostRuntime) -> Result<(), Fail> {
-    let mut text = String::from_str(rt.alloc(), "avro program 1\n")?;
-    for address in 0..3000 {
-        let line = format!(in rt.alloc(); "{address} JUMP {address}\n")?;
-        text.push_str(line.as_str())?;
-    }
-    let same = comes_back(rt.alloc(), text.as_str())?;
+fn limits(rt: HostRuntime) {
+    let same = map_comes_back(rt.alloc(), 4096).expect(&rt, "no memory");
     assert!(rt; same);
+    let found = error_of_map(rt.alloc(), 4097).expect(&rt, "no memory");
+    assert!(rt; found == fault(2, AsmErrorKind::TooLarge));
+}
+
+/// Appends a listing of so many jumps.
+fn push_jumps(text: &mut String, many: usize) -> Result<(), AllocError> {
+    text.push_str("avro program 1\n")?;
+    for address in 0..many {
+        write!(text, "{address} JUMP {address}\n")?;
+    }
     Ok(())
+}
+
+/// Whether such a listing comes back.
+fn jumps_come_back(alloc: Global, many: usize) -> Result<bool, AllocError> {
+    let mut text = String::new(alloc);
+    push_jumps(&mut text, many)?;
+    comes_back(alloc, &text)
+}
+
+#[test]
+fn many_instructions(rt: HostRuntime) {
+    let same = jumps_come_back(rt.alloc(), 3000).expect(&rt, "no memory");
+    assert!(rt; same);
 }
 
 #[test]

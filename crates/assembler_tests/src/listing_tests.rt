@@ -4,6 +4,7 @@ use crate::again::listed;
 use isa::{Entry, Instr, Lists, Parts, Program};
 use outcome::{Mismatch, MismatchKind};
 use std::alloc::{AllocError, Global};
+use std::process::Abort;
 
 /// The listing of the program of a list of longs, by a union of null and the list itself.
 const LONG_LIST: &str = "avro program 1
@@ -25,8 +26,19 @@ jumps 0 7 9
 12 RET
 ";
 
-/// The parts of a list of longs.
-fn long_list(alloc: Global) -> Result<Parts, AllocError> {
+/// Parts without any thing.
+fn no_parts(alloc: Global) -> Parts {
+    Parts {
+        code: Vec::new(alloc),
+        constants: Lists::new(alloc),
+        maps: Lists::new(alloc),
+        jumps: Lists::new(alloc),
+        misses: Vec::new(alloc),
+    }
+}
+
+/// Adds the parts of a list of longs.
+fn push_long_list(parts: &mut Parts) -> Result<(), AllocError> {
     let code = [
         Instr::Call(2),
         Instr::Halt,
@@ -42,57 +54,46 @@ fn long_list(alloc: Global) -> Result<Parts, AllocError> {
         Instr::EndRecord,
         Instr::Return,
     ];
-    let mut constants = Lists::new(alloc);
-    constants.push(&[0u8])?;
-    constants.push(&[2u8])?;
-    let mut jumps = Lists::new(alloc);
-    jumps.push(&[7u32, 9])?;
-    Ok(Parts {
-        code: code.as_slice().to_vec(alloc)?,
-        constants,
-        maps: Lists::new(alloc),
-        jumps,
-        misses: Vec::new(alloc),
-    })
+    parts.code.extend_from_slice(&code)?;
+    parts.constants.push(&[0])?;
+    parts.constants.push(&[2])?;
+    parts.jumps.push(&[7, 9])
 }
 
-/// The parts of an enum of which a symbol has no place.
-fn with_a_miss(alloc: Global) -> Result<Parts, AllocError> {
+/// Adds the parts of an enum of which a symbol has no place.
+fn push_enum(parts: &mut Parts) -> Result<(), AllocError> {
     let code = [Instr::Enum(0), Instr::SkipFixed(16), Instr::Halt];
-    let mut maps = Lists::new(alloc);
-    maps.push(&[Entry::Position(10), Entry::Miss(0)])?;
-    maps.push(&[])?;
+    parts.code.extend_from_slice(&code)?;
+    parts.maps.push(&[Entry::Position(10), Entry::Miss(0)])?;
+    parts.maps.push(&[])?;
     let miss = Mismatch {
         kind: MismatchKind::NoSymbol,
         writer_node: 3,
         reader_node: 0,
     };
-    let mut misses = Vec::new(alloc);
-    misses.push(miss)?;
-    Ok(Parts {
-        code: code.as_slice().to_vec(alloc)?,
-        constants: Lists::new(alloc),
-        maps,
-        jumps: Lists::new(alloc),
-        misses,
-    })
+    parts.misses.push(miss)?;
+    Ok(())
+}
+
+/// Whether that is the listing of the program of parts.
+fn assert_listing(rt: &(impl Abort + AllocGlobal), parts: Parts, want: &str) {
+    let program = Program::new(parts).expect(rt, "a program");
+    let listing = listed(rt.alloc(), &program).expect(rt, "no memory");
+    assert!(rt; listing.as_str() == want);
 }
 
 #[test]
 fn the_listing_of_a_list(rt: HostRuntime) {
-    let parts = long_list(rt.alloc()).expect(&rt, "no memory");
-    let program = Program::new(parts).expect(&rt, "a program");
-    let listing = listed(rt.alloc(), &program).expect(&rt, "no memory");
-    assert!(rt; listing.as_str() == LONG_LIST);
+    let mut parts = no_parts(rt.alloc());
+    push_long_list(&mut parts).expect(&rt, "no memory");
+    assert_listing(&rt, parts, LONG_LIST);
 }
 
 #[test]
 fn the_listing_of_a_map_and_a_miss(rt: HostRuntime) {
-    let parts = with_a_miss(rt.alloc()).expect(&rt, "no memory");
-    let program = Program::new(parts).expect(&rt, "a program");
-    let listing = listed(rt.alloc(), &program).expect(&rt, "no memory");
-    assert!(rt;
-        listing.as_str()
-            == "avro program 1\nmap 0 10 !0\nmap 1\nmiss 0 NoSymbol 3 0\n0 ENUM 0\n1 SFIXED 16\n2 HALT\n"
-    );
+    let mut parts = no_parts(rt.alloc());
+    push_enum(&mut parts).expect(&rt, "no memory");
+    let want =
+        "avro program 1\nmap 0 10 !0\nmap 1\nmiss 0 NoSymbol 3 0\n0 ENUM 0\n1 SFIXED 16\n2 HALT\n";
+    assert_listing(&rt, parts, want);
 }

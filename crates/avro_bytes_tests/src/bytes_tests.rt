@@ -9,6 +9,8 @@ use avro_bytes::{
     read_long, read_position, shortest_spelling_is_shortest, tight_spelling_is_the_shortest,
     walks_pass_the_items, walks_stand_at_their_blocks, walks_tell_the_first_fault,
 };
+use std::alloc::AllocError;
+use std::process::Abort;
 use std::test::Fail;
 
 const START: Meter = Meter { depth: 0, units: 0 };
@@ -17,8 +19,24 @@ fn malformed(kind: MalformedKind, at: usize) -> Fault {
     Fault::Malformed { kind, at }
 }
 
+/// Whether a number is spelled by these bytes.
+fn assert_spelled(rt: &(impl Abort + AllocGlobal), n: i64, bytes: &[u8]) -> Result<(), AllocError> {
+    let mut out = Vec::new(rt.alloc());
+    put_long(&mut out, n)?;
+    assert_eq!(rt; out.as_slice(), bytes, "{n}");
+    Ok(())
+}
+
+/// Whether bytes are read as a number, which needs as many.
+fn assert_number(rt: &impl Abort, n: i64, bytes: &[u8]) {
+    assert_eq!(rt; long_len(n), bytes.len(), "{n}");
+    let (read, skip) = read_and_skip(&Long, bytes, 0, START);
+    assert_eq!(rt; read, Ok((n, bytes.len(), START)), "{n}");
+    assert_eq!(rt; skip, Ok((bytes.len(), START)), "{n}");
+}
+
 #[test]
-fn numbers_of_the_specification(rt: HostRuntime) -> Result<(), Fail> {
+fn numbers_of_the_specification(rt: HostRuntime) -> Result<(), AllocError> {
     shortest_spelling_is_shortest();
     let table: [(i64, &[u8]); 10] = [
         (0, &[0x00]),
@@ -39,13 +57,8 @@ fn numbers_of_the_specification(rt: HostRuntime) -> Result<(), Fail> {
         ),
     ];
     for (n, bytes) in table {
-        let mut out = Vec::new(rt.alloc());
-        put_long(&mut out, n)?;
-        assert_eq!(rt; out.as_slice(), bytes, "{n}");
-        assert_eq!(rt; long_len(n), bytes.len(), "{n}");
-        let (read, skip) = read_and_skip(&Long, bytes, 0, START);
-        assert_eq!(rt; read, Ok((n, bytes.len(), START)), "{n}");
-        assert_eq!(rt; skip, Ok((bytes.len(), START)), "{n}");
+        assert_spelled(&rt, n, bytes)?;
+        assert_number(&rt, n, bytes);
     }
     Ok(())
 }
@@ -83,15 +96,16 @@ fn numbers_cut_short(rt: HostRuntime) {
     assert_eq!(rt; Long.skip(&[0x80], 0, START), Err(Fault::Need));
 }
 
-#[test]
-fn lengths_and_positions(rt: HostRuntime) {
-    limits_are_these();
-    tight_spelling_is_the_shortest();
-    content_is_a_length_and_a_fixed();
+/// Whether lengths are read, and none is less than 0.
+fn assert_lengths(rt: &impl Abort) {
     let length = malformed(MalformedKind::BadLength, 1);
     assert_eq!(rt; read_length(&[0xff, 0x04], 1, START), Ok((2, 2, START)));
     assert_eq!(rt; read_length(&[0xff, 0x01], 1, START), Err(length));
     assert_eq!(rt; read_length(&[0x80], 0, START), Err(Fault::Need));
+}
+
+/// Whether positions are read and skipped, and none passes the last one.
+fn assert_positions(rt: &impl Abort) {
     let branch = malformed(MalformedKind::BadBranch, 0);
     let position = Position {
         bad: MalformedKind::BadBranch,
@@ -101,30 +115,40 @@ fn lengths_and_positions(rt: HostRuntime) {
     assert_eq!(rt; position.skip(&[0x02], 0, START), Ok((1, START)));
     assert_eq!(rt; position.read(&[0x04], 0, START), Err(branch));
     assert_eq!(rt; position.skip(&[0x01], 0, START), Err(branch));
+}
+
+#[test]
+fn lengths_and_positions(rt: HostRuntime) {
+    limits_are_these();
+    tight_spelling_is_the_shortest();
+    content_is_a_length_and_a_fixed();
+    assert_lengths(&rt);
+    assert_positions(&rt);
     let symbol = read_position(MalformedKind::BadEnum, 1, &[0x02], 0, START);
     assert_eq!(rt; symbol, Err(malformed(MalformedKind::BadEnum, 0)));
     assert_eq!(rt; read_long(&[0xff, 0x36], 1, START), Ok((27, 2, START)));
     assert_eq!(rt; read_boolean(&[0x01], 0, START), Ok((true, 1, START)));
 }
 
+/// Whether bytes are read and skipped as this boolean or fault.
+fn assert_boolean(rt: &impl Abort, bytes: &[u8], answer: Result<bool, Fault>) {
+    let (read, skip) = read_and_skip(&Bool, bytes, 0, START);
+    assert_eq!(rt; read, answer.map(|value| (value, 1, START)), "{bytes:?}");
+    assert_eq!(rt; skip, answer.map(|_| (1, START)), "{bytes:?}");
+}
+
 #[test]
 fn booleans(rt: HostRuntime) {
-    let table: [(&[u8], Result<bool, Fault>); 5] = [
-        (&[0x00], Ok(false)),
-        (&[0x01], Ok(true)),
-        (&[0x02], Err(malformed(MalformedKind::BadBoolean, 0))),
-        (&[0x80, 0x00], Err(malformed(MalformedKind::BadBoolean, 0))),
-        (&[], Err(Fault::Need)),
-    ];
-    for (bytes, answer) in table {
-        let (read, skip) = read_and_skip(&Bool, bytes, 0, START);
-        assert_eq!(rt; read, answer.map(|value| (value, 1, START)), "{bytes:?}");
-        assert_eq!(rt; skip, answer.map(|_| (1, START)), "{bytes:?}");
-    }
+    assert_boolean(&rt, &[0x00], Ok(false));
+    assert_boolean(&rt, &[0x01], Ok(true));
+    let bad = malformed(MalformedKind::BadBoolean, 0);
+    assert_boolean(&rt, &[0x02], Err(bad));
+    assert_boolean(&rt, &[0x80, 0x00], Err(bad));
+    assert_boolean(&rt, &[], Err(Fault::Need));
 }
 
 /// What a text answers, read again where memory ran out the first time.
-fn read_text(rt: &HostRuntime, bytes: &[u8]) -> Result<(String, usize, Meter), Fault> {
+fn read_text(rt: &impl AllocGlobal, bytes: &[u8]) -> Result<(String, usize, Meter), Fault> {
     let form = Text { alloc: rt.alloc() };
     match form.read(bytes, 0, START) {
         Err(Fault::NoMemory) => form.read(bytes, 0, START),
@@ -145,6 +169,13 @@ fn texts(rt: HostRuntime) -> Result<(), Fail> {
     Ok(())
 }
 
+/// Whether a text has this fault, where it is skipped and where it is read.
+fn assert_no_text(rt: &(impl Abort + AllocGlobal), bytes: &[u8], fault: Fault) {
+    let form = Text { alloc: rt.alloc() };
+    assert_eq!(rt; form.skip(bytes, 0, START), Err(fault), "{bytes:?}");
+    assert_eq!(rt; read_text(rt, bytes).err(), Some(fault), "{bytes:?}");
+}
+
 #[test]
 fn faults_of_texts(rt: HostRuntime) {
     let too_long = (MOST_CONTENT as i64 + 1) * 2;
@@ -154,20 +185,15 @@ fn faults_of_texts(rt: HostRuntime) {
         (too_long / 16384 % 128) as u8 + 128,
         (too_long / 2097152) as u8,
     ];
-    let table: [(&[u8], Fault); 7] = [
-        (&[0x02, 0xff], malformed(MalformedKind::BadText, 1)),
-        (&[0x04, 0xc3, 0x28], malformed(MalformedKind::BadText, 1)),
-        (&[0x04, 0xff], Fault::Need),
-        (&[0x01], malformed(MalformedKind::BadLength, 0)),
-        (&groups, malformed(MalformedKind::BadLength, 0)),
-        (&[0x80], Fault::Need),
-        (&[], Fault::Need),
-    ];
-    let form = Text { alloc: rt.alloc() };
-    for (bytes, fault) in table {
-        assert_eq!(rt; form.skip(bytes, 0, START), Err(fault), "{bytes:?}");
-        assert_eq!(rt; read_text(&rt, bytes).err(), Some(fault), "{bytes:?}");
-    }
+    let text = malformed(MalformedKind::BadText, 1);
+    assert_no_text(&rt, &[0x02, 0xff], text);
+    assert_no_text(&rt, &[0x04, 0xc3, 0x28], text);
+    assert_no_text(&rt, &[0x04, 0xff], Fault::Need);
+    let length = malformed(MalformedKind::BadLength, 0);
+    assert_no_text(&rt, &[0x01], length);
+    assert_no_text(&rt, &groups, length);
+    assert_no_text(&rt, &[0x80], Fault::Need);
+    assert_no_text(&rt, &[], Fault::Need);
 }
 
 /// What a form of bytes answers, read again where memory ran out the first time.
@@ -181,41 +207,57 @@ fn read_bytes<F: WireForm<Value = Vec<u8>>>(
     }
 }
 
-#[test]
-fn bytes_after_their_length(rt: HostRuntime) -> Result<(), Fail> {
-    let form = Blob { alloc: rt.alloc() };
-    let (value, to, after) = read_bytes(&form, &[0x04, 0x01, 0x02, 0x00])?;
-    assert_eq!(rt; value.as_slice(), [0x01, 0x02].as_slice());
-    assert_eq!(rt; (to, after), (3, START));
-    let (value, to, _) = read_bytes(&form, &[0x02, 0xff])?;
-    assert_eq!(rt; (value.as_slice(), to), ([0xff].as_slice(), 2));
-    let table: [(&[u8], Result<(usize, Meter), Fault>); 5] = [
-        (&[0x04, 0x01, 0x02], Ok((3, START))),
-        (&[0x00], Ok((1, START))),
-        (&[0x04, 0x01], Err(Fault::Need)),
-        (&[0x01], Err(malformed(MalformedKind::BadLength, 0))),
-        (&[], Err(Fault::Need)),
-    ];
-    for (bytes, answer) in table {
-        assert_eq!(rt; form.skip(bytes, 0, START), answer, "{bytes:?}");
-        assert_eq!(rt; read_bytes(&form, bytes).err(), answer.err(), "{bytes:?}");
-    }
-    Ok(())
+/// Whether a form of bytes reads these, up to a place.
+fn assert_reads<F: WireForm<Value = Vec<u8>>>(
+    rt: &impl Abort,
+    form: &F,
+    bytes: &[u8],
+    (value, to): (&[u8], usize),
+) {
+    let (found, end, after) = read_bytes(form, bytes).expect(rt, "bytes");
+    assert_eq!(rt; found.as_slice(), value);
+    assert_eq!(rt; (end, after), (to, START));
+}
+
+/// Whether a form of bytes skips so, and reads with the same fault or none.
+fn assert_skips<F: WireForm<Value = Vec<u8>>>(
+    rt: &impl Abort,
+    form: &F,
+    bytes: &[u8],
+    answer: Result<(usize, Meter), Fault>,
+) {
+    assert_eq!(rt; form.skip(bytes, 0, START), answer, "{bytes:?}");
+    assert_eq!(rt; read_bytes(form, bytes).err(), answer.err(), "{bytes:?}");
 }
 
 #[test]
-fn so_many_bytes(rt: HostRuntime) -> Result<(), Fail> {
+fn bytes_after_their_length(rt: HostRuntime) {
+    let form = Blob { alloc: rt.alloc() };
+    assert_reads(&rt, &form, &[0x04, 0x01, 0x02, 0x00], (&[0x01, 0x02], 3));
+    assert_reads(&rt, &form, &[0x02, 0xff], (&[0xff], 2));
+    assert_skips(&rt, &form, &[0x04, 0x01, 0x02], Ok((3, START)));
+    assert_skips(&rt, &form, &[0x00], Ok((1, START)));
+    assert_skips(&rt, &form, &[0x04, 0x01], Err(Fault::Need));
+    let length = malformed(MalformedKind::BadLength, 0);
+    assert_skips(&rt, &form, &[0x01], Err(length));
+    assert_skips(&rt, &form, &[], Err(Fault::Need));
+}
+
+#[test]
+fn so_many_bytes(rt: HostRuntime) {
     let form = FixedBytes {
         alloc: rt.alloc(),
         size: 3,
     };
-    let (value, to, after) = read_bytes(&form, &[0x01, 0x02, 0x03, 0x04])?;
-    assert_eq!(rt; value.as_slice(), [0x01, 0x02, 0x03].as_slice());
-    assert_eq!(rt; (to, after), (3, START));
-    assert_eq!(rt; form.skip(&[0x01, 0x02, 0x03], 0, START), Ok((3, START)));
-    assert_eq!(rt; form.skip(&[0x01, 0x02], 0, START), Err(Fault::Need));
-    assert_eq!(rt; read_bytes(&form, &[0x01, 0x02]).err(), Some(Fault::Need));
-    Ok(())
+    let three = [0x01, 0x02, 0x03];
+    assert_reads(&rt, &form, &[0x01, 0x02, 0x03, 0x04], (&three, 3));
+    assert_skips(&rt, &form, &three, Ok((3, START)));
+    assert_skips(&rt, &form, &[0x01, 0x02], Err(Fault::Need));
+}
+
+/// Whether a meter is this, or a fault.
+fn assert_meter(rt: &impl Abort, found: Result<Meter, Fault>, want: Result<Meter, Fault>) {
+    assert_eq!(rt; found, want);
 }
 
 #[test]
@@ -253,18 +295,14 @@ fn items_too_many_and_blocks_too_deep(rt: HostRuntime) {
         depth: MOST_DEPTH - 1,
         units: MOST_UNITS,
     };
-    assert_eq!(rt; last.enter_blocks(5), Ok(deep));
-    assert_eq!(rt; last.enter_item(5), Ok(many));
-    assert_eq!(rt;
-        deep.enter_blocks(5),
-        Err(malformed(MalformedKind::TooDeep, 5))
-    );
-    assert_eq!(rt;
-        many.enter_item(5),
-        Err(malformed(MalformedKind::TooMany, 5))
-    );
-    assert_eq!(rt; START.enter_blocks(5), Ok(Meter { depth: 1, units: 0 }));
-    assert_eq!(rt; START.enter_item(5), Ok(Meter { depth: 0, units: 1 }));
+    assert_meter(&rt, last.enter_blocks(5), Ok(deep));
+    assert_meter(&rt, last.enter_item(5), Ok(many));
+    let too_deep = malformed(MalformedKind::TooDeep, 5);
+    assert_meter(&rt, deep.enter_blocks(5), Err(too_deep));
+    let too_many = malformed(MalformedKind::TooMany, 5);
+    assert_meter(&rt, many.enter_item(5), Err(too_many));
+    assert_meter(&rt, START.enter_blocks(5), Ok(Meter { depth: 1, units: 0 }));
+    assert_meter(&rt, START.enter_item(5), Ok(Meter { depth: 0, units: 1 }));
 }
 
 /// The meter inside an array in a message's root, with so many units.
@@ -274,22 +312,40 @@ fn inside(units: u32) -> Meter
     Meter { depth: 1, units }
 }
 
-#[test]
-fn blocks_with_and_without_a_size(rt: HostRuntime) -> Result<(), Fail> {
+/// Whether a block of one item is walked.
+fn assert_block(rt: &impl Abort) -> Result<(), Fault> {
     let outside = Meter { depth: 0, units: 1 };
-    walks_pass_the_items();
     let (mut walk, m) = BlockWalk::begin(0, START)?;
     assert_eq!(rt; m, inside(0));
     let bytes = [0x02, 0x36, 0x00];
     assert_eq!(rt; walk.next(&bytes, 0, inside(0)), Ok((true, 1, inside(1))));
     assert_eq!(rt; walk.next(&bytes, 2, inside(1)), Ok((false, 3, outside)));
+    Ok(())
+}
+
+/// The same of a block that tells its size.
+fn assert_sized_block(rt: &impl Abort) -> Result<(), Fault> {
+    let outside = Meter { depth: 0, units: 1 };
     let (mut walk, _) = BlockWalk::begin(0, START)?;
     let bytes = [0x01, 0x02, 0x36, 0x00];
     assert_eq!(rt; walk.next(&bytes, 0, inside(0)), Ok((true, 2, inside(1))));
     assert_eq!(rt; walk.next(&bytes, 3, inside(1)), Ok((false, 4, outside)));
+    Ok(())
+}
+
+/// The same of no block.
+fn assert_no_block(rt: &impl Abort) -> Result<(), Fault> {
     let (mut walk, _) = BlockWalk::begin(0, START)?;
     assert_eq!(rt; walk.next(&[0x00], 0, inside(0)), Ok((false, 1, START)));
     Ok(())
+}
+
+#[test]
+fn blocks_with_and_without_a_size(rt: HostRuntime) -> Result<(), Fault> {
+    walks_pass_the_items();
+    assert_block(&rt)?;
+    assert_sized_block(&rt)?;
+    assert_no_block(&rt)
 }
 
 #[test]
@@ -320,20 +376,32 @@ fn several_blocks_of_several_items(rt: HostRuntime) -> Result<(), Fail> {
     Ok(())
 }
 
-#[test]
-fn faults_of_blocks(rt: HostRuntime) -> Result<(), Fail> {
-    walks_tell_the_first_fault();
+/// Whether a block whose size is not its items' is told each time.
+fn assert_bad_block(rt: &impl Abort) -> Result<(), Fault> {
     let (mut walk, _) = BlockWalk::begin(0, START)?;
     let bytes = [0x01, 0x04, 0x36, 0x00];
     assert_eq!(rt; walk.next(&bytes, 0, inside(0)), Ok((true, 2, inside(1))));
     let bad = malformed(MalformedKind::BadBlock, 0);
     assert_eq!(rt; walk.next(&bytes, 3, inside(1)), Err(bad));
     assert_eq!(rt; walk.next(&bytes, 3, inside(1)), Err(bad));
+    Ok(())
+}
+
+/// Whether a walk that lacks bytes goes on, to an item too many.
+fn assert_full_block(rt: &impl Abort) -> Result<(), Fault> {
     let (mut walk, _) = BlockWalk::begin(0, START)?;
     assert_eq!(rt; walk.next(&[0x01, 0x80], 0, inside(0)), Err(Fault::Need));
     assert_eq!(rt; walk.next(&[], 0, inside(0)), Err(Fault::Need));
     let full = malformed(MalformedKind::TooMany, 1);
     assert_eq!(rt; walk.next(&[0x02, 0x36], 0, inside(MOST_UNITS)), Err(full));
+    Ok(())
+}
+
+#[test]
+fn faults_of_blocks(rt: HostRuntime) -> Result<(), Fault> {
+    walks_tell_the_first_fault();
+    assert_bad_block(&rt)?;
+    assert_full_block(&rt)?;
     let deep = Meter {
         depth: MOST_DEPTH,
         units: 0,

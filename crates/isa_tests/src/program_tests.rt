@@ -84,38 +84,52 @@ fn push_four(lists: &mut Lists<u8>) -> Result<(), AllocError> {
     push(lists, &[3])
 }
 
+/// Whether the list at a position is this one.
+fn is_list<T: Copy + PartialEq>(lists: &Lists<T>, position: usize, list: &[T]) -> bool {
+    lists.get(position) == Some(list)
+}
+
 /// Whether lists are those four.
-fn assert_four(rt: &impl Abort, lists: &Lists<u8>) {
-    assert!(rt; lists.len() == 4);
-    assert!(rt; lists.get(0) == Some([1u8, 2].as_slice()));
-    assert!(rt; lists.get(1) == Some([0u8; 0].as_slice()));
-    assert!(rt; lists.get(2) == Some([1u8, 2].as_slice()));
-    assert!(rt; lists.get(3) == Some([3u8].as_slice()));
-    assert!(rt; lists.get(4).is_none());
-    assert!(rt; lists.first_empty() == Some(1));
-    assert!(rt; lists.total_is_within(5) && !lists.total_is_within(4));
-    assert!(rt; lists.are_within(2) && !lists.are_within(1));
+fn are_four(lists: &Lists<u8>) -> bool {
+    lists.len() == 4
+        && is_list(lists, 0, &[1, 2])
+        && is_list(lists, 1, &[])
+        && is_list(lists, 2, &[1, 2])
+        && is_list(lists, 3, &[3])
+        && lists.get(4).is_none()
+}
+
+/// Whether lists tell what those four have.
+fn tell_of_four(lists: &Lists<u8>) -> bool {
+    lists.first_empty() == Some(1)
+        && lists.total_is_within(5)
+        && !lists.total_is_within(4)
+        && lists.are_within(2)
+        && !lists.are_within(1)
 }
 
 #[test]
 fn keeps_lists_and_shares_them(rt: HostRuntime) {
     let mut lists = Lists::new(rt.alloc());
     push_four(&mut lists).expect(&rt, "no memory");
-    assert_four(&rt, &lists);
+    assert!(rt; are_four(&lists));
+    assert!(rt; tell_of_four(&lists));
 }
 
-/// Whether a program has a code of two instructions and one thing of each kind.
-fn assert_shows(rt: &impl Abort, program: &Program, code: &[Instr]) {
-    program.is_in_range();
-    assert!(rt; program.len() == 2);
-    assert!(rt; program.code() == code);
-    assert!(rt; program.instr(1) == Some(Instr::Halt));
-    assert!(rt; program.instr(2).is_none());
-    assert!(rt; program.constants().get(0) == Some([2u8, 4].as_slice()));
-    let entries = [Entry::Position(4_095), Entry::Miss(0)];
-    assert!(rt; program.maps().get(0) == Some(entries.as_slice()));
-    assert!(rt; program.jumps().get(0) == Some([0u32, 1].as_slice()));
-    assert!(rt; program.misses() == [miss(0)].as_slice());
+/// Whether a program has a code, which ends after two instructions.
+fn has_code(program: &Program, code: &[Instr]) -> bool {
+    program.len() == 2
+        && program.code() == code
+        && program.instr(1) == Some(Instr::Halt)
+        && program.instr(2).is_none()
+}
+
+/// Whether a program has one thing of each kind.
+fn has_tables(program: &Program) -> bool {
+    is_list(program.constants(), 0, &[2, 4])
+        && is_list(program.maps(), 0, &[Entry::Position(4_095), Entry::Miss(0)])
+        && is_list(program.jumps(), 0, &[0, 1])
+        && program.misses() == [miss(0)].as_slice()
 }
 
 #[test]
@@ -123,7 +137,9 @@ fn a_program_shows_its_parts(rt: HostRuntime) {
     let code = [Instr::Call(1), Instr::Halt];
     let parts = parts(rt.alloc(), &code).expect(&rt, "no memory");
     let program = Program::new(parts).expect(&rt, "a program");
-    assert_shows(&rt, &program, &code);
+    program.is_in_range();
+    assert!(rt; has_code(&program, &code));
+    assert!(rt; has_tables(&program));
 }
 
 #[test]
@@ -202,19 +218,19 @@ fn fault_of_tables(
     Ok(fault(parts))
 }
 
+/// Whether that is told.
+fn assert_fault_of_tables(rt: &(impl Abort + AllocGlobal), tables: usize, fault: ProgramError) {
+    let code = [Instr::Jump(7), Instr::Halt];
+    let found = fault_of_tables(rt.alloc(), &code, tables).expect(rt, "no memory");
+    assert!(rt; found == Some(fault));
+}
+
 #[test]
 fn tells_what_tables_have_out_of_range(rt: HostRuntime) {
-    let faults = [
-        ProgramError::Instr(0),
-        ProgramError::Miss(1),
-        ProgramError::Address(1, 2),
-        ProgramError::Entry(1, 1),
-    ];
-    let code = [Instr::Jump(7), Instr::Halt];
-    for (tables, fault) in faults.into_iter().enumerate() {
-        let found = fault_of_tables(rt.alloc(), &code, tables).expect(&rt, "no memory");
-        assert!(rt; found == Some(fault));
-    }
+    assert_fault_of_tables(&rt, 3, ProgramError::Entry(1, 1));
+    assert_fault_of_tables(&rt, 2, ProgramError::Address(1, 2));
+    assert_fault_of_tables(&rt, 1, ProgramError::Miss(1));
+    assert_fault_of_tables(&rt, 0, ProgramError::Instr(0));
 }
 
 /// Adds an empty constant, and as many maps of one entry.
@@ -258,43 +274,24 @@ fn halts(alloc: Global, many: usize) -> Result<Parts, AllocError> {
     parts(alloc, &code)
 }
 
-/// How many tables there are, and how long they are.
-#[derive(Clone, Copy)]
-struct Sizes {
-    code: usize,
-    maps: usize,
-    jumps: usize,
-    jump: usize,
-    constants: usize,
-    constant: usize,
-}
-
-/// Replaces the tables of parts.
-fn set_tables(alloc: Global, parts: &mut Parts, sizes: &Sizes) -> Result<(), AllocError> {
-    parts.maps = lists(alloc, &[Entry::Position(0)], sizes.maps)?;
-    parts.jumps = long_lists(alloc, 0u32, sizes.jump, sizes.jumps)?;
-    parts.constants = long_lists(alloc, 0u8, sizes.constant, sizes.constants)?;
+/// Replaces the tables of parts by ones at the limits.
+fn set_largest(alloc: Global, parts: &mut Parts) -> Result<(), AllocError> {
+    parts.maps = lists(alloc, &[Entry::Position(0)], 65_536)?;
+    parts.jumps = long_lists(alloc, 0u32, 4_096, 2)?;
+    parts.constants = long_lists(alloc, 0u8, 1_048_576, 1)?;
     Ok(())
 }
 
-/// What is told of parts of these sizes.
-fn fault_of_sizes(alloc: Global, sizes: &Sizes) -> Result<Option<ProgramError>, AllocError> {
-    let mut parts = halts(alloc, sizes.code)?;
-    set_tables(alloc, &mut parts, sizes)?;
+/// What is told of the largest parts.
+fn fault_of_largest(alloc: Global) -> Result<Option<ProgramError>, AllocError> {
+    let mut parts = halts(alloc, 262_144)?;
+    set_largest(alloc, &mut parts)?;
     Ok(fault(parts))
 }
 
 #[test]
 fn programs_are_taken_up_to_the_limits(rt: HostRuntime) {
-    let most = Sizes {
-        code: 262_144,
-        maps: 65_536,
-        jumps: 2,
-        jump: 4_096,
-        constants: 1,
-        constant: 1_048_576,
-    };
-    let fault = fault_of_sizes(rt.alloc(), &most).expect(&rt, "no memory");
+    let fault = fault_of_largest(rt.alloc()).expect(&rt, "no memory");
     assert!(rt; fault.is_none());
 }
 

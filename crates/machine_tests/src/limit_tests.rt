@@ -2,11 +2,11 @@
 
 use crate::again::{Pair, outcome, pair_of, transcoder};
 use crate::words::{next_words, outcome_words, pair_words};
-use machine::Transcoder;
+use avro_schema::SchemaError;
+use machine::{TranscodeError, Transcoder};
 use outcome::{MOST_PAYLOAD, Outcome};
 use std::alloc::{AllocError, Global};
 use std::process::Abort;
-use std::test::Fail;
 
 /// Appends a union of so many records, all named R, without fields.
 fn push_records(text: &mut String, many: usize) -> Result<(), AllocError> {
@@ -49,18 +49,17 @@ fn wide_record(alloc: Global, many: usize) -> Result<String, AllocError> {
 }
 
 /// A pair whose program is too large.
-fn wide_pair(alloc: Global) -> Result<Pair, Fail> {
+fn wide_pair(alloc: Global) -> Result<Pair, SchemaError> {
     let writer = many_records(alloc, 648)?;
     let reader = wide_record(alloc, 200)?;
-    Ok(pair_of(alloc, &writer, &reader)?)
+    pair_of(alloc, &writer, &reader)
 }
 
 #[test]
-fn programs_too_large(rt: HostRuntime) -> Result<(), Fail> {
-    let pair = wide_pair(rt.alloc())?;
-    let told = pair_words(rt.alloc(), &pair, &[])?;
+fn programs_too_large(rt: HostRuntime) {
+    let pair = wide_pair(rt.alloc()).expect(&rt, "schemas");
+    let told = pair_words(rt.alloc(), &pair, &[]).expect(&rt, "no memory");
     assert!(rt; told.as_str() == "program too large");
-    Ok(())
 }
 
 /// Whether the next payload comes out so.
@@ -75,22 +74,17 @@ fn assert_next(
 }
 
 /// Whether a payload for a pair is refused as too large, and the next one is taken.
-fn assert_refuses(
-    rt: &(impl Abort + AllocGlobal),
-    pair: &Pair,
-    payload: &[u8],
-) -> Result<(), Fail> {
-    let mut transcoder = transcoder(rt.alloc(), pair)?;
+fn assert_refuses(rt: &(impl Abort + AllocGlobal), pair: &Pair, payload: &[u8]) {
+    let mut transcoder = transcoder(rt.alloc(), pair).expect(rt, "a program");
     assert_next(rt, &mut transcoder, payload, "payload too large");
     assert_next(rt, &mut transcoder, &[2], "done 02");
-    Ok(())
 }
 
 #[test]
-fn payloads_too_large(rt: HostRuntime) -> Result<(), Fail> {
-    let long = vec![in rt.alloc(); 0u8; MOST_PAYLOAD + 1]?;
-    let pair = pair_of(rt.alloc(), "\"int\"", "\"int\"")?;
-    assert_refuses(&rt, &pair, &long)
+fn payloads_too_large(rt: HostRuntime) {
+    let long = vec![in rt.alloc(); 0u8; MOST_PAYLOAD + 1].expect(&rt, "no memory");
+    let pair = pair_of(rt.alloc(), "\"int\"", "\"int\"").expect(&rt, "schemas");
+    assert_refuses(&rt, &pair, &long);
 }
 
 /// An array of records Q, whose fields are these.
@@ -129,97 +123,89 @@ fn size(alloc: Global, outcome: &Outcome) -> Result<String, AllocError> {
     }
 }
 
-/// The size of the answer to a payload.
-fn answer_size(
+/// The size of the next answer.
+fn next_size(
     alloc: Global,
     transcoder: &mut Transcoder<'_>,
     payload: &[u8],
-) -> Result<String, Fail> {
-    let outcome = outcome(transcoder, payload)?;
-    Ok(size(alloc, &outcome)?)
+) -> Result<String, AllocError> {
+    match outcome(transcoder, payload) {
+        Ok(outcome) => size(alloc, &outcome),
+        Err(TranscodeError::TooLarge) => String::from_str(alloc, "payload too large"),
+        Err(TranscodeError::NoMemory) => Err(AllocError),
+    }
 }
 
-/// The size of the next answer.
-fn next_size(alloc: Global, transcoder: &mut Transcoder<'_>, hex: &str) -> Result<String, Fail> {
-    let payload = hex::decode(alloc, hex)?;
-    answer_size(alloc, transcoder, &payload)
-}
-
-/// Whether that is the size of the next answer.
-fn is_next_size(
-    alloc: Global,
+/// Whether the next answer has this size.
+fn assert_next_size(
+    rt: &(impl Abort + AllocGlobal),
     transcoder: &mut Transcoder<'_>,
-    hex: &str,
+    payload: &[u8],
     want: &str,
-) -> Result<bool, Fail> {
-    let found = next_size(alloc, transcoder, hex)?;
-    Ok(found.as_str() == want)
+) {
+    let found = next_size(rt.alloc(), transcoder, payload).expect(rt, "an answer");
+    assert!(rt; found.as_str() == want, "{payload:?}");
 }
 
 /// Whether the next answers have these sizes.
 fn assert_next_sizes(
     rt: &(impl Abort + AllocGlobal),
     transcoder: &mut Transcoder<'_>,
-    rows: &[(&str, &str)],
-) -> Result<(), Fail> {
-    for (hex, want) in rows {
-        assert!(rt; is_next_size(rt.alloc(), transcoder, hex, want)?, "{hex}");
+    rows: &[(&[u8], &str)],
+) {
+    for (payload, want) in rows {
+        assert_next_size(rt, transcoder, payload, want);
     }
-    Ok(())
 }
 
 /// Whether payloads of a pair, one after another, have answers of these sizes.
-fn assert_sizes(
-    rt: &(impl Abort + AllocGlobal),
-    pair: &Pair,
-    rows: &[(&str, &str)],
-) -> Result<(), Fail> {
-    let mut transcoder = transcoder(rt.alloc(), pair)?;
-    assert_next_sizes(rt, &mut transcoder, rows)
+fn assert_sizes(rt: &(impl Abort + AllocGlobal), pair: &Pair, rows: &[(&[u8], &str)]) {
+    let mut transcoder = transcoder(rt.alloc(), pair).expect(rt, "a program");
+    assert_next_sizes(rt, &mut transcoder, rows);
 }
 
 /// A pair of arrays, of which the reader's has a long default for each item.
-fn array_pair(alloc: Global, long: &str) -> Result<Pair, Fail> {
+fn array_pair(alloc: Global, long: &str) -> Result<Pair, SchemaError> {
     let writer = array_of(alloc, "")?;
     let reader = array_of(alloc, long)?;
-    Ok(pair_of(alloc, &writer, &reader)?)
+    pair_of(alloc, &writer, &reader)
 }
 
-fn long_array_pair(alloc: Global) -> Result<Pair, Fail> {
+fn long_array_pair(alloc: Global) -> Result<Pair, SchemaError> {
     let long = long_field(alloc)?;
     array_pair(alloc, &long)
 }
 
 #[test]
-fn answers_too_large(rt: HostRuntime) -> Result<(), Fail> {
-    let pair = long_array_pair(rt.alloc())?;
-    let rows = [
-        ("a00500", "output too large"),
-        ("9e0500", "67001008 bytes"),
-        ("a00500", "output too large"),
-        ("9e0500", "67001008 bytes"),
+fn answers_too_large(rt: HostRuntime) {
+    let pair = long_array_pair(rt.alloc()).expect(&rt, "schemas");
+    let rows: [(&[u8], &str); 4] = [
+        (&[0xa0, 0x05, 0x00], "output too large"),
+        (&[0x9e, 0x05, 0x00], "67001008 bytes"),
+        (&[0xa0, 0x05, 0x00], "output too large"),
+        (&[0x9e, 0x05, 0x00], "67001008 bytes"),
     ];
-    assert_sizes(&rt, &pair, &rows)
+    assert_sizes(&rt, &pair, &rows);
 }
 
 /// A pair of records of such an array, and of an enum of which the reader has one symbol less.
-fn record_pair(alloc: Global, long: &str) -> Result<Pair, Fail> {
+fn record_pair(alloc: Global, long: &str) -> Result<Pair, SchemaError> {
     let writer = record_of(alloc, "", "\"A\",\"B\"")?;
     let reader = record_of(alloc, long, "\"A\"")?;
-    Ok(pair_of(alloc, &writer, &reader)?)
+    pair_of(alloc, &writer, &reader)
 }
 
-fn long_record_pair(alloc: Global) -> Result<Pair, Fail> {
+fn long_record_pair(alloc: Global) -> Result<Pair, SchemaError> {
     let long = long_field(alloc)?;
     record_pair(alloc, &long)
 }
 
 #[test]
-fn a_mismatch_after_the_limit_is_told(rt: HostRuntime) -> Result<(), Fail> {
-    let pair = long_record_pair(rt.alloc())?;
-    let rows = [
-        ("a0050000", "output too large"),
-        ("a0050002", "mismatch NoSymbol 3 4"),
+fn a_mismatch_after_the_limit_is_told(rt: HostRuntime) {
+    let pair = long_record_pair(rt.alloc()).expect(&rt, "schemas");
+    let rows: [(&[u8], &str); 2] = [
+        (&[0xa0, 0x05, 0x00, 0x00], "output too large"),
+        (&[0xa0, 0x05, 0x00, 0x02], "mismatch NoSymbol 3 4"),
     ];
-    assert_sizes(&rt, &pair, &rows)
+    assert_sizes(&rt, &pair, &rows);
 }

@@ -36,6 +36,10 @@ pub(crate) const OUTCOMES: &str =
 pub(crate) const BOTH: &str =
     r#"{"type":"record","name":"T","fields":[{"name":"a","type":"long"},{"name":"b","type":"string"}]}"#;
 
+/// The same record with its fields swapped.
+pub(crate) const SWAPPED: &str =
+    r#"{"type":"record","name":"T","fields":[{"name":"b","type":"string"},{"name":"a","type":"long"}]}"#;
+
 /// Payloads one after another, each with its outcome.
 pub(crate) const PAYLOADS: &str = "3606666f6f|done 3606666f6f
 360666|malformed Truncated at 3

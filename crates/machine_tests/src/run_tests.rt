@@ -1,7 +1,7 @@
 //! Runs in pieces and slices: neither changes the end or the count.
 
 use crate::again::{compiled, pair_of, pushed};
-use crate::rows::COUNTS;
+use crate::rows::{BOTH, COUNTS, SWAPPED};
 use crate::words::end_words;
 use isa::Program;
 use machine::{Run, Slice, Why};
@@ -86,25 +86,25 @@ fn is_hex_answer(alloc: Global, program: &Program, hex: &str, answer: &str) -> R
 }
 
 /// The program of a pair of schemas.
-fn program_of(alloc: Global, writer: &str, reader: &str) -> Result<Program, Fail> {
-    let pair = pair_of(alloc, writer, reader)?;
-    Ok(compiled(alloc, &pair)?)
+fn program_of(rt: &(impl Abort + AllocGlobal), writer: &str, reader: &str) -> Program {
+    let pair = pair_of(rt.alloc(), writer, reader).expect(rt, "schemas");
+    compiled(rt.alloc(), &pair).expect(rt, "a program")
 }
 
 /// Whether each way to cut a payload of a pair comes to that answer.
 fn is_texts_answer(
-    alloc: Global,
+    rt: &(impl Abort + AllocGlobal),
     writer: &str,
     reader: &str,
     hex: &str,
     answer: &str,
 ) -> Result<bool, Fail> {
-    let program = program_of(alloc, writer, reader)?;
-    is_hex_answer(alloc, &program, hex, answer)
+    let program = program_of(rt, writer, reader);
+    is_hex_answer(rt.alloc(), &program, hex, answer)
 }
 
 /// Whether a row is true.
-fn is_true(alloc: Global, row: &str) -> Result<bool, Fail> {
+fn is_true(rt: &(impl Abort + AllocGlobal), row: &str) -> Result<bool, Fail> {
     let mut parts = row.split('|');
     let (Some(writer), Some(reader), Some(hex), Some(answer)) = (
         parts.next(),
@@ -114,13 +114,13 @@ fn is_true(alloc: Global, row: &str) -> Result<bool, Fail> {
     ) else {
         return Ok(false);
     };
-    is_texts_answer(alloc, writer, reader, hex, answer)
+    is_texts_answer(rt, writer, reader, hex, answer)
 }
 
 #[test]
 fn cuts_and_slices_change_nothing(rt: HostRuntime) -> Result<(), Fail> {
     for row in COUNTS.lines() {
-        assert!(rt; is_true(rt.alloc(), row)?, "{row}");
+        assert!(rt; is_true(&rt, row)?, "{row}");
     }
     Ok(())
 }
@@ -150,11 +150,10 @@ fn assert_run_waits(rt: &(impl Abort + AllocGlobal), program: &Program) {
 }
 
 #[test]
-fn a_run_waits_for_bytes(rt: HostRuntime) -> Result<(), Fail> {
+fn a_run_waits_for_bytes(rt: HostRuntime) {
     let list = "{\"type\":\"array\",\"items\":\"long\"}";
-    let program = program_of(rt.alloc(), list, list)?;
+    let program = program_of(&rt, list, list);
     assert_run_waits(&rt, &program);
-    Ok(())
 }
 
 /// Whether the arena of a run on a payload is the payload, after so many rows.
@@ -171,20 +170,9 @@ fn is_arena(alloc: Global, program: &Program, payload: &[u8], k: u64) -> Result<
     has_arena(&mut run, payload, k)
 }
 
-/// The program of a row.
-fn program_of_row(alloc: Global, row: &str) -> Result<Program, Fail> {
-    let mut parts = row.split('|');
-    let (Some(writer), Some(reader)) = (parts.next(), parts.next()) else {
-        return Err("a row has two schemas".into());
-    };
-    program_of(alloc, writer, reader)
-}
-
 #[test]
-fn the_arena_of_a_record_whose_fields_are_swapped(rt: HostRuntime) -> Result<(), Fail> {
-    let row = COUNTS.lines().nth(7).unwrap_or("");
-    let program = program_of_row(rt.alloc(), row)?;
+fn the_arena_of_a_record_whose_fields_are_swapped(rt: HostRuntime) {
+    let program = program_of(&rt, BOTH, SWAPPED);
     let payload = [0x36, 0x06, 0x66, 0x6f, 0x6f];
-    assert!(rt; is_arena(rt.alloc(), &program, &payload, 8)?);
-    Ok(())
+    assert!(rt; is_arena(rt.alloc(), &program, &payload, 8).expect(&rt, "no memory"));
 }

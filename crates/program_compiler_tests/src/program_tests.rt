@@ -1,7 +1,7 @@
-use crate::again::{compiled, parsed};
-use isa::{Entry, Instr};
+use crate::again::program_of;
+use isa::{Entry, Instr, Lists, Program};
 use outcome::{Mismatch, MismatchKind};
-use std::test::Fail;
+use std::process::Abort;
 
 const LONG_LIST: &str =
     "{\"type\": \"record\", \"name\": \"LongList\", \"fields\": [{\"name\": \"value\", \"type\": \"long\"}, {\"name\": \"next\", \"type\": [\"null\", \"LongList\"]}]}";
@@ -18,11 +18,25 @@ const WRITER: &str =
 const READER: &str =
     "{\"type\": \"record\", \"name\": \"T\", \"fields\": [{\"name\": \"e\", \"type\": {\"type\": \"enum\", \"name\": \"E\", \"symbols\": [\"A\"]}}, {\"name\": \"a\", \"type\": \"long\"}, {\"name\": \"d\", \"type\": \"long\", \"default\": 7}]}";
 
+/// Whether the list at a position is this one.
+fn is_list<T: Copy + PartialEq>(lists: &Lists<T>, position: usize, list: &[T]) -> bool {
+    lists.get(position) == Some(list)
+}
+
+/// Whether a program has two constants, a jump table, no map and no miss.
+fn has_tables_of_list(program: &Program) -> bool {
+    program.constants().len() == 2
+        && is_list(program.constants(), 0, &[0])
+        && is_list(program.constants(), 1, &[2])
+        && program.jumps().len() == 1
+        && is_list(program.jumps(), 0, &[7, 9])
+        && program.maps().len() == 0
+        && program.misses().is_empty()
+}
+
 #[test]
-fn list_of_longs_to_itself(rt: HostRuntime) -> Result<(), Fail> {
-    let alloc = rt.alloc();
-    let schema = parsed(alloc, LONG_LIST)?;
-    let program = compiled(alloc, &schema, &schema)?;
+fn list_of_longs_to_itself(rt: HostRuntime) {
+    let program = program_of(&rt, LONG_LIST, LONG_LIST);
     let code = [
         Instr::Call(2),
         Instr::Halt,
@@ -39,46 +53,58 @@ fn list_of_longs_to_itself(rt: HostRuntime) -> Result<(), Fail> {
         Instr::Return,
     ];
     assert!(rt; program.code() == code.as_slice());
-    assert_eq!(rt; program.constants().len(), 2);
-    assert!(rt; program.constants().get(0) == Some([0].as_slice()));
-    assert!(rt; program.constants().get(1) == Some([2].as_slice()));
-    assert_eq!(rt; program.jumps().len(), 1);
-    assert!(rt; program.jumps().get(0) == Some([7, 9].as_slice()));
-    assert_eq!(rt; program.maps().len(), 0);
-    assert!(rt; program.misses().is_empty());
-    Ok(())
+    assert!(rt; has_tables_of_list(&program));
+}
+
+/// Whether a reader takes the two fields of a record to these slots.
+fn assert_slots(rt: &(impl Abort + AllocGlobal), reader: &str, first: u32, second: u32) {
+    let program = program_of(rt, T, reader);
+    let code = [
+        Instr::Call(2),
+        Instr::Halt,
+        Instr::Record(2),
+        Instr::Slot(first),
+        Instr::Long,
+        Instr::Slot(second),
+        Instr::Text,
+        Instr::EndRecord,
+        Instr::Return,
+    ];
+    assert!(rt; program.code() == code.as_slice(), "{reader}");
+    assert!(rt; program.constants().len() == 0);
 }
 
 #[test]
-fn record_to_itself_and_by_aliases(rt: HostRuntime) -> Result<(), Fail> {
-    let alloc = rt.alloc();
-    let writer = parsed(alloc, T)?;
-    let table = [(T, 0, 1), (RENAMED, 1, 0)];
-    for (text, first, second) in table {
-        let reader = parsed(alloc, text)?;
-        let program = compiled(alloc, &writer, &reader)?;
-        let code = [
-            Instr::Call(2),
-            Instr::Halt,
-            Instr::Record(2),
-            Instr::Slot(first),
-            Instr::Long,
-            Instr::Slot(second),
-            Instr::Text,
-            Instr::EndRecord,
-            Instr::Return,
-        ];
-        assert!(rt; program.code() == code.as_slice(), "{text}");
-        assert_eq!(rt; program.constants().len(), 0);
+fn record_to_itself_and_by_aliases(rt: HostRuntime) {
+    assert_slots(&rt, T, 0, 1);
+    assert_slots(&rt, RENAMED, 1, 0);
+}
+
+/// A miss of two nodes.
+fn miss(kind: MismatchKind, writer_node: usize, reader_node: usize) -> Mismatch {
+    Mismatch {
+        kind,
+        writer_node,
+        reader_node,
     }
-    Ok(())
+}
+
+/// Whether a program has the tables of the next test.
+fn has_tables_of_evolved(program: &Program) -> bool {
+    let misses = [
+        miss(MismatchKind::NoMatch, 2, 2),
+        miss(MismatchKind::NoMatch, 3, 2),
+        miss(MismatchKind::NoSymbol, 5, 1),
+    ];
+    is_list(program.constants(), 0, &[14])
+        && is_list(program.maps(), 0, &[Entry::Position(0), Entry::Miss(2)])
+        && is_list(program.jumps(), 0, &[5, 7])
+        && program.misses() == misses.as_slice()
 }
 
 #[test]
-fn evolved_record(rt: HostRuntime) -> Result<(), Fail> {
-    let alloc = rt.alloc();
-    let (writer, reader) = (parsed(alloc, WRITER)?, parsed(alloc, READER)?);
-    let program = compiled(alloc, &writer, &reader)?;
+fn evolved_record(rt: HostRuntime) {
+    let program = program_of(&rt, WRITER, READER);
     let code = [
         Instr::Call(2),
         Instr::Halt,
@@ -101,22 +127,5 @@ fn evolved_record(rt: HostRuntime) -> Result<(), Fail> {
         Instr::Return,
     ];
     assert!(rt; program.code() == code.as_slice());
-    assert!(rt; program.constants().get(0) == Some([14].as_slice()));
-    assert!(rt; program.maps().get(0) == Some([Entry::Position(0), Entry::Miss(2)].as_slice()));
-    assert!(rt; program.jumps().get(0) == Some([5, 7].as_slice()));
-    let misses = [
-        (MismatchKind::NoMatch, 2, 2),
-        (MismatchKind::NoMatch, 3, 2),
-        (MismatchKind::NoSymbol, 5, 1),
-    ];
-    assert_eq!(rt; program.misses().len(), misses.len());
-    for (found, (kind, writer_node, reader_node)) in program.misses().iter().zip(misses) {
-        let expected = Mismatch {
-            kind,
-            writer_node,
-            reader_node,
-        };
-        assert!(rt; *found == expected);
-    }
-    Ok(())
+    assert!(rt; has_tables_of_evolved(&program));
 }
