@@ -9,7 +9,7 @@ use Rattle.schema_drafts.specs.Head.{heads_of}
 use Rattle.avro_types.specs.Node.{Node, FieldNode, Names, RecordNode}
 use Rattle.avro_schema.specs.Schema.{declared}
 use Rattle.avro_types.specs.Sizes.{HasSizesWithin, DefaultsHaveSizesWithin}
-use Rattle.schema_drafts.specs.Names.{null_namespace}
+use Rattle.schema_names.specs.Names.{null_namespace}
 use Rattle.schema_walk.specs.Walk.{walk}
 use Rattle.avro_schema.proofs.DefaultSizes.{default-within}
 use Rattle.schema_defaults.proofs.DefaultsRead.{map-inv}

@@ -12,7 +12,7 @@ use Rattle.schema_defaults.specs.Defaults.{all_defaults, default_of, field_defau
 use Rattle.schema_drafts.specs.Draft.{Draft, Whole, RecordDraft, DraftField, data_at, draft_field_of, draft_of, drafts_of}
 use Rattle.schema_drafts.specs.Head.{heads_of}
 use Rattle.avro_types.specs.Node.{FieldNode, Names, RecordNode}
-use Rattle.schema_drafts.specs.Names.{null_namespace}
+use Rattle.schema_names.specs.Names.{null_namespace}
 use Rattle.schema_walk.specs.Walk.{walk}
 use Rattle.avro_schema.proofs.DefaultsConform.{default-conforms}
 use Rattle.schema_defaults.proofs.DefaultsRead.{map-inv}

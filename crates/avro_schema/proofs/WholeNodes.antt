@@ -6,13 +6,13 @@ use Rattle.std.specs.Str.{bytes_eq}
 use Rattle.serde_json.specs.Data.{Data}
 use Rattle.serde_json.specs.Read.{read}
 use Rattle.serde_json.specs.Written.{has_float}
-use Rattle.schema_drafts.specs.declared.error.SchemaError.{SchemaError}
-use Rattle.schema_drafts.specs.declared.error.SchemaError.TheVariants.{BadNumber, BadDefault}
+use Rattle.schema_names.specs.declared.error.SchemaError.{SchemaError}
+use Rattle.schema_names.specs.declared.error.SchemaError.TheVariants.{BadNumber, BadDefault}
 use Rattle.schema_walk.specs.Contract.{run}
 use Rattle.avro_types.specs.Datum.{Datum}
 use Rattle.schema_defaults.specs.Defaults.{all_defaults, field_defaults, fields_with, finished, node_defaults, node_with, nodes_with, field_default}
 use Rattle.schema_drafts.specs.Draft.{Draft, Whole, RecordDraft, DraftField, HasFewSymbols, HaveFewSymbols}
-use Rattle.schema_drafts.specs.Fault.{◌>>=◌}
+use Rattle.schema_names.specs.Fault.{◌>>=◌}
 use Rattle.schema_drafts.specs.Head.{Head, Named, head_at, head_of, head_of_node, heads_of, is_same_type}
 use Rattle.avro_types.specs.Node.{Node, NullNode, BooleanNode, IntNode, LongNode, BytesNode, TextNode, FixedNode, EnumNode, ArrayNode, MapNode, UnionNode, RecordNode}
 use Rattle.avro_types.specs.WellFormed.{AreApart, FieldsBelow, HoldsItem, IsMember, IsPartOf, IsWellFormed, NodeIsWellFormed, are_of_one_type, full_name_of, is_named, is_union}
@@ -21,7 +21,7 @@ use Rattle.avro_types.specs.declared.limits.TheConstants.{MOST_NODES}
 use Rattle.std.proofs.lemmas.Slice.Eq.{bytes_eq-Decides}
 use Rattle.schema_walk.specs.Definitions.{AreDefinedOnce, IsDefinedAt}
 use Rattle.avro_schema.specs.Schema.{declared, nodes_in_read}
-use Rattle.schema_drafts.specs.Names.{null_namespace}
+use Rattle.schema_names.specs.Names.{null_namespace}
 use Rattle.schema_walk.specs.Walk.{added, walk}
 use Rattle.schema_defaults.proofs.FinishedNodes.{in-row, node-finished, length-finished, head-finished}
 use Rattle.avro_schema.proofs.Fits.{AllFrom, DraftFits, Gives, ItemFits, MemberFits, PartFits, is_named_there, is_union_there}

@@ -6,14 +6,15 @@ ghost use Rattle.serde_json.specs.View.{view};
 ghost use Rattle.avro_types.specs.Conforming.{DefaultsConform};
 ghost use Rattle.avro_types.specs.Node.{node_of, nodes_of};
 ghost use Rattle.avro_types.specs.WellFormed.{NodeIsWellFormed};
-ghost use Rattle.schema_drafts.specs.Fault.{Tells};
+ghost use Rattle.schema_names.specs.Fault.{Tells};
 ghost use Rattle.avro_schema.specs.Schema.{Parses, TextGives, declared};
 ghost use Rattle.avro_schema.specs.SchemaLaw.{ReadsAsSchema};
 
 use crate::numbers::has_float;
 use avro_types::{Kind, MOST_TEXT, Nodes};
 use schema_defaults::{all_defaults, nodes_with};
-use schema_drafts::{Drafts, Namespace, SchemaError};
+use schema_drafts::{Drafts, Namespace};
+use schema_names::SchemaError;
 use schema_walk::walk;
 use serde_json::Value;
 use std::alloc::{AllocError, Global};

@@ -3,8 +3,8 @@ use Rattle.std.specs.Prelude.{ℕ, List, [], slice_index_or, if◌then◌else◌
 use Rattle.std.specs.Str.{is_utf8}
 use Rattle.avro_types.specs.Node.{Node}
 use Rattle.avro_schema.specs.Schema.{schema_of}
-use Rattle.schema_drafts.specs.declared.error.SchemaError.{SchemaError}
-use Rattle.schema_drafts.specs.declared.error.SchemaError.TheVariants.{NotJson}
+use Rattle.schema_names.specs.declared.error.SchemaError.{SchemaError}
+use Rattle.schema_names.specs.declared.error.SchemaError.TheVariants.{NotJson}
 use Rattle.commands.specs.declared.refusal.Refusal.{Refusal}
 use Rattle.commands.specs.declared.refusal.Refusal.TheVariants.{BadSchema}
 

@@ -1,5 +1,5 @@
 ghost use Rattle.std.specs.Prelude.{◌≡◌, ◌≢◌, Err, Ok, IfOk, IfErr, drop};
-ghost use Rattle.schema_drafts.specs.declared.error.SchemaError.TheVariants.{NoMemory};
+ghost use Rattle.schema_names.specs.declared.error.SchemaError.TheVariants.{NoMemory};
 ghost use Rattle.commands.specs.Lines.{lines};
 ghost use Rattle.commands.specs.Schemas.{schema_of_line, schemas_of};
 

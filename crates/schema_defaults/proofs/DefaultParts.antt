@@ -16,8 +16,8 @@ use Rattle.serde_json.specs.declared.value.Value.{Value}
 use Rattle.avro_types.specs.declared.datum.Datum as rust
 use Rattle.schema_drafts.specs.declared.draft.Draft as rust_draft
 use Rattle.schema_drafts.specs.declared.draft.DraftField as rust_field
-use Rattle.schema_drafts.specs.declared.error.SchemaError.{SchemaError}
-use Rattle.schema_drafts.specs.declared.error.SchemaError.TheVariants.{BadDefault}
+use Rattle.schema_names.specs.declared.error.SchemaError.{SchemaError}
+use Rattle.schema_names.specs.declared.error.SchemaError.TheVariants.{BadDefault}
 use Rattle.avro_types.specs.declared.kind.Kind.{Kind}
 use Rattle.avro_types.specs.declared.kind.Kind.TheVariants as kinds
 use Rattle.std.specs.Global.{Vec}

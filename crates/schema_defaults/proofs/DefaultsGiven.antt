@@ -14,7 +14,7 @@ use Rattle.schema_defaults.specs.DefaultData.{AreBytes, AreFields, AreItems, Are
 use Rattle.schema_defaults.specs.Defaults.{Reading, by_first, bytes_in, default_of, fields_value, has_bits, items_value, member_value, pairs_value, value_of}
 use Rattle.schema_drafts.specs.Draft.{Draft, Whole, DraftField}
 use Rattle.schema_defaults.proofs.DefaultParts.{member_value-get}
-use Rattle.schema_drafts.proofs.SymbolPlaces.{place_at}
+use Rattle.schema_names.proofs.SymbolPlaces.{place_at}
 
 abbrev pub HasDistinctSymbols : Draft → Type 0
 HasDistinctSymbols (Whole (EnumNode names symbols default)) = IsDistinct bytes_eq symbols

@@ -7,8 +7,8 @@ use Rattle.std.proofs.Math.ListN.{drop_of_length-le}
 use Rattle.avro_types.specs.declared.datum.Datum as rust
 use Rattle.schema_drafts.specs.declared.draft.Draft as rust_draft
 use Rattle.schema_drafts.specs.declared.draft.DraftField as rust_field
-use Rattle.schema_drafts.specs.declared.error.SchemaError.{SchemaError}
-use Rattle.schema_drafts.specs.declared.error.SchemaError.TheVariants.{BadDefault}
+use Rattle.schema_names.specs.declared.error.SchemaError.{SchemaError}
+use Rattle.schema_names.specs.declared.error.SchemaError.TheVariants.{BadDefault}
 use Rattle.avro_types.specs.Datum.{Datum, datum_of}
 use Rattle.schema_defaults.specs.Defaults.{all_defaults, field_default, field_defaults, field_with, fields_with, node_defaults, node_with, nodes_with}
 use Rattle.schema_drafts.specs.Draft.{Draft, data_at, draft_field_of, draft_of, drafts_of}

@@ -7,8 +7,8 @@ use Rattle.std.specs.Cmp.Lexicographic.{slice_cmp}
 use Rattle.std.specs.Str.{chars}
 use Rattle.serde_json.specs.Data.{Num, Data, null, boolean, number, string, array, object, Items, no_items, item, Members, no_members, member}
 use Rattle.serde_json.specs.Find.{as_i64}
-use Rattle.schema_drafts.specs.declared.error.SchemaError.{SchemaError}
-use Rattle.schema_drafts.specs.declared.error.SchemaError.TheVariants.{BadDefault}
+use Rattle.schema_names.specs.declared.error.SchemaError.{SchemaError}
+use Rattle.schema_names.specs.declared.error.SchemaError.TheVariants.{BadDefault}
 use Rattle.avro_types.specs.Datum as datum
 use Rattle.avro_types.specs.Datum.{Datum, NullDatum, BooleanDatum, IntDatum, LongDatum, BytesDatum, TextDatum, FixedDatum, EnumDatum, ArrayDatum, MapDatum, UnionDatum, RecordDatum, no_more, more, Pairs, no_pairs, pair}
 use Rattle.schema_drafts.specs.Draft.{Draft, Whole, RecordDraft, DraftField}

@@ -5,11 +5,12 @@ ghost use Rattle.serde_json.specs.View.{number_view, view, items_view, members_v
 ghost use Rattle.avro_types.specs.Datum.{data_of, datum_of, pairs_of};
 ghost use Rattle.schema_defaults.specs.Defaults.{bytes_in, by_first, default_of, fields_value, items_value, leaf_value, number_value, pairs_value, text_value, value_of};
 ghost use Rattle.schema_drafts.specs.Draft.{HasFewSymbols, HaveFewSymbols, Whole, draft_field_of, draft_of, drafts_of};
-ghost use Rattle.schema_drafts.specs.Fault.{Tells};
+ghost use Rattle.schema_names.specs.Fault.{Tells};
 ghost use Rattle.avro_types.specs.Node.{UnionNode, node_of};
 
 use avro_types::{Datum, Kind};
-use schema_drafts::{Draft, DraftField, SchemaError};
+use schema_drafts::{Draft, DraftField};
+use schema_names::SchemaError;
 use serde_json::{Map, Number, Value};
 use std::alloc::Global;
 

@@ -3,12 +3,13 @@ ghost use Rattle.std.specs.Option.{ok_or};
 ghost use Rattle.avro_types.specs.Datum.{datum_of};
 ghost use Rattle.schema_defaults.specs.Defaults.{all_defaults, field_default, field_defaults, fields_with, node_defaults, node_with, nodes_with};
 ghost use Rattle.schema_drafts.specs.Draft.{HaveFewSymbols, data_at, draft_field_of, draft_of, drafts_of};
-ghost use Rattle.schema_drafts.specs.Fault.{Tells};
+ghost use Rattle.schema_names.specs.Fault.{Tells};
 ghost use Rattle.avro_types.specs.Node.{fields_of, node_of, nodes_of};
 
 use crate::defaults::default_at;
 use avro_types::{Datum, Field, Kind};
-use schema_drafts::{Draft, DraftField, SchemaError};
+use schema_drafts::{Draft, DraftField};
+use schema_names::SchemaError;
 use std::alloc::{AllocError, Global};
 
 /// The datum of a field's default, where it has one.

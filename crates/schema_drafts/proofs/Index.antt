@@ -1,5 +1,5 @@
 -- Names in order beside nodes and fields, when one more comes.
-use Rattle.std.proofs.Common.{◌≡◌, ◌<◌, ℕ, ◌+◌, List, [], ◌∷◌, ◌++◌, length, true, false, ◌||◌, Some, sym, ap, ◌∙◌, arith, get_or, String, string_bytes, slice_get}
+use Rattle.std.proofs.Common.{◌≡◌, Bool, cond, refl, ◌<◌, ℕ, ◌+◌, List, [], ◌∷◌, ◌++◌, length, true, false, ◌||◌, Some, sym, ap, ◌∙◌, arith, get_or, String, string_bytes, slice_get}
 use Rattle.std.specs.BTreeMap.{BTreeMap, get_by_text}
 use Rattle.std.specs.BTreeSet as sorted
 use Rattle.std.specs.BTreeSet.{BTreeSet, contains_text}
@@ -18,7 +18,10 @@ use Rattle.schema_drafts.specs.Index.{AreNamesOf, IsIndexOf, namespaces_of}
 use Rattle.avro_types.specs.Laws.Booleans.{false_by, same_by}
 use Rattle.avro_types.specs.Laws.Dots.{namespace-inside, unqualified-inside}
 use Rattle.schema_drafts.proofs.DraftLists.{heads_of-append, map-push}
-use Rattle.schema_drafts.proofs.Texts.{cond_or}
+
+cond_or : (a b : Bool) → cond a true b ≡ (a || b)
+cond_or true b = refl
+cond_or false b = refl
 
 -- ---- full names, by namespace and last part
 

@@ -1,14 +1,8 @@
 pub mod Depths
-pub mod DottedNames
 pub mod DraftLists
 pub mod Heads
 pub mod Index
 pub mod IndexSteps
 pub mod NamedMembers
-pub mod NameRule
 pub mod Namespaces
 pub mod NewIndex
-pub mod NameSteps
-pub mod SymbolPlaces
-pub mod Texts
-pub mod TypeAliases

@@ -11,7 +11,7 @@ use Rattle.std.proofs.lemmas.Map.Text.{btree_map_updates_text}
 use Rattle.std.proofs.lemmas.Slice.Eq.{bytes_eq-Decides}
 use Rattle.avro_types.specs.Laws.Placed.{last_not, named-last, none-used, place-behind, or_last, used-at}
 use Rattle.schema_drafts.specs.Draft.{Draft}
-use Rattle.avro_types.specs.FullNames.{has_dot, inside, is_full_name, namespace_of}
+use Rattle.avro_types.specs.FullNames.{has_dot, inside, is_full_name, is_name, namespace_of}
 use Rattle.schema_drafts.specs.Head.{Head, Named, defined_at, head_of, heads_of}
 use Rattle.schema_drafts.specs.Index.{IsIndexOf, namespaces_of, with_namespace}
 use Rattle.avro_types.specs.Symbols.{is_used, place_of}
@@ -20,9 +20,12 @@ use Rattle.avro_types.specs.Laws.Dots.{namespace-inside}
 use Rattle.schema_drafts.proofs.DraftLists.{get-front}
 use Rattle.schema_drafts.proofs.Index.{defined-behind, heads-behind, inside-apart, inside-same}
 use Rattle.schema_drafts.proofs.IndexSteps.{once-behind}
-use Rattle.schema_drafts.proofs.NameSteps.{begins-unruled}
 use Rattle.schema_drafts.proofs.DraftLists.{length-heads_of}
 use Rattle.schema_drafts.proofs.Namespaces.{at-last, spaceless, namespaces-numbered, namespaces-one}
+
+pub begins-unruled : (last : List ℕ) → is_full_name (46 ∷ last) ≡ false
+unfolding is_name
+begins-unruled last = refl
 
 -- ---- lists, with one element set
 

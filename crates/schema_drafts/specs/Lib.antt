@@ -1,11 +1,5 @@
-pub mod Aliases
-pub mod Attributes
 pub mod Draft
-pub mod Fault
 pub mod Head
 pub mod Index
 pub mod JsonCode
-pub mod Names
-pub mod SchemaError
 pub mod Unnamed
-pub mod Word

@@ -77,7 +77,7 @@ impl<'v> Drafts<'v> {
     }
 
     /// The law that each full name is that of one node, and begins with no dot.
-    pub(crate) fn names_are_apart(&self)
+    pub fn names_are_apart(&self)
         ensures once { AreOnce (heads_of self.now) }
         ensures begins_none { BeginWithNoDot (heads_of self.now) }
     {

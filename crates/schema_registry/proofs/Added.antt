@@ -14,7 +14,7 @@ use Rattle.schema_registry.specs.Accepting.{id_for, registered, with_schema, wit
 use Rattle.schema_registry.specs.Answers.{AreSafe, IsAnswer, Pair, has_no_id, is_full, pairs_of, registration}
 use Rattle.schema_registry.specs.Lists.{Entry, Lists, id_of, level_of, versions_of, with_text}
 use Rattle.schema_registry.specs.Reply.{IdReply}
-use Rattle.schema_drafts.specs.declared.error.SchemaError.{SchemaError}
+use Rattle.schema_names.specs.declared.error.SchemaError.{SchemaError}
 use Rattle.schema_registry.specs.declared.refusal.Refusal.TheVariants.{Full, Incompatible}
 use Rattle.schema_registry.specs.Tables.{Holds, IsId, entry_of, ids_in, number_of, versions_from}
 use Rattle.schema_registry.proofs.Entries.{from-more, length-from, versions-more}

@@ -1,6 +1,6 @@
 -- Answers, where the refusals before them do not come.
 use Rattle.std.proofs.Common.{◌≡◌, ◌≢◌, ℕ, List, [], ◌∷◌, length, map, Bool, true, false, Some, Ok, Err, cond, refl, ap}
-use Rattle.schema_drafts.specs.declared.error.SchemaError.{SchemaError}
+use Rattle.schema_names.specs.declared.error.SchemaError.{SchemaError}
 use Rattle.avro_schema.specs.Schema.{Declaration}
 use Rattle.schema_registry.specs.declared.command.Version.{Version}
 use Rattle.schema_registry.specs.declared.refusal.Refusal.TheVariants.{BadSchema, BadSubject, Full, NoVersion, NoSchema}

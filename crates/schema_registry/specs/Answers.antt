@@ -2,7 +2,7 @@
 use Rattle.std.specs.Prelude.{◌≡◌, ◌≢◌, ℕ, ◌&&◌, ◌||◌, List, [], ◌∷◌, ◌++◌, map, length, nat_le, Bool, true, false, not, is_some, if◌then◌else◌, Option, Some, None, Result, Ok, Err, ◌⊎◌}
 use Rattle.std.specs.List.{AllByRecursion, filter_map, flat_map}
 use Rattle.std.specs.FinMap as finite
-use Rattle.schema_drafts.specs.declared.error.SchemaError.{SchemaError}
+use Rattle.schema_names.specs.declared.error.SchemaError.{SchemaError}
 use Rattle.avro_schema.specs.Schema.{Declaration}
 use Rattle.resolver.specs.Safety.{IsSafe}
 use Rattle.schema_registry.specs.declared.limits.TheConstants.{MOST_SCHEMAS, MOST_SUBJECTS, MOST_LEVELS}

@@ -4,12 +4,12 @@ use Rattle.std.proofs.lemmas.Bool.{lt-ltb}
 use Rattle.serde_json.specs.Data.{Data, string, array, object, Items, Members}
 use Rattle.serde_json.specs.Find.{get_member}
 use Rattle.avro_types.specs.declared.limits.TheConstants.{MOST_FIELDS, MOST_NODES}
-use Rattle.schema_drafts.specs.Attributes.{symbols_of, default_symbol, size_of}
+use Rattle.schema_names.specs.Attributes.{symbols_of, default_symbol, size_of}
 use Rattle.schema_walk.specs.Contract.{object_walk, field_walk}
 use Rattle.schema_drafts.specs.Draft.{Draft, Whole, RecordDraft, DraftField}
 use Rattle.avro_types.specs.FullNames.{full_name, is_name, namespace_of}
 use Rattle.schema_drafts.specs.Head.{Head, ArrayHead, MapHead, UnionHead, Named, head_of, heads_of}
-use Rattle.schema_drafts.specs.Names.{field_name}
+use Rattle.schema_names.specs.Names.{field_name}
 use Rattle.avro_types.specs.Node.{Node, Names, ArrayNode, MapNode, UnionNode, EnumNode, FixedNode}
 use Rattle.avro_types.specs.Symbols.{are_new, is_used}
 use Rattle.schema_drafts.specs.Draft.{draft_field}

@@ -8,23 +8,23 @@ use Rattle.std.proofs.lemmas.Bool.{ltb-true}
 use Rattle.serde_json.specs.Data.{Data, null, boolean, number, string, array, object, Items, no_items, item, Members, no_members, member}
 use Rattle.serde_json.specs.Find.{get_member}
 use Rattle.avro_types.specs.declared.limits.TheConstants.{MOST_FIELDS, MOST_NODES}
-use Rattle.schema_drafts.specs.declared.error.SchemaError.{SchemaError}
-use Rattle.schema_drafts.specs.declared.error.SchemaError.TheVariants.{TooLarge, BadName, BadUnion}
-use Rattle.schema_drafts.specs.Attributes.{symbols_of, default_symbol, size_of}
+use Rattle.schema_names.specs.declared.error.SchemaError.{SchemaError}
+use Rattle.schema_names.specs.declared.error.SchemaError.TheVariants.{TooLarge, BadName, BadUnion}
+use Rattle.schema_names.specs.Attributes.{symbols_of, default_symbol, size_of}
 use Rattle.schema_walk.specs.Contract.{object_as, object_walk, field_walk}
 use Rattle.schema_drafts.specs.Draft.{Draft, Whole, RecordDraft, DraftField}
-use Rattle.schema_drafts.specs.Fault.{◌>>=◌, require}
+use Rattle.schema_names.specs.Fault.{◌>>=◌, require}
 use Rattle.avro_types.specs.FullNames.{full_name, is_name, namespace_of}
 use Rattle.schema_drafts.specs.Head.{Head, ArrayHead, MapHead, UnionHead, Named, head_of, heads_of, defined_at}
-use Rattle.schema_drafts.specs.Names.{field_name}
-use Rattle.schema_drafts.specs.Aliases.{field_aliases, new_names}
+use Rattle.schema_names.specs.Names.{field_name}
+use Rattle.schema_names.specs.Aliases.{field_aliases, new_names}
 use Rattle.avro_types.specs.Node.{Names, ArrayNode, MapNode, UnionNode, EnumNode, FixedNode}
 use Rattle.avro_types.specs.Symbols.{are_new, is_used}
 use Rattle.schema_drafts.specs.Draft.{draft_field}
 use Rattle.schema_drafts.specs.Head.{head_at}
 use Rattle.schema_drafts.specs.Head.{are_apart}
 use Rattle.schema_walk.specs.Walk.{added as added_to, Walk, apart_union, around, done, enum_of, field, fields, fields_after, field_of, fixed_of, followed_by, found, if_room, members, named, one_node, or_unknown, record_of, reference, union_of, walk}
-use Rattle.schema_drafts.specs.Word.{form_of}
+use Rattle.schema_names.specs.Word.{form_of}
 use Rattle.schema_walk.proofs.Members.{walk-object, field-object}
 use Rattle.schema_drafts.proofs.DraftLists.{length-heads_of, heads_of-append}
 use Rattle.schema_walk.specs.Declaring.{DeclareFields, DeclareMembers, Declares, DefinesNames, HasRoom, IsOf, a_field, a_fixed, a_map, a_member, a_primitive, a_record, a_reference, a_union, an_array, an_enum, another, no_more_fields, no_more_members}

@@ -8,12 +8,12 @@ use Rattle.serde_json.specs.Find.{get, as_object}
 use Rattle.serde_json.specs.View.{view, items_view}
 use Rattle.serde_json.specs.declared.value.Value.{Value}
 use Rattle.avro_types.specs.declared.limits.TheConstants.{MOST_FIELDS}
-use Rattle.schema_drafts.specs.declared.error.SchemaError.{SchemaError}
-use Rattle.schema_drafts.specs.declared.error.SchemaError.TheVariants.{TooLarge}
-use Rattle.schema_drafts.specs.Aliases.{field_aliases}
+use Rattle.schema_names.specs.declared.error.SchemaError.{SchemaError}
+use Rattle.schema_names.specs.declared.error.SchemaError.TheVariants.{TooLarge}
+use Rattle.schema_names.specs.Aliases.{field_aliases}
 use Rattle.schema_walk.specs.Contract.{run, field_walk}
-use Rattle.schema_drafts.specs.Fault.{◌>>=◌}
-use Rattle.schema_drafts.specs.Names.{field_name}
+use Rattle.schema_names.specs.Fault.{◌>>=◌}
+use Rattle.schema_names.specs.Names.{field_name}
 use Rattle.schema_drafts.specs.Draft.{Draft, DraftField, field_names}
 use Rattle.schema_drafts.specs.Head.{heads_of}
 use Rattle.schema_drafts.specs.Draft.{draft_field}

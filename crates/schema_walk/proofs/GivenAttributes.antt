@@ -1,5 +1,5 @@
 -- Attributes: what the relation says, and what the walk computes.
-use Rattle.schema_drafts.proofs.SymbolPlaces.{place_at}
+use Rattle.schema_names.proofs.SymbolPlaces.{place_at}
 use Rattle.std.proofs.Common.{◌≡◌, ℕ, suc, ◌+◌, List, [], ◌∷◌, length, Bool, true, false, ◌&&◌, cond, Option, Some, None, Result, Ok, Err, refl, sym, ap, subst, ◌∙◌, arith, slice_get}
 use Rattle.std.specs.Prelude.{nat_le}
 use Rattle.std.specs.Option.{ok_or}
@@ -9,11 +9,11 @@ use Rattle.std.proofs.lemmas.Bool.{le-leb, leb-true}
 use Rattle.std.proofs.lemmas.Slice.Eq.{bytes_eq-Decides}
 use Rattle.serde_json.specs.Data.{Data, unsigned, negative, float, null, boolean, number, string, array, object, Items, no_items, item}
 use Rattle.avro_types.specs.declared.limits.TheConstants.{MOST_FIXED, MOST_SYMBOLS}
-use Rattle.schema_drafts.specs.declared.error.SchemaError.{SchemaError}
-use Rattle.schema_drafts.specs.declared.error.SchemaError.TheVariants.{BadName, BadSymbols, TooLarge}
-use Rattle.schema_drafts.specs.Aliases.{alias_texts, field_aliases, full_aliases, type_aliases}
-use Rattle.schema_drafts.specs.Attributes.{symbols_of, default_symbol, size_of, texts_in}
-use Rattle.schema_drafts.specs.Fault.{◌>>=◌, require}
+use Rattle.schema_names.specs.declared.error.SchemaError.{SchemaError}
+use Rattle.schema_names.specs.declared.error.SchemaError.TheVariants.{BadName, BadSymbols, TooLarge}
+use Rattle.schema_names.specs.Aliases.{alias_texts, field_aliases, full_aliases, type_aliases}
+use Rattle.schema_names.specs.Attributes.{symbols_of, default_symbol, size_of, texts_in}
+use Rattle.schema_names.specs.Fault.{◌>>=◌, require}
 use Rattle.avro_types.specs.FullNames.{is_full_name, is_name}
 use Rattle.avro_types.specs.Symbols.{are_distinct, are_new}
 use Rattle.avro_types.specs.Laws.Booleans.{both, some_inside, none_some}

@@ -2,16 +2,16 @@
 use Rattle.std.proofs.Common.{◌≡◌, ℕ, List, Bool, true, false, not, ◌&&◌, cond, Option, Some, None, is_none, Result, Ok, Err, refl, ◌∙◌, codes}
 use Rattle.serde_json.specs.Data.{Data, null, boolean, number, string, array, object, Members}
 use Rattle.serde_json.specs.Find.{get_member}
-use Rattle.schema_drafts.specs.declared.error.SchemaError.{SchemaError}
-use Rattle.schema_drafts.specs.declared.error.SchemaError.TheVariants.{BadName, Redefined}
+use Rattle.schema_names.specs.declared.error.SchemaError.{SchemaError}
+use Rattle.schema_names.specs.declared.error.SchemaError.TheVariants.{BadName, Redefined}
 use Rattle.schema_drafts.specs.Draft.{Draft}
-use Rattle.schema_drafts.specs.Fault.{◌>>=◌, require}
+use Rattle.schema_names.specs.Fault.{◌>>=◌, require}
 use Rattle.schema_drafts.specs.Head.{Head, heads_of, defined_at}
 use Rattle.avro_types.specs.FullNames.{has_dot, inside, is_full_name, unqualified}
-use Rattle.schema_drafts.specs.Names.{new_name, given_namespace, if_new}
-use Rattle.schema_drafts.specs.Word.{word_of, is_primitive}
+use Rattle.schema_names.specs.Names.{new_name, given_namespace, if_new}
+use Rattle.schema_names.specs.Word.{word_of, is_primitive}
 use Rattle.avro_types.specs.Node.{Names, names_of}
-use Rattle.schema_drafts.specs.Aliases.{new_names, type_aliases}
+use Rattle.schema_names.specs.Aliases.{new_names, type_aliases}
 use Rattle.schema_walk.specs.Given.{AreTypeAliases}
 use Rattle.schema_walk.proofs.GivenAttributes.{type_aliases_are, type_aliases_told}
 use Rattle.schema_walk.proofs.Told.{Told}

@@ -6,11 +6,11 @@ use Rattle.serde_json.specs.Data.{Data, Items, item}
 use Rattle.serde_json.specs.View.{view, items_view}
 use Rattle.serde_json.specs.declared.value.Value.{Value}
 use Rattle.avro_types.specs.declared.limits.TheConstants.{MOST_NODES}
-use Rattle.schema_drafts.specs.declared.error.SchemaError.{SchemaError}
-use Rattle.schema_drafts.specs.declared.error.SchemaError.TheVariants.{BadUnion}
+use Rattle.schema_names.specs.declared.error.SchemaError.{SchemaError}
+use Rattle.schema_names.specs.declared.error.SchemaError.TheVariants.{BadUnion}
 use Rattle.schema_walk.specs.Contract.{run}
 use Rattle.schema_drafts.specs.Draft.{Draft, Whole}
-use Rattle.schema_drafts.specs.Fault.{◌>>=◌}
+use Rattle.schema_names.specs.Fault.{◌>>=◌}
 use Rattle.schema_drafts.specs.Head.{UnionHead, heads_of}
 use Rattle.avro_types.specs.Node.{UnionNode}
 use Rattle.schema_drafts.specs.Head.{head_at}

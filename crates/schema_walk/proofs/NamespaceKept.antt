@@ -1,7 +1,7 @@
 -- A namespace keeps its number while nodes come.
 use Rattle.std.proofs.Common.{◌≡◌, ℕ, List, [], ◌∷◌, ◌++◌, Some, Result, Ok, Err, slice_get, refl, ap}
 use Rattle.std.specs.Arc.{arc_str_bytes}
-use Rattle.schema_drafts.specs.declared.error.SchemaError.{SchemaError}
+use Rattle.schema_names.specs.declared.error.SchemaError.{SchemaError}
 use Rattle.schema_drafts.specs.declared.namespace.Namespace.{Namespace}
 use Rattle.schema_walk.specs.Contract.{run}
 use Rattle.schema_drafts.specs.Draft.{Draft}

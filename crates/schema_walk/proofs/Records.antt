@@ -2,15 +2,15 @@
 use Rattle.std.proofs.Common.{◌≡◌, ℕ, ◌<◌, List, [], ◌∷◌, ◌++◌, length, Option, Result, Ok, Err, refl, ◌∙◌, set}
 use Rattle.serde_json.specs.Data.{Data}
 use Rattle.avro_types.specs.declared.limits.TheConstants.{MOST_NODES}
-use Rattle.schema_drafts.specs.declared.error.SchemaError.{SchemaError}
+use Rattle.schema_names.specs.declared.error.SchemaError.{SchemaError}
 use Rattle.avro_types.specs.declared.name.Name.{Name}
-use Rattle.schema_drafts.specs.Attributes.{symbols_of, default_symbol, size_of}
+use Rattle.schema_names.specs.Attributes.{symbols_of, default_symbol, size_of}
 use Rattle.schema_walk.specs.Contract.{run}
 use Rattle.schema_drafts.specs.Draft.{Draft, Whole, RecordDraft, DraftField}
-use Rattle.schema_drafts.specs.Fault.{◌>>=◌}
+use Rattle.schema_names.specs.Fault.{◌>>=◌}
 use Rattle.schema_drafts.specs.Head.{Named, heads_of}
 use Rattle.avro_types.specs.FullNames.{namespace_of}
-use Rattle.schema_drafts.specs.Aliases.{new_names}
+use Rattle.schema_names.specs.Aliases.{new_names}
 use Rattle.avro_types.specs.Node.{Names, EnumNode, FixedNode, names_of}
 use Rattle.schema_walk.specs.Walk.{Walk, added, if_room, around, one_node, record_of, enum_of, fixed_of, or_unknown}
 use Rattle.schema_walk.proofs.Runs.{run-if_room, closed, unclosed}

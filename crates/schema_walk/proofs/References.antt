@@ -1,6 +1,6 @@
 -- What a text refers to.
 use Rattle.std.proofs.Common.{◌≡◌, ◌∙◌, ℕ, List, Some, None, Ok, Err, ap, append-nil}
-use Rattle.schema_drafts.specs.declared.error.SchemaError.TheVariants.{Unknown}
+use Rattle.schema_names.specs.declared.error.SchemaError.TheVariants.{Unknown}
 use Rattle.schema_walk.specs.Contract.{run}
 use Rattle.schema_drafts.specs.Draft.{Draft}
 use Rattle.schema_drafts.specs.Head.{defined_at, heads_of}

@@ -4,10 +4,10 @@ use Rattle.std.proofs.Common.{◌≡◌, ℕ, ◌<◌, ◌≤◌, List, [], ◌�
 use Rattle.std.proofs.lemmas.Bool.{lt-ltb, le-ltb}
 use Rattle.std.proofs.Math.Seq.{set-append_seam}
 use Rattle.avro_types.specs.declared.limits.TheConstants.{MOST_NODES}
-use Rattle.schema_drafts.specs.declared.error.SchemaError.{SchemaError}
-use Rattle.schema_drafts.specs.declared.error.SchemaError.TheVariants.{TooLarge}
+use Rattle.schema_names.specs.declared.error.SchemaError.{SchemaError}
+use Rattle.schema_names.specs.declared.error.SchemaError.TheVariants.{TooLarge}
 use Rattle.schema_walk.specs.Contract.{run}
-use Rattle.schema_drafts.specs.Fault.{◌>>=◌}
+use Rattle.schema_names.specs.Fault.{◌>>=◌}
 use Rattle.schema_drafts.specs.Draft.{Draft, Whole}
 use Rattle.schema_drafts.specs.Head.{head_of, heads_of}
 use Rattle.avro_types.specs.Node.{Node}

@@ -3,10 +3,10 @@ use Rattle.std.proofs.Common.{◌≡◌, ◌≢◌, ◌⊎◌, inl, inr, ℕ, Li
 use Rattle.std.specs.Str.{bytes_eq}
 use Rattle.std.proofs.lemmas.Slice.Eq.{bytes_eq-Decides}
 use Rattle.serde_json.specs.Data.{Data, null, boolean, number, string, array, object}
-use Rattle.schema_drafts.specs.declared.error.SchemaError.TheVariants.{OutOfProfile}
+use Rattle.schema_names.specs.declared.error.SchemaError.TheVariants.{OutOfProfile}
 use Rattle.avro_types.specs.Node.{Node, NullNode, BooleanNode, IntNode, LongNode, BytesNode, TextNode}
 use Rattle.schema_walk.specs.Walk.{fault, leaf, named, reference}
-use Rattle.schema_drafts.specs.Word.{word_of, is_primitive, form_of}
+use Rattle.schema_names.specs.Word.{word_of, is_primitive, form_of}
 use Rattle.schema_walk.specs.Declaring.{IsNoWord, IsNoPrimitive, IsPrimitive, null_type, boolean_type, int_type, long_type, bytes_type, text_type}
 
 decided : (s w : List ℕ) (b : Bool) → bytes_eq s w ≡ b → (s ≡ w) ⊎ (bytes_eq s w ≡ false)

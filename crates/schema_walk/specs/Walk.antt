@@ -6,19 +6,19 @@ use Rattle.std.specs.Cmp.Lexicographic.{slice_cmp}
 use Rattle.serde_json.specs.Data.{Data, string, array, object, Items, no_items, item, Members, no_members, member}
 use Rattle.serde_json.specs.Find.{get_member}
 use Rattle.avro_types.specs.declared.limits.TheConstants.{MOST_FIELDS, MOST_NODES}
-use Rattle.schema_drafts.specs.declared.error.SchemaError.{SchemaError}
-use Rattle.schema_drafts.specs.declared.error.SchemaError.TheVariants.{TooLarge, Unknown, OutOfProfile, BadUnion}
-use Rattle.schema_drafts.specs.declared.word.Form.{Form}
-use Rattle.schema_drafts.specs.declared.word.Form.TheVariants as forms
-use Rattle.schema_drafts.specs.Aliases.{field_aliases, new_names}
-use Rattle.schema_drafts.specs.Attributes.{symbols_of, default_symbol, size_of}
+use Rattle.schema_names.specs.declared.error.SchemaError.{SchemaError}
+use Rattle.schema_names.specs.declared.error.SchemaError.TheVariants.{TooLarge, Unknown, OutOfProfile, BadUnion}
+use Rattle.schema_names.specs.declared.word.Form.{Form}
+use Rattle.schema_names.specs.declared.word.Form.TheVariants as forms
+use Rattle.schema_names.specs.Aliases.{field_aliases, new_names}
+use Rattle.schema_names.specs.Attributes.{symbols_of, default_symbol, size_of}
 use Rattle.schema_drafts.specs.Draft.{Draft, Whole, RecordDraft, DraftField, draft_field}
-use Rattle.schema_drafts.specs.Fault.{◌>>=◌}
+use Rattle.schema_names.specs.Fault.{◌>>=◌}
 use Rattle.schema_drafts.specs.Head.{Head, ArrayHead, MapHead, UnionHead, Named, heads_of, defined_at, head_at}
 use Rattle.avro_types.specs.FullNames.{full_name, namespace_of}
-use Rattle.schema_drafts.specs.Names.{field_name}
+use Rattle.schema_names.specs.Names.{field_name}
 use Rattle.avro_types.specs.Node.{Node, FixedNode, EnumNode, ArrayNode, MapNode, UnionNode}
-use Rattle.schema_drafts.specs.Word.{word_of, leaf_of, is_left_out, form_of}
+use Rattle.schema_names.specs.Word.{word_of, leaf_of, is_left_out, form_of}
 
 -- Given the enclosing namespace and the heads of the nodes so far: a value, and the nodes that it adds.
 abbrev pub Walk : Type 0 → Type 0

@@ -1,7 +1,7 @@
 ghost use Rattle.std.specs.Prelude.{◌≡◌, ◌≢◌, ◌↔◌, ◌≤◌, [], ◌∷◌, ◌++◌, ℕ, List, Ok, Err, Some, None, true, false, is_some, IfOk, IsTrue, MatchResult, OnOk, OnErr, if◌then◌else◌, option_map, string_bytes};
 ghost use Rattle.std.specs.BTreeMap.{IsUnchanged, get_by_text};
 ghost use Rattle.std.specs.Str.{bytes_eq};
-ghost use Rattle.schema_drafts.specs.declared.error.SchemaError.{SchemaError};
+ghost use Rattle.schema_names.specs.declared.error.SchemaError.{SchemaError};
 ghost use Rattle.schema_registry.specs.declared.limits.TheConstants.{MOST_SCHEMAS};
 ghost use Rattle.schema_registry.specs.Accepting.{declaration_of, id_for, registry_after, with_schema};
 ghost use Rattle.schema_registry.specs.Answers.{AreAccepted, AreSafe, Gives, GivesId, answer_to, is_full, pairs_of};

@@ -3,7 +3,7 @@ use Rattle.std.proofs.lemmas.Result.{err_from_is_err_and}
 use Rattle.std.specs.Option.{ok_or}
 use Rattle.serde_json.specs.Data.{depth, items_depth}
 use Rattle.serde_json.specs.View.{view, items_view, members_view}
-use Rattle.schema_drafts.specs.declared.error.SchemaError.TheVariants.{BadDefault}
+use Rattle.schema_names.specs.declared.error.SchemaError.TheVariants.{BadDefault}
 use Rattle.avro_types.specs.Datum.{Data, Pairs, Datum, ArrayDatum, MapDatum, RecordDatum, UnionDatum}
 use Rattle.schema_defaults.specs.Defaults.{value_of}
 use Rattle.serde_json.specs.Find.{get}

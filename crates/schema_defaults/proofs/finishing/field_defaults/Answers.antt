@@ -1,6 +1,6 @@
 use Rattle.std.proofs.Common.{List, Option, option_map, refl, sym, ap, ◌∙◌, arith}
 use Rattle.std.specs.Option.{ok_or}
-use Rattle.schema_drafts.specs.declared.error.SchemaError.TheVariants.{BadDefault}
+use Rattle.schema_names.specs.declared.error.SchemaError.TheVariants.{BadDefault}
 use Rattle.avro_types.specs.Datum.{Datum, datum_of}
 use Rattle.schema_drafts.specs.Draft.{drafts_of}
 use Rattle.schema_defaults.proofs.Finished.{field_read, fields_read, fields_read-steps, row-on, row-ends}

@@ -1,4 +1,4 @@
-use Rattle.std.proofs.Common.{◌≡◌, ◌∷◌, [], Some, length, rules, string_bytes, sym, ap, refl, subst, ◌∙◌}
+use Rattle.std.proofs.Common.{◌≡◌, ◌∷◌, [], Some, length, rules, string_bytes, sym, ap, subst, ◌∙◌}
 use Rattle.std.specs.BTreeMap.{UpdatesBy}
 use Rattle.std.specs.Ordering.{nat_cmp}
 use Rattle.std.specs.Cmp.Lexicographic.{slice_cmp}
@@ -7,7 +7,7 @@ use Rattle.schema_drafts.specs.Draft.{draft_of, drafts_of}
 use Rattle.schema_drafts.specs.Head.{Named, heads_of}
 use Rattle.avro_types.specs.FullNames.{namespace_of, unqualified}
 use Rattle.avro_types.specs.Laws.NameParts.{name-undotted, parts-ruled}
-use Rattle.schema_drafts.proofs.DraftLists.{drafts_of-append, length-drafts_of}
+use Rattle.schema_drafts.proofs.DraftLists.{drafts_of-append}
 use Rattle.schema_drafts.proofs.NewIndex.{index-first, fresh-first, pushed-all}
 use Rattle.schema_drafts.proofs.drafts.Drafts.push_first.Goals as goal
 

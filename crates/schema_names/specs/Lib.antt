@@ -1,0 +1,6 @@
+pub mod Aliases
+pub mod Attributes
+pub mod Fault
+pub mod Names
+pub mod SchemaError
+pub mod Word
