@@ -1,4 +1,5 @@
-ghost use Rattle.std.specs.Prelude.{◌≡◌, ◌≤◌, ◌<◌, ◌+◌, ℕ, [], ◌∷◌, ◌++◌, length, is_some, option_to_list, OnOk, OnErr, Some, None, false, true};
+ghost use Rattle.std.specs.Prelude.{◌≡◌, ◌≢◌, ◌≤◌, ◌<◌, ◌+◌, ℕ, [], ◌∷◌, ◌++◌, length, is_some, option_to_list, OnOk, OnErr, Some, None, false, true};
+ghost use Rattle.avro_bytes.specs.declared.fault.Fault.TheVariants.{NoMemory};
 ghost use Rattle.avro_bytes.specs.declared.meter.Meter.{Meter};
 ghost use Rattle.isa.specs.declared.limits.TheConstants.{MOST_INSTRS};
 ghost use Rattle.isa.specs.State.{has_current, meter_of};
@@ -163,6 +164,7 @@ impl Machine {
         input: &[u8],
         ended: bool,
     ) -> Step
+        requires { fault ≢ NoMemory }
         ensures takes { Takes (refused program.now input.now ended fault self.old.state) result self.old self.new }
         ensures pos { self.new.state.pos ≡ self.old.state.pos }
         ensures part { self.new.state.part ≡ self.old.state.part }
@@ -175,7 +177,7 @@ impl Machine {
                 at: input.len(),
             })),
             Fault::Need => Step::Waits,
-            Fault::NoMemory => Step::NoMemory,
+            Fault::NoMemory => unreachable!(),
         }
     }
 
