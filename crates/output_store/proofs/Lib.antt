@@ -8,3 +8,4 @@ pub mod Texts
 pub mod Framing
 pub mod Keeping
 pub mod Closing
+pub mod Viewing

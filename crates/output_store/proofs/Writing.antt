@@ -16,7 +16,7 @@ AreWithin-append len [] b f g = g
 AreWithin-append len (s ∷ a) b f g = (f.0, AreWithin-append len a b f.1 g)
 
 abbrev joint_of : List Joint → ℕ → Joint
-joint_of js number = get_or js (number - 1) (record { before = 0; segment = record { place = 0; end = 0 }; behind = 0 })
+joint_of js number = get_or js (number - 1) (record { before = 0; segment = record { place = 0; end = 0 }; behind = 0; len = 0 })
 
 -- the segments that are left behind the ropes that wait, the newest first
 abbrev pub waiting : List Joint → List ℕ → List Segment
@@ -47,7 +47,7 @@ fewer js (p ∷ ps) = omega (arith, fewer js ps, length-append (rope_at (ropes_o
 
 pub went_down : (arena : List ℕ) (js : List Joint) (whole out : List ℕ) (at : ℕ) (ps : List ℕ) → IsWriting arena js whole out at ps → 0 < at → IsWriting arena js whole out (joint_of js at).before (at ∷ ps)
 went_down arena js whole out at ps w some =
-    let d : Joint = record { before = 0; segment = record { place = 0; end = 0 }; behind = 0 } in
+    let d : Joint = record { before = 0; segment = record { place = 0; end = 0 }; behind = 0; len = 0 } in
     let fits = AreJoints-get 0 js (at - 1) d w.joints (omega (arith, some, w.there)) in
     record {
       joints = w.joints;
@@ -59,12 +59,12 @@ went_down arena js whole out at ps w some =
   where
     same_down : (js : List Joint) (at : ℕ) (ps : List ℕ) → AreJoints 0 js → 0 < at → at ≤ length js → remaining js at ps ≡ remaining js (joint_of js at).before (at ∷ ps)
     same_down js at ps f some there =
-        ap (λ (x : List Segment). x ++ waiting js ps) (rope_of js at (record { before = 0; segment = record { place = 0; end = 0 }; behind = 0 }) f some there)
+        ap (λ (x : List Segment). x ++ waiting js ps) (rope_of js at (record { before = 0; segment = record { place = 0; end = 0 }; behind = 0; len = 0 }) f some there)
         ∙ append_assoc (rope_at (ropes_of js) (joint_of js at).before) ((joint_of js at).segment ∷ rope_at (ropes_of js) (joint_of js at).behind) (waiting js ps)
 
 down_turns : (js : List Joint) (at : ℕ) (ps : List ℕ) → AreJoints 0 js → 0 < at → at ≤ length js → turns js (joint_of js at).before (at ∷ ps) < turns js at ps
 down_turns js at ps f some there =
-    let r = rope_of js at (record { before = 0; segment = record { place = 0; end = 0 }; behind = 0 }) f some there in
+    let r = rope_of js at (record { before = 0; segment = record { place = 0; end = 0 }; behind = 0; len = 0 }) f some there in
     let before = rope_at (ropes_of js) (joint_of js at).before in
     let behind = rope_at (ropes_of js) (joint_of js at).behind in
     omega (
@@ -79,7 +79,7 @@ down_turns js at ps f some there =
 
 pub went_on : (arena : List ℕ) (js : List Joint) (whole out more : List ℕ) (p : ℕ) (ps : List ℕ) → IsWriting arena js whole out 0 (p ∷ ps) → more ≡ out ++ bytes_at arena (joint_of js p).segment → IsWriting arena js whole more (joint_of js p).behind ps
 went_on arena js whole out more p ps w e =
-    let d : Joint = record { before = 0; segment = record { place = 0; end = 0 }; behind = 0 } in
+    let d : Joint = record { before = 0; segment = record { place = 0; end = 0 }; behind = 0; len = 0 } in
     let fits = AreJoints-get 0 js (p - 1) d w.joints (omega (arith, w.all.0.0, w.all.0.1)) in
     let first : remaining js 0 (p ∷ ps) ≡ waiting js (p ∷ ps) = ap (λ (x : List Segment). x ++ waiting js (p ∷ ps)) (first_rope js) in
     let within : AreWithin (length arena) (waiting js (p ∷ ps)) = subst (AreWithin (length arena)) first w.within in
@@ -101,7 +101,7 @@ on_turns js p ps =
 
 is_joint : (js : List Joint) (p : ℕ) (j : Joint) → j ≡ get_or js (p - 1) j → 0 < p → p ≤ length js → joint_of js p ≡ j
 is_joint js p j e some there =
-    get_or_default js (p - 1) (record { before = 0; segment = record { place = 0; end = 0 }; behind = 0 }) j (omega (arith, some, there)) ∙ sym e
+    get_or_default js (p - 1) (record { before = 0; segment = record { place = 0; end = 0 }; behind = 0; len = 0 }) j (omega (arith, some, there)) ∙ sym e
 
 -- ---- the turns of the loop, whose stack has the newest last
 

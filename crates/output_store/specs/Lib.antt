@@ -3,3 +3,4 @@ pub mod Ropes
 pub mod Buffers
 pub mod Frames
 pub mod Store
+pub mod Viewing

@@ -1,5 +1,5 @@
 -- Ropes: lists of segments, each of a segment between two earlier ones. All of this is this project's own.
-use Rattle.std.specs.Prelude.{ℕ, suc, ◌≤◌, List, [], ◌∷◌, ◌++◌, get_or}
+use Rattle.std.specs.Prelude.{◌≡◌, ℕ, suc, ◌≤◌, ◌-◌, ◌^◌, min, length, List, [], ◌∷◌, ◌++◌, get_or}
 use Rattle.output_store.specs.declared.ropes.Joint.{Joint}
 use Rattle.output_store.specs.declared.segment.Segment.{Segment}
 
@@ -25,3 +25,16 @@ pub record IsJoint (number : ℕ) (j : Joint) : Type 0 where
 abbrev pub AreJoints : ℕ → List Joint → Type 0
 AreJoints number [] = Unit {0}
 AreJoints number (j ∷ joints) = IsJoint number j × AreJoints (suc number) joints
+
+-- how many segments there are, as far as can be counted
+abbrev pub counted : List Segment → ℕ
+counted rope = min (length rope) (2 ^ 64 - 1)
+
+-- each joint says how many there are in its rope, after earlier ropes
+abbrev pub AreCounted : List (List Segment) → List Joint → Type 0
+AreCounted ropes [] = Unit {0}
+AreCounted ropes (j ∷ joints) = (j.len ≡ counted (joined_by ropes j)) × AreCounted (ropes ++ joined_by ropes j ∷ []) joints
+
+pub record IsRoped (joints : List Joint) : Type 0 where
+  pub ordered : AreJoints 0 joints
+  pub counts : AreCounted ([] ∷ []) joints

@@ -1,4 +1,4 @@
-ghost use Rattle.std.specs.Prelude.{◌≡◌, ◌≢◌, ℕ, ◌+◌, ◌<◌, ◌≤◌, List, [], ◌∷◌, ◌++◌, length, map, OnErr, OnOk, IfOk};
+ghost use Rattle.std.specs.Prelude.{◌≡◌, ◌≢◌, ℕ, ◌+◌, ◌-◌, ◌^◌, ◌<◌, ◌≤◌, List, [], ◌∷◌, ◌++◌, length, map, slice_get, OnErr, OnOk, IfOk};
 ghost use Rattle.output_store.specs.declared.buffers.Buffer.TheVariants.{Empty};
 ghost use Rattle.output_store.specs.Buffers.{AreLaid, AreRopes, IsHeld, AllHeld, IsLater, IsPlace, buffer_at, segments_at, segments_of, with_added, with_closed, with_fewer, with_none, with_opened};
 ghost use Rattle.output_store.specs.Segments.{AreSegments, bytes_of, with_bytes, with_lists, with_segment, with_segments};
@@ -161,6 +161,23 @@ fn buffer_at(out: Buffer, slots: &[Buffer], place: Place) -> Buffer
     match place {
         Place::Out => out,
         Place::Slot(number) => slots[number],
+    }
+}
+
+/// A segment of a buffer, by its number, where there are so many.
+fn segment_of(ropes: &Ropes, buffer: Buffer, number: usize) -> Option<Segment>
+    requires held { IsHeld ropes.now buffer }
+    requires few { number < 2 ^ 64 - 1 }
+    ensures { result ≡ slice_get (segments_of ropes.now buffer) number }
+{
+    match buffer {
+        Buffer::One(segment) if number == 0 => Some(segment),
+        Buffer::More { first, .. } if number == 0 => Some(first),
+        Buffer::More { middle, last, .. } => match ropes.segment(middle, number - 1) {
+            None if ropes.len(middle) == number - 1 => Some(last),
+            found => found,
+        },
+        _ => None,
     }
 }
 
@@ -329,5 +346,14 @@ impl Buffers {
                 out.extend_from_slice(last.bytes(&self.arena))
             }
         }
+    }
+
+    /// A segment of one, by its number, where there are so many. It takes no memory.
+    pub fn segment(&self, place: Place, number: usize) -> Option<Segment>
+        requires there { IsPlace (length self.now.slots) place }
+        requires few { number < 2 ^ 64 - 1 }
+        ensures { result ≡ slice_get (segments_at self.now place) number }
+    {
+        segment_of(&self.ropes, buffer_at(self.out, &self.slots, place), number)
     }
 }

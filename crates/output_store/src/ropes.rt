@@ -1,5 +1,5 @@
-ghost use Rattle.std.specs.Prelude.{◌≡◌, ℕ, ◌<◌, List, [], ◌∷◌, ◌++◌, length, OnOk, OnErr, IfOk};
-ghost use Rattle.output_store.specs.Ropes.{rope_at};
+ghost use Rattle.std.specs.Prelude.{◌≡◌, ℕ, ◌<◌, ◌-◌, ◌^◌, List, [], ◌∷◌, ◌++◌, length, slice_get, OnOk, OnErr, IfOk};
+ghost use Rattle.output_store.specs.Ropes.{counted, rope_at};
 ghost use Rattle.output_store.specs.Segments.{AreWithin, bytes_of};
 
 use crate::segment::Segment;
@@ -12,6 +12,8 @@ pub struct Joint {
     before: usize,
     segment: Segment,
     behind: usize,
+    /// How many segments they have together, as far as can be counted.
+    len: usize,
 }
 
 /// Ropes by number: lists of segments that are joined without being copied. The rope 0 is empty, and none ever changes.
@@ -26,11 +28,11 @@ impl Model for Ropes {
 
     ghost Value = { List (List Segment) };
 
-    ghost use Rattle.output_store.specs.Ropes.{AreJoints, ropes_of};
+    ghost use Rattle.output_store.specs.Ropes.{IsRoped, ropes_of};
 
     ghost view = { λ r. ropes_of r.joints.items };
 
-    ghost invariant = { λ r. AreJoints 0 r.joints.items };
+    ghost invariant = { λ r. IsRoped r.joints.items };
 }
 
 impl Ropes {
@@ -50,6 +52,18 @@ impl Ropes {
         self.joints.clear();
     }
 
+    /// How many segments a rope has, as far as can be counted.
+    pub fn len(&self, rope: usize) -> usize
+        requires { rope < length self.now }
+        ensures { result ≡ counted (rope_at self.now rope) }
+    {
+        if rope == 0 {
+            0
+        } else {
+            self.joints[rope - 1].len
+        }
+    }
+
     /// A further rope, and its number: a segment between two earlier ropes.
     pub fn join(
         &mut self,
@@ -64,10 +78,15 @@ impl Ropes {
             (self.new ≡ self.old ++ (rope_at self.old before ++ segment ∷ rope_at self.old behind) ∷ []) }
         ensures refused { OnErr result (self.new ≡ self.old) }
     {
+        let len = self
+            .len(before)
+            .saturating_add(1)
+            .saturating_add(self.len(behind));
         self.joints.push(Joint {
             before,
             segment,
             behind,
+            len,
         })?;
         Ok(self.joints.len())
     }
@@ -99,5 +118,29 @@ impl Ropes {
                 at = joint.behind;
             }
         }
+    }
+
+    /// A segment of a rope, by its number, where there are so many. It takes no memory.
+    pub fn segment(&self, rope: usize, number: usize) -> Option<Segment>
+        requires there { rope < length self.now }
+        requires few { number < 2 ^ 64 - 1 }
+        ensures { result ≡ slice_get (rope_at self.now rope) number }
+    {
+        let mut at = rope;
+        let mut left = number;
+        while at > 0 {
+            let joint = self.joints[at - 1];
+            let before = self.len(joint.before);
+            if left == before {
+                return Some(joint.segment);
+            }
+            if left < before {
+                at = joint.before;
+            } else {
+                left -= before + 1;
+                at = joint.behind;
+            }
+        }
+        None
     }
 }

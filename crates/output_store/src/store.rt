@@ -140,9 +140,9 @@ fn spell_around(around: &mut Vec<u8>, items: u32) -> Result<usize, AllocError>
 /// Open frames with their buffers, the output, and what was told of it: what a run holds.
 #[derive(Drop)]
 pub struct Store {
-    top: Frame,
-    below: Vec<Frame>,
-    buffers: Buffers,
+    pub(crate) top: Frame,
+    pub(crate) below: Vec<Frame>,
+    pub(crate) buffers: Buffers,
     units: u32,
     mark: Option<u32>,
     over: bool,

@@ -3,7 +3,7 @@ use Rattle.output_store.proofs.Writing.{began, down, down_smaller, on, on_smalle
 use Rattle.output_store.proofs.ropes.Ropes.write.Goals as goal
 
 pub loop-at-init : goal.loop-at-init
-loop-at-init c = began c.args.self.now c.args.arena.now c.self.inside.joints.items c.args.rope c.args.out.now.items c.new-pending.result.items c.self.view_is c.self.invariant c.requires.there c.requires.within c.new-pending.ensures.items
+loop-at-init c = began c.args.self.now c.args.arena.now c.self.inside.joints.items c.args.rope c.args.out.now.items c.new-pending.result.items c.self.view_is c.self.invariant.ordered c.requires.there c.requires.within c.new-pending.ensures.items
 
 pub loop-at-smaller-then-at-gt0 : goal.loop-at-smaller-then-at-gt0
 loop-at-smaller-then-at-gt0 c =
