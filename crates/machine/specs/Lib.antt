@@ -2,3 +2,4 @@ pub mod Run
 pub mod Pair
 pub mod Ending
 pub mod Transcoding
+pub mod Laws

@@ -150,4 +150,12 @@ impl<'p> Run<'p> {
     {
         self.machine.into_end()
     }
+
+    /// How it ended, and all bytes that came.
+    pub fn into_parts(self) -> (Option<End>, Vec<u8>)
+        ensures end { option_map end_of result.0 ≡ self.entry.machine.state.end }
+        ensures input { result.1.items ≡ self.entry.input }
+    {
+        (self.machine.into_end(), self.input)
+    }
 }

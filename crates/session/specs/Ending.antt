@@ -1,0 +1,28 @@
+-- How a session of a pair of schemas ends. All of this is this project's own.
+use Rattle.std.specs.Prelude.{◌≡◌, ◌<◌, ◌+◌, ◌*◌, ℕ, List, ◌++◌, length, true, false, Some, None}
+use Rattle.avro_bytes.specs.declared.limits.TheConstants.{MOST_UNITS}
+use Rattle.avro_types.specs.Node.{Node}
+use Rattle.isa.specs.State as state
+use Rattle.outcome.specs.Outcome.{outcome_of}
+use Rattle.simulation.specs.Simulation.{IsOutcomeOf}
+use Rattle.session.specs.declared.end.SessionEnd as rust
+use Rattle.session.specs.declared.end.SessionEnd.TheVariants as ends
+use Rattle.session.specs.Session.{OutOfMemory, Out, Session, SessionEnd, Trapped, machine_end}
+
+-- the end that a value of the program stands for
+abbrev pub end_of : rust.SessionEnd → SessionEnd
+end_of (ends.Out outcome) = Out (outcome_of outcome)
+end_of (ends.Trap trap) = Trapped trap
+end_of ends.NoMemory = OutOfMemory
+
+-- the end of its machine is the outcome of the bytes that came, and no trap
+abbrev pub EndIsOutcome : List Node → List Node → Session → Type 0
+EndIsOutcome W R s = (end : state.End) → machine_end s ≡ Some end → IsOutcomeOf W R s.bytes end
+
+-- one that comes while more bytes may follow is the outcome with every continuation
+abbrev pub EarlyEndIsOutcome : List Node → List Node → Session → Type 0
+EarlyEndIsOutcome W R s = (more : List ℕ) (end : state.End) → s.closed ≡ false → machine_end s ≡ Some end → IsOutcomeOf W R (s.bytes ++ more) end
+
+-- where all bytes came and it has not ended, it has not taken as many rows as the row bound allows
+abbrev pub IsWithinBound : Session → Type 0
+IsWithinBound s = s.closed ≡ true → machine_end s ≡ None → s.count < (MOST_UNITS + 1) * length s.program.code + length s.bytes

@@ -1,0 +1,13 @@
+//! Sessions: a program run on bytes that come in pieces, with breakpoints, until it ends or memory does.
+#![tactic(auto)]
+
+mod end;
+mod limits;
+mod refusal;
+mod session;
+mod taking;
+
+pub use end::SessionEnd;
+pub use limits::MOST_BREAKS;
+pub use refusal::SessionRefusal;
+pub use session::Session;

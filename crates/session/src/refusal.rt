@@ -1,0 +1,55 @@
+use std::alloc::{AllocError, AllocFailed};
+
+/// Why a call of a session was refused, which changed nothing.
+#[derive(Clone, Copy, Debug, PartialEq, Eq)]
+pub enum SessionRefusal {
+    /// The bytes with the piece would pass the limit of a payload.
+    TooLarge,
+    /// A piece came after the last.
+    Ended,
+    /// The address is none of the program's.
+    BadAddress,
+    /// The session has as many other breakpoints as it may have.
+    TooManyBreaks,
+    NoMemory,
+}
+
+impl SessionRefusal {
+    ghost use Rattle.std.specs.Prelude.{◌≡◌};
+    ghost use Rattle.session.specs.Names.{refusal_name};
+
+    /// Its name, as programs print it.
+    pub fn name(self) -> &'static str
+        ensures { result.now ≡ refusal_name self }
+    {
+        match self {
+            SessionRefusal::TooLarge => "TooLarge",
+            SessionRefusal::Ended => "Ended",
+            SessionRefusal::BadAddress => "BadAddress",
+            SessionRefusal::TooManyBreaks => "TooManyBreaks",
+            SessionRefusal::NoMemory => "NoMemory",
+        }
+    }
+}
+
+impl From<AllocError> for SessionRefusal {
+    ghost use Rattle.std.specs.Prelude.{◌≡◌};
+    ghost use Rattle.session.specs.declared.refusal.SessionRefusal.TheVariants.{NoMemory};
+
+    ghost from_gives = { λ _ e. e ≡ NoMemory };
+
+    fn from(_error: AllocError) -> SessionRefusal {
+        SessionRefusal::NoMemory
+    }
+}
+
+impl<T: Drop> From<AllocFailed<T>> for SessionRefusal {
+    ghost use Rattle.std.specs.Prelude.{◌≡◌};
+    ghost use Rattle.session.specs.declared.refusal.SessionRefusal.TheVariants.{NoMemory};
+
+    ghost from_gives = { λ _ e. e ≡ NoMemory };
+
+    fn from(_error: AllocFailed<T>) -> SessionRefusal {
+        SessionRefusal::NoMemory
+    }
+}
