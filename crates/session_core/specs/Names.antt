@@ -1,0 +1,23 @@
+-- The names of refusals.
+use Rattle.std.specs.Prelude.{ℕ, List, codes}
+use Rattle.schema_registry.specs.Refusal as registry
+use Rattle.session.specs.Names as session
+use Rattle.session_core.specs.declared.publish_error.PublishError.{PublishError}
+use Rattle.session_core.specs.declared.publish_error.PublishError.TheVariants as errors
+use Rattle.session_core.specs.declared.refusal.EventRefusal.{EventRefusal}
+use Rattle.session_core.specs.declared.refusal.EventRefusal.TheVariants as refusals
+
+abbrev pub error_name : PublishError → List ℕ
+error_name errors.ProgramTooLarge = codes "ProgramTooLarge"
+error_name errors.Clash = codes "Clash"
+error_name errors.NoMemory = codes "NoMemory"
+
+abbrev pub refusal_name : EventRefusal → List ℕ
+refusal_name refusals.NoSession = codes "NoSession"
+refusal_name refusals.NotHeld = codes "NotHeld"
+refusal_name refusals.NotPublished = codes "NotPublished"
+refusal_name refusals.NoSchema = codes "NoSchema"
+refusal_name refusals.NoMemory = codes "NoMemory"
+refusal_name (refusals.OfSession refusal) = session.refusal_name refusal
+refusal_name (refusals.OfRegistry refusal) = registry.refusal_name refusal
+refusal_name (refusals.OfPublication error) = error_name error

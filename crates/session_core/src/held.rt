@@ -1,0 +1,74 @@
+ghost use Rattle.std.specs.Prelude.{◌≡◌};
+ghost use Rattle.session_core.specs.Acts.{Acts, reply_to};
+ghost use Rattle.session_core.specs.Event.{Slice, act_of};
+
+use crate::act::Act;
+use crate::refusal::EventRefusal;
+use crate::reply::EventReply;
+use session::{Session, SessionRefusal};
+use std::marker::Model;
+
+/// A session, the worker that holds it, and the ids of its pair.
+#[derive(Drop)]
+pub(crate) struct Held<'p> {
+    pub(crate) holder: u32,
+    pub(crate) writer: u32,
+    pub(crate) reader: u32,
+    pub(crate) session: Session<'p>,
+}
+
+impl<'p> Model for Held<'p> {
+    ghost use Rattle.session_core.specs.World.{Held};
+
+    ghost Value = { Held };
+
+    ghost view = { λ h. record { holder = h.holder; writer = h.writer; reader = h.reader; session = h.session } };
+}
+
+impl<'p> Held<'p> {
+    /// What happens to the session.
+    pub(crate) fn act(&mut self, act: Act) -> EventReply
+        ensures { Acts (act_of act.entry) result self.old self.new }
+    {
+        match act {
+            Act::Piece(bytes) => reply_to(self.session.piece(bytes)),
+            Act::Finish => {
+                self.session.finish();
+                EventReply::Done
+            }
+            Act::Slice { worker, rows } => self.slice(worker, rows),
+            Act::Steal(worker) => {
+                self.holder = worker;
+                EventReply::Done
+            }
+            Act::Break(address) => reply_to(self.session.set_break(address)),
+            Act::Clear(address) => reply_to(self.session.clear_break(address)),
+            Act::Walk(rows) => EventReply::Rows(self.session.step(rows)),
+            Act::Go(rows) => EventReply::Rows(self.session.go(rows)),
+            Act::Refuse => {
+                self.session.refuse();
+                EventReply::Done
+            }
+        }
+    }
+
+    /// Rows, taken by the worker that holds the session.
+    fn slice(&mut self, worker: u32, rows: u64) -> EventReply
+        ensures { Acts (Slice worker rows) result self.old self.new }
+    {
+        if self.holder != worker {
+            return EventReply::Refused(EventRefusal::NotHeld);
+        }
+        EventReply::Rows(self.session.slice(rows))
+    }
+}
+
+/// What is replied where a session did what it was asked, or refused it.
+fn reply_to(done: Result<(), SessionRefusal>) -> EventReply
+    ensures { result ≡ reply_to done }
+{
+    match done {
+        Ok(()) => EventReply::Done,
+        Err(refusal) => EventReply::Refused(EventRefusal::OfSession(refusal)),
+    }
+}

@@ -1,0 +1,20 @@
+//! Sessions beside a registry, and what happens to them, one event after another.
+#![tactic(auto)]
+
+mod act;
+mod event;
+mod held;
+mod laws;
+mod programs;
+mod publish_error;
+mod published;
+mod refusal;
+mod reply;
+
+pub use event::Event;
+pub use laws::sessions_are_their_own;
+pub use programs::Programs;
+pub use publish_error::PublishError;
+pub use refusal::EventRefusal;
+pub use reply::EventReply;
+pub use session::{MOST_BREAKS, Session, SessionEnd, SessionRefusal};

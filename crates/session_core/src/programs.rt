@@ -1,0 +1,12 @@
+ghost use Rattle.session_core.specs.Publishing.{IsPublished};
+
+use crate::publish_error::PublishError;
+use avro_schema::Schema;
+use isa::Program;
+
+/// A store of the programs of pairs of schemas.
+pub trait Programs {
+    /// The program of a pair, which is made where the store has none.
+    fn publish(&self, writer: &Schema, reader: &Schema) -> Result<&Program, PublishError>
+        ensures { IsPublished writer.now.nodes reader.now.nodes result };
+}

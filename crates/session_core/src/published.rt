@@ -1,0 +1,18 @@
+use isa::Program;
+use std::marker::Model;
+
+/// A published pair, by the ids of its schemas, and its program.
+#[derive(Drop)]
+pub(crate) struct Published<'p> {
+    pub(crate) writer: u32,
+    pub(crate) reader: u32,
+    pub(crate) program: &'p Program,
+}
+
+impl<'p> Model for Published<'p> {
+    ghost use Rattle.session_core.specs.World.{Publication};
+
+    ghost Value = { Publication };
+
+    ghost view = { λ p. record { writer = p.writer; reader = p.reader; program = p.program.now } };
+}
