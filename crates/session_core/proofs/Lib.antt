@@ -1,0 +1,4 @@
+pub mod Replies
+pub mod Worlds
+pub mod ActsKeep
+pub mod Histories

@@ -43,6 +43,12 @@ PublishesNew w r written read (Refused (refusals.OfPublication Clash)) old new =
 PublishesNew w r written read (Refused (refusals.OfPublication NoMemory)) old new = new ≡ old
 PublishesNew w r written read reply old new = ⊥
 
+-- for a private clause: the pair is added with its program, unless memory is refused
+abbrev pub Adds : ℕ → ℕ → Program → EventReply → World → World → Type 0
+Adds w r P Done old new = new ≡ record old { published = old.published ++ record { writer = w; reader = r; program = P } ∷ [] }
+Adds w r P (Refused (refusals.OfPublication NoMemory)) old new = new ≡ old
+Adds w r P reply old new = ⊥
+
 -- one that is published is not published again
 abbrev pub PublishesPair : Option Program → ℕ → ℕ → Declaration → Declaration → EventReply → World → World → Type 0
 PublishesPair (Some P) w r written read reply old new = (reply ≡ Done) × (new ≡ old)

@@ -1,5 +1,6 @@
 pub mod Event
 pub mod World
+pub mod Kept
 pub mod Acts
 pub mod Happening
 pub mod Publishing

@@ -32,9 +32,12 @@ pub record World : Type 0 where
 abbrev pub no_world : World
 no_world = record { commands = []; published = []; sessions = [] }
 
--- the schema of an id
+-- the schema of an id, after these commands
+abbrev pub schema_after : List Command → ℕ → Option Declaration
+schema_after commands id = numbered (registry_after commands).schemas id
+
 abbrev pub schema_at : ℕ → World → Option Declaration
-schema_at id world = numbered (registry_after world.commands).schemas id
+schema_at id world = schema_after world.commands id
 
 abbrev pub is_of : ℕ → ℕ → Publication → Bool
 is_of writer reader p = p.writer == writer && p.reader == reader
@@ -45,10 +48,10 @@ program_at writer reader world = option_map (λ (p : Publication). p.program) (f
 
 -- ---- what holds of every world
 
--- a published program is that of the schemas of its ids
-pub record IsCodeOf (world : World) (writer reader : ℕ) (P : Program) : Type 0 where
+-- the program is that of the schemas of these ids
+pub record IsCodeOf (commands : List Command) (writer reader : ℕ) (P : Program) : Type 0 where
   pub written : Declaration
   pub read : Declaration
-  pub writer_is : schema_at writer world ≡ Some written
-  pub reader_is : schema_at reader world ≡ Some read
+  pub writer_is : schema_after commands writer ≡ Some written
+  pub reader_is : schema_after commands reader ≡ Some read
   pub code : code_of written.nodes read.nodes ≡ Some P

@@ -10,6 +10,8 @@ mod publish_error;
 mod published;
 mod refusal;
 mod reply;
+mod running;
+mod world;
 
 pub use event::Event;
 pub use laws::sessions_are_their_own;
@@ -17,4 +19,6 @@ pub use programs::Programs;
 pub use publish_error::PublishError;
 pub use refusal::EventRefusal;
 pub use reply::EventReply;
+pub use running::run_events;
 pub use session::{MOST_BREAKS, Session, SessionEnd, SessionRefusal};
+pub use world::World;

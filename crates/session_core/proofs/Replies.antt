@@ -1,0 +1,66 @@
+-- What a registry replies to a command that it accepts.
+use Rattle.std.proofs.Common.{◌≡◌, ℕ, Bool, true, false, List, Option, Some, None, inl, inr}
+use Rattle.std.specs.Prelude.{Result, Ok, Err, if◌then◌else◌, is_some}
+use Rattle.avro_schema.specs.Schema.{Declaration}
+use Rattle.schema_names.specs.declared.error.SchemaError.{SchemaError}
+use Rattle.schema_registry.specs.declared.level.Level.{Level}
+use Rattle.schema_registry.specs.declared.refusal.Refusal.{Refusal}
+use Rattle.schema_registry.specs.declared.refusal.Refusal.TheVariants.{Full}
+use Rattle.schema_registry.specs.declared.refusal.Refusal.TheVariants as refusals
+use Rattle.schema_registry.specs.Accepting.{declaration_of, id_for}
+use Rattle.schema_registry.specs.Answers.{Answer, IsAnswer, Told, WhereSafe, answer_to, has_no_room, is_full, is_subject_or_none, register_answer, registration, set_level_answer, where_schema, where_true}
+use Rattle.schema_registry.specs.Command.{RegisterCommand, SetLevelCommand}
+use Rattle.schema_registry.specs.Lists.{Entry, Lists, versions_of, with_text, subjects_with_level}
+use Rattle.schema_registry.specs.Reply.{IdReply, LevelReply, Reply}
+use Rattle.schema_registry.specs.Subject.{is_subject}
+use Rattle.schema_registry.specs.declared.limits.TheConstants.{MOST_LEVELS}
+
+-- ---- a registration
+
+abbrev pub IsId : Reply → Type 0
+IsId reply = (id : ℕ) × (reply ≡ IdReply id)
+
+same-reply : (one other : Reply) → ◌≡◌ {A = Result Reply Refusal} (Ok one) (Ok other) → one ≡ other
+same-reply one other e = cc
+
+no-reply : (reply : Reply) (refusal : Refusal) → ◌≡◌ {A = Result Reply Refusal} (Ok reply) (Err refusal) → ⊥
+no-reply reply refusal e = cc
+
+where-true-is : (b : Bool) (refusal : Refusal) (answer : Answer) (reply : Reply) → IsAnswer (where_true b refusal answer) (Ok reply) → IsAnswer answer (Ok reply)
+where-true-is true refusal answer reply a = a
+where-true-is false refusal answer reply a = absurd (no-reply reply refusal a)
+
+id-unless-full : (b : Bool) (id : ℕ) (reply : Reply) → ◌≡◌ {A = Result Reply Refusal} (Ok reply) (if b then Err Full else Ok (IdReply id)) → IsId reply
+id-unless-full true id reply e = absurd (no-reply reply Full e)
+id-unless-full false id reply e = (id, same-reply reply (IdReply id) e)
+
+module _ (lists : Lists) where
+  id-of-new : (subject : List ℕ) (versions : List Entry) (schema : Declaration) (entry : Option Entry) (reply : Reply) → IsAnswer (register_answer lists subject versions schema entry) (Ok reply) → IsId reply
+  id-of-new subject versions schema (Some e) reply a = (e.id, same-reply reply (IdReply e.id) a)
+  id-of-new subject versions schema None reply (inl (safe, e)) = id-unless-full (is_full lists schema subject) (id_for schema lists.schemas) reply e
+  id-of-new subject versions schema None reply (inr (unsafe, e)) = absurd (cc)
+
+  id-of-declared : (subject : List ℕ) (declared : Result Declaration SchemaError) (reply : Reply) → IsAnswer (where_schema declared (registration lists subject)) (Ok reply) → IsId reply
+  id-of-declared subject (Ok schema) reply a =
+      id-of-new subject (versions_of subject lists.entries) schema (with_text schema.text lists.schemas (versions_of subject lists.entries)) reply a
+  id-of-declared subject (Err e) reply a = absurd (cc)
+
+  -- it is an id
+  pub registered-id : (subject text : List ℕ) (reply : Reply) → IsAnswer (answer_to lists (RegisterCommand subject text)) (Ok reply) → IsId reply
+  registered-id subject text reply a =
+      id-of-declared subject (declaration_of text) reply (where-true-is (is_subject subject) refusals.BadSubject (where_schema (declaration_of text) (registration lists subject)) reply a)
+
+-- ---- a level
+
+level-of : (lists : Lists) (subject : Option (List ℕ)) (level : Level) (reply : Reply) → IsAnswer (set_level_answer lists subject level) (Ok reply) → reply ≡ LevelReply level
+level-of lists None level reply a = same-reply reply (LevelReply level) a
+level-of lists (Some subject) level reply a = level-unless-full (has_no_room (subjects_with_level lists.levels) subject MOST_LEVELS) level reply a
+  where
+  level-unless-full : (b : Bool) (level : Level) (reply : Reply) → IsAnswer (if b then Told (Err Full) else Told (Ok (LevelReply level))) (Ok reply) → reply ≡ LevelReply level
+  level-unless-full true level reply e = absurd (no-reply reply Full e)
+  level-unless-full false level reply e = same-reply reply (LevelReply level) e
+
+-- it is the level
+pub set-level : (lists : Lists) (subject : Option (List ℕ)) (level : Level) (reply : Reply) → IsAnswer (answer_to lists (SetLevelCommand subject level)) (Ok reply) → reply ≡ LevelReply level
+set-level lists subject level reply a =
+    level-of lists subject level reply (where-true-is (is_subject_or_none subject) refusals.BadSubject (set_level_answer lists subject level) reply a)

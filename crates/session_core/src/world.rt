@@ -1,0 +1,232 @@
+ghost use Rattle.std.specs.Prelude.{◌≡◌, IfOk, option_map, slice_get, string_bytes};
+ghost use Rattle.schema_registry.specs.Command.{RegisterCommand, SetLevelCommand, command_of};
+ghost use Rattle.session_core.specs.Ending.{SessionEndsWithOutcome};
+ghost use Rattle.session_core.specs.Event.{Begin, On, Publish, Register, SetLevel, act_of, event_of};
+ghost use Rattle.session_core.specs.Happening.{Adds, Happens};
+ghost use Rattle.session_core.specs.World.{IsCodeOf, no_world, program_at};
+
+use crate::act::Act;
+use crate::event::Event;
+use crate::held::Held;
+use crate::programs::Programs;
+use crate::publish_error::PublishError;
+use crate::published::Published;
+use crate::refusal::EventRefusal;
+use crate::reply::EventReply;
+use isa::Program;
+use schema_registry::{Command, Level, Refusal, Registry, Reply};
+use session::Session;
+use std::alloc::{AllocError, Global};
+use std::marker::Model;
+
+/// Sessions beside a registry, on one thread.
+#[derive(Drop)]
+pub struct World<'p> {
+    alloc: Global,
+    registry: Registry,
+    published: Vec<Published<'p>>,
+    sessions: Vec<Held<'p>>,
+}
+
+impl<'p> Model for World<'p> {
+    ghost use Rattle.session_core.specs.Kept.{IsKept};
+    ghost use Rattle.session_core.specs.World.{World};
+
+    ghost Value = { World };
+
+    ghost view = { λ w. record { commands = w.registry; published = w.published.items; sessions = w.sessions.items } };
+
+    ghost invariant = { λ w.
+        IsKept (record { commands = w.registry; published = w.published.items; sessions = w.sessions.items }) };
+}
+
+/// The command that registers the schema of a text.
+fn registration(subject: &String, text: &String) -> Result<Command, AllocError>
+    ensures { IfOk result (λ c. command_of c ≡ RegisterCommand (string_bytes subject.now) (string_bytes text.now)) }
+{
+    Ok(Command::Register {
+        subject: subject.clone()?,
+        text: text.clone()?,
+    })
+}
+
+/// The command that sets a level.
+fn level_command(subject: &Option<String>, level: Level) -> Result<Command, AllocError>
+    ensures { IfOk result (λ c. command_of c ≡ SetLevelCommand (option_map string_bytes subject.now) level) }
+{
+    let subject = match subject {
+        Some(subject) => Some(subject.clone()?),
+        None => None,
+    };
+    Ok(Command::SetLevel { subject, level })
+}
+
+impl<'p> World<'p> {
+    /// A world before any event. It takes no memory.
+    pub fn new(alloc: Global) -> World<'p>
+        ensures { result ≡ no_world }
+    {
+        World {
+            alloc,
+            registry: Registry::new(alloc),
+            published: Vec::new(alloc),
+            sessions: Vec::new(alloc),
+        }
+    }
+
+    /// The law that the program of a session is that of its pair, and that its machine ends with the outcome of its
+    /// own bytes.
+    pub fn ends_with_the_outcome(&self, session: usize)
+        ensures { SessionEndsWithOutcome self.now session }
+    {
+        let Some(held) = self.sessions.get(session) else {
+            return;
+        };
+        let (Some(w), Some(r)) = (
+            self.registry.find(held.writer),
+            self.registry.find(held.reader),
+        ) else {
+            return;
+        };
+        held.session.ends_with_the_outcome(w.nodes(), r.nodes());
+    }
+
+    /// A session by its number.
+    pub fn session(&self, session: usize) -> Option<&Session<'p>>
+        ensures { option_map (λ s. s.now) result
+            ≡ option_map (λ held. held.session) (slice_get self.now.sessions session) }
+    {
+        let held = self.sessions.get(session)?;
+        Some(&held.session)
+    }
+
+    /// A schema is registered.
+    fn register(&mut self, subject: &String, text: &String) -> EventReply
+        ensures { Happens (Register (string_bytes subject.now) (string_bytes text.now)) result self.old self.new }
+    {
+        let Ok(command) = registration(subject, text) else {
+            return EventReply::Refused(EventRefusal::OfRegistry(Refusal::NoMemory));
+        };
+        match self.registry.apply(command) {
+            Ok(Reply::Id(id)) => EventReply::Id(id),
+            Ok(_) => unreachable!(),
+            Err(refusal) => EventReply::Refused(EventRefusal::OfRegistry(refusal)),
+        }
+    }
+
+    /// A level is set.
+    fn set_level(&mut self, subject: &Option<String>, level: Level) -> EventReply
+        ensures { Happens (SetLevel (option_map string_bytes subject.now) level) result self.old self.new }
+    {
+        let Ok(command) = level_command(subject, level) else {
+            return EventReply::Refused(EventRefusal::OfRegistry(Refusal::NoMemory));
+        };
+        match self.registry.apply(command) {
+            Ok(_) => EventReply::Done,
+            Err(refusal) => EventReply::Refused(EventRefusal::OfRegistry(refusal)),
+        }
+    }
+
+    /// The program of a published pair.
+    fn program_at(&self, writer: u32, reader: u32) -> Option<&'p Program>
+        ensures { option_map (λ p. p.now) result ≡ program_at writer reader self.now }
+    {
+        let published = self
+            .published
+            .iter()
+            .find(|p| p.writer == writer && p.reader == reader)?;
+        Some(published.program)
+    }
+
+    /// A pair is published.
+    fn publish<P: Programs>(&mut self, programs: &'p P, writer: u32, reader: u32) -> EventReply
+        ensures { Happens (Publish writer reader) result self.old self.new }
+    {
+        let (Some(w), Some(r)) = (self.registry.find(writer), self.registry.find(reader)) else {
+            return EventReply::Refused(EventRefusal::NoSchema);
+        };
+        if self.program_at(writer, reader).is_some() {
+            return EventReply::Done;
+        }
+        match programs.publish(w, r) {
+            Ok(program) => self.add_publication(writer, reader, program),
+            Err(error) => EventReply::Refused(EventRefusal::OfPublication(error)),
+        }
+    }
+
+    /// A session of a published pair begins.
+    fn begin(&mut self, writer: u32, reader: u32) -> EventReply
+        ensures { Happens (Begin writer reader) result self.old self.new }
+    {
+        let Some(program) = self.program_at(writer, reader) else {
+            return EventReply::Refused(EventRefusal::NotPublished);
+        };
+        let held = Held {
+            holder: 0,
+            writer,
+            reader,
+            session: Session::begin(self.alloc, program),
+        };
+        match self.sessions.push(held) {
+            Ok(()) => EventReply::SessionIs(self.sessions.len() - 1),
+            Err(_) => EventReply::Refused(EventRefusal::NoMemory),
+        }
+    }
+
+    /// What happens to one session.
+    fn act(&mut self, session: usize, act: Act) -> EventReply
+        ensures { Happens (On session (act_of act.entry)) result self.old self.new }
+    {
+        if session >= self.sessions.len() {
+            return EventReply::Refused(EventRefusal::NoSession);
+        }
+        self.sessions[session].act(act)
+    }
+
+    /// Adds a pair and its program.
+    fn add_publication(&mut self, writer: u32, reader: u32, program: &'p Program) -> EventReply
+        requires { IsCodeOf self.old.commands writer reader program.now }
+        ensures { Adds writer reader program.now result self.old self.new }
+    {
+        let published = Published {
+            writer,
+            reader,
+            program,
+        };
+        match self.published.push(published) {
+            Ok(()) => EventReply::Done,
+            Err(_) => EventReply::Refused(EventRefusal::OfPublication(PublishError::NoMemory)),
+        }
+    }
+
+    /// What an event does.
+    pub fn event<P: Programs>(&mut self, programs: &'p P, event: &Event) -> EventReply
+        ensures { Happens (event_of event.now) result self.old self.new }
+    {
+        match event {
+            Event::Register { subject, text } => self.register(subject, text),
+            Event::Level { subject, level } => self.set_level(subject, *level),
+            Event::Publish { writer, reader } => self.publish(programs, *writer, *reader),
+            Event::Begin { writer, reader } => self.begin(*writer, *reader),
+            Event::Piece { session, bytes } => self.act(*session, Act::Piece(bytes)),
+            Event::Finish { session } => self.act(*session, Act::Finish),
+            Event::Slice {
+                session,
+                worker,
+                rows,
+            } => self.act(
+                *session,
+                Act::Slice {
+                    worker: *worker,
+                    rows: *rows,
+                },
+            ),
+            Event::Steal { session, worker } => self.act(*session, Act::Steal(*worker)),
+            Event::Break { session, address } => self.act(*session, Act::Break(*address)),
+            Event::Clear { session, address } => self.act(*session, Act::Clear(*address)),
+            Event::Walk { session, rows } => self.act(*session, Act::Walk(*rows)),
+            Event::Go { session, rows } => self.act(*session, Act::Go(*rows)),
+            Event::Refuse { session } => self.act(*session, Act::Refuse),
+        }
+    }
+}
