@@ -1,7 +1,8 @@
-ghost use Rattle.std.specs.Prelude.{◌≡◌, [], ◌∷◌, ◌++◌, OnOk, OnErr};
+ghost use Rattle.std.specs.Prelude.{◌≡◌, [], ◌∷◌, ◌++◌, OnOk, OnErr, option_map};
 ghost use Rattle.schema_registry.specs.Accepting.{registry_after};
 ghost use Rattle.schema_registry.specs.Answers.{AreAccepted, Gives, answer_to};
 ghost use Rattle.schema_registry.specs.Command.{command_of};
+ghost use Rattle.schema_registry.specs.Lists.{numbered};
 
 mod asking;
 mod levels;
@@ -14,6 +15,7 @@ use crate::refusal::Refusal;
 use crate::reply::Reply;
 use crate::schemas::SchemaTable;
 use crate::versions::Versions;
+use avro_schema::Schema;
 use std::alloc::Global;
 use std::collections::BTreeMap;
 use std::marker::Model;
@@ -87,6 +89,13 @@ impl Registry {
         };
         self.history = history;
         Ok(reply)
+    }
+
+    /// The schema of an id.
+    pub fn find(&self, id: u32) -> Option<&Schema>
+        ensures { option_map (λ s. s.now) result ≡ numbered (registry_after self.now).schemas id }
+    {
+        self.schemas.get(id)
     }
 
     /// The law that each of its commands was accepted after those before it.
