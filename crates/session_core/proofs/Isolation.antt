@@ -123,17 +123,21 @@ module _ (s : ℕ) (w next : World) (ys : List Held) (like : AreLike s w.session
   new_one a b P = record { holder = 0; writer = a; reader = b; session = begun P }
 
   begins : (o : Option Program) (a b : ℕ) (reply : EventReply) → Begins o a b reply w next → Likewise (Begins o a b reply) s w next ys
-  begins (Some P) a b (SessionIs n) h =
-      (ys ++ new_one a b P ∷ [], (h.0 ∙ like.many, with_them (ys ++ new_one a b P ∷ []) _ h.1),
-      subst (λ (xs : List Held). AreLike s xs (ys ++ new_one a b P ∷ [])) (sym (sessions_are _ h.1)) (both_added s w.sessions ys (new_one a b P) like))
+  begins (Some P) a b (SessionIs n) h = (
+    ys ++ new_one a b P ∷ [],
+    (h.0 ∙ like.many, with_them (ys ++ new_one a b P ∷ []) _ h.1),
+    subst (λ (xs : List Held). AreLike s xs (ys ++ new_one a b P ∷ [])) (sym (sessions_are _ h.1)) (both_added s w.sessions ys (new_one a b P) like),
+  )
   begins (Some P) a b (Refused refusals.NoMemory) h = (ys, with_them ys _ h, still (sessions_are _ h))
   begins (Some P) a b reply h = absurd h
   begins None a b reply h = (ys, (h.0, with_them ys _ h.1), still (sessions_are _ h.1))
 
   acts_on : (o : Option Held) (act : Act) (reply : EventReply) → ActsOn o s act reply w next → Likewise (ActsOn o s act reply) s w next ys
-  acts_on (Some held) act reply h =
-      (slice_set ys s h.0, (h.0, h.1, with_them (slice_set ys s h.0) _ h.2),
-      subst (λ (xs : List Held). AreLike s xs (slice_set ys s h.0)) (sym (sessions_are _ h.2)) (both_set s w.sessions ys h.0 like))
+  acts_on (Some held) act reply h = (
+    slice_set ys s h.0,
+    (h.0, h.1, with_them (slice_set ys s h.0) _ h.2),
+    subst (λ (xs : List Held). AreLike s xs (slice_set ys s h.0)) (sym (sessions_are _ h.2)) (both_set s w.sessions ys h.0 like),
+  )
   acts_on None act reply h = (ys, (h.0, with_them ys _ h.1), still (sessions_are _ h.1))
 
   acts_on_own : (act : Act) (reply : EventReply) → Happens (On s act) reply w next → Likewise (Happens (On s act) reply) s w next ys
@@ -160,9 +164,10 @@ module _ (s : ℕ) (w next : World) (ys : List Held) (like : AreLike s w.session
   IsApart = (with_sessions next ys ≡ with_sessions w ys) × AreLike s next.sessions ys
 
   acts_apart : (o : Option Held) (t : ℕ) (act : Act) (reply : EventReply) → (t ≡ s → ⊥) → ActsOn o t act reply w next → IsApart
-  acts_apart (Some held) t act reply other h =
-      (with_them ys _ h.2,
-      subst (λ (xs : List Held). AreLike s xs ys) (sym (sessions_are _ h.2)) (other_set s t w.sessions ys h.0 other like))
+  acts_apart (Some held) t act reply other h = (
+    with_them ys _ h.2,
+    subst (λ (xs : List Held). AreLike s xs ys) (sym (sessions_are _ h.2)) (other_set s t w.sessions ys h.0 other like),
+  )
   acts_apart None t act reply other h = (with_them ys _ h.1, still (sessions_are _ h.1))
 
   left_out : (e : Event) (reply : EventReply) → is_of_other s e ≡ true → Happens e reply w next → IsApart
@@ -184,19 +189,21 @@ more : (s : ℕ) (step : Step) (steps : List Step) (w next world : World) (ys : 
 more s step steps w next world ys like h rest true e =
     let apart = left_out s w next ys like step.event step.reply e h in
     let alone = rest ys apart.1 in
-    let own : own_steps s (step ∷ steps) ≡ own_steps s steps = ap (λ (b : Bool). cond (not b) (step ∷ own_steps s steps) (own_steps s steps)) e in
-    (alone.0,
-    subst (λ (own : List Step). Happened own (with_sessions w ys) (with_sessions world alone.0)) (sym own)
-        (subst (λ (from : World). Happened (own_steps s steps) from (with_sessions world alone.0)) apart.0 alone.1),
-    alone.2)
+    let own : own_steps s (step ∷ steps) ≡ own_steps s steps = ap (λ (b : Bool). cond (not b) (step ∷ own_steps s steps) (own_steps s steps)) e in (
+      alone.0,
+      subst (λ (own : List Step). Happened own (with_sessions w ys) (with_sessions world alone.0)) (sym own)
+          (subst (λ (from : World). Happened (own_steps s steps) from (with_sessions world alone.0)) apart.0 alone.1),
+      alone.2,
+    )
 more s step steps w next world ys like h rest false e =
     let likewise = kept s w next ys like step.event step.reply e h in
     let alone = rest likewise.0 likewise.2 in
-    let own : own_steps s (step ∷ steps) ≡ step ∷ own_steps s steps = ap (λ (b : Bool). cond (not b) (step ∷ own_steps s steps) (own_steps s steps)) e in
-    (alone.0,
-    subst (λ (own : List Step). Happened own (with_sessions w ys) (with_sessions world alone.0)) (sym own)
-        (with_sessions next likewise.0, likewise.1, alone.1),
-    alone.2)
+    let own : own_steps s (step ∷ steps) ≡ step ∷ own_steps s steps = ap (λ (b : Bool). cond (not b) (step ∷ own_steps s steps) (own_steps s steps)) e in (
+      alone.0,
+      subst (λ (own : List Step). Happened own (with_sessions w ys) (with_sessions world alone.0)) (sym own)
+          (with_sessions next likewise.0, likewise.1, alone.1),
+      alone.2,
+    )
 
 alone_from : (s : ℕ) (steps : List Step) (w world : World) (ys : List Held) → AreLike s w.sessions ys → Happened steps w world → Alone s steps w world ys
 alone_from s [] w world ys like h =

@@ -5,6 +5,7 @@ mod act;
 mod event;
 mod held;
 mod laws;
+mod pair_row;
 mod programs;
 mod publish_error;
 mod published;
@@ -13,6 +14,7 @@ mod reply;
 
 pub use event::Event;
 pub use laws::sessions_are_their_own;
+pub use pair_row::PairRow;
 pub use programs::Programs;
 pub use publish_error::PublishError;
 pub use refusal::EventRefusal;
