@@ -123,6 +123,15 @@ impl Schema {
     {
         let _opened = &self.parts;
     }
+
+    /// The law that schemas of the same compact text have the same nodes.
+    pub fn same_text_has_same_nodes(&self, other: &Schema)
+        requires { self.now.text ≡ other.now.text }
+        ensures { self.now.nodes ≡ other.now.nodes }
+    {
+        let _opened = &self.parts;
+        let _other = &other.parts;
+    }
 }
 
 /// What the nodes are that a JSON value declares.

@@ -2,3 +2,4 @@ pub mod Replies
 pub mod Worlds
 pub mod ActsKeep
 pub mod Histories
+pub mod Isolation

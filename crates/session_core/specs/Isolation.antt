@@ -1,5 +1,5 @@
 -- A session is what its own events make of it. All of this is this project's own.
-use Rattle.std.specs.Prelude.{◌≡◌, ◌<◌, ℕ, ◌==◌, List, filter, length, Bool, true, false, not, slice_get}
+use Rattle.std.specs.Prelude.{◌≡◌, ℕ, ◌==◌, List, filter, length, Bool, false, not, slice_get}
 use Rattle.session_core.specs.Event.{Event, On}
 use Rattle.session_core.specs.Happening.{Happened, Step}
 use Rattle.session_core.specs.World.{World, no_world}

@@ -4,5 +4,4 @@ ghost use Rattle.session_core.specs.Isolation.{SessionsAreTheirOwn};
 /// between them.
 pub fn sessions_are_their_own()
     ensures { SessionsAreTheirOwn }
-{
-}
+{}

@@ -5,6 +5,7 @@ mod act;
 mod event;
 mod held;
 mod laws;
+mod pair_row;
 mod programs;
 mod publish_error;
 mod published;
@@ -15,6 +16,7 @@ mod world;
 
 pub use event::Event;
 pub use laws::sessions_are_their_own;
+pub use pair_row::PairRow;
 pub use programs::Programs;
 pub use publish_error::PublishError;
 pub use refusal::EventRefusal;

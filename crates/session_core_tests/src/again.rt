@@ -1,0 +1,34 @@
+//! Calls that are made again where memory ran out the first time.
+
+use avro_schema::{Schema, SchemaError};
+use isa::Program;
+use session_core::{PairRow, Programs, PublishError};
+use std::alloc::{AllocError, Global};
+
+/// A schema, parsed again where memory ran out the first time.
+pub(crate) fn parsed(alloc: Global, text: &str) -> Result<Schema, SchemaError> {
+    match Schema::parse(alloc, text) {
+        Err(SchemaError::NoMemory) => Schema::parse(alloc, text),
+        answer => answer,
+    }
+}
+
+/// A row for so many pairs, made again where memory ran out the first time.
+pub(crate) fn row_for(alloc: Global, pairs: usize) -> Result<PairRow, AllocError> {
+    match PairRow::new(alloc, pairs) {
+        Err(_) => PairRow::new(alloc, pairs),
+        answer => answer,
+    }
+}
+
+/// The program of a pair, asked for again where memory ran out the first time.
+pub(crate) fn published<'r>(
+    row: &'r PairRow,
+    writer: &Schema,
+    reader: &Schema,
+) -> Result<&'r Program, PublishError> {
+    match row.publish(writer, reader) {
+        Err(PublishError::NoMemory) => row.publish(writer, reader),
+        answer => answer,
+    }
+}

@@ -1,0 +1,103 @@
+//! Rows of pairs that are filled, and those that are full.
+
+use crate::again::{parsed, published, row_for};
+use avro_schema::Schema;
+use session_core::{PairRow, PublishError};
+use std::alloc::{AllocError, Global};
+use std::test::Fail;
+
+/// How many instructions the program of a pair has.
+fn len_of(row: &PairRow, writer: &Schema, reader: &Schema) -> Result<usize, PublishError> {
+    Ok(published(row, writer, reader)?.len())
+}
+
+#[test]
+fn one_cell_holds_one_pair(rt: HostRuntime) -> Result<(), Fail> {
+    let alloc = rt.alloc();
+    let int = parsed(alloc, "\"int\"")?;
+    let spaced = parsed(alloc, " { \"type\" : \"int\" } ")?;
+    let ints = parsed(alloc, "{\"type\":\"array\",\"items\":\"int\"}")?;
+    let row = row_for(alloc, 1)?;
+    assert_eq!(rt; len_of(&row, &int, &int), Ok(2));
+    assert_eq!(rt; len_of(&row, &ints, &ints), Err(PublishError::Clash));
+    assert_eq!(rt; len_of(&row, &int, &ints), Err(PublishError::Clash));
+    assert_eq!(rt; len_of(&row, &int, &int), Ok(2));
+    assert_eq!(rt; len_of(&row, &spaced, &spaced), Err(PublishError::Clash));
+    Ok(())
+}
+
+#[test]
+fn each_pair_has_its_own_cell(rt: HostRuntime) -> Result<(), Fail> {
+    let alloc = rt.alloc();
+    let int = parsed(alloc, "\"int\"")?;
+    let long = parsed(alloc, "\"long\"")?;
+    let ints = parsed(alloc, "{\"type\":\"array\",\"items\":\"int\"}")?;
+    let spaced = parsed(alloc, "{ \"items\" : \"int\" , \"type\" : \"array\" }")?;
+    let row = row_for(alloc, 2)?;
+    let many = len_of(&row, &ints, &ints)?;
+    assert_eq!(rt; len_of(&row, &int, &long), Ok(2));
+    assert_eq!(rt; len_of(&row, &spaced, &spaced), Ok(many));
+    assert_eq!(rt; len_of(&row, &int, &long), Ok(2));
+    assert_eq!(rt; len_of(&row, &long, &long), Err(PublishError::Clash));
+    assert_eq!(rt;
+        len_of(&row_for(alloc, 0)?, &int, &int),
+        Err(PublishError::Clash)
+    );
+    Ok(())
+}
+
+/// Appends a union of so many records, all named R, without fields.
+fn push_rows(text: &mut String, many: usize) -> Result<(), AllocError> {
+    for row in 0..many {
+        let before = if row == 0 { "[" } else { "," };
+        write!(
+            text,
+            "{before}{{\"type\":\"record\",\"name\":\"n{row}.R\",\"fields\":[]}}"
+        )?;
+    }
+    text.push_str("]")?;
+    Ok(())
+}
+
+/// Appends a record R of so many ints that are 0 by default.
+fn push_fields(text: &mut String, many: usize) -> Result<(), AllocError> {
+    text.push_str("{\"type\":\"record\",\"name\":\"R\",\"fields\":")?;
+    for field in 0..many {
+        let before = if field == 0 { "[" } else { "," };
+        write!(
+            text,
+            "{before}{{\"name\":\"f{field}\",\"type\":\"int\",\"default\":0}}"
+        )?;
+    }
+    text.push_str("]}")?;
+    Ok(())
+}
+
+/// The schema of such a union.
+fn rows(alloc: Global, many: usize) -> Result<Schema, Fail> {
+    let mut text = String::new(alloc);
+    push_rows(&mut text, many)?;
+    Ok(parsed(alloc, &text)?)
+}
+
+/// The schema of such a record.
+fn wide(alloc: Global, many: usize) -> Result<Schema, Fail> {
+    let mut text = String::new(alloc);
+    push_fields(&mut text, many)?;
+    Ok(parsed(alloc, &text)?)
+}
+
+#[test]
+fn no_cell_is_filled_by_a_pair_without_program(rt: HostRuntime) -> Result<(), Fail> {
+    let alloc = rt.alloc();
+    let (few, many) = (rows(alloc, 1)?, rows(alloc, 648)?);
+    let reader = wide(alloc, 200)?;
+    let row = row_for(alloc, 1)?;
+    assert_eq!(rt;
+        len_of(&row, &many, &reader),
+        Err(PublishError::ProgramTooLarge)
+    );
+    assert!(rt; len_of(&row, &few, &reader).is_ok());
+    assert_eq!(rt; len_of(&row, &many, &reader), Err(PublishError::Clash));
+    Ok(())
+}
