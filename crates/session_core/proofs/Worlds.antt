@@ -1,6 +1,6 @@
 -- What is kept as commands, publications and sessions are added.
 use Rattle.std.proofs.Common.{◌≡◌, ℕ, zero, suc, ◌+◌, Bool, true, false, List, [], ◌∷◌, ◌++◌, Option, Some, None, refl, sym, ap, ◌∙◌, subst, append-nil}
-use Rattle.std.specs.Prelude.{◌==◌, ◌&&◌, Result, Ok, Err, if◌then◌else◌, is_some, find, slice_get}
+use Rattle.std.specs.Prelude.{◌==◌, ◌&&◌, Result, Ok, Err, if◌then◌else◌, is_some, find, slice_get, OnOk, OnErr}
 use Rattle.std.specs.List.{AllByRecursion}
 use Rattle.std.proofs.lemmas.Bool.{eqb-true}
 use Rattle.avro_schema.specs.Schema.{Declaration}
@@ -136,3 +136,9 @@ ends-with-outcome world held one other w r code end early bound = record {
   early = early;
   bound = bound;
 }
+
+-- ---- the registry's answer
+
+pub kept-by-answer : {A E : Type 0} (world : World) (c : Command) (new : List Command) (result : Result A E) → OnOk result (new ≡ world.commands ++ c ∷ []) → OnErr result (new ≡ world.commands) → IsKept world → IsKept (record world { commands = new })
+kept-by-answer world c new (Ok a) ok err kept = subst (λ (cs : List Command). IsKept (record world { commands = cs })) (sym ok) (kept-by-command world c kept)
+kept-by-answer world c new (Err e) ok err kept = subst (λ (cs : List Command). IsKept (record world { commands = cs })) (sym err) kept

@@ -3,7 +3,9 @@ use Rattle.std.specs.Prelude.{◌≡◌, ◌≢◌, ℕ, List, [], ◌∷◌, �
 use Rattle.isa.specs.Program.{Program}
 use Rattle.avro_schema.specs.Schema.{Declaration}
 use Rattle.program_code.specs.Code.{code_of}
+use Rattle.schema_registry.specs.declared.refusal.Refusal.{Refusal}
 use Rattle.schema_registry.specs.declared.refusal.Refusal.TheVariants as registry
+use Rattle.schema_registry.specs.declared.reply.Reply as rust
 use Rattle.schema_registry.specs.Accepting.{registry_after}
 use Rattle.schema_registry.specs.Answers.{IsAnswer, answer_to}
 use Rattle.schema_registry.specs.Command.{Command, RegisterCommand, SetLevelCommand}
@@ -31,6 +33,11 @@ Refuses c reply old new = ⊥
 abbrev pub Registers : Command → EventReply → World → World → Type 0
 Registers c (Id id) old new = Accepts c (replies.IdReply id) old new
 Registers c reply old new = Refuses c reply old new
+
+-- for a private clause: what is replied where the registry was told to set a level
+abbrev pub level_reply : Result rust.Reply Refusal → EventReply
+level_reply (Ok reply) = Done
+level_reply (Err refusal) = Refused (refusals.OfRegistry refusal)
 
 -- ---- publications
 

@@ -2,7 +2,7 @@ ghost use Rattle.std.specs.Prelude.{◌≡◌, IfOk, option_map, slice_get, stri
 ghost use Rattle.schema_registry.specs.Command.{RegisterCommand, SetLevelCommand, command_of};
 ghost use Rattle.session_core.specs.Ending.{SessionEndsWithOutcome};
 ghost use Rattle.session_core.specs.Event.{Begin, On, Publish, Register, SetLevel, act_of, event_of};
-ghost use Rattle.session_core.specs.Happening.{Adds, Happens};
+ghost use Rattle.session_core.specs.Happening.{Adds, Happens, level_reply};
 ghost use Rattle.session_core.specs.World.{IsCodeOf, no_world, program_at};
 
 use crate::act::Act;
@@ -59,6 +59,16 @@ fn level_command(subject: &Option<String>, level: Level) -> Result<Command, Allo
         None => None,
     };
     Ok(Command::SetLevel { subject, level })
+}
+
+/// What is replied where the registry was told to set a level.
+fn level_reply(answer: Result<Reply, Refusal>) -> EventReply
+    ensures { result ≡ level_reply answer }
+{
+    match answer {
+        Ok(_) => EventReply::Done,
+        Err(refusal) => EventReply::Refused(EventRefusal::OfRegistry(refusal)),
+    }
 }
 
 impl<'p> World<'p> {
@@ -121,10 +131,7 @@ impl<'p> World<'p> {
         let Ok(command) = level_command(subject, level) else {
             return EventReply::Refused(EventRefusal::OfRegistry(Refusal::NoMemory));
         };
-        match self.registry.apply(command) {
-            Ok(_) => EventReply::Done,
-            Err(refusal) => EventReply::Refused(EventRefusal::OfRegistry(refusal)),
-        }
+        level_reply(self.registry.apply(command))
     }
 
     /// The program of a published pair.
