@@ -3,8 +3,14 @@
 use crate::programs::{bytes, program};
 use isa::Program;
 use std::alloc::{AllocError, Global};
+use std::fmt::Write;
 use std::test::Fail;
-use stepper::Machine;
+use stepper::{BufferAt, Machine};
+
+const ARRAY: &str = "0 BLOCKS,1 NEXT 4,2 LONG,3 JUMP 1,4 HALT";
+
+/// More segments than any buffer of these tests has.
+const SEGMENTS: usize = 4;
 
 const SWAPPED: &str = "0 CALL 2,1 HALT,2 RECORD 2,3 SLOT 1,4 LONG,5 SLOT 0,6 TEXT,7 ENDREC,8 RET";
 
@@ -59,5 +65,98 @@ fn a_cut_character_is_carried(rt: HostRuntime) -> Result<(), Fail> {
     input[65..].copy_from_slice(&[0xc3, 0xa9]);
     let carry = carry(rt.alloc(), "0 TEXT,1 HALT", &input, 2)?;
     assert_eq!(rt; carry.as_slice(), [0xc3].as_slice());
+    Ok(())
+}
+
+/// The place and the length of each segment of a buffer.
+fn segment_words(alloc: Global, machine: &Machine, at: BufferAt) -> Result<String, AllocError> {
+    let mut words = String::new(alloc);
+    if !machine.has_buffer(at) {
+        return Ok(words);
+    }
+    for number in 0..SEGMENTS {
+        if let Some((place, len)) = machine.segment(at, number) {
+            write!(words, "({place}, {len})")?;
+        }
+    }
+    Ok(words)
+}
+
+/// The bytes of a buffer after a byte that was there before, or nothing where there is no such buffer.
+fn buffer_bytes(alloc: Global, machine: &Machine, at: BufferAt) -> Result<Vec<u8>, AllocError> {
+    let mut bytes = Vec::new(alloc);
+    if machine.has_buffer(at) {
+        bytes.push(0xff)?;
+        machine.push_buffer(at, &mut bytes)?;
+    }
+    Ok(bytes)
+}
+
+/// The segments and the bytes of a buffer after so many rows.
+fn buffer_words(
+    alloc: Global,
+    program: &Program,
+    input: &[u8],
+    k: u64,
+    at: BufferAt,
+) -> Result<String, AllocError> {
+    let mut machine = Machine::new(alloc);
+    let _rows = machine.slice(program, input, true, &[], k);
+    let segments = segment_words(alloc, &machine, at)?;
+    let bytes = buffer_bytes(alloc, &machine, at)?;
+    let hex = hex::encode(alloc, &bytes)?;
+    format!(in alloc; "{segments} {hex}")
+}
+
+/// The same for the program of these lines.
+fn buffer(alloc: Global, lines: &str, hex: &str, k: u64, at: BufferAt) -> Result<String, Fail> {
+    let program = program(alloc, lines)?;
+    let input = bytes(alloc, hex)?;
+    Ok(buffer_words(alloc, &program, &input, k, at)?)
+}
+
+#[test]
+fn a_closed_record_has_its_slots_segments(rt: HostRuntime) -> Result<(), Fail> {
+    let out = buffer(rt.alloc(), SWAPPED, "3606666f6f", 8, BufferAt::Out)?;
+    assert_eq!(rt; out.as_str(), "(1, 4)(0, 1) ff06666f6f36");
+    Ok(())
+}
+
+#[test]
+fn slots_are_read_by_number(rt: HostRuntime) -> Result<(), Fail> {
+    let first = BufferAt::Slot { frame: 0, slot: 0 };
+    let second = BufferAt::Slot { frame: 0, slot: 1 };
+    let third = BufferAt::Slot { frame: 0, slot: 2 };
+    assert_eq!(rt;
+        buffer(rt.alloc(), SWAPPED, "3606666f6f", 7, first)?.as_str(),
+        "(1, 4) ff06666f6f"
+    );
+    assert_eq!(rt;
+        buffer(rt.alloc(), SWAPPED, "3606666f6f", 7, second)?.as_str(),
+        "(0, 1) ff36"
+    );
+    assert_eq!(rt;
+        buffer(rt.alloc(), SWAPPED, "3606666f6f", 7, third)?.as_str(),
+        " "
+    );
+    Ok(())
+}
+
+#[test]
+fn gathered_items_are_read(rt: HostRuntime) -> Result<(), Fail> {
+    let gathered = BufferAt::Gathered { frame: 0 };
+    let slot = BufferAt::Slot { frame: 0, slot: 0 };
+    assert_eq!(rt;
+        buffer(rt.alloc(), ARRAY, "04060800", 3, gathered)?.as_str(),
+        "(0, 1) ff06"
+    );
+    assert_eq!(rt;
+        buffer(rt.alloc(), ARRAY, "04060800", 3, slot)?.as_str(),
+        " "
+    );
+    assert_eq!(rt;
+        buffer(rt.alloc(), ARRAY, "04060800", 3, BufferAt::Out)?.as_str(),
+        " ff"
+    );
     Ok(())
 }
