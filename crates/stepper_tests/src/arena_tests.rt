@@ -92,8 +92,17 @@ fn buffer_bytes(alloc: Global, machine: &Machine, at: BufferAt) -> Result<Vec<u8
     Ok(bytes)
 }
 
-/// The segments and the bytes of a buffer after so many rows.
-fn buffer_words(
+/// The segments and the bytes of a buffer.
+fn buffer_words(alloc: Global, machine: &Machine, at: BufferAt) -> Result<String, AllocError> {
+    let mut words = segment_words(alloc, machine, at)?;
+    let bytes = buffer_bytes(alloc, machine, at)?;
+    let hex = hex::encode(alloc, &bytes)?;
+    write!(words, " {hex}")?;
+    Ok(words)
+}
+
+/// The same after so many rows.
+fn words_after(
     alloc: Global,
     program: &Program,
     input: &[u8],
@@ -102,23 +111,41 @@ fn buffer_words(
 ) -> Result<String, AllocError> {
     let mut machine = Machine::new(alloc);
     let _rows = machine.slice(program, input, true, &[], k);
-    let segments = segment_words(alloc, &machine, at)?;
-    let bytes = buffer_bytes(alloc, &machine, at)?;
-    let hex = hex::encode(alloc, &bytes)?;
-    format!(in alloc; "{segments} {hex}")
+    buffer_words(alloc, &machine, at)
 }
 
-/// The same for the program of these lines.
-fn buffer(alloc: Global, lines: &str, hex: &str, k: u64, at: BufferAt) -> Result<String, Fail> {
+/// Whether a buffer has these segments and bytes, so many rows after the first of the program of these lines.
+fn has(
+    alloc: Global,
+    lines: &str,
+    input: &[u8],
+    k: u64,
+    at: BufferAt,
+    want: &str,
+) -> Result<bool, Fail> {
     let program = program(alloc, lines)?;
-    let input = bytes(alloc, hex)?;
-    Ok(buffer_words(alloc, &program, &input, k, at)?)
+    let words = words_after(alloc, &program, input, k, at)?;
+    Ok(words.as_str() == want)
 }
+
+/// The payload of the record of a long and a string.
+const INPUT: [u8; 5] = [0x36, 0x06, 0x66, 0x6f, 0x6f];
+
+/// A block of two longs.
+const ITEMS: [u8; 4] = [0x04, 0x06, 0x08, 0x00];
 
 #[test]
 fn a_closed_record_has_its_slots_segments(rt: HostRuntime) -> Result<(), Fail> {
-    let out = buffer(rt.alloc(), SWAPPED, "3606666f6f", 8, BufferAt::Out)?;
-    assert_eq!(rt; out.as_str(), "(1, 4)(0, 1) ff06666f6f36");
+    assert!(rt;
+        has(
+            rt.alloc(),
+            SWAPPED,
+            &INPUT,
+            8,
+            BufferAt::Out,
+            "(1, 4)(0, 1) ff06666f6f36"
+        )?
+    );
     Ok(())
 }
 
@@ -127,18 +154,9 @@ fn slots_are_read_by_number(rt: HostRuntime) -> Result<(), Fail> {
     let first = BufferAt::Slot { frame: 0, slot: 0 };
     let second = BufferAt::Slot { frame: 0, slot: 1 };
     let third = BufferAt::Slot { frame: 0, slot: 2 };
-    assert_eq!(rt;
-        buffer(rt.alloc(), SWAPPED, "3606666f6f", 7, first)?.as_str(),
-        "(1, 4) ff06666f6f"
-    );
-    assert_eq!(rt;
-        buffer(rt.alloc(), SWAPPED, "3606666f6f", 7, second)?.as_str(),
-        "(0, 1) ff36"
-    );
-    assert_eq!(rt;
-        buffer(rt.alloc(), SWAPPED, "3606666f6f", 7, third)?.as_str(),
-        " "
-    );
+    assert!(rt; has(rt.alloc(), SWAPPED, &INPUT, 7, first, "(1, 4) ff06666f6f")?);
+    assert!(rt; has(rt.alloc(), SWAPPED, &INPUT, 7, second, "(0, 1) ff36")?);
+    assert!(rt; has(rt.alloc(), SWAPPED, &INPUT, 7, third, " ")?);
     Ok(())
 }
 
@@ -146,17 +164,8 @@ fn slots_are_read_by_number(rt: HostRuntime) -> Result<(), Fail> {
 fn gathered_items_are_read(rt: HostRuntime) -> Result<(), Fail> {
     let gathered = BufferAt::Gathered { frame: 0 };
     let slot = BufferAt::Slot { frame: 0, slot: 0 };
-    assert_eq!(rt;
-        buffer(rt.alloc(), ARRAY, "04060800", 3, gathered)?.as_str(),
-        "(0, 1) ff06"
-    );
-    assert_eq!(rt;
-        buffer(rt.alloc(), ARRAY, "04060800", 3, slot)?.as_str(),
-        " "
-    );
-    assert_eq!(rt;
-        buffer(rt.alloc(), ARRAY, "04060800", 3, BufferAt::Out)?.as_str(),
-        " ff"
-    );
+    assert!(rt; has(rt.alloc(), ARRAY, &ITEMS, 3, gathered, "(0, 1) ff06")?);
+    assert!(rt; has(rt.alloc(), ARRAY, &ITEMS, 3, slot, " ")?);
+    assert!(rt; has(rt.alloc(), ARRAY, &ITEMS, 3, BufferAt::Out, " ff")?);
     Ok(())
 }
