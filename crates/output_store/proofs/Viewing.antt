@@ -353,6 +353,10 @@ few-segments laid (places.Slot i) are p e =
 
 -- ---- what the functions answer
 
+some-placed : (fs : List Frame) (laid : Laid) (b : BufferAt) (o : Option Place) → Places fs laid b o → is_some o ≡ is_some (buffer_of b (record { frames = frames_in fs (texts_of laid); out = out_of laid; mark = None; over = false }))
+some-placed fs laid b None p = ap is_some (sym p)
+some-placed fs laid b (Some place) p = ap is_some (sym p.bytes)
+
 module _ (top : Frame) (below xs : List Frame) (laid : Laid) (b : BufferAt) (k : ℕ) (o : Option Place) (f : AreFrames (top ∷ reverse below) (length laid.slots)) (same : xs ≡ below) (many : k ≡ length laid.slots) (e : o ≡ place_named b (top ∷ reverse xs) k) where
   places-told : Places (top ∷ reverse below) laid b o
   places-told =
@@ -362,6 +366,9 @@ module _ (top : Frame) (below xs : List Frame) (laid : Laid) (b : BufferAt) (k :
 
   pub is-placed : (place : Place) → o ≡ Some place → IsPlaced (top ∷ reverse below) laid b (length laid.slots) place
   is-placed place is = subst (Places (top ∷ reverse below) laid b) is places-told
+
+  pub is-there : is_some o ≡ is_some (buffer_of b (record { frames = frames_in (top ∷ reverse below) (texts_of laid); out = out_of laid; mark = None; over = false }))
+  is-there = some-placed (top ∷ reverse below) laid b o places-told
 
   pub none-placed : o ≡ None → buffer_of b (record { frames = frames_in (top ∷ reverse below) (texts_of laid); out = out_of laid; mark = None; over = false }) ≡ None
   none-placed is = subst (Places (top ∷ reverse below) laid b) is places-told

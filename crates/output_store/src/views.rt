@@ -124,6 +124,13 @@ impl Store {
         view_in(frame_numbered(self.top, &self.below, self.buffers.len(), number))
     }
 
+    /// Whether a buffer is there.
+    pub fn has_buffer(&self, at: BufferAt) -> bool
+        ensures { result ≡ is_some (buffer_of at self.now.store) }
+    {
+        place_named(self.top, &self.below, self.buffers.len(), at).is_some()
+    }
+
     /// The bytes of a buffer after others.
     pub fn push_buffer(
         &self,

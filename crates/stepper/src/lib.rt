@@ -19,5 +19,6 @@ mod step;
 
 pub use laws::machines_go_on_with_more_input;
 pub use machine::{Machine, Part};
+pub use output_store::{BufferAt, FrameView};
 pub use slice::{Slice, Why};
 pub use step::Step;

@@ -1,8 +1,10 @@
-ghost use Rattle.std.specs.Prelude.{◌≡◌, ◌++◌, [], length, reverse, slice_get, option_map, is_some, None, OnOk};
+ghost use Rattle.std.specs.Prelude.{◌≡◌, ◌++◌, length, reverse, slice_get, option_map, is_some, true, None, Some, OnErr, OnOk};
+ghost use Rattle.output_store.specs.Viewing.{buffer_of, place_and_length, segments_of_buffer, view_of};
 ghost use Rattle.stepper.specs.Running.{carry_of, end_of, part_of};
 
 use crate::machine::{Machine, Part};
 use isa::End;
+use output_store::{BufferAt, FrameView};
 use std::alloc::AllocError;
 
 impl Machine {
@@ -68,5 +70,40 @@ impl Machine {
         ensures { result.now ≡ self.now.layout.arena }
     {
         self.store.arena()
+    }
+
+    /// What a frame is, by its number, the oldest first.
+    pub fn frame_at(&self, number: usize) -> Option<FrameView>
+        ensures { result ≡ option_map view_of (slice_get (reverse self.now.state.store.frames) number) }
+    {
+        self.store.frame_at(number)
+    }
+
+    /// Whether a buffer is there.
+    pub fn has_buffer(&self, at: BufferAt) -> bool
+        ensures { result ≡ is_some (buffer_of at self.now.state.store) }
+    {
+        self.store.has_buffer(at)
+    }
+
+    /// The bytes of a buffer after others.
+    pub fn push_buffer(&self, at: BufferAt, out: &mut Vec<u8>) -> Result<(), AllocError>
+        requires { is_some (buffer_of at self.now.state.store) ≡ true }
+        ensures pushed { OnOk result
+            (Some out.new.items ≡ option_map (λ bytes. out.old.items ++ bytes) (buffer_of at self.now.state.store)) }
+        ensures refused { OnErr result (out.new.items ≡ out.old.items) }
+    {
+        self.store.push_buffer(self.alloc, at, out)
+    }
+
+    /// The place in the arena and the length of a segment of a buffer, by its number, where there are so many. It takes no memory.
+    pub fn segment(&self, at: BufferAt, number: usize) -> Option<(usize, usize)>
+        requires { is_some (buffer_of at self.now.state.store) ≡ true }
+        ensures { result ≡ option_map place_and_length (slice_get (segments_of_buffer at self.now.layout) number) }
+    {
+        match self.store.segment(at, number) {
+            Some(segment) => Some((segment.place, segment.end.saturating_sub(segment.place))),
+            None => None,
+        }
     }
 }

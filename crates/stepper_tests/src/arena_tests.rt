@@ -3,8 +3,14 @@
 use crate::programs::{bytes, program};
 use isa::Program;
 use std::alloc::{AllocError, Global};
+use std::fmt::Write;
 use std::test::Fail;
-use stepper::Machine;
+use stepper::{BufferAt, Machine};
+
+const ARRAY: &str = "0 BLOCKS,1 NEXT 4,2 LONG,3 JUMP 1,4 HALT";
+
+/// More segments than any buffer of these tests has.
+const SEGMENTS: usize = 4;
 
 const SWAPPED: &str = "0 CALL 2,1 HALT,2 RECORD 2,3 SLOT 1,4 LONG,5 SLOT 0,6 TEXT,7 ENDREC,8 RET";
 
@@ -59,5 +65,107 @@ fn a_cut_character_is_carried(rt: HostRuntime) -> Result<(), Fail> {
     input[65..].copy_from_slice(&[0xc3, 0xa9]);
     let carry = carry(rt.alloc(), "0 TEXT,1 HALT", &input, 2)?;
     assert_eq!(rt; carry.as_slice(), [0xc3].as_slice());
+    Ok(())
+}
+
+/// The place and the length of each segment of a buffer.
+fn segment_words(alloc: Global, machine: &Machine, at: BufferAt) -> Result<String, AllocError> {
+    let mut words = String::new(alloc);
+    if !machine.has_buffer(at) {
+        return Ok(words);
+    }
+    for number in 0..SEGMENTS {
+        if let Some((place, len)) = machine.segment(at, number) {
+            write!(words, "({place}, {len})")?;
+        }
+    }
+    Ok(words)
+}
+
+/// The bytes of a buffer after a byte that was there before, or nothing where there is no such buffer.
+fn buffer_bytes(alloc: Global, machine: &Machine, at: BufferAt) -> Result<Vec<u8>, AllocError> {
+    let mut bytes = Vec::new(alloc);
+    if machine.has_buffer(at) {
+        bytes.push(0xff)?;
+        machine.push_buffer(at, &mut bytes)?;
+    }
+    Ok(bytes)
+}
+
+/// The segments and the bytes of a buffer.
+fn buffer_words(alloc: Global, machine: &Machine, at: BufferAt) -> Result<String, AllocError> {
+    let mut words = segment_words(alloc, machine, at)?;
+    let bytes = buffer_bytes(alloc, machine, at)?;
+    let hex = hex::encode(alloc, &bytes)?;
+    write!(words, " {hex}")?;
+    Ok(words)
+}
+
+/// The same after so many rows.
+fn words_after(
+    alloc: Global,
+    program: &Program,
+    input: &[u8],
+    k: u64,
+    at: BufferAt,
+) -> Result<String, AllocError> {
+    let mut machine = Machine::new(alloc);
+    let _rows = machine.slice(program, input, true, &[], k);
+    buffer_words(alloc, &machine, at)
+}
+
+/// Whether a buffer has these segments and bytes, so many rows after the first of the program of these lines.
+fn has(
+    alloc: Global,
+    lines: &str,
+    input: &[u8],
+    k: u64,
+    at: BufferAt,
+    want: &str,
+) -> Result<bool, Fail> {
+    let program = program(alloc, lines)?;
+    let words = words_after(alloc, &program, input, k, at)?;
+    Ok(words.as_str() == want)
+}
+
+/// The payload of the record of a long and a string.
+const INPUT: [u8; 5] = [0x36, 0x06, 0x66, 0x6f, 0x6f];
+
+/// A block of two longs.
+const ITEMS: [u8; 4] = [0x04, 0x06, 0x08, 0x00];
+
+#[test]
+fn a_closed_record_has_its_slots_segments(rt: HostRuntime) -> Result<(), Fail> {
+    assert!(rt;
+        has(
+            rt.alloc(),
+            SWAPPED,
+            &INPUT,
+            8,
+            BufferAt::Out,
+            "(1, 4)(0, 1) ff06666f6f36"
+        )?
+    );
+    Ok(())
+}
+
+#[test]
+fn slots_are_read_by_number(rt: HostRuntime) -> Result<(), Fail> {
+    let first = BufferAt::Slot { frame: 0, slot: 0 };
+    let second = BufferAt::Slot { frame: 0, slot: 1 };
+    let third = BufferAt::Slot { frame: 0, slot: 2 };
+    assert!(rt; has(rt.alloc(), SWAPPED, &INPUT, 7, first, "(1, 4) ff06666f6f")?);
+    assert!(rt; has(rt.alloc(), SWAPPED, &INPUT, 7, second, "(0, 1) ff36")?);
+    assert!(rt; has(rt.alloc(), SWAPPED, &INPUT, 7, third, " ")?);
+    Ok(())
+}
+
+#[test]
+fn gathered_items_are_read(rt: HostRuntime) -> Result<(), Fail> {
+    let gathered = BufferAt::Gathered { frame: 0 };
+    let slot = BufferAt::Slot { frame: 0, slot: 0 };
+    assert!(rt; has(rt.alloc(), ARRAY, &ITEMS, 3, gathered, "(0, 1) ff06")?);
+    assert!(rt; has(rt.alloc(), ARRAY, &ITEMS, 3, slot, " ")?);
+    assert!(rt; has(rt.alloc(), ARRAY, &ITEMS, 3, BufferAt::Out, " ff")?);
     Ok(())
 }

@@ -1,0 +1,9 @@
+use Rattle.std.proofs.Common.{◌≡◌, ◌++◌, reverse, take}
+use Rattle.std.specs.List.{flat_map}
+use Rattle.std.specs.Prelude.{string_bytes}
+use Rattle.debugger.specs.Show.{frame_line}
+use Rattle.debugger.proofs.frames.push_frames.Given as goal
+
+abbrev pub invariant-loop-number : goal.invariant-loop-number
+invariant-loop-number l =
+    string_bytes l.output ≡ string_bytes l.fn.output ++ flat_map frame_line (take l.number (reverse l.machine.state.store.frames))
