@@ -1,6 +1,6 @@
 -- What happens to a session leaves its pair and its program.
-use Rattle.std.proofs.Common.{◌≡◌, ℕ, zero, suc, [], ◌∷◌, Bool, true, false, List, Option, Some, None, refl, sym, ap, ◌∙◌, subst, inl, inr}
-use Rattle.std.specs.Prelude.{◌⊎◌, if◌then◌else◌, is_some, slice_get, slice_set}
+use Rattle.std.proofs.Common.{◌≡◌, ℕ, zero, suc, [], ◌∷◌, Bool, true, false, List, Option, Some, None, refl, sym, ap, subst, inl, inr}
+use Rattle.std.specs.Prelude.{if◌then◌else◌, is_some, slice_get, slice_set}
 use Rattle.std.specs.List.{AllByRecursion}
 use Rattle.session.specs.declared.refusal.SessionRefusal.{SessionRefusal}
 use Rattle.session.specs.Changes.{break_refusal, clear_refusal, cleared_at, finished, piece_refusal, refused, set_at, with_piece}
@@ -8,12 +8,17 @@ use Rattle.session.specs.Rows.{TakesRows, go_rows, slice_rows, walk_rows}
 use Rattle.session.specs.Session.{Session, end_in}
 use Rattle.schema_registry.specs.Command.{Command}
 use Rattle.session_core.specs.declared.reply.EventReply.{EventReply}
-use Rattle.session_core.specs.declared.reply.EventReply.TheVariants.{Done, Id, Refused, Rows, SessionIs}
-use Rattle.session_core.specs.declared.refusal.EventRefusal.TheVariants.{NoMemory, NoSchema, NoSession, NotHeld, NotPublished, OfPublication, OfRegistry, OfSession}
+use Rattle.session_core.specs.declared.reply.EventReply.TheVariants.{Done, Refused, Rows}
+use Rattle.session_core.specs.declared.refusal.EventRefusal.TheVariants.{NotHeld, OfSession}
 use Rattle.session_core.specs.Acts.{Acts, Maybe, Slices, Surely, Takes, with_session}
 use Rattle.session_core.specs.Event.{Act, Break, Clear, Finish, Go, Piece, Refuse, Slice, Steal, Walk}
+use Rattle.avro_schema.specs.Schema.{Declaration}
+use Rattle.avro_types.specs.Node.{Node}
+use Rattle.session.specs.Ending.{EarlyEndIsOutcome, EndIsOutcome, IsWithinBound}
+use Rattle.session_core.specs.Ending.{EndsWithOutcome}
 use Rattle.session_core.specs.Kept.{IsKept, IsSession}
-use Rattle.session_core.specs.World.{Held, IsCodeOf, World}
+use Rattle.session_core.specs.World.{Held, IsCodeOf, World, schema_after}
+use Rattle.session_core.proofs.Worlds.{code-of-found, ends-with-outcome}
 
 module _ (cs : List Command) where
   by-session : (old new : Held) (done : Session) → done.program ≡ old.session.program → new ≡ with_session done old → IsSession cs old → IsSession cs new
@@ -75,8 +80,8 @@ all-at : {X : Type 0} (P : X → Type 0) (xs : List X) (i : ℕ) (x : X) → All
 all-at P [] i x all e = absurd (cc)
 all-at P (y ∷ ys) zero x all e = subst P (same_Some y x e) all.0
   where
-  same_Some : {X : Type 0} (x y : X) → Some x ≡ Some y → x ≡ y
-  same_Some x y e = cc
+    same_Some : {X : Type 0} (x y : X) → Some x ≡ Some y → x ≡ y
+    same_Some x y e = cc
 all-at P (y ∷ ys) (suc i) x all e = all-at P ys i x all.1 e
 
 pub session-at : (world : World) (s : ℕ) (held : Held) → IsKept world → slice_get world.sessions s ≡ Some held → IsSession world.commands held
@@ -87,3 +92,16 @@ kept-by-act world s act reply held after kept at a = record {
   publications = kept.publications;
   sessions = all-set (IsSession world.commands) world.sessions s after kept.sessions (acts-keep world.commands act reply held after a (session-at world s held kept at));
 }
+
+-- ---- how a session ends
+
+pub same-held : (found : Option Held) (one other : Held) → found ≡ Some one → found ≡ Some other → one ≡ other
+same-held found one other a b = cc
+
+pub ends-for : (world : World) (one held : Held) (s : ℕ) (w r : Declaration) (W R : List Node) → IsKept world → slice_get world.sessions s ≡ Some held → one ≡ held → schema_after world.commands one.writer ≡ Some w → schema_after world.commands one.reader ≡ Some r → W ≡ w.nodes → R ≡ r.nodes
+    → EndIsOutcome W R one.session → EarlyEndIsOutcome W R one.session → IsWithinBound one.session → EndsWithOutcome world held
+ends-for world one held s w r W R kept at same w-is r-is W-is R-is end early bound =
+    let code = code-of-found world.commands one.writer one.reader one.session.program w r (subst (IsSession world.commands) (sym same) (session-at world s held kept at)) w-is r-is in
+    let end_ = subst (λ (x : List Node). EndIsOutcome x r.nodes one.session) W-is (subst (λ (x : List Node). EndIsOutcome W x one.session) R-is end) in
+    let early_ = subst (λ (x : List Node). EarlyEndIsOutcome x r.nodes one.session) W-is (subst (λ (x : List Node). EarlyEndIsOutcome W x one.session) R-is early) in
+    subst (EndsWithOutcome world) same (ends-with-outcome world one w r w-is r-is code end_ early_ bound)

@@ -1,19 +1,19 @@
 -- What is kept as commands, publications and sessions are added.
-use Rattle.std.proofs.Common.{◌≡◌, ℕ, zero, suc, ◌+◌, Bool, true, false, List, [], ◌∷◌, ◌++◌, Option, Some, None, refl, sym, ap, ◌∙◌, subst, append-nil}
-use Rattle.std.specs.Prelude.{◌==◌, ◌&&◌, Result, Ok, Err, if◌then◌else◌, is_some, find, slice_get, OnOk, OnErr}
+use Rattle.std.proofs.Common.{◌≡◌, ℕ, zero, suc, Bool, true, false, List, [], ◌∷◌, ◌++◌, Option, Some, None, refl, sym, ap, ◌∙◌, subst, append-nil}
+use Rattle.std.specs.Prelude.{◌==◌, ◌&&◌, Result, Ok, Err, if◌then◌else◌, is_some, find, slice_get, OnOk, OnErr, is_ok, option_map}
 use Rattle.std.specs.List.{AllByRecursion}
 use Rattle.std.proofs.lemmas.Bool.{eqb-true}
 use Rattle.avro_schema.specs.Schema.{Declaration}
 use Rattle.isa.specs.Program.{Program}
 use Rattle.schema_names.specs.declared.error.SchemaError.{SchemaError}
-use Rattle.schema_registry.specs.Accepting.{declaration_of, id_for, registered, registry_after, taken, taken_all, with_schema, with_version}
-use Rattle.schema_registry.specs.Command.{Command, RegisterCommand, SetLevelCommand, LookupCommand, CheckCommand, VersionsCommand, VersionCommand, SubjectsCommand, SchemaCommand, LevelCommand}
+use Rattle.schema_registry.specs.Accepting.{declaration_of, registered, registry_after, taken, taken_all, with_version}
+use Rattle.schema_registry.specs.Command.{Command, RegisterCommand}
 use Rattle.schema_registry.specs.Lists.{Lists, id_of, no_lists, numbered, versions_of, with_text}
 use Rattle.program_code.specs.Code.{code_of}
 use Rattle.session.specs.Ending.{EarlyEndIsOutcome, EndIsOutcome, IsWithinBound}
 use Rattle.session_core.specs.Ending.{EndsWithOutcome}
 use Rattle.session_core.specs.Kept.{IsKept, IsPublication, IsSession}
-use Rattle.session_core.specs.World.{Held, IsCodeOf, Publication, World, is_of, schema_after}
+use Rattle.session_core.specs.World.{Held, IsCodeOf, Publication, World, is_of, program_at, schema_after}
 
 -- ---- schemas stay
 
@@ -108,8 +108,8 @@ of-found true cs w r p found ps is all e later =
     let here = subst (λ (x : ℕ). IsCodeOf cs x r p.program) writer (subst (λ (x : ℕ). IsCodeOf cs p.writer x p.program) reader all) in
     subst (λ (q : Publication). IsCodeOf cs w r q.program) (same_Some p found e) here
   where
-  same_Some : (x y : Publication) → Some x ≡ Some y → x ≡ y
-  same_Some x y e = cc
+    same_Some : (x y : Publication) → Some x ≡ Some y → x ≡ y
+    same_Some x y e = cc
 of-found false cs w r p found ps is all e later = later e
 
 pub found-is-code : (cs : List Command) (w r : ℕ) (found : Publication) (ps : List Publication) → AllByRecursion (IsPublication cs) ps → find (is_of w r) ps ≡ Some found → IsCodeOf cs w r found.program
@@ -142,3 +142,20 @@ ends-with-outcome world held one other w r code end early bound = record {
 pub kept-by-answer : {A E : Type 0} (world : World) (c : Command) (new : List Command) (result : Result A E) → OnOk result (new ≡ world.commands ++ c ∷ []) → OnErr result (new ≡ world.commands) → IsKept world → IsKept (record world { commands = new })
 kept-by-answer world c new (Ok a) ok err kept = subst (λ (cs : List Command). IsKept (record world { commands = cs })) (sym ok) (kept-by-command world c kept)
 kept-by-answer world c new (Err e) ok err kept = subst (λ (cs : List Command). IsKept (record world { commands = cs })) (sym err) kept
+
+-- ---- a session that begins
+
+pub kept-by-push : {A E : Type 0} (world : World) (h : Held) (new : List Held) (result : Result A E) → new ≡ (if is_ok result then world.sessions ++ h ∷ [] else world.sessions) → IsKept world → IsSession world.commands h → IsKept (record world { sessions = new })
+kept-by-push world h new (Ok a) e kept is = subst (λ (hs : List Held). IsKept (record world { sessions = hs })) (sym e) (kept-by-session world h kept is)
+kept-by-push world h new (Err x) e kept is = subst (λ (hs : List Held). IsKept (record world { sessions = hs })) (sym e) kept
+
+-- the program that is found is the code of the pair
+program-found : (cs : List Command) (w r : ℕ) (P : Program) (ps : List Publication) (found : Option Publication) → find (is_of w r) ps ≡ found → AllByRecursion (IsPublication cs) ps → Some P ≡ option_map (λ (p : Publication). p.program) found → IsCodeOf cs w r P
+program-found cs w r P ps (Some p) f all e = subst (IsCodeOf cs w r) (same_program p.program P (sym e)) (found-is-code cs w r p ps all f)
+  where
+    same_program : (x y : Program) → Some x ≡ Some y → x ≡ y
+    same_program x y e = cc
+program-found cs w r P ps None f all e = absurd (cc)
+
+pub found-here : (world : World) (w r : ℕ) (P : Program) → IsKept world → Some P ≡ program_at w r world → IsCodeOf world.commands w r P
+found-here world w r P kept e = program-found world.commands w r P world.published (find (is_of w r) world.published) refl kept.publications e

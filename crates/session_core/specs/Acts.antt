@@ -1,5 +1,5 @@
 -- What happens to one session, and what is replied. All of this is this project's own.
-use Rattle.std.specs.Prelude.{◌≡◌, ◌≢◌, ℕ, List, Option, Some, None, Result, Ok, Err}
+use Rattle.std.specs.Prelude.{◌≡◌, ◌≢◌, ℕ, Option, Some, None, Result, Ok, Err}
 use Rattle.session.specs.declared.refusal.SessionRefusal.{SessionRefusal}
 use Rattle.session.specs.declared.refusal.SessionRefusal.TheVariants.{NoMemory}
 use Rattle.session.specs.Changes.{break_refusal, clear_refusal, cleared_at, finished, piece_refusal, refused, set_at, with_piece}

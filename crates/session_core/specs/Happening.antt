@@ -17,7 +17,7 @@ use Rattle.session_core.specs.declared.reply.EventReply.TheVariants.{Done, Id, R
 use Rattle.session_core.specs.declared.refusal.EventRefusal.TheVariants as refusals
 use Rattle.session_core.specs.Acts.{Acts}
 use Rattle.session_core.specs.Event.{Act, Begin, Event, On, Publish, Register, SetLevel}
-use Rattle.session_core.specs.World.{Held, Publication, World, program_at, schema_at}
+use Rattle.session_core.specs.World.{Held, World, program_at, schema_at}
 
 -- ---- the registry
 

@@ -1,6 +1,5 @@
 -- A world of sessions: what its registry accepted, which pairs are published, and its sessions. All of this is this project's own.
-use Rattle.std.specs.Prelude.{◌≡◌, ℕ, ◌==◌, ◌&&◌, List, [], ◌∷◌, find, Bool, Option, Some, None, option_map}
-use Rattle.avro_types.specs.Node.{Node}
+use Rattle.std.specs.Prelude.{◌≡◌, ℕ, ◌==◌, ◌&&◌, List, [], find, Bool, Option, Some, option_map}
 use Rattle.avro_schema.specs.Schema.{Declaration}
 use Rattle.isa.specs.Program.{Program}
 use Rattle.program_code.specs.Code.{code_of}

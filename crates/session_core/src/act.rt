@@ -3,10 +3,7 @@
 pub(crate) enum Act<'e> {
     Piece(&'e [u8]),
     Finish,
-    Slice {
-        worker: u32,
-        rows: u64,
-    },
+    Slice { worker: u32, rows: u64 },
     Steal(u32),
     Break(u32),
     Clear(u32),

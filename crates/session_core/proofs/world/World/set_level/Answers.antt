@@ -1,10 +1,25 @@
+use Rattle.std.proofs.Common.{sym, subst, refl}
+use Rattle.std.specs.Prelude.{option_map, string_bytes}
 use Rattle.schema_registry.specs.Command.{command_of}
+use Rattle.session_core.specs.declared.reply.EventReply.{EventReply}
+use Rattle.session_core.specs.Event.{SetLevel}
+use Rattle.session_core.specs.Happening.{Happens}
+use Rattle.session_core.specs.World.{World}
 use Rattle.session_core.proofs.Replies.{level-happens}
 use Rattle.session_core.proofs.Worlds.{kept-by-answer}
 use Rattle.session_core.proofs.world.World.set_level.Goals as goal
 
 pub invariant_of-self : goal.invariant_of-self
-invariant_of-self c = kept-by-answer _ (command_of c.in-Ok.command) c.apply.new.self c.apply.result c.apply.ensures.ok c.apply.ensures.err c.self.invariant
+invariant_of-self c =
+    let inside = c.self.inside in
+    kept-by-answer (record { commands = inside.registry; published = inside.published.items; sessions = inside.sessions.items }) (command_of c.in-Ok.command) c.apply.new.self c.apply.result c.apply.ensures.ok c.apply.ensures.err c.self.invariant
 
 pub returns : goal.returns
-returns c = ?
+returns c =
+    let inside = c.self.inside in
+    let subject = option_map string_bytes c.args.subject.now in
+    let old : World = record { commands = inside.registry; published = inside.published.items; sessions = inside.sessions.items } in
+    let new : World = record { commands = c.apply.new.self; published = inside.published.items; sessions = inside.sessions.items } in
+    let happens = level-happens old new subject c.args.level (command_of c.in-Ok.command) c.apply.result c.in-Ok.ensures c.apply.ensures.answer c.apply.ensures.ok c.apply.ensures.err refl in
+    subst (λ (w : World). Happens (SetLevel subject c.args.level) c.level_reply.result w new) c.self.view_is
+    (subst (λ (r : EventReply). Happens (SetLevel subject c.args.level) r old new) (sym c.level_reply.ensures) happens)
