@@ -4,4 +4,10 @@
 #[cfg(test)]
 mod again;
 #[cfg(test)]
+mod lines;
+#[cfg(test)]
 mod pair_row_tests;
+#[cfg(test)]
+mod rows;
+#[cfg(test)]
+mod world_tests;
