@@ -121,16 +121,16 @@ def name_row(letters):
     data = 400_000
     return schema, schema, number(data) + number(20) * data + b"\0", data
 
-def seconds(data):
+def seconds(data, verb="transcode"):
     begin = time.perf_counter()
-    done = subprocess.run([program, "transcode"], input=data, capture_output=True)
+    done = subprocess.run([program, verb], input=data, capture_output=True)
     took = time.perf_counter() - begin
     assert done.returncode == 0, done.stdout[:200]
     return took
 
 # the least of some turns, in which all of them come, so that what else the machine does falls on all alike
-def least(turns, *inputs):
-    return [min(took) for took in zip(*([seconds(data) for data in inputs] for _ in range(turns)))]
+def least(turns, *inputs, verb="transcode"):
+    return [min(took) for took in zip(*([seconds(data, verb) for data in inputs] for _ in range(turns)))]
 
 holds = True
 start = least(40, b'"int"\n"int"\n')[0]
@@ -144,6 +144,18 @@ for name, make, size, turns in [("payload", points, 1 << 21, 10), ("schema of en
     once, twice = (took - start for took in least(turns, *(make(size * k).encode() for k in (1, 2))))
     holds = holds and twice / once <= 2.3
     print("%s of %d and %d bytes: %.1f ms and %.1f ms, ratio %.2f (2.3 at most)" % (name, size, size * 2, once * 1000, twice * 1000, twice / once))
+
+# a text in pieces of 1 KiB, to its own program
+def pieces(size):
+    text = (number(size) + b"a" * size).hex()
+    listing = "avro program 1\n0 TEXT\n1 HALT\nend\n"
+    return listing + "|".join(text[at:at + 2048] for at in range(0, len(text), 2048)) + "\n"
+
+if word in "payload in pieces":
+    size = (1 << 23) - 16
+    once, twice = least(10, *(pieces(size * k).encode() for k in (1, 2)), verb="run")
+    holds = holds and twice / once <= 2.3
+    print("payload in pieces of %d and %d bytes: %.1f ms and %.1f ms, ratio %.2f (2.3 at most)" % (size, size * 2, once * 1000, twice * 1000, twice / once))
 
 for name, make, many in [("data of a record by its fields", fields_row, 500), ("data of a union by its members", members_row, 500),
                          ("data of an enum by its symbols", symbols_row, 2000), ("data of a record by the letters of its name", name_row, 50_000)]:

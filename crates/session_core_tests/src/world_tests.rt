@@ -28,6 +28,56 @@ fn answered(alloc: Global, pairs: usize, rows: &str) -> Result<String, AllocErro
     answered_by(alloc, &programs, rows)
 }
 
+/// How a new session of two schemas ends on a payload, whole.
+fn attempt<'p>(
+    alloc: Global,
+    world: &mut World<'p>,
+    programs: &'p PairRow,
+    begin: &str,
+) -> Result<String, AllocError> {
+    let begun = answer_to(alloc, world, programs, begin)?;
+    let number = begun.strip_prefix("session ").unwrap_or("");
+    for (verb, rest) in [("piece", " 3606666f6f"), ("finish", ""), ("walk", " 99")] {
+        let line = format!(in alloc; "{verb} {number}{rest}")?;
+        answer_to(alloc, world, programs, &line)?;
+    }
+    let line = format!(in alloc; "result {number}")?;
+    answer_to(alloc, world, programs, &line)
+}
+
+/// The same, in another session where memory ended the first.
+fn rewritten<'p>(
+    alloc: Global,
+    world: &mut World<'p>,
+    programs: &'p PairRow,
+    begin: &str,
+) -> Result<String, AllocError> {
+    let ended = attempt(alloc, world, programs, begin)?;
+    if ended.starts_with("no memory") {
+        return attempt(alloc, world, programs, begin);
+    }
+    Ok(ended)
+}
+
+/// The ends of two sessions after the first rows, one after the other.
+fn two_ends(alloc: Global, programs: &PairRow) -> Result<String, AllocError> {
+    let mut world = World::new(alloc);
+    for (place, line) in REPLAY.lines().enumerate() {
+        if place % 2 == 0 && place < 8 {
+            answer_to(alloc, &mut world, programs, line)?;
+        }
+    }
+    let one = rewritten(alloc, &mut world, programs, "begin 1 1")?;
+    let two = rewritten(alloc, &mut world, programs, "begin 1 2")?;
+    format!(in alloc; "{one}, {two}")
+}
+
+/// The same, with cells for their two pairs.
+fn ends(alloc: Global) -> Result<String, AllocError> {
+    let programs = row_for(alloc, 2)?;
+    two_ends(alloc, &programs)
+}
+
 /// Whether a new world answers each event as its row has it.
 fn assert_rows(rt: &(impl Abort + AllocGlobal), pairs: usize, rows: &str) -> Result<(), Fail> {
     let answered = answered(rt.alloc(), pairs, rows)?;
@@ -53,4 +103,14 @@ fn each_refusal_is_told(rt: HostRuntime) -> Result<(), Fail> {
 #[test]
 fn breakpoints_stop_before_a_row(rt: HostRuntime) -> Result<(), Fail> {
     assert_rows(&rt, 1, BREAKS)
+}
+
+#[test]
+fn a_refused_growth_ends_one_session(rt: HostRuntime) -> Result<(), Fail> {
+    let ends = ends(rt.alloc())?;
+    assert_eq!(rt;
+        ends.as_str(),
+        "done 3606666f6f count 10, done 06666f6f36 count 10"
+    );
+    Ok(())
 }
