@@ -400,3 +400,28 @@ same-on-err (Err x) new old more e = e
 
 pub segments-named : (fs : List Frame) (laid : Laid) (units : ℕ) (mark : Option ℕ) (over : Bool) (b : BufferAt) (held : Held) (place : Place) → held_of fs laid units mark over ≡ held → IsPlaced fs laid b (length laid.slots) place → segments_of_buffer b held.layout ≡ segments_at laid place
 segments-named fs laid units mark over b held place is p = ap (λ (h : Held). segments_of_buffer b h.layout) (sym is) ∙ p.segments
+
+-- ---- how a buffer lies
+
+-- its bytes are those at its segments, which lie in the arena
+pub record Lies (b : BufferAt) (held : Held) : Type 0 where
+  pub bytes : buffer_of b held.store ≡ Some (bytes_of held.layout.arena (segments_of_buffer b held.layout))
+  pub segments : AreSegments (length held.layout.arena) (segments_of_buffer b held.layout)
+
+laid-at : (laid : Laid) (place : Place) → AreLaid laid → IsPlace (length laid.slots) place → AreSegments (length laid.arena) (segments_at laid place)
+laid-at laid places.Out are there = are.out
+laid-at laid (places.Slot number) are there = all-at (AreSegments (length laid.arena)) laid.slots number [] are.slots there
+
+module _ (fs : List Frame) (laid : Laid) (units : ℕ) (mark : Option ℕ) (over : Bool) (b : BufferAt) where
+  abbrev shown-held : Held
+  shown-held = held_of fs laid units mark over
+
+  lies-at : (o : Option Place) → Places fs laid b o → AreLaid laid → is_some (buffer_of b shown-held.store) ≡ true → Lies b shown-held
+  lies-at None p are there = absurd (none-named (buffer_of b shown-held.store) there (same-buffer b (frames_in fs (texts_of laid)) (out_of laid) mark over ∙ p))
+  lies-at (Some place) p are there = record {
+    bytes = same-buffer b (frames_in fs (texts_of laid)) (out_of laid) mark over ∙ p.bytes ∙ ap (λ (x : List Segment). Some (bytes_of laid.arena x)) (sym p.segments);
+    segments = subst (AreSegments (length laid.arena)) (sym p.segments) (laid-at laid place are p.there);
+  }
+
+  pub lies : (held : Held) → AreFrames fs (length laid.slots) → AreLaid laid → held_of fs laid units mark over ≡ held → is_some (buffer_of b held.store) ≡ true → Lies b held
+  lies held f are is there = subst (Lies b) is (lies-at (place_named b fs (length laid.slots)) (placed laid fs b f) are (ap (λ (h : Held). is_some (buffer_of b h.store)) is ∙ there))

@@ -1,4 +1,5 @@
-ghost use Rattle.std.specs.Prelude.{◌≡◌, ◌++◌, ◌∷◌, Some, reverse, slice_get, option_map, is_some, true, OnErr, OnOk};
+ghost use Rattle.std.specs.Prelude.{◌≡◌, ◌++◌, ◌∷◌, length, Some, reverse, slice_get, option_map, is_some, true, OnErr, OnOk};
+ghost use Rattle.output_store.specs.Segments.{AreSegments, bytes_of};
 ghost use Rattle.output_store.specs.Viewing.{buffer_of, end_below, frame_numbered, place_named, segments_of_buffer, view_at, view_in, view_of};
 
 use crate::buffers::Place;
@@ -149,6 +150,16 @@ impl Store {
         let mut bytes = Vec::new(alloc);
         self.buffers.write(alloc, place, &mut bytes)?;
         out.extend_from_slice(&bytes)
+    }
+
+    /// The law that the bytes of a buffer are the arena's at its segments, joined in order, of which none is empty and none begins where the one before it ends.
+    pub fn are_laid(&self, at: BufferAt)
+        requires { is_some (buffer_of at self.now.store) ≡ true }
+        ensures bytes { buffer_of at self.now.store
+            ≡ Some (bytes_of self.now.layout.arena (segments_of_buffer at self.now.layout)) }
+        ensures segments { AreSegments (length self.now.layout.arena) (segments_of_buffer at self.now.layout) }
+    {
+        self.buffers.are_laid();
     }
 
     /// A segment of a buffer, by its number, where there are so many. It takes no memory.

@@ -1,9 +1,10 @@
+pub mod Appending
 pub mod Tables
 pub mod Checking
 pub mod Counts
 pub mod Stepping
 pub mod Slicing
 pub mod Longer
-pub mod Bulk
+mod Bulk
 pub mod Spelled
 pub mod Foresight

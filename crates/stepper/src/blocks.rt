@@ -1,8 +1,9 @@
+#![tactic(auto, using(crate::proofs::Appending::same_arena))]
 ghost use Rattle.std.specs.Prelude.{◌≡◌, ◌≤◌, ◌<◌, length, None};
 ghost use Rattle.isa.specs.declared.instr.Instr.TheVariants as op;
 ghost use Rattle.isa.specs.declared.limits.TheConstants.{MOST_INSTRS};
 ghost use Rattle.isa.specs.Row.{row};
-ghost use Rattle.stepper.specs.Contract.{Takes};
+ghost use Rattle.stepper.specs.Contract.{OnlyAppends, Takes};
 
 use crate::machine::Machine;
 use crate::step::Step;
@@ -17,6 +18,7 @@ impl Machine {
         requires within { self.old.state.pos ≤ length input.now }
         requires whole { self.old.state.part ≡ None }
         ensures takes { Takes (row program.now input.now ended op.Blocks self.old.state) result self.old self.new }
+        ensures appends { OnlyAppends self.old self.new }
         ensures within { self.new.state.pos ≤ length input.now }
         ensures whole { self.new.state.part ≡ None }
     {
@@ -32,6 +34,7 @@ impl Machine {
         requires within { self.old.state.pos ≤ length input.now }
         requires whole { self.old.state.part ≡ None }
         ensures takes { Takes (row program.now input.now ended op.SkipBlocks self.old.state) result self.old self.new }
+        ensures appends { OnlyAppends self.old self.new }
         ensures within { self.new.state.pos ≤ length input.now }
         ensures whole { self.new.state.part ≡ None }
     {
@@ -54,6 +57,7 @@ impl Machine {
         requires whole { self.old.state.part ≡ None }
         ensures takes { Takes (row program.now input.now ended (op.Next after) self.old.state) result self.old
             self.new }
+        ensures appends { OnlyAppends self.old self.new }
         ensures within { self.new.state.pos ≤ length input.now }
         ensures whole { self.new.state.part ≡ None }
     {
@@ -81,6 +85,7 @@ impl Machine {
         requires whole { self.old.state.part ≡ None }
         ensures takes { Takes (row program.now input.now ended (op.SkipNext after) self.old.state) result self.old
             self.new }
+        ensures appends { OnlyAppends self.old self.new }
         ensures within { self.new.state.pos ≤ length input.now }
         ensures whole { self.new.state.part ≡ None }
     {

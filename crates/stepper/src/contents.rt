@@ -1,9 +1,10 @@
+#![tactic(auto, using(crate::proofs::Appending::same_arena))]
 ghost use Rattle.std.specs.Prelude.{◌≡◌, ◌≤◌, ◌<◌, ◌+◌, ◌-◌, length, min, pos, take, drop, [], option_map, OnOk, OnErr, Some, None, true};
 ghost use Rattle.avro_bytes.specs.declared.limits.TheConstants.{MOST_CONTENT};
 ghost use Rattle.avro_bytes.specs.Shortest.{shortest};
 ghost use Rattle.isa.specs.declared.limits.TheConstants.{MOST_INSTRS, MOST_PIECE};
 ghost use Rattle.isa.specs.Table.{begun, content, ends_part, fixed, if_current, moved, moves, next};
-ghost use Rattle.stepper.specs.Contract.{HasRoom, Stays, Takes, move_of};
+ghost use Rattle.stepper.specs.Contract.{HasRoom, move_of, OnlyAppends, Stays, Takes};
 ghost use Rattle.stepper.specs.Running.{HasMoved, IsCheck, IsOn, check_of, part_of};
 
 use crate::check::TextCheck;
@@ -46,6 +47,7 @@ impl Machine {
     fn put(&mut self, moving: Moving, bytes: &[u8]) -> Result<(), AllocError>
         requires { HasRoom moving self.old.state }
         ensures put { OnOk result (self.new.state ≡ (move_of moving).put bytes.now self.old.state) }
+        ensures appends { OnlyAppends self.old self.new }
         ensures refused { OnErr result (self.new ≡ self.old) }
     {
         match moving {
@@ -59,6 +61,7 @@ impl Machine {
         requires room { HasRoom moving self.old.state }
         requires few { len ≤ MOST_CONTENT }
         ensures put { OnOk result (self.new.state ≡ (move_of moving).put (shortest (pos len)) self.old.state) }
+        ensures appends { OnlyAppends self.old self.new }
         ensures refused { OnErr result (self.new ≡ self.old) }
     {
         match moving {
@@ -116,6 +119,7 @@ impl Machine {
         requires whole { self.old.state.part ≡ None }
         requires on { IsOn input.now self.old }
         ensures takes { Takes (Some (begun (move_of moving) len to self.old.state)) result self.old self.new }
+        ensures appends { OnlyAppends self.old self.new }
         ensures on { IsOn input.now self.new }
         ensures stays { Stays self.old.state self.new.state }
     {
@@ -152,6 +156,7 @@ impl Machine {
         requires part { HasMoved input.now self.old.state.pos (check_of check) (part_of part) }
         ensures takes { Takes (Some (moved program.now input.now ended (move_of moving) (part_of part) MOST_PIECE
             self.old.state)) result self.old self.new }
+        ensures appends { OnlyAppends self.old self.new }
         ensures on { IsOn input.now self.new }
         ensures stays { Stays self.old.state self.new.state }
     {
@@ -185,6 +190,7 @@ impl Machine {
         requires part { HasMoved input.now self.old.state.pos (check_of check) (part_of part) }
         ensures takes { Takes (ends_part program.now input.now ended (move_of moving) (part_of part) self.old.state)
             result self.old self.new }
+        ensures appends { OnlyAppends self.old self.new }
         ensures on { IsOn input.now self.new }
         ensures stays { Stays self.old.state self.new.state }
     {
@@ -238,6 +244,7 @@ impl Machine {
         requires part { HasMoved input.now self.old.state.pos (check_of check) (part_of part) }
         ensures takes { Takes (moves program.now input.now ended (move_of moving) (part_of part) self.old.state) result
             self.old self.new }
+        ensures appends { OnlyAppends self.old self.new }
         ensures on { IsOn input.now self.new }
         ensures stays { Stays self.old.state self.new.state }
     {
@@ -264,6 +271,7 @@ impl Machine {
         requires on { IsOn input.now self.old }
         ensures takes { Takes (content program.now input.now ended (move_of moving) self.old.state self.old.state.part)
             result self.old self.new }
+        ensures appends { OnlyAppends self.old self.new }
         ensures on { IsOn input.now self.new }
         ensures stays { Stays self.old.state self.new.state }
     {
@@ -290,6 +298,7 @@ impl Machine {
         requires on { IsOn input.now self.old }
         ensures takes { Takes (fixed program.now input.now ended (move_of moving) size self.old.state
             self.old.state.part) result self.old self.new }
+        ensures appends { OnlyAppends self.old self.new }
         ensures on { IsOn input.now self.new }
         ensures stays { Stays self.old.state self.new.state }
     {
@@ -318,6 +327,7 @@ impl Machine {
         requires on { IsOn input.now self.old }
         ensures takes { Takes (if_current self.old.state.store.frames self.old.state (content program.now input.now
             ended (move_of moving) self.old.state self.old.state.part)) result self.old self.new }
+        ensures appends { OnlyAppends self.old self.new }
         ensures on { IsOn input.now self.new }
         ensures stays { Stays self.old.state self.new.state }
     {
@@ -339,6 +349,7 @@ impl Machine {
         requires on { IsOn input.now self.old }
         ensures takes { Takes (if_current self.old.state.store.frames self.old.state (fixed program.now input.now ended
             (move_of Moving.Bytes) size self.old.state self.old.state.part)) result self.old self.new }
+        ensures appends { OnlyAppends self.old self.new }
         ensures on { IsOn input.now self.new }
         ensures stays { Stays self.old.state self.new.state }
     {

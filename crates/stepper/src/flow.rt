@@ -1,10 +1,11 @@
+#![tactic(auto, using(crate::proofs::Appending::same_arena))]
 ghost use Rattle.std.specs.Prelude.{◌≡◌, ◌≤◌, ◌<◌, length, Some, None};
 ghost use Rattle.isa.specs.declared.instr.Instr.TheVariants as op;
 ghost use Rattle.isa.specs.declared.limits.TheConstants.{MOST_INSTRS};
 ghost use Rattle.isa.specs.Row.{row};
 ghost use Rattle.isa.specs.Program.{miss_of};
 ghost use Rattle.isa.specs.Table.{finished};
-ghost use Rattle.stepper.specs.Contract.{Takes};
+ghost use Rattle.stepper.specs.Contract.{OnlyAppends, Takes};
 
 use crate::machine::Machine;
 use crate::step::Step;
@@ -31,6 +32,7 @@ impl Machine {
     fn finish(&mut self, program: &Program) -> Step
         ensures takes { Takes (finished program.now self.old.state self.old.state.store.mark self.old.state.store.over)
             result self.old self.new }
+        ensures appends { OnlyAppends self.old self.new }
         ensures pos { self.new.state.pos ≡ self.old.state.pos }
         ensures part { self.new.state.part ≡ self.old.state.part }
     {
@@ -58,6 +60,7 @@ impl Machine {
         requires within { self.old.state.pos ≤ length input.now }
         requires whole { self.old.state.part ≡ None }
         ensures takes { Takes (row program.now input.now ended (op.Miss miss) self.old.state) result self.old self.new }
+        ensures appends { OnlyAppends self.old self.new }
         ensures within { self.new.state.pos ≤ length input.now }
         ensures whole { self.new.state.part ≡ None }
     {
@@ -78,6 +81,7 @@ impl Machine {
         requires whole { self.old.state.part ≡ None }
         ensures takes { Takes (row program.now input.now ended (op.Call address) self.old.state) result self.old
             self.new }
+        ensures appends { OnlyAppends self.old self.new }
         ensures within { self.new.state.pos ≤ length input.now }
         ensures whole { self.new.state.part ≡ None }
     {
@@ -93,6 +97,7 @@ impl Machine {
         requires within { self.old.state.pos ≤ length input.now }
         requires whole { self.old.state.part ≡ None }
         ensures takes { Takes (row program.now input.now ended op.Return self.old.state) result self.old self.new }
+        ensures appends { OnlyAppends self.old self.new }
         ensures within { self.new.state.pos ≤ length input.now }
         ensures whole { self.new.state.part ≡ None }
     {
@@ -115,6 +120,7 @@ impl Machine {
         requires whole { self.old.state.part ≡ None }
         ensures takes { Takes (row program.now input.now ended (op.Jump address) self.old.state) result self.old
             self.new }
+        ensures appends { OnlyAppends self.old self.new }
         ensures within { self.new.state.pos ≤ length input.now }
         ensures whole { self.new.state.part ≡ None }
     {
@@ -127,6 +133,7 @@ impl Machine {
         requires within { self.old.state.pos ≤ length input.now }
         requires whole { self.old.state.part ≡ None }
         ensures takes { Takes (row program.now input.now ended op.Halt self.old.state) result self.old self.new }
+        ensures appends { OnlyAppends self.old self.new }
         ensures within { self.new.state.pos ≤ length input.now }
         ensures whole { self.new.state.part ≡ None }
     {

@@ -1,10 +1,11 @@
+#![tactic(auto, using(crate::proofs::Appending::same_arena))]
 ghost use Rattle.std.specs.Prelude.{◌≡◌, ◌≢◌, ◌≤◌, ◌<◌, ◌+◌, ℕ, [], ◌∷◌, length, is_some, OnOk, OnErr, IfOk, Some, None, true};
 ghost use Rattle.avro_bytes.specs.declared.limits.TheConstants.{MOST_DEPTH};
 ghost use Rattle.isa.specs.declared.limits.TheConstants.{MOST_INSTRS};
 ghost use Rattle.isa.specs.Table.{missed, next, pushed, with_frames};
 ghost use Rattle.output_store.specs.Frames.{FewSlots, HasSlot, frame_of, has_current_below, is_skip, is_skipped, skip_walk_of, slots_of, walk_of};
 ghost use Rattle.output_store.specs.Store.{close_blocks, close_record, leave, next_item, next_skipped, select};
-ghost use Rattle.stepper.specs.Contract.{Takes};
+ghost use Rattle.stepper.specs.Contract.{OnlyAppends, Takes};
 
 use crate::machine::Machine;
 use crate::step::Step;
@@ -64,7 +65,8 @@ impl Machine {
 
     /// A miss is told.
     pub(crate) fn miss(&mut self, miss: u32)
-        ensures { self.new.state ≡ missed miss self.old.state }
+        ensures missed { self.new.state ≡ missed miss self.old.state }
+        ensures appends { OnlyAppends self.old self.new }
     {
         self.store.miss(miss);
     }
@@ -77,6 +79,7 @@ impl Machine {
         requires units { self.old.state.units ≤ inside.units }
         ensures takes { Takes (Some (next self.old.state.pos (pushed (frame_of opening) inside self.old.state))) result
             self.old self.new }
+        ensures appends { OnlyAppends self.old self.new }
         ensures pos { self.new.state.pos ≡ self.old.state.pos }
         ensures part { self.new.state.part ≡ self.old.state.part }
     {
@@ -93,6 +96,7 @@ impl Machine {
         requires there { HasSlot slot (slots_of self.old.state.store.frames) }
         ensures takes { Takes (Some (next self.old.state.pos
             (with_frames (select slot self.old.state.store.frames) self.old.state))) result self.old self.new }
+        ensures appends { OnlyAppends self.old self.new }
         ensures pos { self.new.state.pos ≡ self.old.state.pos }
         ensures part { self.new.state.part ≡ self.old.state.part }
     {
@@ -108,6 +112,7 @@ impl Machine {
         requires below { has_current_below self.old.state.store.frames ≡ true }
         ensures takes { Takes (Some (next self.old.state.pos (record self.old.state
             { store = close_record self.old.state.store.frames self.old.state.store }))) result self.old self.new }
+        ensures appends { OnlyAppends self.old self.new }
         ensures pos { self.new.state.pos ≡ self.old.state.pos }
         ensures part { self.new.state.part ≡ self.old.state.part }
     {
@@ -121,7 +126,8 @@ impl Machine {
     /// The newest frame, which is skipped, is left.
     pub(crate) fn leave(&mut self)
         requires { is_skipped self.old.state.store.frames ≡ true }
-        ensures { self.new.state ≡ with_frames (leave self.old.state.store.frames) self.old.state }
+        ensures left { self.new.state ≡ with_frames (leave self.old.state.store.frames) self.old.state }
+        ensures appends { OnlyAppends self.old self.new }
     {
         self.store.leave();
     }
@@ -132,6 +138,7 @@ impl Machine {
         requires blocks { is_some (walk_of self.old.state.store.frames) ≡ true }
         requires units { self.old.state.units < inside.units }
         ensures step { result ≡ Step.Moved }
+        ensures appends { OnlyAppends self.old self.new }
         ensures gathered { self.new.state ≡ record (next to
             (with_frames (next_item walk self.old.state.store.frames) self.old.state)) { units = inside.units } }
     {
@@ -147,6 +154,7 @@ impl Machine {
         requires blocks { is_some (skip_walk_of self.old.state.store.frames) ≡ true }
         requires units { self.old.state.units ≤ inside.units }
         ensures step { result ≡ Step.Moved }
+        ensures appends { OnlyAppends self.old self.new }
         ensures passed { self.new.state ≡ record (next to
             (with_frames (next_skipped walk self.old.state.store.frames) self.old.state)) { units = inside.units } }
     {
@@ -166,6 +174,7 @@ impl Machine {
           store = close_blocks
               self.old.state.store.frames self.old.state.store;
         })) result self.old self.new }
+        ensures appends { OnlyAppends self.old self.new }
         ensures part { self.new.state.part ≡ self.old.state.part }
     {
         if self.store.close_blocks(&mut self.scratch).is_err() {

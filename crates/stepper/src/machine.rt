@@ -1,3 +1,4 @@
+#![tactic(auto, using(crate::proofs::Appending::same_arena))]
 ghost use Rattle.std.specs.Prelude.{◌≡◌, ◌≢◌, ◌≤◌, ◌<◌, ◌+◌, ℕ, [], ◌∷◌, ◌++◌, length, is_some, option_to_list, OnOk, OnErr, Some, None, false, true};
 ghost use Rattle.avro_bytes.specs.declared.fault.Fault.TheVariants.{NoMemory};
 ghost use Rattle.avro_bytes.specs.declared.meter.Meter.{Meter};
@@ -5,8 +6,7 @@ ghost use Rattle.isa.specs.declared.limits.TheConstants.{MOST_INSTRS};
 ghost use Rattle.isa.specs.State.{has_current, meter_of};
 ghost use Rattle.avro_bytes.specs.Shortest.{IsTight, shortest};
 ghost use Rattle.isa.specs.Table.{added, next, stop, trap};
-ghost use Rattle.output_store.specs.Store.{Appends};
-ghost use Rattle.stepper.specs.Contract.{Takes, refused};
+ghost use Rattle.stepper.specs.Contract.{OnlyAppends, Takes, refused};
 ghost use Rattle.stepper.specs.Running.{end_of};
 
 use crate::check::TextCheck;
@@ -166,6 +166,7 @@ impl Machine {
     ) -> Step
         requires { fault ≢ NoMemory }
         ensures takes { Takes (refused program.now input.now ended fault self.old.state) result self.old self.new }
+        ensures layout { self.new.layout ≡ self.old.layout }
         ensures pos { self.new.state.pos ≡ self.old.state.pos }
         ensures part { self.new.state.part ≡ self.old.state.part }
         ensures check { self.new.check ≡ self.old.check }
@@ -214,6 +215,7 @@ impl Machine {
         requires { self.old.state.pc < MOST_INSTRS }
         ensures takes { Takes (Some (record self.old.state
             { pc = address; calls = (self.old.state.pc + 1) ∷ self.old.state.calls })) result self.old self.new }
+        ensures layout { self.new.layout ≡ self.old.layout }
         ensures pos { self.new.state.pos ≡ self.old.state.pos }
         ensures part { self.new.state.part ≡ self.old.state.part }
     {
@@ -237,6 +239,7 @@ impl Machine {
     pub(crate) fn add(&mut self, bytes: &[u8]) -> Result<(), AllocError>
         requires { has_current self.old.state.store.frames ≡ true }
         ensures added { OnOk result (self.new.state ≡ added bytes.now self.old.state) }
+        ensures appends { OnlyAppends self.old self.new }
         ensures check { self.new.check ≡ self.old.check }
         ensures refused { OnErr result (self.new ≡ self.old) }
     {
@@ -247,6 +250,7 @@ impl Machine {
     pub(crate) fn add_long(&mut self, n: i64) -> Result<(), AllocError>
         requires { has_current self.old.state.store.frames ≡ true }
         ensures added { OnOk result (self.new.state ≡ added (shortest n) self.old.state) }
+        ensures appends { OnlyAppends self.old self.new }
         ensures check { self.new.check ≡ self.old.check }
         ensures refused { OnErr result (self.new ≡ self.old) }
     {
@@ -260,11 +264,12 @@ impl Machine {
         requires room { has_current self.old.state.store.frames ≡ true }
         requires tight { IsTight spelling.now → spelling.now ≡ shortest n }
         ensures added { OnOk result (self.new.state ≡ added (shortest n) self.old.state) }
+        ensures appends { OnlyAppends self.old self.new }
         ensures check { self.new.check ≡ self.old.check }
         ensures refused { OnErr result (self.new ≡ self.old) }
     {
         if is_tight(spelling) {
-            return self.store.add(spelling);
+            return self.add(spelling);
         }
         self.add_long(n)
     }

@@ -1,9 +1,10 @@
+#![tactic(auto, using(crate::proofs::Appending::same_arena))]
 ghost use Rattle.std.specs.Prelude.{◌≡◌, ◌≤◌, ◌<◌, length, None};
 ghost use Rattle.isa.specs.declared.instr.Instr.TheVariants as op;
 ghost use Rattle.isa.specs.declared.limits.TheConstants.{MOST_INSTRS};
 ghost use Rattle.isa.specs.Row.{row};
 ghost use Rattle.avro_bytes.specs.Shortest.{IsTight, shortest};
-ghost use Rattle.stepper.specs.Contract.{Takes, WasRead};
+ghost use Rattle.stepper.specs.Contract.{OnlyAppends, Takes, WasRead};
 
 use crate::machine::Machine;
 use crate::step::Step;
@@ -26,6 +27,7 @@ impl Machine {
         requires within { self.old.state.pos ≤ length input.now }
         requires whole { self.old.state.part ≡ None }
         ensures takes { Takes (row program.now input.now ended op.Bool self.old.state) result self.old self.new }
+        ensures appends { OnlyAppends self.old self.new }
         ensures within { self.new.state.pos ≤ length input.now }
         ensures whole { self.new.state.part ≡ None }
     {
@@ -49,6 +51,7 @@ impl Machine {
         requires within { self.old.state.pos ≤ length input.now }
         requires whole { self.old.state.part ≡ None }
         ensures takes { Takes (row program.now input.now ended op.Int self.old.state) result self.old self.new }
+        ensures appends { OnlyAppends self.old self.new }
         ensures within { self.new.state.pos ≤ length input.now }
         ensures whole { self.new.state.part ≡ None }
     {
@@ -73,6 +76,7 @@ impl Machine {
         requires within { self.old.state.pos ≤ length input.now }
         requires whole { self.old.state.part ≡ None }
         ensures takes { Takes (row program.now input.now ended op.Long self.old.state) result self.old self.new }
+        ensures appends { OnlyAppends self.old self.new }
         ensures within { self.new.state.pos ≤ length input.now }
         ensures whole { self.new.state.part ≡ None }
     {
@@ -97,6 +101,7 @@ impl Machine {
         requires within { self.old.state.pos ≤ length input.now }
         requires whole { self.old.state.part ≡ None }
         ensures takes { Takes (row program.now input.now ended op.SkipBool self.old.state) result self.old self.new }
+        ensures appends { OnlyAppends self.old self.new }
         ensures within { self.new.state.pos ≤ length input.now }
         ensures whole { self.new.state.part ≡ None }
     {
@@ -112,6 +117,7 @@ impl Machine {
         requires within { self.old.state.pos ≤ length input.now }
         requires whole { self.old.state.part ≡ None }
         ensures takes { Takes (row program.now input.now ended op.SkipInt self.old.state) result self.old self.new }
+        ensures appends { OnlyAppends self.old self.new }
         ensures within { self.new.state.pos ≤ length input.now }
         ensures whole { self.new.state.part ≡ None }
     {
@@ -127,6 +133,7 @@ impl Machine {
         requires within { self.old.state.pos ≤ length input.now }
         requires whole { self.old.state.part ≡ None }
         ensures takes { Takes (row program.now input.now ended op.SkipLong self.old.state) result self.old self.new }
+        ensures appends { OnlyAppends self.old self.new }
         ensures within { self.new.state.pos ≤ length input.now }
         ensures whole { self.new.state.part ≡ None }
     {

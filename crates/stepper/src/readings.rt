@@ -1,4 +1,5 @@
 ghost use Rattle.std.specs.Prelude.{◌≡◌, ◌++◌, length, reverse, slice_get, option_map, is_some, true, None, Some, OnErr, OnOk};
+ghost use Rattle.output_store.specs.Segments.{AreSegments, bytes_of};
 ghost use Rattle.output_store.specs.Viewing.{buffer_of, place_and_length, segments_of_buffer, view_of};
 ghost use Rattle.stepper.specs.Running.{carry_of, end_of, part_of};
 
@@ -94,6 +95,16 @@ impl Machine {
         ensures refused { OnErr result (out.new.items ≡ out.old.items) }
     {
         self.store.push_buffer(self.alloc, at, out)
+    }
+
+    /// The law that the bytes of a buffer are the arena's at its segments, joined in order, of which none is empty and none begins where the one before it ends.
+    pub fn are_laid(&self, at: BufferAt)
+        requires { is_some (buffer_of at self.now.state.store) ≡ true }
+        ensures bytes { buffer_of at self.now.state.store
+            ≡ Some (bytes_of self.now.layout.arena (segments_of_buffer at self.now.layout)) }
+        ensures segments { AreSegments (length self.now.layout.arena) (segments_of_buffer at self.now.layout) }
+    {
+        self.store.are_laid(at);
     }
 
     /// The place in the arena and the length of a segment of a buffer, by its number, where there are so many. It takes no memory.
