@@ -1,4 +1,5 @@
 #![tactic(auto, using(crate::proofs::Appending::same_arena))]
+
 ghost use Rattle.std.specs.Prelude.{◌≡◌, ◌≤◌, ◌<◌, length, None};
 ghost use Rattle.isa.specs.declared.instr.Instr.TheVariants as op;
 ghost use Rattle.isa.specs.declared.limits.TheConstants.{MOST_INSTRS};

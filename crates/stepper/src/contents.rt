@@ -1,4 +1,5 @@
 #![tactic(auto, using(crate::proofs::Appending::same_arena))]
+
 ghost use Rattle.std.specs.Prelude.{◌≡◌, ◌≤◌, ◌<◌, ◌+◌, ◌-◌, length, min, pos, take, drop, [], option_map, OnOk, OnErr, Some, None, true};
 ghost use Rattle.avro_bytes.specs.declared.limits.TheConstants.{MOST_CONTENT};
 ghost use Rattle.avro_bytes.specs.Shortest.{shortest};

@@ -1,4 +1,5 @@
 #![tactic(auto, using(crate::proofs::Appending::same_arena))]
+
 ghost use Rattle.std.specs.Prelude.{◌≡◌, ◌≢◌, ◌≤◌, ◌<◌, ◌+◌, ℕ, [], ◌∷◌, length, is_some, OnOk, OnErr, IfOk, Some, None, true};
 ghost use Rattle.avro_bytes.specs.declared.limits.TheConstants.{MOST_DEPTH};
 ghost use Rattle.isa.specs.declared.limits.TheConstants.{MOST_INSTRS};

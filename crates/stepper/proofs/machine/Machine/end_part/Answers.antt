@@ -13,6 +13,6 @@ returns-after-not-is_text-2-clause-appends c =
     let store = ap (λ (r : Running). r.state.store) c.pass_whole-in-BytesText.ensures.whole in
     let grown = ap (λ (r : Running). r.layout.arena) c.pass_whole-in-BytesText.ensures.whole in
     elim c.if-not-is_text-2.branch [
-      then-not-is_text-2 w ↦ missed_grows c.in-BytesText.miss put.new.self.state.store after.state.store arena after.layout.arena (store ∙ ap (λ (r : Running). r.state.store) w.self-is ∙ ap (λ (s : State). s.store) w.miss.ensures.missed)
-    | else-not-is_text-2 w ↦ same_store arena put.new.self.layout.arena after.layout.arena put.new.self.state.store after.state.store put.ensures.appends (store ∙ ap (λ (r : Running). r.state.store) w.self-is) (grown ∙ ap (λ (r : Running). r.layout.arena) w.self-is)
+      | then-not-is_text-2 w ↦ missed_grows c.in-BytesText.miss put.new.self.state.store after.state.store arena after.layout.arena (store ∙ ap (λ (r : Running). r.state.store) w.self-is ∙ ap (λ (s : State). s.store) w.miss.ensures.missed)
+      | else-not-is_text-2 w ↦ same_store arena put.new.self.layout.arena after.layout.arena put.new.self.state.store after.state.store put.ensures.appends (store ∙ ap (λ (r : Running). r.state.store) w.self-is) (grown ∙ ap (λ (r : Running). r.layout.arena) w.self-is)
     ]
