@@ -1,3 +1,4 @@
 pub mod ReplayLine
 pub mod Words
 pub mod Reading
+pub mod Reply

@@ -4,7 +4,7 @@ use Rattle.std.specs.Str.{bytes_eq}
 use Rattle.assembler.specs.Things.{◌>>=◌, at_end}
 use Rattle.schema_registry.specs.declared.level.Level.{Level}
 use Rattle.event_lines.specs.ReplayLine.{ReplayLine, Register, SetLevel, BadLevel, Publish, Begin, Piece, Finish, Slice, Steal, Break, Clear, Refuse, Walk, Go, Show, ListCode, TellResult}
-use Rattle.event_lines.specs.Words.{first_number, last_bytes, last_number, last_rows, level_named, number_and_rows, subject_in, two_numbers, two_numbers_and_rows, two_words, word_and_text, words_of_text}
+use Rattle.event_lines.specs.Words.{first_number, last_bytes, last_number, last_rows, level_named, number_and_rows, subject_in, two_numbers, two_words, word_and_text, words_of_text}
 use Rattle.event_lines.specs.declared.kind.Kind.{Kind}
 use Rattle.event_lines.specs.declared.kind.Kind.TheVariants as kinds
 use Rattle.event_lines.specs.declared.kind.TheConstants.{KINDS}
@@ -53,6 +53,12 @@ piece_in words = do
   bytes ← last_bytes session.1
   Some (Piece session.0 bytes)
 
+unfoldable pub slice_in : List (List ℕ) → Option ReplayLine
+slice_in words = do
+  session ← first_number words
+  rest ← number_and_rows session.1
+  Some (Slice session.0 rest.0 rest.1)
+
 -- what the words after that of its kind say
 abbrev pub line_in : Kind → List (List ℕ) → Option ReplayLine
 line_in kinds.Register words = register_in words
@@ -61,7 +67,7 @@ line_in kinds.Publish words = option_map (λ n. Publish n.0 n.1) (two_numbers wo
 line_in kinds.Begin words = option_map (λ n. Begin n.0 n.1) (two_numbers words)
 line_in kinds.Piece words = piece_in words
 line_in kinds.Finish words = option_map Finish (last_number words)
-line_in kinds.Slice words = option_map (λ n. Slice n.0 n.1 n.2) (two_numbers_and_rows words)
+line_in kinds.Slice words = slice_in words
 line_in kinds.Steal words = option_map (λ n. Steal n.0 n.1) (two_numbers words)
 line_in kinds.Break words = option_map (λ n. Break n.0 n.1) (two_numbers words)
 line_in kinds.Clear words = option_map (λ n. Clear n.0 n.1) (two_numbers words)

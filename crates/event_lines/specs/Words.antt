@@ -93,12 +93,6 @@ number_and_rows words = do
   rows ← last_rows n.1
   Some (n.0, rows)
 
-unfoldable pub two_numbers_and_rows : List (List ℕ) → Option (ℕ × ℕ × ℕ)
-two_numbers_and_rows words = do
-  m ← first_number words
-  n ← number_and_rows m.1
-  Some (m.0, n.0, n.1)
-
 -- ---- bytes
 
 -- bytes in hexadecimal

@@ -1,5 +1,5 @@
 ghost use Rattle.std.specs.Prelude.{◌≡◌, ◌^◌, option_map};
-ghost use Rattle.event_lines.specs.Words.{first_number, last_number, last_rows, number_and_rows, number_below, two_numbers, two_numbers_and_rows, words_left};
+ghost use Rattle.event_lines.specs.Words.{first_number, last_number, last_rows, number_and_rows, number_below, two_numbers, words_left};
 
 use crate::words::{next_word, only_word};
 use assembler::is_numeral;
@@ -47,7 +47,7 @@ pub(crate) fn last_number(left: Option<&str>) -> Option<u32>
 
 /// The two numbers that are left.
 #[tactic(auto, unfolding(crate::specs::Words::two_numbers))]
-pub(crate) fn two_numbers(left: Option<&str>) -> Option<(u32, u32)>
+pub(crate) fn pair(left: Option<&str>) -> Option<(u32, u32)>
     ensures { result ≡ two_numbers (words_left left.entry) }
 {
     let (first, left) = first_number(left)?;
@@ -72,14 +72,4 @@ pub(crate) fn number_and_rows(left: Option<&str>) -> Option<(u32, u64)>
     let (number, left) = first_number(left)?;
     let rows = last_rows(left)?;
     Some((number, rows))
-}
-
-/// The two numbers and the number of rows that are left.
-#[tactic(auto, unfolding(crate::specs::Words::two_numbers_and_rows))]
-pub(crate) fn two_numbers_and_rows(left: Option<&str>) -> Option<(u32, u32, u64)>
-    ensures { result ≡ two_numbers_and_rows (words_left left.entry) }
-{
-    let (first, left) = first_number(left)?;
-    let (second, rows) = number_and_rows(left)?;
-    Some((first, second, rows))
 }

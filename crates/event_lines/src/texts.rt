@@ -54,7 +54,8 @@ fn subject_of(alloc: Global, word: &str) -> Result<Option<String>, AllocError>
 
 /// The line that sets a level.
 fn set_level(alloc: Global, subject: &str, level: &str) -> Result<ReplayLine, AllocError>
-    ensures { IfOk result (λ line. replay_line_of line ≡ set_level (subject_in subject.now) (level_named level.now)) }
+    ensures { IfOk result
+        (λ line. replay_line_of line ≡ set_level (subject_in subject.now) (level_named level.now)) }
 {
     let Some(level) = level_of(level) else {
         return Ok(ReplayLine::BadLevel);

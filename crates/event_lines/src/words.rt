@@ -15,7 +15,8 @@ pub(crate) fn split_word(line: &str) -> (&str, Option<&str>)
 
 /// The first of the words that are left, and what is left after it.
 pub(crate) fn next_word(left: Option<&str>) -> Option<(&str, Option<&str>)>
-    ensures { MatchOption result (words_left left.entry ≡ []) (λ p. words_left left.entry ≡ p.0.now ∷ words_left p.1) }
+    ensures { MatchOption result (words_left left.entry ≡ [])
+        (λ p. words_left left.entry ≡ p.0.now ∷ words_left p.1) }
 {
     match left {
         Some(line) => Some(split_word(line)),

@@ -10,4 +10,6 @@ mod debug_tests;
 #[cfg(test)]
 mod replay_tests;
 #[cfg(test)]
+mod reply_tests;
+#[cfg(test)]
 mod telling;
