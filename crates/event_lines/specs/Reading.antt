@@ -7,10 +7,8 @@ use Rattle.event_lines.specs.ReplayLine.{ReplayLine, Register, SetLevel, BadLeve
 use Rattle.event_lines.specs.Words.{first_number, last_bytes, last_number, last_rows, level_named, number_and_rows, subject_in, two_numbers, two_words, word_and_text, words_of_text}
 use Rattle.event_lines.specs.declared.kind.Kind.{Kind}
 use Rattle.event_lines.specs.declared.kind.Kind.TheVariants as kinds
-use Rattle.event_lines.specs.declared.kind.TheConstants.{KINDS}
 use Rattle.event_lines.specs.declared.debug_kind.DebugKind.{DebugKind}
 use Rattle.event_lines.specs.declared.debug_kind.DebugKind.TheVariants as debug_kinds
-use Rattle.event_lines.specs.declared.debug_kind.TheConstants.{DEBUG_KINDS}
 use Rattle.event_lines.specs.declared.debug_line.DebugLine.{DebugLine}
 use Rattle.event_lines.specs.declared.debug_line.DebugLine.TheVariants as debug_lines
 
@@ -34,12 +32,19 @@ kind_name kinds.Show = codes "show"
 kind_name kinds.List = codes "list"
 kind_name kinds.Result = codes "result"
 
+abbrev pub all_kinds : List Kind
+all_kinds =
+    kinds.Register ∷ kinds.Level ∷ kinds.Publish ∷ kinds.Begin ∷ kinds.Piece ∷ kinds.Finish
+    ∷ kinds.Slice ∷ kinds.Steal ∷ kinds.Break ∷ kinds.Clear ∷ kinds.Refuse ∷ kinds.Walk
+    ∷ kinds.Go ∷ kinds.Show ∷ kinds.List ∷ kinds.Result ∷ []
+
 unfoldable pub kind_named : List ℕ → Option Kind
-kind_named word = find (λ kind. bytes_eq word (kind_name kind)) KINDS
+kind_named word = find (λ kind. bytes_eq word (kind_name kind)) all_kinds
 
 unfoldable pub register_in : List (List ℕ) → Option ReplayLine
 register_in words = option_map (λ w. Register w.0 w.1) (word_and_text words)
 
+-- the level is set, where the word for it names one
 abbrev pub set_level : Option (List ℕ) → Option Level → ReplayLine
 set_level subject (Some level) = SetLevel subject level
 set_level subject None = BadLevel
@@ -59,7 +64,7 @@ slice_in words = do
   rest ← number_and_rows session.1
   Some (Slice session.0 rest.0 rest.1)
 
--- what the words after that of its kind say
+-- what a line of a kind says by the words after the first
 abbrev pub line_in : Kind → List (List ℕ) → Option ReplayLine
 line_in kinds.Register words = register_in words
 line_in kinds.Level words = level_in words
@@ -97,10 +102,15 @@ debug_kind_name debug_kinds.Go = codes "go"
 debug_kind_name debug_kinds.Show = codes "show"
 debug_kind_name debug_kinds.List = codes "list"
 
-unfoldable pub debug_kind_named : List ℕ → Option DebugKind
-debug_kind_named word = find (λ kind. bytes_eq word (debug_kind_name kind)) DEBUG_KINDS
+abbrev pub all_debug_kinds : List DebugKind
+all_debug_kinds =
+    debug_kinds.Break ∷ debug_kinds.Clear ∷ debug_kinds.Step
+    ∷ debug_kinds.Go ∷ debug_kinds.Show ∷ debug_kinds.List ∷ []
 
--- what the words after that of its kind say
+unfoldable pub debug_kind_named : List ℕ → Option DebugKind
+debug_kind_named word = find (λ kind. bytes_eq word (debug_kind_name kind)) all_debug_kinds
+
+-- what a line of a kind says by the words after the first
 abbrev pub debug_line_of_kind : DebugKind → List (List ℕ) → Option DebugLine
 debug_line_of_kind debug_kinds.Break words = option_map debug_lines.Break (last_number words)
 debug_line_of_kind debug_kinds.Clear words = option_map debug_lines.Clear (last_number words)
