@@ -20,7 +20,7 @@ pub(crate) fn first_number(rest: &[u8]) -> Option<(u32, &[u8])>
 
 /// The bytes whose lower-case hex a word is: one at least.
 #[tactic(auto, unfolding(crate::specs::Things::bytes_in))]
-fn bytes_of(alloc: Global, word: &[u8]) -> Result<Option<Vec<u8>>, AllocError>
+pub fn bytes_of(alloc: Global, word: &[u8]) -> Result<Option<Vec<u8>>, AllocError>
     ensures { IfOk result (λ found. option_map (λ bytes. bytes.items) found ≡ bytes_in word.now) }
 {
     let bytes = match hex::decode(alloc, word) {

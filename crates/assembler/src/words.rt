@@ -66,7 +66,7 @@ fn are_digits(word: &[u8]) -> bool
 }
 
 /// Whether a word is a number without leading zeros.
-fn is_numeral(word: &[u8]) -> bool
+pub fn is_numeral(word: &[u8]) -> bool
     ensures { result ≡ is_numeral word.now }
 {
     match word {

@@ -1,0 +1,4 @@
+pub mod ReplayLine
+pub mod Words
+pub mod Reading
+pub mod Reply
