@@ -6,7 +6,7 @@ use std::test::Fail;
 
 #[test]
 fn reads_the_command_line(rt: HostRuntime) -> Result<(), Fail> {
-    let verbs: [(&[&str], Verb); 6] = [
+    let verbs: [(&[&str], Verb); 8] = [
         (&["avrogate", "transcode"], Verb::Transcode),
         (&["avrogate", "compile"], Verb::Compile { image: false }),
         (
@@ -21,14 +21,17 @@ fn reads_the_command_line(rt: HostRuntime) -> Result<(), Fail> {
                 steps: 1_000_000_000,
             },
         ),
+        (&["avrogate", "debug"], Verb::Debug),
+        (&["avrogate", "replay"], Verb::Replay),
     ];
     for (words, verb) in verbs {
         let read = command_line(rt.alloc())?.try_get_matches_from(words)?;
         assert_eq!(rt; verb_of(&read), Some(verb), "at {words:?}");
     }
-    let table: [(&[&str], i32); 13] = [
+    let table: [(&[&str], i32); 14] = [
         (&["avrogate"], 2),
-        (&["avrogate", "replay"], 2),
+        (&["avrogate", "serve"], 2),
+        (&["avrogate", "replay", "more"], 2),
         (&["avrogate", "transcode", "more"], 2),
         (&["avrogate", "transcode", "--image"], 2),
         (&["avrogate", "compile", "more"], 2),

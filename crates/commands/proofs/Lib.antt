@@ -2,7 +2,6 @@ pub mod Answers
 pub mod OneOutput
 pub mod PiecesLeft
 pub mod SchemaLines
-pub mod Split
 pub mod Stopping
 pub mod Traffic
 pub mod UpToEnd

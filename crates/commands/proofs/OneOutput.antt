@@ -9,13 +9,15 @@ use Rattle.outcome.specs.Outcome.{Outcome}
 use Rattle.outcome.specs.declared.limits.TheConstants.{MOST_PAYLOAD}
 use Rattle.resolver.specs.Outcome.{IsOutcome}
 use Rattle.simulation.specs.Alone.{EndsAreLast, RowsAreCounted, RunsGoOn}
-use Rattle.commands.specs.Answer.{AreAnswers, IsAnswer, IsAnswers, IsPayloadAnswer, line_of}
-use Rattle.commands.specs.Lines.{lines}
+use Rattle.answer_lines.specs.OutcomeLine.{line_of}
+use Rattle.answer_lines.specs.RunLine.{line_of_run}
+use Rattle.commands.specs.Answer.{AreAnswers, IsAnswer, IsAnswers, IsPayloadAnswer}
+use Rattle.answer_lines.specs.Lines.{lines}
 use Rattle.commands.specs.Listed.{listed}
 use Rattle.commands.specs.Output.{HasOneOutput, HasOutput, IsCompiled, IsForSchemas, IsRun, IsTranscoded, text_of_program}
-use Rattle.commands.specs.Payload.{payload_of}
+use Rattle.answer_lines.specs.Payload.{payload_of}
 use Rattle.commands.specs.Refusal.{IsRefused, text_of}
-use Rattle.commands.specs.Running.{IsRunAnswer, IsRunLine, StopsIn, line_of_run, pieces_of}
+use Rattle.commands.specs.Running.{IsRunAnswer, IsRunLine, StopsIn, pieces_of}
 use Rattle.commands.specs.Schemas.{schemas_of}
 use Rattle.commands.specs.declared.command.Verb.TheVariants.{Compile, Run, Transcode}
 use Rattle.commands.specs.declared.refusal.Refusal.{Refusal}
@@ -151,9 +153,9 @@ module _ (there : RowOrEnd) (counted : RowsAreCounted) (go_on : RunsGoOn) (steps
       or_refused_there (λ (P : Program) output status. AreAnswers (IsRunLine P steps) parts.1 output × (status ≡ Answered)) BadListing (λ P. answered_there (IsRunLine P steps) (some_run_line P) parts.1) (assembled parts.0)
 
 pub some_output : SomeOutcome → RowOrEnd → RowsAreCounted → RunsGoOn → HasOutput
-some_output some there counted go_on Transcode input = some_for_schemas IsTranscoded (some_transcoded some) input
-some_output some there counted go_on (Compile image) input = some_for_schemas (IsCompiled image) (some_compiled image) input
-some_output some there counted go_on (Run steps) input = some_run there counted go_on steps input
+some_output some there counted go_on Transcode input settled = some_for_schemas IsTranscoded (some_transcoded some) input
+some_output some there counted go_on (Compile image) input settled = some_for_schemas (IsCompiled image) (some_compiled image) input
+some_output some there counted go_on (Run steps) input settled = some_run there counted go_on steps input
 
 -- ---- and no other
 
@@ -187,6 +189,6 @@ module _ (last : EndsAreLast) (steps : ℕ) where
       or_refused_one (λ (P : Program) output status. AreAnswers (IsRunLine P steps) parts.1 output × (status ≡ Answered)) BadListing (λ P. answered_one (IsRunLine P steps) (one_run_line P) parts.1) (assembled parts.0)
 
 pub one_output : OneOutcome → EndsAreLast → HasOneOutput
-one_output one last Transcode input = one_for_schemas IsTranscoded (one_transcoded one) input
-one_output one last (Compile image) input = one_for_schemas (IsCompiled image) (one_compiled image) input
-one_output one last (Run steps) input = one_run last steps input
+one_output one last Transcode input a b s t settled = one_for_schemas IsTranscoded (one_transcoded one) input a b s t
+one_output one last (Compile image) input a b s t settled = one_for_schemas (IsCompiled image) (one_compiled image) input a b s t
+one_output one last (Run steps) input a b s t settled = one_run last steps input a b s t

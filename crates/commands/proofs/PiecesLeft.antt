@@ -11,8 +11,9 @@ use Rattle.assembler.specs.Words.{parts}
 use Rattle.assembler.proofs.Each.{with_front, word_fails, word_read, words_read}
 use Rattle.isa.specs.Program.{Program}
 use Rattle.isa.specs.State.{State}
-use Rattle.commands.specs.Payload.{payload_of}
-use Rattle.commands.specs.Running.{IsRunAnswer, StopsIn, line_of_run}
+use Rattle.answer_lines.specs.Payload.{payload_of}
+use Rattle.answer_lines.specs.RunLine.{line_of_run}
+use Rattle.commands.specs.Running.{IsRunAnswer, StopsIn}
 
 -- ---- what is left of a line
 

@@ -1,9 +1,7 @@
 pub mod Answer
-pub mod Lines
 pub mod Listed
 pub mod Names
 pub mod Output
-pub mod Payload
 pub mod Refusal
 pub mod Running
 pub mod Schemas

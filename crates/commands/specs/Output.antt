@@ -1,5 +1,5 @@
 -- The output for an input, and the status. This project's own.
-use Rattle.std.specs.Prelude.{◌≡◌, ℕ, Bool, List, [], ◌∷◌, ◌++◌, drop, if◌then◌else◌, MatchOption, MatchResult}
+use Rattle.std.specs.Prelude.{◌≡◌, ⊤, ℕ, Bool, List, [], ◌∷◌, ◌++◌, drop, if◌then◌else◌, MatchOption, MatchResult}
 use Rattle.hex.specs.Hex.{encode_lower}
 use Rattle.avro_types.specs.Node.{Node}
 use Rattle.assembler.specs.Assembling.{assembled}
@@ -8,14 +8,19 @@ use Rattle.avro_loader.specs.Image.{image_of}
 use Rattle.isa.specs.Program.{Program}
 use Rattle.program_code.specs.Code.{code_of}
 use Rattle.commands.specs.Answer.{AreAnswers, IsAnswers}
-use Rattle.commands.specs.Lines.{lines}
+use Rattle.answer_lines.specs.Lines.{line_at, lines}
 use Rattle.commands.specs.Listed.{listed}
+use Rattle.session_commands.specs.Debugging.{IsDebugged, debugged}
+use Rattle.session_commands.specs.Replaying.{IsReplayed}
+use Rattle.session_commands.specs.declared.debugging.DebugError.{DebugError}
+use Rattle.session_commands.specs.declared.debugging.DebugError.TheVariants as errors
 use Rattle.commands.specs.Refusal.{IsRefused}
 use Rattle.commands.specs.Running.{IsRunLine}
 use Rattle.commands.specs.Schemas.{schemas_of}
 use Rattle.commands.specs.declared.command.Verb.{Verb}
-use Rattle.commands.specs.declared.command.Verb.TheVariants.{Compile, Run, Transcode}
-use Rattle.commands.specs.declared.refusal.Refusal.TheVariants.{BadListing, ProgramTooLarge}
+use Rattle.commands.specs.declared.command.Verb.TheVariants.{Compile, Debug, Replay, Run, Transcode}
+use Rattle.commands.specs.declared.refusal.Refusal.{Refusal}
+use Rattle.commands.specs.declared.refusal.Refusal.TheVariants.{BadHex, BadListing, NoMemory, ProgramTooLarge, TooLarge}
 use Rattle.commands.specs.declared.status.Status.{Status}
 use Rattle.commands.specs.declared.status.Status.TheVariants.{Answered}
 
@@ -49,16 +54,41 @@ IsRun steps input output status =
     (λ P. AreAnswers (IsRunLine P steps) parts.1 output × (status ≡ Answered))
     (λ fault. IsRefused (BadListing fault) output status)
 
+abbrev pub refusal_of : DebugError → Refusal
+refusal_of errors.ProgramTooLarge = ProgramTooLarge
+refusal_of errors.BadHex = BadHex
+refusal_of errors.TooLarge = TooLarge
+refusal_of errors.NoMemory = NoMemory
+
+-- that of `debug` for a pair of schemas, a payload's line and the commands after it
+abbrev pub IsDebug : List Node → List Node → List (List ℕ) → List ℕ → Status → Type 0
+IsDebug W R later output status =
+    MatchResult (debugged W R (line_at later 0))
+    (λ given. IsDebugged given.0 given.1 (drop 1 later) output × (status ≡ Answered))
+    (λ error. IsRefused (refusal_of error) output status)
+
+-- that of `replay`
+abbrev pub IsReplay : List ℕ → List ℕ → Status → Type 0
+IsReplay input output status = IsReplayed (lines input) output × (status ≡ Answered)
+
 -- a verb's output for an input, and its status
 abbrev pub IsOutput : Verb → List ℕ → List ℕ → Status → Type 0
 IsOutput Transcode = IsForSchemas IsTranscoded
 IsOutput (Compile image) = IsForSchemas (IsCompiled image)
 IsOutput (Run steps) = IsRun steps
+IsOutput Debug = IsForSchemas IsDebug
+IsOutput Replay = IsReplay
 
--- each input has an output, and just one, with one status
+-- Not what tells of want of memory in the midst of an input.
+abbrev pub IsSettled : Verb → Type 0
+IsSettled Debug = ⊥
+IsSettled Replay = ⊥
+IsSettled verb = ⊤
+
+-- where that is settled, each input has an output, and just one, with one status
 abbrev pub HasOutput : Type 0
-HasOutput = (verb : Verb) (input : List ℕ) → (output : List ℕ) × (status : Status) × IsOutput verb input output status
+HasOutput = (verb : Verb) (input : List ℕ) → IsSettled verb → (output : List ℕ) × (status : Status) × IsOutput verb input output status
 
 abbrev pub HasOneOutput : Type 0
-HasOneOutput = (verb : Verb) (input one other : List ℕ) (status further : Status) →
+HasOneOutput = (verb : Verb) (input one other : List ℕ) (status further : Status) → IsSettled verb →
     IsOutput verb input one status → IsOutput verb input other further → (one ≡ other) × (status ≡ further)

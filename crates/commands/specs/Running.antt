@@ -1,16 +1,14 @@
 -- How runs of a listed program are answered. All of this is this project's own.
-use Rattle.std.specs.Prelude.{◌≡◌, ◌≤◌, ◌<◌, ℕ, true, List, ◌++◌, length, codes, nat_lt, Option, Some, None, is_some, MatchBool, MatchOption}
-use Rattle.std.specs.Fmt.{decimal}
+use Rattle.std.specs.Prelude.{◌≡◌, ◌≤◌, ◌<◌, ℕ, true, List, length, codes, nat_lt, Option, is_some, MatchBool, MatchOption}
 use Rattle.std.specs.List.{concat}
 use Rattle.assembler.specs.Things.{each_in}
 use Rattle.assembler.specs.Words.{parts}
 use Rattle.isa.specs.Program.{Program}
-use Rattle.isa.specs.State.{End, Out, State, Trapped}
+use Rattle.isa.specs.State.{State}
 use Rattle.outcome.specs.declared.limits.TheConstants.{MOST_PAYLOAD}
 use Rattle.simulation.specs.Alone.{run_alone}
-use Rattle.commands.specs.Answer.{line_of}
-use Rattle.commands.specs.Names.{name_of_trap}
-use Rattle.commands.specs.Payload.{payload_of}
+use Rattle.answer_lines.specs.Payload.{payload_of}
+use Rattle.answer_lines.specs.RunLine.{line_of_run}
 
 -- the bytes of each piece of a line, which bars, 124, part, or None where one of them spells none
 abbrev pub pieces_of : List ℕ → Option (List (List ℕ))
@@ -22,16 +20,6 @@ pub record StopsIn (P : Program) (payload : List ℕ) (steps : ℕ) (s : State) 
   pub alone : run_alone P payload true s.count ≡ Some s
   pub most : s.count ≤ steps
   pub ended : s.count < steps → is_some s.end ≡ true
-
--- how a run ended, or that it goes on
-abbrev pub text_of_end : Option End → List ℕ
-text_of_end (Some (Out outcome)) = line_of outcome
-text_of_end (Some (Trapped t)) = codes "trap " ++ name_of_trap t
-text_of_end None = codes "running"
-
--- the line of a run, without its LF
-abbrev pub line_of_run : State → List ℕ
-line_of_run s = text_of_end s.end ++ codes " count " ++ decimal s.count
 
 -- the answer to a payload: by its size, then by its run
 abbrev pub IsRunAnswer : Program → ℕ → List ℕ → List ℕ → Type 0

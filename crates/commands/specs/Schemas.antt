@@ -1,6 +1,7 @@
 -- The schemas of an input. The lines are this project's own.
-use Rattle.std.specs.Prelude.{ℕ, List, [], slice_index_or, if◌then◌else◌, Result, Ok, Err}
+use Rattle.std.specs.Prelude.{ℕ, List, if◌then◌else◌, Result, Ok, Err}
 use Rattle.std.specs.Str.{is_utf8}
+use Rattle.answer_lines.specs.Lines.{line_at}
 use Rattle.avro_types.specs.Node.{Node}
 use Rattle.avro_schema.specs.Schema.{schema_of}
 use Rattle.schema_names.specs.declared.error.SchemaError.{SchemaError}
@@ -11,10 +12,6 @@ use Rattle.commands.specs.declared.refusal.Refusal.TheVariants.{BadSchema}
 -- the nodes of a schema line, or its first fault: bytes that are no UTF-8 are no JSON
 abbrev pub schema_of_line : List ℕ → Result (List Node) SchemaError
 schema_of_line line = if is_utf8 line then schema_of line else Err NotJson
-
--- a line of the input, which is the empty text where it is missing
-abbrev pub line_at : List (List ℕ) → ℕ → List ℕ
-line_at inputs i = slice_index_or inputs i []
 
 -- where either may be bad, the writer's is told first
 abbrev pub both : Result (List Node) SchemaError → Result (List Node) SchemaError → Result (List Node × List Node) Refusal

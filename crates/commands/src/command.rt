@@ -6,6 +6,7 @@ ghost use Rattle.commands.specs.Traffic.{Answers, BeginsToAnswer};
 ghost use Rattle.commands.specs.declared.status.Status.TheVariants.{Answered, Refused};
 
 use crate::compile::compile;
+use crate::debugging::debug;
 use crate::input::read_all;
 use crate::output::write_whole;
 use crate::refusal::Refusal;
@@ -13,6 +14,7 @@ use crate::running::run_listed;
 use crate::schemas::schemas_of;
 use crate::status::Status;
 use crate::transcode::transcode;
+use session_commands::replay;
 use std::alloc::{AllocError, AllocFailed, Global};
 use std::io::{Read, Write};
 use thiserror::Error;
@@ -26,6 +28,10 @@ pub enum Verb {
     Compile { image: bool },
     /// Answers each payload with how a run of a listed program on it stands after at most so many rows.
     Run { steps: u64 },
+    /// Answers the commands of a debugger, which follow two schemas and a payload.
+    Debug,
+    /// Answers events of a world of sessions.
+    Replay,
 }
 
 /// Why a run was broken off.
@@ -77,6 +83,12 @@ fn answered(alloc: Global, verb: &Verb, input: &[u8]) -> Result<String, Refusal>
             compile(alloc, writer, reader, *image)
         }
         Verb::Run { steps } => run_listed(alloc, input, *steps),
+        Verb::Debug => {
+            let schemas = schemas_of(alloc, input)?;
+            let (writer, reader) = (schemas.writer.nodes(), schemas.reader.nodes());
+            debug(alloc, writer, reader, schemas.later)
+        }
+        Verb::Replay => Ok(replay(alloc, input)?),
     }
 }
 

@@ -4,12 +4,11 @@
 mod answer;
 mod command;
 mod compile;
+mod debugging;
 mod input;
 mod laws;
-mod lines;
 mod listed;
 mod output;
-mod payload;
 mod pieces;
 mod refusal;
 mod running;

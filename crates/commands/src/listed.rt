@@ -1,9 +1,9 @@
 ghost use Rattle.std.specs.Prelude.{◌≡◌, codes};
 ghost use Rattle.std.specs.Str.{bytes_eq};
-ghost use Rattle.commands.specs.Lines.{lines};
+ghost use Rattle.answer_lines.specs.Lines.{lines};
 ghost use Rattle.commands.specs.Listed.{listed};
 
-use crate::lines::split_line;
+use answer_lines::split_line;
 
 /// Whether a line ends the listing.
 fn is_end(line: &[u8]) -> bool

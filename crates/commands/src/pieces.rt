@@ -2,7 +2,7 @@ ghost use Rattle.std.specs.Prelude.{◌≡◌, ◌<◌, ◌∷◌, [], IfOk, Mat
 ghost use Rattle.assembler.specs.Words.{parts};
 ghost use Rattle.commands.specs.Running.{pieces_of};
 
-use crate::payload::payload_of;
+use answer_lines::payload_of;
 use isa::Lists;
 use memchr::memchr;
 use std::alloc::{AllocError, Global};

@@ -16,6 +16,10 @@ pub(crate) enum Refusal {
     BadListing(AsmFault),
     #[error("the program of the schemas passes a limit")]
     ProgramTooLarge,
+    #[error("the payload is no lower-case hexadecimal in pairs")]
+    BadHex,
+    #[error("the payload passes its limit")]
+    TooLarge,
     #[error("out of memory")]
     NoMemory,
 }
@@ -95,6 +99,8 @@ impl Refusal {
             Refusal::BadSchema { line, error } => bad_schema(alloc, line, error),
             Refusal::BadListing(fault) => bad_listing(alloc, fault),
             Refusal::ProgramTooLarge => format!(in alloc; "program too large\n"),
+            Refusal::BadHex => format!(in alloc; "bad hex\n"),
+            Refusal::TooLarge => format!(in alloc; "too large\n"),
             Refusal::NoMemory => Err(AllocError),
         }
     }

@@ -4,23 +4,20 @@ ghost use Rattle.assembler.specs.Assembling.{assembled};
 ghost use Rattle.assembler.specs.declared.fault.AsmFault.{AsmFault};
 ghost use Rattle.isa.specs.Program.{Program as Parted};
 ghost use Rattle.outcome.specs.declared.limits.TheConstants.{MOST_PAYLOAD};
+ghost use Rattle.answer_lines.specs.Lines.{lines};
 ghost use Rattle.commands.specs.Answer.{AreAnswers};
-ghost use Rattle.commands.specs.Lines.{lines};
 ghost use Rattle.commands.specs.Listed.{listed};
-ghost use Rattle.commands.specs.Names.{name_of_trap};
-ghost use Rattle.commands.specs.Running.{IsRunAnswer, IsRunLine, StopsIn, line_of_run, text_of_end};
+ghost use Rattle.commands.specs.Running.{IsRunAnswer, IsRunLine, StopsIn};
 
-use crate::answer::push_outcome;
-use crate::lines::split_line;
 use crate::listed::split_listing;
 use crate::pieces::pieces_of;
 use crate::refusal::Refusal;
+use answer_lines::{push_run, split_line};
 use assembler::{AsmError, assemble};
-use isa::{End, Lists, Program, Trap, row_or_end_is_there};
+use isa::{Lists, Program, row_or_end_is_there};
 use machine::{Run, Why};
 use outcome::MOST_PAYLOAD;
 use std::alloc::{AllocError, Global};
-use std::fmt::Write;
 
 /// Takes rows until so many were taken in all, or no more are there.
 fn take_rows(run: &mut Run, steps: u64) -> Result<(), AllocError>
@@ -59,44 +56,6 @@ fn run_on<'p>(
     Ok(run)
 }
 
-/// The name of a trap.
-fn name_of_trap(trap: Trap) -> &'static str
-    ensures { result.now ≡ name_of_trap trap }
-{
-    match trap {
-        Trap::NoFrame => "NoFrame",
-        Trap::NoBuffer => "NoBuffer",
-        Trap::TooManyCalls => "TooManyCalls",
-        Trap::NoReturn => "NoReturn",
-        Trap::BadSlot => "BadSlot",
-        Trap::OpenAtHalt => "OpenAtHalt",
-        Trap::OffEnd => "OffEnd",
-    }
-}
-
-/// Appends how a run ended, or that it goes on.
-fn push_end(alloc: Global, output: &mut String, run: &Run) -> Result<(), AllocError>
-    ensures { OnOk result (string_bytes output.new ≡ string_bytes output.old ++ text_of_end run.now.machine.state.end) }
-{
-    match run.machine().end() {
-        Some(End::Out(outcome)) => push_outcome(alloc, output, outcome),
-        Some(End::Trap(trap)) => {
-            let name = name_of_trap(*trap);
-            write!(output, "trap {name}")
-        }
-        None => output.push_str("running"),
-    }
-}
-
-/// Appends the line of a run, without its LF.
-fn push_run(alloc: Global, output: &mut String, run: &Run) -> Result<(), AllocError>
-    ensures { OnOk result (string_bytes output.new ≡ string_bytes output.old ++ line_of_run run.now.machine.state) }
-{
-    push_end(alloc, output, run)?;
-    let count = run.machine().count();
-    write!(output, " count {count}")
-}
-
 /// Appends the answer to a payload, without its LF.
 fn push_run_answer(
     alloc: Global,
@@ -110,7 +69,7 @@ fn push_run_answer(
 {
     if pieces.total_is_within(MOST_PAYLOAD) {
         let run = run_on(alloc, program, steps, pieces)?;
-        push_run(alloc, output, &run)
+        push_run(alloc, output, run.machine())
     } else {
         output.push_str("too large")
     }

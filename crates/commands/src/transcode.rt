@@ -2,10 +2,10 @@ ghost use Rattle.std.specs.Prelude.{◌≡◌, ◌⊎◌, string_bytes, IfErr, I
 ghost use Rattle.isa.specs.Program.{Program};
 ghost use Rattle.program_code.specs.Code.{code_of};
 ghost use Rattle.commands.specs.Answer.{IsAnswers};
-ghost use Rattle.commands.specs.Lines.{lines};
+ghost use Rattle.answer_lines.specs.Lines.{lines};
 
 use crate::answer::push_answer;
-use crate::lines::split_line;
+use answer_lines::split_line;
 use crate::refusal::Refusal;
 use avro_types::Nodes;
 use machine::Transcoder;

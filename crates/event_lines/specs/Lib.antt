@@ -1,4 +1,3 @@
 pub mod ReplayLine
 pub mod Words
 pub mod Reading
-pub mod Reply

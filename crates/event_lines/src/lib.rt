@@ -7,11 +7,9 @@ mod kind;
 mod numbers;
 mod reading;
 mod replay_line;
-mod reply;
 mod texts;
 mod words;
 
 pub use debug_line::{DebugLine, read_debug_line};
 pub use reading::read_replay_line;
 pub use replay_line::ReplayLine;
-pub use reply::{ReplyText, push_reply};

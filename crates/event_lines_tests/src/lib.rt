@@ -10,6 +10,4 @@ mod debug_tests;
 #[cfg(test)]
 mod replay_tests;
 #[cfg(test)]
-mod reply_tests;
-#[cfg(test)]
 mod telling;

@@ -2,7 +2,7 @@
 use Rattle.std.proofs.Common.{◌≡◌, string_bytes, length}
 use Rattle.commands.specs.Answer.{IsAnswer}
 use Rattle.commands.proofs.Answers.{Continues}
-use Rattle.commands.specs.Lines.{lines}
+use Rattle.answer_lines.specs.Lines.{lines}
 use Rattle.commands.proofs.transcode.answers.Given as goal
 
 abbrev pub invariant-loop-line : goal.invariant-loop-line

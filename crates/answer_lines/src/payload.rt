@@ -1,12 +1,12 @@
 ghost use Rattle.std.specs.Prelude.{◌≡◌, IfOk, option_map};
 ghost use Rattle.std.specs.List.{list_any};
-ghost use Rattle.commands.specs.Payload.{is_upper, payload_of};
+ghost use Rattle.answer_lines.specs.Payload.{is_upper, payload_of};
 
 use hex::FromHexError;
 use std::alloc::{AllocError, Global};
 
 /// The payload that a line spells.
-pub(crate) fn payload_of(alloc: Global, line: &[u8]) -> Result<Option<Vec<u8>>, AllocError>
+pub fn payload_of(alloc: Global, line: &[u8]) -> Result<Option<Vec<u8>>, AllocError>
     ensures { IfOk result (λ r. payload_of line.now ≡ option_map (λ payload. payload.items) r) }
 {
     if has_upper(line) {

@@ -1,8 +1,8 @@
 -- The first LF, or the last line.
 use Rattle.std.proofs.Common.{◌<◌, ◌+◌, length, sym, ◌∙◌, arith, refl, inl, inr}
 use Rattle.std.proofs.lemmas.List.{drop_all, take_rest, length-drop}
-use Rattle.commands.proofs.Split.{first_parted, lines_empty, lines_last, lines_split}
-use Rattle.commands.proofs.lines.split_line.Goals as goal
+use Rattle.answer_lines.proofs.Split.{first_parted, lines_empty, lines_last, lines_split}
+use Rattle.answer_lines.proofs.lines.split_line.Goals as goal
 
 pub returns-in-Some-clause-place : goal.returns-in-Some-clause-place
 returns-in-Some-clause-place c =

@@ -1,11 +1,10 @@
 ghost use Rattle.std.specs.Prelude.{◌≡◌, ◌<◌, [], ◌∷◌, drop, length, IfSome, MatchOption};
-ghost use Rattle.commands.specs.Lines.{IsFirst, lines};
-ghost use Rattle.commands.specs.Schemas.{line_at};
+ghost use Rattle.answer_lines.specs.Lines.{IsFirst, line_at, lines};
 
 use memchr::memchr;
 
 /// The first line without its LF, and what follows it.
-pub(crate) fn split_line(bytes: &[u8]) -> Option<(&[u8], &[u8])>
+pub fn split_line(bytes: &[u8]) -> Option<(&[u8], &[u8])>
     ensures place { IfSome result (λ p. IsFirst bytes.now p.0.now p.1.now) }
     ensures lines { MatchOption result (lines bytes.now ≡ [])
         (λ p. (lines bytes.now ≡ p.0.now ∷ lines p.1.now) × (length p.1.now < length bytes.now)) }
@@ -18,7 +17,7 @@ pub(crate) fn split_line(bytes: &[u8]) -> Option<(&[u8], &[u8])>
 }
 
 /// The same, where a line that is missing is the empty text.
-pub(crate) fn split_line_or_empty(bytes: &[u8]) -> (&[u8], &[u8])
+pub fn split_line_or_empty(bytes: &[u8]) -> (&[u8], &[u8])
     ensures first { result.0.now ≡ line_at (lines bytes.now) 0 }
     ensures rest { lines result.1.now ≡ drop 1 (lines bytes.now) }
 {

@@ -1,0 +1,4 @@
+pub mod Lines
+pub mod OutcomeLine
+pub mod Payload
+pub mod RunLine

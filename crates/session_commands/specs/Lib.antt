@@ -1,0 +1,5 @@
+pub mod Debugging
+pub mod Folding
+pub mod Replaying
+pub mod Request
+pub mod Telling

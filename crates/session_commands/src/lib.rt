@@ -1,0 +1,10 @@
+//! The commands for sessions: a debugger of one, and a world of them that lines change.
+#![tactic(auto)]
+
+mod debugging;
+mod replaying;
+mod request;
+mod telling;
+
+pub use debugging::{DebugError, debug};
+pub use replaying::replay;
