@@ -28,7 +28,7 @@ const COMMANDS: [(&str, &str); 9] = [
     ("3606666f6f\nstep 18446744073709551616", "bad line\n"),
     (
         "\nstep 99\nshow",
-        "count 3 pc 3 pos 0 units 1 part - mark - over 0 state malformed\nout -\ncall 1\nrec - - -\n",
+        "count 4 pc 4 pos 0 units 1 part - mark - over 0 state malformed\nout -\ncall 1\nrec 0 - -\n",
     ),
     ("36", ""),
     ("", ""),
