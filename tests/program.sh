@@ -38,6 +38,14 @@ printf 'end\n02\n' | "$program" run >"$out" 2>"$err"; want 'run and a bad listin
 printf '%s' "$listing" | "$program" run --steps 0 >"$out" 2>"$err"; want 'run --steps 0' 2 none some
 printf '%s' "$listing" | "$program" run --steps 1000000001 >"$out" 2>"$err"; want 'run and too many steps' 2 none some
 printf '%s' "$listing" | "$program" run --image >"$out" 2>"$err"; want 'run --image' 2 none some
+printf '%s03\nshow\n' "$schemas" | "$program" debug >"$out" 2>"$err"; want debug 0 some none
+printf '%s03\n' "$schemas" | "$program" debug >"$out" 2>"$err"; want 'debug and no command' 0 none none
+printf '%s0\nshow\n' "$schemas" | "$program" debug >"$out" 2>"$err"; want 'debug and a bad payload' 1 some none
+printf '"int"\n"float"\n03\n' | "$program" debug >"$out" 2>"$err"; want 'debug and a bad schema' 1 some none
+printf 'publish 1 1\nno event\n' | "$program" replay >"$out" 2>"$err"; want replay 0 some none
+"$program" replay </dev/null >"$out" 2>"$err"; want 'replay of no line' 0 none none
+printf 'finish 0\n' | "$program" replay >/dev/full 2>"$err"; status=$?; : >"$out"; (exit $status); want 'replay to a full device' 3 none none
+"$program" replay more </dev/null >"$out" 2>"$err"; want 'replay and a further word' 2 none some
 printf '%s02|61\n' "$listing" | "$program" run >/dev/full 2>"$err"; status=$?; : >"$out"; (exit $status); want 'run to a full device' 3 none none
 echo "$passed passed, $failed failed"
 [ "$failed" = 0 ]
