@@ -1,5 +1,5 @@
 -- How runs of a listed program are answered. All of this is this project's own.
-use Rattle.std.specs.Prelude.{◌≡◌, ◌≤◌, ◌<◌, ℕ, true, List, length, codes, nat_lt, Option, is_some, MatchBool, MatchOption}
+use Rattle.std.specs.Prelude.{◌≡◌, ◌≤◌, ◌<◌, ℕ, true, List, length, codes, nat_lt, Option, Some, is_some, MatchBool, MatchOption}
 use Rattle.std.specs.List.{concat}
 use Rattle.assembler.specs.Things.{each_in}
 use Rattle.assembler.specs.Words.{parts}

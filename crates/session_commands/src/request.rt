@@ -22,7 +22,7 @@ pub(crate) enum Request {
 impl Request {
     /// What a line asks for.
     pub(crate) fn of(line: Line) -> Request
-        ensures { request_of result ≡ asks (replay_line_of line.entry) }
+        ensures { request_of result ≡ asks (replay_line_of line) }
     {
         let event = match line {
             Line::Register { subject, text } => Event::Register { subject, text },

@@ -1,5 +1,9 @@
 -- A payload that passes the limit, and one that is run.
-use Rattle.std.proofs.Common.{sym, ◌∙◌}
+use Rattle.std.proofs.Common.{◌∙◌, ap, subst, sym}
+use Rattle.std.specs.List.{concat}
+use Rattle.isa.specs.State.{State}
+use Rattle.stepper.specs.Running.{Running}
+use Rattle.commands.specs.Running.{StopsIn}
 use Rattle.commands.proofs.PiecesLeft.{large_written, run_written}
 use Rattle.commands.proofs.running.push_run_answer.Goals as goal
 
@@ -9,4 +13,9 @@ returns-else-total_is_within c =
 
 pub returns-in_ok-run : goal.returns-in_ok-run
 returns-in_ok-run c =
-    run_written c.args.program.now c.args.steps c.args.pieces.now _ _ c.push_run.result _ (sym c.total_is_within.ensures ∙ c.if-total_is_within.true) c.in_ok-run.ensures c.push_run.ensures
+    let P = c.args.program.now in
+    let steps = c.args.steps in
+    let pieces = c.args.pieces.now in
+    let same = ap (λ (r : Running). r.state) c.machine.ensures in
+    let stops = subst (λ (s : State). StopsIn P (concat pieces) steps s) (sym same) c.in_ok-run.ensures in
+    run_written P steps pieces _ _ c.push_run.result _ (sym c.total_is_within.ensures ∙ c.if-total_is_within.true) stops c.push_run.ensures
