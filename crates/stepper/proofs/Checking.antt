@@ -1,11 +1,21 @@
 -- What is known of a content, while it moves.
-use Rattle.std.proofs.Common.{◌≡◌, ◌≤◌, ◌<◌, ℕ, ◌+◌, ◌-◌, Bool, true, false, List, [], ◌++◌, length, take, drop, Option, Some, None, Result, Ok, Err, refl, sym, ap, ◌∙◌, subst, arith, append_assoc, length-append}
-use Rattle.std.specs.Prelude.{MatchResult, cond, is_ok, is_some, not}
+use Rattle.std.proofs.Common.{◌≡◌, ◌≤◌, ◌<◌, ℕ, ◌+◌, ◌-◌, Bool, true, false, List, [], ◌∷◌, ◌++◌, length, take, drop, Option, Some, None, refl, sym, ap, ◌∙◌, subst, arith, append_assoc, length-append, ne_eqb}
+use Rattle.std.specs.Prelude.{is_some, ◌==◌}
 use Rattle.std.specs.Str.{IsErrorLen, IsUtf8, IsValidUpTo, is_utf8}
+use Rattle.std.specs.Str.Lossy.{utf8_error_len}
 use Rattle.std.proofs.Math.Seq.{take-add}
 use Rattle.std.proofs.lemmas.List.{append-nil, drop-drop, drop_at, length-drop, length-take, take-append-drop}
-use Rattle.std.proofs.lemmas.Str.{IsUtf8-append, IsUtf8-from_is_utf8, is_utf8-from_IsUtf8}
-use Rattle.stepper.specs.Running.{EndsIn, IsCheck}
+use Rattle.std.proofs.lemmas.Str.{IsUtf8-append, IsUtf8-nil, IsUtf8-from_is_utf8, is_utf8-from_IsUtf8}
+use Rattle.stepper.specs.declared.check.Carry.{Carry}
+use Rattle.stepper.specs.declared.check.TextCheck.{TextCheck}
+use Rattle.stepper.specs.declared.check.TextCheck.TheVariants as checks
+use Rattle.stepper.specs.Running.{EndsIn, IsCheck, check_of, is_asked}
+use Rattle.stepper.proofs.Characters.{broken-rest, cut-text, none-behind, none-in-nothing, nothing-faultless}
+use Rattle.stepper.proofs.Stepping.{none-of}
+
+-- nothing, before any byte
+pub nothing-cut : EndsIn [] []
+nothing-cut = record { front = []; parts = refl; utf8 = IsUtf8-nil; short = omega arith; none = none-in-nothing; faultless = nothing-faultless }
 
 -- the bytes between two places
 abbrev pub between : List ℕ → ℕ → ℕ → List ℕ
@@ -47,37 +57,71 @@ module _ (input carry : List ℕ) (from pos to : ℕ) (a : from ≤ pos) (b : po
     parts = all-are ∙ ap (λ (x : List ℕ). k.front ++ x) (sym e) ∙ sym (append-nil (k.front ++ bytes));
     utf8 = IsUtf8-append k.front bytes k.utf8 u;
     short = omega arith;
+    none = none-in-nothing;
+    faultless = nothing-faultless;
   }
 
-  pub passed-cut : (bytes : List ℕ) (v : ℕ) → bytes ≡ between input (pos - length carry) to → IsValidUpTo bytes v → length bytes < v + 4 → EndsIn (drop v bytes) (between input from to)
-  passed-cut bytes v e u s = record {
-    front = k.front ++ take v bytes;
-    parts = all-are ∙ ap (λ (x : List ℕ). k.front ++ x) (sym e ∙ sym (take-append-drop v bytes)) ∙ sym (append_assoc k.front (take v bytes) (drop v bytes));
-    utf8 = IsUtf8-append k.front (take v bytes) k.utf8 u.front;
-    short = omega (arith, length-drop v bytes, s);
-  }
+  module _ (bytes : List ℕ) (v : ℕ) (e : bytes ≡ between input (pos - length carry) to) (u : IsValidUpTo bytes v) where
+    front-whole : IsUtf8 (k.front ++ take v bytes)
+    front-whole = IsUtf8-append k.front (take v bytes) k.utf8 u.front
+
+    parted : between input from to ≡ (k.front ++ take v bytes) ++ drop v bytes
+    parted = all-are ∙ ap (λ (x : List ℕ). k.front ++ x) (sym e ∙ sym (take-append-drop v bytes)) ∙ sym (append_assoc k.front (take v bytes) (drop v bytes))
+
+    pub passed-cut : (o : Option ℕ) → o ≡ utf8_error_len (drop v bytes) → is_some o ≡ false → length bytes < v + 4 → EndsIn (drop v bytes) (between input from to)
+    passed-cut o fault none s = record {
+      front = k.front ++ take v bytes;
+      parts = parted;
+      utf8 = front-whole;
+      short = omega (arith, length-drop v bytes, s);
+      none = none-behind bytes v u;
+      faultless = sym fault ∙ none-of o none;
+    }
+
+    pub passed-broken : (o : Option ℕ) → o ≡ utf8_error_len (drop v bytes) → is_some o ≡ true → (more : List ℕ) → IsUtf8 (between input from to ++ more) → ⊥
+    passed-broken o fault some more t =
+        broken-rest (k.front ++ take v bytes) (drop v bytes) more front-whole (none-behind bytes v u) (ap is_some (sym fault) ∙ some) (subst (λ (x : List ℕ). IsUtf8 (x ++ more)) parted t)
+
+pub short-rest : (bytes : List ℕ) (v : ℕ) (o : Option ℕ) → is_some o ≡ false → IsErrorLen bytes v o → length bytes < v + 4
+short-rest bytes v None e s = s
+short-rest bytes v (Some n) e s = absurd cc
+
+-- what can become no text does not by more bytes
+pub broken-on : (input : List ℕ) (from pos to : ℕ) → from ≤ pos → pos ≤ to → ((more : List ℕ) → IsUtf8 (between input from pos ++ more) → ⊥) → (more : List ℕ) → IsUtf8 (between input from to ++ more) → ⊥
+broken-on input from pos to a b broken more t =
+    broken (between input pos to ++ more) (subst IsUtf8 (ap (λ (x : List ℕ). x ++ more) (between-more input from pos to a b) ∙ append_assoc (between input from pos) (between input pos to) more) t)
 
 -- ---- at the end
-
-pub whole-text : (content : List ℕ) → EndsIn [] content → true ≡ is_utf8 content
-whole-text content k = sym (is_utf8-from_IsUtf8 content (subst IsUtf8 (sym (k.parts ∙ append-nil k.front)) k.utf8))
 
 not-text : (content : List ℕ) (b : Bool) → is_utf8 content ≡ b → (IsUtf8 content → ⊥) → false ≡ b
 not-text content true e n = absurd (n (IsUtf8-from_is_utf8 content e))
 not-text content false e n = refl
 
-pub decides-text : {A E : Type 0} (P : A → Type 0) (content : List ℕ) (r : Result A E) → MatchResult r (λ s. P s × IsUtf8 content) (λ e. IsUtf8 content → ⊥) → is_ok r ≡ is_utf8 content
-decides-text P content (Ok s) m = sym (is_utf8-from_IsUtf8 content m.1)
-decides-text P content (Err e) m = not-text content (is_utf8 content) refl m
+broken-text : (content : List ℕ) → ((more : List ℕ) → IsUtf8 (content ++ more) → ⊥) → false ≡ is_utf8 content
+broken-text content broken = not-text content (is_utf8 content) refl (λ t. broken [] (subst IsUtf8 (sym (append-nil content)) t))
 
-pub is-known : (b : Bool) (carry content : List ℕ) → IsCheck (cond b (Some carry) None) content → not b ≡ false → EndsIn carry content
-is-known true carry content k e = k
-is-known false carry content k e = absurd cc
+whole-text : (content : List ℕ) (k : EndsIn [] content) → true ≡ is_utf8 content
+whole-text content k = sym (is_utf8-from_IsUtf8 content (subst IsUtf8 (sym (k.parts ∙ append-nil k.front)) k.utf8))
 
-pub is-empty : (b : Bool) (n : ℕ) (cut content : List ℕ) → IsCheck (cond b (Some (take n cut)) None) content → b ≡ true → n ≡ 0 → EndsIn [] content
-is-empty true n cut content k e z = subst (λ (m : ℕ). EndsIn (take m cut) content) z k
-is-empty false n cut content k e z = absurd cc
+-- a content is a text where no character of it is cut
+ends-with : (content carry : List ℕ) → EndsIn carry content → length carry == 0 ≡ is_utf8 content
+ends-with content [] k = whole-text content k
+ends-with content (b ∷ carry) k =
+    ne_eqb (length (b ∷ carry)) 0 (omega arith)
+    ∙ not-text content (is_utf8 content) refl
+    (λ t. let z : length (b ∷ carry) ≡ 0 = cut-text k.front (b ∷ carry) k.utf8 k.none (subst IsUtf8 k.parts t) in absurd cc)
 
-pub short-rest : (bytes : List ℕ) (v : ℕ) (o : Option ℕ) → is_some o ≡ false → IsErrorLen bytes v o → length bytes < v + 4
-short-rest bytes v None e s = s
-short-rest bytes v (Some n) e s = absurd cc
+pub ends-text : (content : List ℕ) (n : ℕ) (carry : List ℕ) → n ≡ length carry → EndsIn carry content → n == 0 ≡ is_utf8 content
+ends-text content n carry e k = ap (λ (m : ℕ). m == 0) e ∙ ends-with content carry k
+
+-- ---- what is known, and not that a character is cut
+
+pub passed-other : (check : TextCheck) (input : List ℕ) (from pos to : ℕ) → ((k : Carry) → check ≡ checks.Cut k → ⊥) → from ≤ pos → pos ≤ to → IsCheck (check_of check) (between input from pos) → IsCheck (check_of check) (between input from to)
+passed-other checks.Unasked input from pos to n a b k = tt
+passed-other checks.Broken input from pos to n a b k = broken-on input from pos to a b k
+passed-other (checks.Cut c) input from pos to n a b k = absurd (n c refl)
+
+pub other-text : (check : TextCheck) (content : List ℕ) → ((k : Carry) → check ≡ checks.Cut k → ⊥) → is_asked (check_of check) ≡ true → IsCheck (check_of check) content → false ≡ is_utf8 content
+other-text checks.Unasked content n a k = absurd cc
+other-text checks.Broken content n a k = broken-text content k
+other-text (checks.Cut c) content n a k = absurd (n c refl)

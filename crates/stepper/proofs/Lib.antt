@@ -1,5 +1,6 @@
 pub mod Appending
 pub mod Tables
+pub mod Characters
 pub mod Checking
 pub mod Counts
 pub mod Stepping

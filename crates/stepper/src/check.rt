@@ -1,84 +1,105 @@
-ghost use Rattle.std.specs.Prelude.{◌≡◌, ◌≤◌, ◌-◌, length, take, drop, Some, None, []};
-ghost use Rattle.std.specs.Str.{is_utf8};
+ghost use Rattle.std.specs.Prelude.{◌≡◌, ◌≤◌, ◌-◌, length, take, drop, true, []};
+ghost use Rattle.std.specs.Str.{is_utf8, StartsWithNoChar};
+ghost use Rattle.std.specs.Str.Lossy.{utf8_error_len};
 
-/// What is known of a content that moves: all of it so far but a few last bytes is UTF-8, or nothing.
+/// The bytes of a cut character, or none.
 #[derive(Clone, Copy, Debug)]
-pub struct TextCheck {
-    pub(crate) known: bool,
-    pub(crate) cut: [u8; 3],
+pub struct Carry {
+    pub(crate) bytes: [u8; 3],
     pub(crate) len: usize,
     ghost short: { len ≤ 3 },
 }
 
-/// A few bytes in a place for them.
-fn cut_of(bytes: &[u8]) -> [u8; 3]
-    requires { length bytes.now ≤ 3 }
-    ensures { take (length bytes.now) result ≡ bytes.now }
-{
-    let mut cut = [0; 3];
-    cut[..bytes.len()].copy_from_slice(bytes);
-    cut
+/// What is known of a content that moves.
+#[derive(Clone, Copy, Debug)]
+pub enum TextCheck {
+    /// It need not be UTF-8.
+    Unasked,
+    /// It is no UTF-8, whatever follows.
+    Broken,
+    /// It is UTF-8 but for the bytes of a character that is cut.
+    Cut(Carry),
 }
 
-impl TextCheck {
-    ghost use Rattle.stepper.specs.Running.{IsCheck, carry_of, check_of};
+impl Carry {
+    ghost use Rattle.stepper.specs.Running.{Cut, EndsIn, IsCheck, check_of, is_asked};
 
-    /// Nothing is known.
-    pub(crate) fn unknown() -> TextCheck
-        ensures { check_of result ≡ None }
+    /// No bytes.
+    fn none() -> Carry
+        ensures { result.len ≡ 0 }
     {
-        TextCheck {
-            known: false,
-            cut: [0; 3],
+        Carry {
+            bytes: [0; 3],
             len: 0,
         }
     }
 
-    /// Nothing has passed.
-    pub(crate) fn empty() -> TextCheck
-        ensures { check_of result ≡ Some [] }
+    /// A few bytes.
+    fn of(bytes: &[u8]) -> Carry
+        requires { length bytes.now ≤ 3 }
+        ensures { take result.len result.bytes ≡ bytes.now }
     {
-        TextCheck {
-            known: true,
-            cut: [0; 3],
-            len: 0,
+        let mut cut = [0; 3];
+        cut[..bytes.len()].copy_from_slice(bytes);
+        Carry {
+            bytes: cut,
+            len: bytes.len(),
         }
+    }
+
+    /// These are the last bytes up to a place, and the bytes up to another one pass.
+    fn pass(self, input: &[u8], from: usize, pos: usize, to: usize) -> TextCheck
+        requires begun { from ≤ pos }
+        requires order { pos ≤ to }
+        requires within { to ≤ length input.now }
+        requires known { EndsIn (take self.len self.bytes) (take (pos - from) (drop from input.now)) }
+        ensures asked { is_asked (check_of result) ≡ true }
+        ensures check { IsCheck (check_of result) (take (to - from) (drop from input.now)) }
+    {
+        let bytes = &input[pos - self.len..to];
+        let Err(error) = simdutf8::compat::from_utf8(bytes) else {
+            return TextCheck::empty();
+        };
+        if error.error_len().is_some() {
+            return TextCheck::Broken;
+        }
+        TextCheck::Cut(Carry::of(&bytes[error.valid_up_to()..]))
+    }
+}
+
+impl TextCheck {
+    ghost use Rattle.stepper.specs.Running.{Cut, IsCheck, carry_of, check_of, is_asked};
+
+    /// Nothing has passed of a text.
+    pub(crate) fn empty() -> TextCheck
+        ensures empty { check_of result ≡ Cut [] }
+        ensures begins { IsCheck (check_of result) [] }
+    {
+        TextCheck::Cut(Carry::none())
     }
 
     /// The bytes of a cut character, or none.
     pub(crate) fn carry(&self) -> &[u8]
         ensures { result.now ≡ carry_of (check_of self.now) }
     {
-        if self.known {
-            &self.cut[..self.len]
-        } else {
-            &[]
+        match self {
+            TextCheck::Cut(carry) => &carry.bytes[..carry.len],
+            _ => &[],
         }
     }
 
-    /// All up to a place was known, and the bytes up to another one pass.
+    /// What is known up to a place, and the bytes up to another one pass.
     pub(crate) fn pass(self, input: &[u8], from: usize, pos: usize, to: usize) -> TextCheck
         requires begun { from ≤ pos }
         requires order { pos ≤ to }
         requires within { to ≤ length input.now }
         requires known { IsCheck (check_of self) (take (pos - from) (drop from input.now)) }
-        ensures { IsCheck (check_of result) (take (to - from) (drop from input.now)) }
+        ensures asked { is_asked (check_of result) ≡ is_asked (check_of self) }
+        ensures check { IsCheck (check_of result) (take (to - from) (drop from input.now)) }
     {
-        if !self.known {
-            return self;
-        }
-        let bytes = &input[pos - self.len..to];
-        let Err(error) = simdutf8::compat::from_utf8(bytes) else {
-            return TextCheck::empty();
-        };
-        if error.error_len().is_some() {
-            return TextCheck::unknown();
-        }
-        let rest = &bytes[error.valid_up_to()..];
-        TextCheck {
-            known: true,
-            cut: cut_of(rest),
-            len: rest.len(),
+        match self {
+            TextCheck::Cut(carry) => carry.pass(input, from, pos, to),
+            _ => self,
         }
     }
 
@@ -87,13 +108,13 @@ impl TextCheck {
         requires begun { from ≤ pos }
         requires order { pos ≤ to }
         requires within { to ≤ length input.now }
+        requires asked { is_asked (check_of self) ≡ true }
         requires known { IsCheck (check_of self) (take (pos - from) (drop from input.now)) }
         ensures { result ≡ is_utf8 (take (to - from) (drop from input.now)) }
     {
-        let check = self.pass(input, from, pos, to);
-        if check.known && check.len == 0 {
-            return true;
+        match self.pass(input, from, pos, to) {
+            TextCheck::Cut(carry) => carry.len == 0,
+            _ => false,
         }
-        simdutf8::basic::from_utf8(&input[from..to]).is_ok()
     }
 }

@@ -1,12 +1,12 @@
 #![tactic(auto, using(crate::proofs::Appending::same_arena))]
 
-ghost use Rattle.std.specs.Prelude.{◌≡◌, ◌≤◌, ◌<◌, ◌+◌, ◌-◌, length, min, pos, take, drop, [], option_map, OnOk, OnErr, Some, None, true};
+ghost use Rattle.std.specs.Prelude.{◌≡◌, ◌≤◌, ◌<◌, ◌+◌, ◌-◌, length, min, pos, take, drop, [], option_map, OnOk, OnErr, Some, None, true, false};
 ghost use Rattle.avro_bytes.specs.declared.limits.TheConstants.{MOST_CONTENT};
 ghost use Rattle.avro_bytes.specs.Shortest.{shortest};
 ghost use Rattle.isa.specs.declared.limits.TheConstants.{MOST_INSTRS, MOST_PIECE};
 ghost use Rattle.isa.specs.Table.{begun, content, ends_part, fixed, if_current, moved, moves, next};
-ghost use Rattle.stepper.specs.Contract.{HasRoom, move_of, OnlyAppends, Stays, Takes};
-ghost use Rattle.stepper.specs.Running.{HasMoved, IsCheck, IsOn, check_of, part_of};
+ghost use Rattle.stepper.specs.Contract.{AsksOf, HasRoom, asks, move_of, OnlyAppends, Stays, Takes};
+ghost use Rattle.stepper.specs.Running.{HasMoved, IsCheck, IsOn, Unasked, check_of, is_asked, part_of};
 
 use crate::check::TextCheck;
 use crate::machine::{Machine, Part};
@@ -34,11 +34,12 @@ pub enum Moving {
 impl Moving {
     /// What is known before its first byte.
     fn check(self) -> TextCheck
-        ensures { IsCheck (check_of result) [] }
+        ensures check { IsCheck (check_of result) [] }
+        ensures asked { is_asked (check_of result) ≡ asks self }
     {
         match self {
-            Moving::Bytes | Moving::SkipBytes => TextCheck::unknown(),
-            _ => TextCheck::empty(),
+            Moving::Bytes | Moving::SkipBytes => TextCheck::Unasked,
+            Moving::Text | Moving::BytesText(_) | Moving::SkipText => TextCheck::empty(),
         }
     }
 }
@@ -102,12 +103,12 @@ impl Machine {
         requires { self.old.state.pc < MOST_INSTRS }
         ensures step { result ≡ Step.Moved }
         ensures whole { self.new
-            ≡ record self.old { state = record (next to self.old.state) { part = None }; check = None } }
+            ≡ record self.old { state = record (next to self.old.state) { part = None }; check = Unasked } }
     {
         self.pc += 1;
         self.pos = to;
         self.part = None;
-        self.check = TextCheck::unknown();
+        self.check = TextCheck::Unasked;
         Step::Moved
     }
 
@@ -122,7 +123,7 @@ impl Machine {
         ensures takes { Takes (Some (begun (move_of moving) len to self.old.state)) result self.old self.new }
         ensures appends { OnlyAppends self.old self.new }
         ensures on { IsOn input.now self.new }
-        ensures stays { Stays self.old.state self.new.state }
+        ensures stays { Stays moving self.old.state self.new }
     {
         if self.put_length(moving, len).is_err() {
             return Step::NoMemory;
@@ -155,11 +156,13 @@ impl Machine {
         requires left { MOST_PIECE < part.left }
         requires on { IsOn input.now self.old }
         requires part { HasMoved input.now self.old.state.pos (check_of check) (part_of part) }
+        requires asked { is_asked (check_of check) ≡ asks moving }
+        requires stood { AsksOf moving self.old.check self.old.state.part }
         ensures takes { Takes (Some (moved program.now input.now ended (move_of moving) (part_of part) MOST_PIECE
             self.old.state)) result self.old self.new }
         ensures appends { OnlyAppends self.old self.new }
         ensures on { IsOn input.now self.new }
-        ensures stays { Stays self.old.state self.new.state }
+        ensures stays { Stays moving self.old.state self.new }
     {
         let pos = self.pos();
         let to = pos + MOST_PIECE;
@@ -189,11 +192,13 @@ impl Machine {
         requires there { self.old.state.pos + part.left ≤ length input.now }
         requires on { IsOn input.now self.old }
         requires part { HasMoved input.now self.old.state.pos (check_of check) (part_of part) }
+        requires asked { is_asked (check_of check) ≡ asks moving }
+        requires stood { AsksOf moving self.old.check self.old.state.part }
         ensures takes { Takes (ends_part program.now input.now ended (move_of moving) (part_of part) self.old.state)
             result self.old self.new }
         ensures appends { OnlyAppends self.old self.new }
         ensures on { IsOn input.now self.new }
-        ensures stays { Stays self.old.state self.new.state }
+        ensures stays { Stays moving self.old.state self.new }
     {
         let pos = self.pos();
         let to = pos + part.left;
@@ -243,11 +248,13 @@ impl Machine {
         requires room { HasRoom moving self.old.state }
         requires on { IsOn input.now self.old }
         requires part { HasMoved input.now self.old.state.pos (check_of check) (part_of part) }
+        requires asked { is_asked (check_of check) ≡ asks moving }
+        requires stood { AsksOf moving self.old.check self.old.state.part }
         ensures takes { Takes (moves program.now input.now ended (move_of moving) (part_of part) self.old.state) result
             self.old self.new }
         ensures appends { OnlyAppends self.old self.new }
         ensures on { IsOn input.now self.new }
-        ensures stays { Stays self.old.state self.new.state }
+        ensures stays { Stays moving self.old.state self.new }
     {
         let there = input.len() - self.pos();
         if there < part.left.min(MOST_PIECE) {
@@ -270,11 +277,12 @@ impl Machine {
         requires pc { self.old.state.pc < MOST_INSTRS }
         requires room { HasRoom moving self.old.state }
         requires on { IsOn input.now self.old }
+        requires asked { AsksOf moving self.old.check self.old.state.part }
         ensures takes { Takes (content program.now input.now ended (move_of moving) self.old.state self.old.state.part)
             result self.old self.new }
         ensures appends { OnlyAppends self.old self.new }
         ensures on { IsOn input.now self.new }
-        ensures stays { Stays self.old.state self.new.state }
+        ensures stays { Stays moving self.old.state self.new }
     {
         match self.part() {
             Some(part) => self.move_part(moving, part, self.check(), program, input, ended),
@@ -297,11 +305,13 @@ impl Machine {
         requires pc { self.old.state.pc < MOST_INSTRS }
         requires room { HasRoom moving self.old.state }
         requires on { IsOn input.now self.old }
+        requires asked { AsksOf moving self.old.check self.old.state.part }
+        requires plain { asks moving ≡ false }
         ensures takes { Takes (fixed program.now input.now ended (move_of moving) size self.old.state
             self.old.state.part) result self.old self.new }
         ensures appends { OnlyAppends self.old self.new }
         ensures on { IsOn input.now self.new }
-        ensures stays { Stays self.old.state self.new.state }
+        ensures stays { Stays moving self.old.state self.new }
     {
         match self.part() {
             Some(part) => self.move_part(moving, part, self.check(), program, input, ended),
@@ -311,7 +321,7 @@ impl Machine {
                     left: size,
                     from: self.pos(),
                 };
-                self.move_part(moving, part, TextCheck::unknown(), program, input, ended)
+                self.move_part(moving, part, TextCheck::Unasked, program, input, ended)
             }
         }
     }
@@ -326,11 +336,12 @@ impl Machine {
     ) -> Step
         requires pc { self.old.state.pc < MOST_INSTRS }
         requires on { IsOn input.now self.old }
+        requires asked { AsksOf moving self.old.check self.old.state.part }
         ensures takes { Takes (if_current self.old.state.store.frames self.old.state (content program.now input.now
             ended (move_of moving) self.old.state self.old.state.part)) result self.old self.new }
         ensures appends { OnlyAppends self.old self.new }
         ensures on { IsOn input.now self.new }
-        ensures stays { Stays self.old.state self.new.state }
+        ensures stays { Stays moving self.old.state self.new }
     {
         if !self.has_current() {
             return self.trap(Trap::NoBuffer);
@@ -348,11 +359,12 @@ impl Machine {
     ) -> Step
         requires pc { self.old.state.pc < MOST_INSTRS }
         requires on { IsOn input.now self.old }
+        requires asked { AsksOf Moving.Bytes self.old.check self.old.state.part }
         ensures takes { Takes (if_current self.old.state.store.frames self.old.state (fixed program.now input.now ended
             (move_of Moving.Bytes) size self.old.state self.old.state.part)) result self.old self.new }
         ensures appends { OnlyAppends self.old self.new }
         ensures on { IsOn input.now self.new }
-        ensures stays { Stays self.old.state self.new.state }
+        ensures stays { Stays Moving.Bytes self.old.state self.new }
     {
         if !self.has_current() {
             return self.trap(Trap::NoBuffer);

@@ -78,7 +78,7 @@ impl Machine {
             calls: Vec::new(alloc),
             store: Store::new(alloc),
             part: None,
-            check: TextCheck::unknown(),
+            check: TextCheck::Unasked,
             count: 0,
             end: None,
             scratch: Vec::new(alloc),
@@ -97,7 +97,7 @@ impl Machine {
         self.calls.clear();
         self.store.reset();
         self.part = None;
-        self.check = TextCheck::unknown();
+        self.check = TextCheck::Unasked;
         self.count = 0;
         self.end = None;
         self.looked = 0;

@@ -36,9 +36,9 @@ fn slice_words(
     ended: bool,
     asked: &Asked,
 ) -> Result<String, AllocError>
-    requires under { IsUnder program.now machine.old.state }
+    requires under { IsUnder program.now machine.old }
     requires on { IsOn input.now machine.old }
-    ensures under { IsUnder program.now machine.new.state }
+    ensures under { IsUnder program.now machine.new }
     ensures on { IsOn input.now machine.new }
 {
     let slice = machine.slice(program, input, ended, asked.breaks, asked.rows);
@@ -55,7 +55,7 @@ fn all_words(
     ended: bool,
     asked: &[Asked],
 ) -> Result<String, AllocError>
-    requires under { IsUnder program.now machine.old.state }
+    requires under { IsUnder program.now machine.old }
     requires on { IsOn input.now machine.old }
 {
     let mut all = String::new(alloc);

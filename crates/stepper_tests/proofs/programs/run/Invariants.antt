@@ -5,6 +5,6 @@ use Rattle.stepper_tests.proofs.programs.run.Given as goal
 abbrev pub invariant-turns : goal.invariant-turns
 invariant-turns l = record {
   within : l.end ≤ length l.input;
-  under : IsUnder l.program l.machine.state;
+  under : IsUnder l.program l.machine;
   on : IsOn (take l.end l.input) l.machine;
 }

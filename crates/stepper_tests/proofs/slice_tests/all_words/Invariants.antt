@@ -3,6 +3,6 @@ use Rattle.stepper_tests.proofs.slice_tests.all_words.Given as goal
 
 abbrev pub invariant-each : goal.invariant-each
 invariant-each l = record {
-  under : IsUnder l.program l.machine.state;
+  under : IsUnder l.program l.machine;
   on : IsOn l.input l.machine;
 }

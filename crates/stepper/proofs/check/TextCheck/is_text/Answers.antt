@@ -1,14 +1,17 @@
-use Rattle.std.proofs.Common.{◌∙◌, ◌-◌, drop, take}
-use Rattle.stepper.proofs.Checking.{decides-text, is-empty, whole-text}
+use Rattle.std.proofs.Common.{rules, ◌≡◌, ◌∙◌, ◌-◌, arith, drop, length, take}
+use Rattle.std.proofs.lemmas.List.{length-take}
+use Rattle.stepper.proofs.Checking.{ends-text, other-text}
 use Rattle.stepper.proofs.check.TextCheck.is_text.Goals as goal
 
-pub returns-then-check-eq0 : goal.returns-then-check-eq0
-returns-then-check-eq0 c =
-    let k = c.pass-check.result in
+pub returns-in-Cut : goal.returns-in-Cut
+returns-in-Cut c =
+    let k = c.in-Cut.carry in
     let content = take (c.args.to - c.args.from) (drop c.args.from c.args.input.now) in
-    whole-text content (is-empty k.known k.len k.cut content c.pass-check.ensures c.if-check.true c.if-check-eq0.true)
+    let full : length k.bytes ≡ 3 = search rules in
+    let size : k.len ≡ length (take k.len k.bytes) = omega (arith, length-take k.len k.bytes, full, k.short) in
+    ends-text content k.len (take k.len k.bytes) size c.in-Cut.ensures.check
 
-pub returns : goal.returns
-returns c =
+pub returns-in_default : goal.returns-in_default
+returns-in_default c =
     let content = take (c.args.to - c.args.from) (drop c.args.from c.args.input.now) in
-    c.is_ok.ensures.value ∙ decides-text _ content c.from_utf8.result c.from_utf8.ensures
+    other-text c.pass.result content c.in_default.not-Cut (c.pass.ensures.asked ∙ c.requires.asked) c.pass.ensures.check
