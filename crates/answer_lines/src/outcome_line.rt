@@ -18,11 +18,7 @@ fn push_hex(alloc: Global, output: &mut String, bytes: &[u8]) -> Result<(), Allo
 }
 
 /// Appends the line of an outcome, without its LF.
-pub fn push_outcome(
-    alloc: Global,
-    output: &mut String,
-    outcome: &Outcome,
-) -> Result<(), AllocError>
+pub fn push_outcome(alloc: Global, output: &mut String, outcome: &Outcome) -> Result<(), AllocError>
     ensures { OnOk result (string_bytes output.new ≡ string_bytes output.old ++ line_of (outcome_of outcome.now)) }
 {
     match outcome {

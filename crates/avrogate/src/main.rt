@@ -38,10 +38,12 @@ fn command_line<'a>(alloc: Global) -> Result<Command<'a>, AllocError> {
     let run = Command::new(alloc, "run")
         .about("Runs the program of a listing on payloads, whose pieces are parted by bars")
         .arg(steps)?;
-    let debug = Command::new(alloc, "debug")
-        .about("Obeys the commands of a debugger on a payload, between two schemas");
-    let replay = Command::new(alloc, "replay")
-        .about("Replies to events of a registry and of sessions, one after another");
+    let debug = Command::new(alloc, "debug").about(
+        "Obeys the commands of a debugger on a payload, between two schemas",
+    );
+    let replay = Command::new(alloc, "replay").about(
+        "Replies to events of a registry and of sessions, one after another",
+    );
     Command::new(alloc, "avrogate")
         .about("Transcodes Avro data between standard input and standard output")
         .subcommand_required(true)

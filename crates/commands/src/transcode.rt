@@ -5,8 +5,8 @@ ghost use Rattle.commands.specs.Answer.{IsAnswers};
 ghost use Rattle.answer_lines.specs.Lines.{lines};
 
 use crate::answer::push_answer;
-use answer_lines::split_line;
 use crate::refusal::Refusal;
+use answer_lines::split_line;
 use avro_types::Nodes;
 use machine::Transcoder;
 use program_compiler::CompileError;

@@ -90,11 +90,7 @@ fn push_answer(
 }
 
 /// A session that has its whole payload.
-fn given<'p>(
-    alloc: Global,
-    program: &'p Program,
-    payload: &[u8],
-) -> Result<Session<'p>, DebugError>
+fn given<'p>(alloc: Global, program: &'p Program, payload: &[u8]) -> Result<Session<'p>, DebugError>
     ensures ok { IfOk result (λ session. (session ≡ given program.now payload.now)
         × (within_limit program.now payload.now ≡ Ok (program.now, payload.now))) }
     ensures err { IfErr result (λ e. e ≢ DebugError.NoMemory → within_limit program.now payload.now ≡ Err e) }

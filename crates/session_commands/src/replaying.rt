@@ -81,11 +81,7 @@ fn push_answer<'p>(
 }
 
 /// The answers to lines, whose programs stand in a row.
-fn answers<'p>(
-    alloc: Global,
-    programs: &'p PairRow,
-    input: &[u8],
-) -> Result<String, AllocError>
+fn answers<'p>(alloc: Global, programs: &'p PairRow, input: &[u8]) -> Result<String, AllocError>
     ensures { IfOk result (λ output. IsReplayed (lines input.now) (string_bytes output)) }
 {
     let mut world = World::new(alloc);

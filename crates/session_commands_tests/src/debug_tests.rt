@@ -24,7 +24,10 @@ const COMMANDS: [(&str, &str); 9] = [
     ("3606666f6f\nbreak 5\ngo 100\nshow\nstep 2\nshow\n", STATES),
     ("3606666f6f\nbreak 10\n", "refused BadAddress\n"),
     ("3606666f6f\nclear 10\n", "refused BadAddress\n"),
-    ("3606666f6f\nclear 5\nbreak\nshow all\n", "bad line\nbad line\n"),
+    (
+        "3606666f6f\nclear 5\nbreak\nshow all\n",
+        "bad line\nbad line\n",
+    ),
     ("3606666f6f\nstep 18446744073709551616", "bad line\n"),
     (
         "\nstep 99\nshow",
@@ -51,7 +54,11 @@ fn obeys_commands(rt: HostRuntime) -> Result<(), Fail> {
 #[test]
 fn refuses_a_payload(rt: HostRuntime) -> Result<(), Fail> {
     let schema = Schema::parse(rt.alloc(), PAIR)?;
-    for (input, error) in [("3", DebugError::BadHex), ("3A\nshow", DebugError::BadHex), ("x", DebugError::BadHex)] {
+    for (input, error) in [
+        ("3", DebugError::BadHex),
+        ("3A\nshow", DebugError::BadHex),
+        ("x", DebugError::BadHex),
+    ] {
         let refused = debug(rt.alloc(), schema.nodes(), schema.nodes(), input.as_bytes());
         assert_eq!(rt; refused.err(), Some(error), "at {input:?}");
     }

@@ -37,7 +37,8 @@ fn answers_line_after_line(rt: HostRuntime) -> Result<(), Fail> {
 
 #[test]
 fn tells_a_state_and_a_listing(rt: HostRuntime) -> Result<(), Fail> {
-    let input = "register s \"int\"\npublish 1 1\nbegin 1 1\npiece 0 80\nshow 0\nlist 0\nrefuse 0\nshow 0\n";
+    let input =
+        "register s \"int\"\npublish 1 1\nbegin 1 1\npiece 0 80\nshow 0\nlist 0\nrefuse 0\nshow 0\n";
     let output = "id 1\nok\nsession 0\nok\n\
         count 0 pc 0 pos 0 units 0 part - mark - over 0 state running\nout -\n\
         avro program 1\n0 INT\n1 HALT\nok\n\
@@ -45,6 +46,9 @@ fn tells_a_state_and_a_listing(rt: HostRuntime) -> Result<(), Fail> {
     let text = replay(rt.alloc(), input.as_bytes())?;
     assert_eq!(rt; text.as_str(), output);
     assert_eq!(rt; replay(rt.alloc(), &[])?.as_str(), "");
-    assert_eq!(rt; replay(rt.alloc(), &[b'\n', 0xff])?.as_str(), "bad line\nbad line\n");
+    assert_eq!(rt;
+        replay(rt.alloc(), &[b'\n', 0xff])?.as_str(),
+        "bad line\nbad line\n"
+    );
     Ok(())
 }
