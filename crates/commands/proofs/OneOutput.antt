@@ -19,7 +19,7 @@ use Rattle.answer_lines.specs.Payload.{payload_of}
 use Rattle.commands.specs.Refusal.{IsRefused, text_of}
 use Rattle.commands.specs.Running.{IsRunAnswer, IsRunLine, StopsIn, pieces_of}
 use Rattle.commands.specs.Schemas.{schemas_of}
-use Rattle.commands.specs.declared.command.Verb.TheVariants.{Compile, Run, Transcode}
+use Rattle.commands.specs.declared.command.Verb.TheVariants.{Compile, Debug, Replay, Run, Transcode}
 use Rattle.commands.specs.declared.refusal.Refusal.{Refusal}
 use Rattle.commands.specs.declared.refusal.Refusal.TheVariants.{BadListing, ProgramTooLarge}
 use Rattle.commands.specs.declared.status.Status.{Status}
@@ -156,6 +156,8 @@ pub some_output : SomeOutcome → RowOrEnd → RowsAreCounted → RunsGoOn → H
 some_output some there counted go_on Transcode input settled = some_for_schemas IsTranscoded (some_transcoded some) input
 some_output some there counted go_on (Compile image) input settled = some_for_schemas (IsCompiled image) (some_compiled image) input
 some_output some there counted go_on (Run steps) input settled = some_run there counted go_on steps input
+some_output some there counted go_on Debug input settled = elim settled [ ]
+some_output some there counted go_on Replay input settled = elim settled [ ]
 
 -- ---- and no other
 
@@ -192,3 +194,5 @@ pub one_output : OneOutcome → EndsAreLast → HasOneOutput
 one_output one last Transcode input a b s t settled = one_for_schemas IsTranscoded (one_transcoded one) input a b s t
 one_output one last (Compile image) input a b s t settled = one_for_schemas (IsCompiled image) (one_compiled image) input a b s t
 one_output one last (Run steps) input a b s t settled = one_run last steps input a b s t
+one_output one last Debug input a b s t settled = elim settled [ ]
+one_output one last Replay input a b s t settled = elim settled [ ]
