@@ -1,7 +1,7 @@
 ghost use Rattle.std.specs.Prelude.{◌≡◌, ◌++◌, length, reverse, slice_get, option_map, is_some, true, None, Some, OnErr, OnOk};
 ghost use Rattle.output_store.specs.Segments.{AreSegments, bytes_of};
 ghost use Rattle.output_store.specs.Viewing.{buffer_of, place_and_length, segments_of_buffer, view_of};
-ghost use Rattle.stepper.specs.Running.{carry_of, end_of, part_of};
+ghost use Rattle.stepper.specs.Running.{carried, end_of, part_of};
 
 use crate::machine::{Machine, Part};
 use isa::End;
@@ -59,11 +59,14 @@ impl Machine {
         self.end
     }
 
-    /// The bytes of a character that is cut, of a text that moves.
+    /// The bytes of a character that is cut, of a text that moves; none where no text moves, or no text begins so.
     pub fn carry(&self) -> &[u8]
-        ensures { result.now ≡ carry_of self.now.check }
+        ensures { result.now ≡ carried self.now.state.part self.now.check }
     {
-        self.check.carry()
+        match self.part {
+            Some(_) => self.check.carry(),
+            None => &[],
+        }
     }
 
     /// The bytes of all buffers.
