@@ -41,50 +41,64 @@ carry-there input carry from pos a b k =
     let size : length (between input from start) ≡ length k.front = omega (arith, length-between input from start (omega (arith, le, a)) (omega (arith, b)), n, split, le, a) in
     (le, sym (drop_at (between input from start) (between input start pos) (length k.front) size) ∙ ap (drop (length k.front)) (sym more ∙ k.parts) ∙ drop_at k.front carry (length k.front) refl)
 
-module _ (input carry : List ℕ) (from pos to : ℕ) (a : from ≤ pos) (b : pos ≤ to) (c : to ≤ length input) (k : EndsIn carry (between input from pos)) where
-  bytes-are : between input (pos - length carry) to ≡ carry ++ between input pos to
+short-rest : (bytes : List ℕ) (v : ℕ) (o : Option ℕ) → is_some o ≡ false → IsErrorLen bytes v o → length bytes < v + 4
+short-rest bytes v None e s = s
+short-rest bytes v (Some n) e s = absurd cc
+
+-- as many bytes are held as is said
+pub carry-size : (held : Carry) → length held.bytes ≡ 3 → held.len ≡ length (take held.len held.bytes)
+carry-size held full = omega (arith, length-take held.len held.bytes, full, held.short)
+
+-- the last bytes before a place are held, and the bytes up to another one pass
+module _ (input : List ℕ) (held : Carry) (full : length held.bytes ≡ 3) (from pos to : ℕ) (a : from ≤ pos) (b : pos ≤ to) (c : to ≤ length input) (k : EndsIn (take held.len held.bytes) (between input from pos)) where
+  abbrev carry : List ℕ
+  carry = take held.len held.bytes
+
+  abbrev bytes : List ℕ
+  bytes = between input (pos - held.len) to
+
+  bytes-are : bytes ≡ carry ++ between input pos to
   bytes-are =
       let t = carry-there input carry from pos a (omega (arith, b, c)) k in
-      between-more input (pos - length carry) pos to (omega arith) b ∙ ap (λ (x : List ℕ). x ++ between input pos to) t.1
+      ap (λ (n : ℕ). between input (pos - n) to) (carry-size held full)
+      ∙ between-more input (pos - length carry) pos to (omega arith) b
+      ∙ ap (λ (x : List ℕ). x ++ between input pos to) t.1
 
-  all-are : between input from to ≡ k.front ++ between input (pos - length carry) to
+  all-are : between input from to ≡ k.front ++ bytes
   all-are =
       between-more input from pos to a b ∙ ap (λ (x : List ℕ). x ++ between input pos to) k.parts ∙ append_assoc k.front carry (between input pos to) ∙ ap (λ (x : List ℕ). k.front ++ x) (sym bytes-are)
 
-  pub passed-whole : (bytes : List ℕ) → bytes ≡ between input (pos - length carry) to → IsUtf8 bytes → EndsIn [] (between input from to)
-  passed-whole bytes e u = record {
+  pub passed-whole : IsUtf8 bytes → EndsIn [] (between input from to)
+  passed-whole u = record {
     front = k.front ++ bytes;
-    parts = all-are ∙ ap (λ (x : List ℕ). k.front ++ x) (sym e) ∙ sym (append-nil (k.front ++ bytes));
+    parts = all-are ∙ sym (append-nil (k.front ++ bytes));
     utf8 = IsUtf8-append k.front bytes k.utf8 u;
     short = omega arith;
     none = none-in-nothing;
     faultless = nothing-faultless;
   }
 
-  module _ (bytes : List ℕ) (v : ℕ) (e : bytes ≡ between input (pos - length carry) to) (u : IsValidUpTo bytes v) where
+  module _ (v : ℕ) (u : IsValidUpTo bytes v) where
     front-whole : IsUtf8 (k.front ++ take v bytes)
     front-whole = IsUtf8-append k.front (take v bytes) k.utf8 u.front
 
     parted : between input from to ≡ (k.front ++ take v bytes) ++ drop v bytes
-    parted = all-are ∙ ap (λ (x : List ℕ). k.front ++ x) (sym e ∙ sym (take-append-drop v bytes)) ∙ sym (append_assoc k.front (take v bytes) (drop v bytes))
+    parted = all-are ∙ ap (λ (x : List ℕ). k.front ++ x) (sym (take-append-drop v bytes)) ∙ sym (append_assoc k.front (take v bytes) (drop v bytes))
 
-    pub passed-cut : (o : Option ℕ) → o ≡ utf8_error_len (drop v bytes) → is_some o ≡ false → length bytes < v + 4 → EndsIn (drop v bytes) (between input from to)
-    passed-cut o fault none s = record {
-      front = k.front ++ take v bytes;
-      parts = parted;
-      utf8 = front-whole;
-      short = omega (arith, length-drop v bytes, s);
-      none = none-behind bytes v u;
-      faultless = sym fault ∙ none-of o none;
-    }
+    module _ (o : Option ℕ) (fault : o ≡ utf8_error_len (drop v bytes)) where
+      pub passed-cut : is_some o ≡ false → IsErrorLen bytes v o → EndsIn (drop v bytes) (between input from to)
+      passed-cut none s = record {
+        front = k.front ++ take v bytes;
+        parts = parted;
+        utf8 = front-whole;
+        short = omega (arith, length-drop v bytes, short-rest bytes v o none s);
+        none = none-behind bytes v u;
+        faultless = sym fault ∙ none-of o none;
+      }
 
-    pub passed-broken : (o : Option ℕ) → o ≡ utf8_error_len (drop v bytes) → is_some o ≡ true → (more : List ℕ) → IsUtf8 (between input from to ++ more) → ⊥
-    passed-broken o fault some more t =
-        broken-rest (k.front ++ take v bytes) (drop v bytes) more front-whole (none-behind bytes v u) (ap is_some (sym fault) ∙ some) (subst (λ (x : List ℕ). IsUtf8 (x ++ more)) parted t)
-
-pub short-rest : (bytes : List ℕ) (v : ℕ) (o : Option ℕ) → is_some o ≡ false → IsErrorLen bytes v o → length bytes < v + 4
-short-rest bytes v None e s = s
-short-rest bytes v (Some n) e s = absurd cc
+      pub passed-broken : is_some o ≡ true → (more : List ℕ) → IsUtf8 (between input from to ++ more) → ⊥
+      passed-broken some more t =
+          broken-rest (k.front ++ take v bytes) (drop v bytes) more front-whole (none-behind bytes v u) (ap is_some (sym fault) ∙ some) (subst (λ (x : List ℕ). IsUtf8 (x ++ more)) parted t)
 
 -- what can become no text does not by more bytes
 pub broken-on : (input : List ℕ) (from pos to : ℕ) → from ≤ pos → pos ≤ to → ((more : List ℕ) → IsUtf8 (between input from pos ++ more) → ⊥) → (more : List ℕ) → IsUtf8 (between input from to ++ more) → ⊥

@@ -1,6 +1,5 @@
-use Rattle.std.proofs.Common.{rules, ◌≡◌, ◌∙◌, ◌-◌, arith, drop, length, take}
-use Rattle.std.proofs.lemmas.List.{length-take}
-use Rattle.stepper.proofs.Checking.{ends-text, other-text}
+use Rattle.std.proofs.Common.{rules, ◌≡◌, ◌∙◌, ◌-◌, drop, length, take}
+use Rattle.stepper.proofs.Checking.{carry-size, ends-text, other-text}
 use Rattle.stepper.proofs.check.TextCheck.is_text.Goals as goal
 
 pub returns-in-Cut : goal.returns-in-Cut
@@ -8,8 +7,7 @@ returns-in-Cut c =
     let k = c.in-Cut.carry in
     let content = take (c.args.to - c.args.from) (drop c.args.from c.args.input.now) in
     let full : length k.bytes ≡ 3 = search rules in
-    let size : k.len ≡ length (take k.len k.bytes) = omega (arith, length-take k.len k.bytes, full, k.short) in
-    ends-text content k.len (take k.len k.bytes) size c.in-Cut.ensures.check
+    ends-text content k.len (take k.len k.bytes) (carry-size k full) c.in-Cut.ensures.check
 
 pub returns-in_default : goal.returns-in_default
 returns-in_default c =
