@@ -9,3 +9,4 @@ pub mod Longer
 mod Bulk
 pub mod Spelled
 pub mod Foresight
+pub mod WholePayload

@@ -2,3 +2,4 @@ pub mod Running
 pub mod Contract
 pub mod Slice
 pub mod Looking
+pub mod WholePayload

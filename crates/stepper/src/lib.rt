@@ -16,6 +16,7 @@ mod readings;
 mod records;
 mod slice;
 mod step;
+mod whole;
 
 pub use laws::machines_go_on_with_more_input;
 pub use machine::{Machine, Part};
