@@ -41,35 +41,46 @@ fn split_schema(alloc: Global, input: &[u8]) -> Option<(Schema, &[u8])> {
     }
 }
 
-/// A message, transcoded to bytes.
-fn answer(transcoder: &mut Transcoder<'_>, message: &[u8]) -> Option<Vec<u8>> {
-    match transcoder.transcode(message) {
+/// A message, transcoded to bytes, in the room of another answer.
+fn answer(transcoder: &mut Transcoder<'_>, message: &[u8], room: Vec<u8>) -> Option<Vec<u8>> {
+    match transcoder.transcode_in(message, room) {
         Ok(Outcome::Done(bytes)) => Some(bytes),
         _ => None,
     }
 }
 
 /// Transcodes all messages once, and counts the answers.
-fn pass(transcoder: &mut Transcoder<'_>, messages: &[&[u8]], tally: Tally) -> Option<Tally> {
+fn pass(
+    alloc: Global,
+    transcoder: &mut Transcoder<'_>,
+    messages: &[&[u8]],
+    tally: Tally,
+) -> Option<Tally> {
     let mut tally = tally;
+    let mut bytes = Vec::new(alloc);
     for message in messages {
-        let bytes = answer(transcoder, message)?.len() as u64;
+        bytes = answer(transcoder, message, bytes)?;
         tally = Tally {
             answers: tally.answers.wrapping_add(1),
-            bytes: tally.bytes.wrapping_add(bytes),
+            bytes: tally.bytes.wrapping_add(bytes.len() as u64),
         };
     }
     Some(tally)
 }
 
 /// Transcodes all messages so many times.
-fn passes(transcoder: &mut Transcoder<'_>, messages: &[&[u8]], count: u64) -> Option<Tally> {
+fn passes(
+    alloc: Global,
+    transcoder: &mut Transcoder<'_>,
+    messages: &[&[u8]],
+    count: u64,
+) -> Option<Tally> {
     let mut tally = Tally {
         answers: 0,
         bytes: 0,
     };
     for _ in 0..count {
-        tally = pass(transcoder, messages, tally)?;
+        tally = pass(alloc, transcoder, messages, tally)?;
     }
     Some(tally)
 }
@@ -80,7 +91,7 @@ fn dump(alloc: Global, transcoder: &mut Transcoder<'_>, messages: &[&[u8]]) -> O
     let mut answers = Vec::new(alloc);
     put_number(&mut container, messages.len())?;
     for message in messages {
-        let answer = answer(transcoder, message)?;
+        let answer = answer(transcoder, message, Vec::new(alloc))?;
         put_number(&mut container, answer.len())?;
         answers.extend_from_slice(&answer).ok()?;
     }
@@ -104,7 +115,7 @@ fn output_of_messages(
 ) -> Option<Vec<u8>> {
     match task {
         Task::Dump => dump(alloc, transcoder, messages),
-        Task::Passes(count) => line_of(alloc, passes(transcoder, messages, *count)?),
+        Task::Passes(count) => line_of(alloc, passes(alloc, transcoder, messages, *count)?),
     }
 }
 
