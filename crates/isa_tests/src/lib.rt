@@ -1,5 +1,13 @@
-//! Tests of `isa`, in a crate of their own, so that the library is proved once.
+//! Tests of `isa`, `assembler` and `avro_loader`, in a crate of their own, so that the libraries are proved once.
 #![tactic(auto)]
 
+#[cfg(test)]
+mod again;
+#[cfg(test)]
+mod assembling_tests;
+#[cfg(test)]
+mod image_tests;
+#[cfg(test)]
+mod listing_tests;
 #[cfg(test)]
 mod program_tests;

@@ -1,30 +1,11 @@
 //! The listings of programs.
 
 use crate::again::listed;
+use crate::assembling_tests::LONG_LIST;
 use isa::{Entry, Instr, Lists, Parts, Program};
 use outcome::{Mismatch, MismatchKind};
 use std::alloc::{AllocError, Global};
 use std::process::Abort;
-
-/// The listing of the program of a list of longs, by a union of null and the list itself.
-const LONG_LIST: &str = "avro program 1
-const 0 00
-const 1 02
-jumps 0 7 9
-0 CALL 2
-1 HALT
-2 RECORD 2
-3 SLOT 0
-4 LONG
-5 SLOT 1
-6 BRANCH 0
-7 PUT 0
-8 JUMP 11
-9 PUT 1
-10 CALL 2
-11 ENDREC
-12 RET
-";
 
 /// Parts without any thing.
 fn no_parts(alloc: Global) -> Parts {

@@ -6,7 +6,7 @@ use isa::Program;
 use std::alloc::{AllocError, Global};
 
 /// The program of a list of longs, by a union of null and the list itself.
-const LONG_LIST: &str = "avro program 1
+pub(crate) const LONG_LIST: &str = "avro program 1
 const 0 00
 const 1 02
 jumps 0 7 9
