@@ -1,4 +1,4 @@
-//! Tests of `commands`, in a crate of their own, so that the library is proved once.
+//! Tests of `session_commands` and `commands`, in a crate of their own, so that the libraries are proved once.
 #![tactic(auto)]
 
 #[cfg(test)]
@@ -6,10 +6,16 @@ mod asserts;
 #[cfg(test)]
 mod compile_tests;
 #[cfg(test)]
+mod debug_tests;
+#[cfg(test)]
 mod devices;
+#[cfg(test)]
+mod replay_tests;
 #[cfg(test)]
 mod rows;
 #[cfg(test)]
 mod run_tests;
 #[cfg(test)]
 mod running_tests;
+#[cfg(test)]
+mod session_rows;

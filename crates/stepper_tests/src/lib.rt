@@ -1,4 +1,4 @@
-//! Tests of `stepper`, in a crate of their own, so that the library is proved once.
+//! Tests of `stepper` and `debugger`, in a crate of their own, so that the libraries are proved once.
 #![tactic(auto)]
 
 #[cfg(test)]
@@ -7,6 +7,8 @@ mod arena_tests;
 mod programs;
 #[cfg(test)]
 mod row_tests;
+#[cfg(test)]
+mod show_tests;
 #[cfg(test)]
 mod slice_tests;
 #[cfg(test)]

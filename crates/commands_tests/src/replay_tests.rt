@@ -1,6 +1,6 @@
 //! What `replay` answers to lines.
 
-use crate::rows::{REFUSALS, REFUSED_MEMORY, TWO_SESSIONS};
+use crate::session_rows::{REFUSALS, REFUSED_MEMORY, TWO_SESSIONS};
 use session_commands::replay;
 use std::alloc::{AllocError, Global};
 use std::test::Fail;
