@@ -328,10 +328,18 @@ fn names_stand_in_their_namespaces(rt: HostRuntime) {
 }
 
 /// A record `a.R` that defines the fixed `a.F`, and has a field of a further type.
-fn record_with(alloc: Global, further: &str) -> Result<String, AllocError> {
+fn record_once(alloc: Global, further: &str) -> Result<String, AllocError> {
     format!(in alloc;
         "{{\"type\":\"record\",\"name\":\"a.R\",\"fields\":[{{\"name\":\"x\",\"type\":{{\"type\":\"fixed\",\"name\":\"F\",\"size\":1}}}},{{\"name\":\"y\",\"type\":{further}}}]}}"
     )
+}
+
+/// The same, made again where memory ran out the first time.
+fn record_with(alloc: Global, further: &str) -> Result<String, AllocError> {
+    match record_once(alloc, further) {
+        Err(AllocError) => record_once(alloc, further),
+        answer => answer,
+    }
 }
 
 /// Whether a line, of a fault's name and the type of a further field, tells the fault.
