@@ -52,7 +52,7 @@ pub struct Machine {
     pub(crate) scratch: Vec<u8>,
     /// What was found ahead.
     pub(crate) found: Found,
-    /// Before this place nothing is looked for ahead.
+    /// Up to this place looking ahead went before, and took nothing.
     pub(crate) looked: usize,
     pub(crate) alloc: Global,
 }
