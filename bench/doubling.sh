@@ -2,7 +2,7 @@
 # Whether time is linear: the program on payloads of nested arrays of records, and on schemas of many symbols, of many long names that
 # differ at their ends, of many defaults, members, aliases, and names in one long namespace, each of one size and of twice that size, in one
 # run. And whether a datum costs the same with a schema of twice the size: records of many fields, unions of many members, enums of many
-# symbols, long names. Not part of the gate. Usage: bench/doubling.sh PROGRAM [WORD], which takes the rows alone whose names have that word.
+# symbols, long names, lists of many levels. Not part of the gate. Usage: bench/doubling.sh PROGRAM [WORD], which takes the rows alone whose names have that word.
 set -euo pipefail
 program=$(realpath "$1")
 exec python3 - "$program" "${2:-}" <<'PYTHON'
@@ -121,6 +121,13 @@ def name_row(letters):
     data = 400_000
     return schema, schema, number(data) + number(20) * data + b"\0", data
 
+def levels_row(levels):
+    """Lists of records in one another, of which each ends in a number that is spelled longer than it need be."""
+    items = '{"type":"record","name":"List","fields":[{"name":"value","type":"long"},{"name":"next","type":["null","List"]}]}'
+    schema = '{"type":"array","items":%s}' % items
+    lists = 100_000 // levels
+    return schema, schema, number(lists) + ((number(7) + number(1)) * (levels - 1) + b"\x80\0\0") * lists + b"\0", lists * levels
+
 def seconds(data, verb="transcode"):
     begin = time.perf_counter()
     done = subprocess.run([program, verb], input=data, capture_output=True)
@@ -158,7 +165,8 @@ if word in "payload in pieces":
     print("payload in pieces of %d and %d bytes: %.1f ms and %.1f ms, ratio %.2f (2.3 at most)" % (size, size * 2, once * 1000, twice * 1000, twice / once))
 
 for name, make, many in [("data of a record by its fields", fields_row, 500), ("data of a union by its members", members_row, 500),
-                         ("data of an enum by its symbols", symbols_row, 2000), ("data of a record by the letters of its name", name_row, 50_000)]:
+                         ("data of an enum by its symbols", symbols_row, 2000), ("data of a record by the letters of its name", name_row, 50_000),
+                         ("data of a list by its levels", levels_row, 450)]:
     if word not in name:
         continue
     costs = []
