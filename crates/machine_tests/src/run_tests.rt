@@ -156,11 +156,14 @@ fn a_run_waits_for_bytes(rt: HostRuntime) {
     assert_run_waits(&rt, &program);
 }
 
-/// Whether the arena of a run on a payload is the payload, after so many rows.
+/// A breakpoint where no instruction stands. Where there is one, rows are taken one by one, and nothing is looked for ahead.
+const NOWHERE: u32 = u32::MAX;
+
+/// Whether the arena of a run on a payload is the payload, after so many rows, one by one.
 fn has_arena(run: &mut Run<'_>, payload: &[u8], k: u64) -> Result<bool, AllocError> {
     pushed(run, payload)?;
     run.close();
-    let _rows = run.slice(&[], k);
+    let _rows = run.slice(&[NOWHERE], k);
     Ok(run.machine().arena() == payload)
 }
 

@@ -12,9 +12,12 @@ const ARRAY: &str = "0 BLOCKS,1 NEXT 4,2 LONG,3 JUMP 1,4 HALT";
 /// More segments than any buffer of these tests has.
 const SEGMENTS: usize = 4;
 
+/// A breakpoint where no instruction stands. Where there is one, rows are taken one by one, and nothing is looked for ahead.
+const NOWHERE: u32 = u32::MAX;
+
 const SWAPPED: &str = "0 CALL 2,1 HALT,2 RECORD 2,3 SLOT 1,4 LONG,5 SLOT 0,6 TEXT,7 ENDREC,8 RET";
 
-/// The arena of a machine after so many rows.
+/// The arena of a machine after so many rows, one by one.
 fn arena_after(
     alloc: Global,
     program: &Program,
@@ -22,7 +25,7 @@ fn arena_after(
     k: u64,
 ) -> Result<Vec<u8>, AllocError> {
     let mut machine = Machine::new(alloc);
-    let _rows = machine.slice(program, input, true, &[], k);
+    let _rows = machine.slice(program, input, true, &[NOWHERE], k);
     Vec::from_slice(alloc, machine.arena())
 }
 
@@ -101,7 +104,7 @@ fn buffer_words(alloc: Global, machine: &Machine, at: BufferAt) -> Result<String
     Ok(words)
 }
 
-/// The same after so many rows.
+/// The same after so many rows, one by one.
 fn words_after(
     alloc: Global,
     program: &Program,
@@ -110,7 +113,7 @@ fn words_after(
     at: BufferAt,
 ) -> Result<String, AllocError> {
     let mut machine = Machine::new(alloc);
-    let _rows = machine.slice(program, input, true, &[], k);
+    let _rows = machine.slice(program, input, true, &[NOWHERE], k);
     buffer_words(alloc, &machine, at)
 }
 
