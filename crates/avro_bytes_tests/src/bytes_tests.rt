@@ -10,6 +10,7 @@ use avro_bytes::{
     walks_pass_the_items, walks_stand_at_their_blocks, walks_tell_the_first_fault,
 };
 use std::alloc::AllocError;
+use std::fmt::Debug;
 use std::process::Abort;
 use std::test::Fail;
 
@@ -17,6 +18,11 @@ const START: Meter = Meter { depth: 0, units: 0 };
 
 fn malformed(kind: MalformedKind, at: usize) -> Fault {
     Fault::Malformed { kind, at }
+}
+
+/// Whether an answer is as it is wanted. All answers are compared here: what an assertion does where it fails is then looked at once a type.
+fn same<T: PartialEq + Debug + Copy>(rt: &impl Abort, found: T, want: T) {
+    assert_eq!(rt; found, want);
 }
 
 /// Whether a number is spelled by these bytes.
@@ -29,10 +35,10 @@ fn assert_spelled(rt: &(impl Abort + AllocGlobal), n: i64, bytes: &[u8]) -> Resu
 
 /// Whether bytes are read as a number, which needs as many.
 fn assert_number(rt: &impl Abort, n: i64, bytes: &[u8]) {
-    assert_eq!(rt; long_len(n), bytes.len(), "{n}");
+    same(rt, long_len(n), bytes.len());
     let (read, skip) = read_and_skip(&Long, bytes, 0, START);
-    assert_eq!(rt; read, Ok((n, bytes.len(), START)), "{n}");
-    assert_eq!(rt; skip, Ok((bytes.len(), START)), "{n}");
+    same(rt, read, Ok((n, bytes.len(), START)));
+    same(rt, skip, Ok((bytes.len(), START)));
 }
 
 #[test]
@@ -65,43 +71,49 @@ fn numbers_of_the_specification(rt: HostRuntime) -> Result<(), AllocError> {
 
 #[test]
 fn longer_spellings_are_numbers_too(rt: HostRuntime) {
-    assert_eq!(rt; Int.read(&[0x80, 0x00], 0, START), Ok((0, 2, START)));
-    assert_eq!(rt;
+    same(&rt, Int.read(&[0x80, 0x00], 0, START), Ok((0, 2, START)));
+    same(
+        &rt,
         Int.read(&[0xff, 0xff, 0xff, 0xff, 0x0f], 0, START),
-        Ok((i32::MIN, 5, START))
+        Ok((i32::MIN, 5, START)),
     );
-    assert_eq!(rt; Int.skip(&[0x82, 0x80, 0x00], 0, START), Ok((3, START)));
-    assert_eq!(rt; read_int(&[0xff, 0x81, 0x00], 1, START), Ok((-1, 3, START)));
-    assert_eq!(rt; Long.read(&[0xff, 0x36], 1, START), Ok((27, 2, START)));
+    same(&rt, Int.skip(&[0x82, 0x80, 0x00], 0, START), Ok((3, START)));
+    same(
+        &rt,
+        read_int(&[0xff, 0x81, 0x00], 1, START),
+        Ok((-1, 3, START)),
+    );
+    same(&rt, Long.read(&[0xff, 0x36], 1, START), Ok((27, 2, START)));
 }
 
 #[test]
 fn numbers_too_long_or_too_great(rt: HostRuntime) {
     let bad = malformed(MalformedKind::BadNumber, 0);
     let int = [0xff, 0xff, 0xff, 0xff, 0x1f];
-    assert_eq!(rt; Int.read(&int, 0, START), Err(bad));
-    assert_eq!(rt; Int.skip(&int, 0, START), Err(bad));
+    same(&rt, Int.read(&int, 0, START), Err(bad));
+    same(&rt, Int.skip(&int, 0, START), Err(bad));
     let long = [0xff, 0xff, 0xff, 0xff, 0xff, 0xff, 0xff, 0xff, 0xff, 0x02];
-    assert_eq!(rt; Long.read(&long, 0, START), Err(bad));
-    assert_eq!(rt; Long.skip(&long, 0, START), Err(bad));
+    same(&rt, Long.read(&long, 0, START), Err(bad));
+    same(&rt, Long.skip(&long, 0, START), Err(bad));
 }
 
 #[test]
 fn numbers_cut_short(rt: HostRuntime) {
-    assert_eq!(rt;
+    same(
+        &rt,
         Int.read(&[0x80, 0x80, 0x80, 0x80], 0, START),
-        Err(Fault::Need)
+        Err(Fault::Need),
     );
-    assert_eq!(rt; Long.read(&[], 0, START), Err(Fault::Need));
-    assert_eq!(rt; Long.skip(&[0x80], 0, START), Err(Fault::Need));
+    same(&rt, Long.read(&[], 0, START), Err(Fault::Need));
+    same(&rt, Long.skip(&[0x80], 0, START), Err(Fault::Need));
 }
 
 /// Whether lengths are read, and none is less than 0.
 fn assert_lengths(rt: &impl Abort) {
     let length = malformed(MalformedKind::BadLength, 1);
-    assert_eq!(rt; read_length(&[0xff, 0x04], 1, START), Ok((2, 2, START)));
-    assert_eq!(rt; read_length(&[0xff, 0x01], 1, START), Err(length));
-    assert_eq!(rt; read_length(&[0x80], 0, START), Err(Fault::Need));
+    same(rt, read_length(&[0xff, 0x04], 1, START), Ok((2, 2, START)));
+    same(rt, read_length(&[0xff, 0x01], 1, START), Err(length));
+    same(rt, read_length(&[0x80], 0, START), Err(Fault::Need));
 }
 
 /// Whether positions are read and skipped, and none passes the last one.
@@ -111,10 +123,10 @@ fn assert_positions(rt: &impl Abort) {
         bad: MalformedKind::BadBranch,
         many: 2,
     };
-    assert_eq!(rt; position.read(&[0x02], 0, START), Ok((1, 1, START)));
-    assert_eq!(rt; position.skip(&[0x02], 0, START), Ok((1, START)));
-    assert_eq!(rt; position.read(&[0x04], 0, START), Err(branch));
-    assert_eq!(rt; position.skip(&[0x01], 0, START), Err(branch));
+    same(rt, position.read(&[0x02], 0, START), Ok((1, 1, START)));
+    same(rt, position.skip(&[0x02], 0, START), Ok((1, START)));
+    same(rt, position.read(&[0x04], 0, START), Err(branch));
+    same(rt, position.skip(&[0x01], 0, START), Err(branch));
 }
 
 #[test]
@@ -125,16 +137,16 @@ fn lengths_and_positions(rt: HostRuntime) {
     assert_lengths(&rt);
     assert_positions(&rt);
     let symbol = read_position(MalformedKind::BadEnum, 1, &[0x02], 0, START);
-    assert_eq!(rt; symbol, Err(malformed(MalformedKind::BadEnum, 0)));
-    assert_eq!(rt; read_long(&[0xff, 0x36], 1, START), Ok((27, 2, START)));
-    assert_eq!(rt; read_boolean(&[0x01], 0, START), Ok((true, 1, START)));
+    same(&rt, symbol, Err(malformed(MalformedKind::BadEnum, 0)));
+    same(&rt, read_long(&[0xff, 0x36], 1, START), Ok((27, 2, START)));
+    same(&rt, read_boolean(&[0x01], 0, START), Ok((true, 1, START)));
 }
 
 /// Whether bytes are read and skipped as this boolean or fault.
 fn assert_boolean(rt: &impl Abort, bytes: &[u8], answer: Result<bool, Fault>) {
     let (read, skip) = read_and_skip(&Bool, bytes, 0, START);
-    assert_eq!(rt; read, answer.map(|value| (value, 1, START)), "{bytes:?}");
-    assert_eq!(rt; skip, answer.map(|_| (1, START)), "{bytes:?}");
+    same(rt, read, answer.map(|value| (value, 1, START)));
+    same(rt, skip, answer.map(|_| (1, START)));
 }
 
 #[test]
@@ -160,11 +172,12 @@ fn read_text(rt: &impl AllocGlobal, bytes: &[u8]) -> Result<(String, usize, Mete
 fn texts(rt: HostRuntime) -> Result<(), Fail> {
     let (text, to, after) = read_text(&rt, &[0x06, 0x66, 0x6f, 0x6f, 0x00])?;
     assert_eq!(rt; text.as_str(), "foo");
-    assert_eq!(rt; (to, after), (4, START));
+    same(&rt, (to, after), (4, START));
     let form = Text { alloc: rt.alloc() };
-    assert_eq!(rt;
+    same(
+        &rt,
         form.skip(&[0x06, 0x66, 0x6f, 0x6f, 0x00], 0, START),
-        Ok((4, START))
+        Ok((4, START)),
     );
     Ok(())
 }
@@ -172,8 +185,8 @@ fn texts(rt: HostRuntime) -> Result<(), Fail> {
 /// Whether a text has this fault, where it is skipped and where it is read.
 fn assert_no_text(rt: &(impl Abort + AllocGlobal), bytes: &[u8], fault: Fault) {
     let form = Text { alloc: rt.alloc() };
-    assert_eq!(rt; form.skip(bytes, 0, START), Err(fault), "{bytes:?}");
-    assert_eq!(rt; read_text(rt, bytes).err(), Some(fault), "{bytes:?}");
+    same(rt, form.skip(bytes, 0, START), Err(fault));
+    same(rt, read_text(rt, bytes).err(), Some(fault));
 }
 
 #[test]
@@ -216,7 +229,7 @@ fn assert_reads<F: WireForm<Value = Vec<u8>>>(
 ) {
     let (found, end, after) = read_bytes(form, bytes).expect(rt, "bytes");
     assert_eq!(rt; found.as_slice(), value);
-    assert_eq!(rt; (end, after), (to, START));
+    same(rt, (end, after), (to, START));
 }
 
 /// Whether a form of bytes skips so, and reads with the same fault or none.
@@ -226,8 +239,8 @@ fn assert_skips<F: WireForm<Value = Vec<u8>>>(
     bytes: &[u8],
     answer: Result<(usize, Meter), Fault>,
 ) {
-    assert_eq!(rt; form.skip(bytes, 0, START), answer, "{bytes:?}");
-    assert_eq!(rt; read_bytes(form, bytes).err(), answer.err(), "{bytes:?}");
+    same(rt, form.skip(bytes, 0, START), answer);
+    same(rt, read_bytes(form, bytes).err(), answer.err());
 }
 
 #[test]
@@ -257,27 +270,29 @@ fn so_many_bytes(rt: HostRuntime) {
 
 /// Whether a meter is this, or a fault.
 fn assert_meter(rt: &impl Abort, found: Result<Meter, Fault>, want: Result<Meter, Fault>) {
-    assert_eq!(rt; found, want);
+    same(rt, found, want);
 }
 
 #[test]
 fn records_too_deep_or_too_many(rt: HostRuntime) {
-    assert_eq!(rt; START.enter_record(5), Ok(Meter { depth: 1, units: 1 }));
+    same(&rt, START.enter_record(5), Ok(Meter { depth: 1, units: 1 }));
     let deep = Meter {
         depth: MOST_DEPTH,
         units: MOST_UNITS,
     };
-    assert_eq!(rt;
+    same(
+        &rt,
         deep.enter_record(5),
-        Err(malformed(MalformedKind::TooDeep, 5))
+        Err(malformed(MalformedKind::TooDeep, 5)),
     );
     let many = Meter {
         depth: 0,
         units: MOST_UNITS,
     };
-    assert_eq!(rt;
+    same(
+        &rt,
         many.enter_record(5),
-        Err(malformed(MalformedKind::TooMany, 5))
+        Err(malformed(MalformedKind::TooMany, 5)),
     );
 }
 
@@ -316,10 +331,14 @@ fn inside(units: u32) -> Meter
 fn assert_block(rt: &impl Abort) -> Result<(), Fault> {
     let outside = Meter { depth: 0, units: 1 };
     let (mut walk, m) = BlockWalk::begin(0, START)?;
-    assert_eq!(rt; m, inside(0));
+    same(rt, m, inside(0));
     let bytes = [0x02, 0x36, 0x00];
-    assert_eq!(rt; walk.next(&bytes, 0, inside(0)), Ok((true, 1, inside(1))));
-    assert_eq!(rt; walk.next(&bytes, 2, inside(1)), Ok((false, 3, outside)));
+    same(
+        rt,
+        walk.next(&bytes, 0, inside(0)),
+        Ok((true, 1, inside(1))),
+    );
+    same(rt, walk.next(&bytes, 2, inside(1)), Ok((false, 3, outside)));
     Ok(())
 }
 
@@ -328,15 +347,19 @@ fn assert_sized_block(rt: &impl Abort) -> Result<(), Fault> {
     let outside = Meter { depth: 0, units: 1 };
     let (mut walk, _) = BlockWalk::begin(0, START)?;
     let bytes = [0x01, 0x02, 0x36, 0x00];
-    assert_eq!(rt; walk.next(&bytes, 0, inside(0)), Ok((true, 2, inside(1))));
-    assert_eq!(rt; walk.next(&bytes, 3, inside(1)), Ok((false, 4, outside)));
+    same(
+        rt,
+        walk.next(&bytes, 0, inside(0)),
+        Ok((true, 2, inside(1))),
+    );
+    same(rt, walk.next(&bytes, 3, inside(1)), Ok((false, 4, outside)));
     Ok(())
 }
 
 /// The same of no block.
 fn assert_no_block(rt: &impl Abort) -> Result<(), Fault> {
     let (mut walk, _) = BlockWalk::begin(0, START)?;
-    assert_eq!(rt; walk.next(&[0x00], 0, inside(0)), Ok((false, 1, START)));
+    same(rt, walk.next(&[0x00], 0, inside(0)), Ok((false, 1, START)));
     Ok(())
 }
 
@@ -353,13 +376,29 @@ fn walks_go_on_from_their_parts(rt: HostRuntime) -> Result<(), Fail> {
     walks_stand_at_their_blocks();
     let (mut walk, _) = BlockWalk::begin(0, START)?;
     let bytes = [0x03, 0x04, 0x36, 0x36, 0x00];
-    assert_eq!(rt; walk.next(&bytes, 0, inside(0)), Ok((true, 2, inside(1))));
-    assert_eq!(rt; (walk.left(), walk.count_at(), walk.items_at()), (1, 0, 2));
-    assert_eq!(rt; walk.size(), Some(2));
+    same(
+        &rt,
+        walk.next(&bytes, 0, inside(0)),
+        Ok((true, 2, inside(1))),
+    );
+    same(
+        &rt,
+        (walk.left(), walk.count_at(), walk.items_at()),
+        (1, 0, 2),
+    );
+    same(&rt, walk.size(), Some(2));
     let mut again = BlockWalk::walk_of(1, 0, 2, Some(2));
-    assert_eq!(rt; again.next(&bytes, 3, inside(1)), Ok((true, 3, inside(2))));
+    same(
+        &rt,
+        again.next(&bytes, 3, inside(1)),
+        Ok((true, 3, inside(2))),
+    );
     let outside = Meter { depth: 0, units: 2 };
-    assert_eq!(rt; again.next(&bytes, 4, inside(2)), Ok((false, 5, outside)));
+    same(
+        &rt,
+        again.next(&bytes, 4, inside(2)),
+        Ok((false, 5, outside)),
+    );
     Ok(())
 }
 
@@ -367,12 +406,32 @@ fn walks_go_on_from_their_parts(rt: HostRuntime) -> Result<(), Fail> {
 fn several_blocks_of_several_items(rt: HostRuntime) -> Result<(), Fail> {
     let bytes = [0x04, 0x36, 0x36, 0x03, 0x04, 0x36, 0x36, 0x00];
     let (mut walk, _) = BlockWalk::begin(0, START)?;
-    assert_eq!(rt; walk.next(&bytes, 0, inside(0)), Ok((true, 1, inside(1))));
-    assert_eq!(rt; walk.next(&bytes, 2, inside(1)), Ok((true, 2, inside(2))));
-    assert_eq!(rt; walk.next(&bytes, 3, inside(2)), Ok((true, 5, inside(3))));
-    assert_eq!(rt; walk.next(&bytes, 6, inside(3)), Ok((true, 6, inside(4))));
+    same(
+        &rt,
+        walk.next(&bytes, 0, inside(0)),
+        Ok((true, 1, inside(1))),
+    );
+    same(
+        &rt,
+        walk.next(&bytes, 2, inside(1)),
+        Ok((true, 2, inside(2))),
+    );
+    same(
+        &rt,
+        walk.next(&bytes, 3, inside(2)),
+        Ok((true, 5, inside(3))),
+    );
+    same(
+        &rt,
+        walk.next(&bytes, 6, inside(3)),
+        Ok((true, 6, inside(4))),
+    );
     let outside = Meter { depth: 0, units: 4 };
-    assert_eq!(rt; walk.next(&bytes, 7, inside(4)), Ok((false, 8, outside)));
+    same(
+        &rt,
+        walk.next(&bytes, 7, inside(4)),
+        Ok((false, 8, outside)),
+    );
     Ok(())
 }
 
@@ -380,20 +439,28 @@ fn several_blocks_of_several_items(rt: HostRuntime) -> Result<(), Fail> {
 fn assert_bad_block(rt: &impl Abort) -> Result<(), Fault> {
     let (mut walk, _) = BlockWalk::begin(0, START)?;
     let bytes = [0x01, 0x04, 0x36, 0x00];
-    assert_eq!(rt; walk.next(&bytes, 0, inside(0)), Ok((true, 2, inside(1))));
+    same(
+        rt,
+        walk.next(&bytes, 0, inside(0)),
+        Ok((true, 2, inside(1))),
+    );
     let bad = malformed(MalformedKind::BadBlock, 0);
-    assert_eq!(rt; walk.next(&bytes, 3, inside(1)), Err(bad));
-    assert_eq!(rt; walk.next(&bytes, 3, inside(1)), Err(bad));
+    same(rt, walk.next(&bytes, 3, inside(1)), Err(bad));
+    same(rt, walk.next(&bytes, 3, inside(1)), Err(bad));
     Ok(())
 }
 
 /// Whether a walk that lacks bytes goes on, to an item too many.
 fn assert_full_block(rt: &impl Abort) -> Result<(), Fault> {
     let (mut walk, _) = BlockWalk::begin(0, START)?;
-    assert_eq!(rt; walk.next(&[0x01, 0x80], 0, inside(0)), Err(Fault::Need));
-    assert_eq!(rt; walk.next(&[], 0, inside(0)), Err(Fault::Need));
+    same(rt, walk.next(&[0x01, 0x80], 0, inside(0)), Err(Fault::Need));
+    same(rt, walk.next(&[], 0, inside(0)), Err(Fault::Need));
     let full = malformed(MalformedKind::TooMany, 1);
-    assert_eq!(rt; walk.next(&[0x02, 0x36], 0, inside(MOST_UNITS)), Err(full));
+    same(
+        rt,
+        walk.next(&[0x02, 0x36], 0, inside(MOST_UNITS)),
+        Err(full),
+    );
     Ok(())
 }
 
@@ -406,9 +473,10 @@ fn faults_of_blocks(rt: HostRuntime) -> Result<(), Fault> {
         depth: MOST_DEPTH,
         units: 0,
     };
-    assert_eq!(rt;
+    same(
+        &rt,
         BlockWalk::begin(5, deep).err(),
-        Some(malformed(MalformedKind::TooDeep, 5))
+        Some(malformed(MalformedKind::TooDeep, 5)),
     );
     Ok(())
 }
