@@ -52,5 +52,11 @@ fn records_are_found_ahead(rt: HostRuntime) -> Result<(), Fail> {
         "const 0 02,0 CALL 2,1 HALT,2 RECORD 2,3 SLOT 1,4 PUT 0,5 TEXT,6 SLOT 0,7 LONG,8 ENDREC,9 RET";
     let found = told(rt.alloc(), united, "06666f6f36", 2)?;
     assert_eq!(rt; found.as_str(), "none, 360206666f6f, ");
+    // What is skipped may be an array, before the first slot too, or a record that a routine skips.
+    let dropped =
+        "0 CALL 2,1 HALT,2 RECORD 1,3 SBLOCKS,4 SNEXT 7,5 SLONG,6 JUMP 4,7 SLOT 0,8 BOOL,9 CALL 12,10 ENDREC,\
+                   11 RET,12 ENTER,13 STEXT,14 LEAVE,15 RET";
+    let found = told(rt.alloc(), dropped, "040204000106666f6f", 2)?;
+    assert_eq!(rt; found.as_str(), "none, 01, ");
     Ok(())
 }
