@@ -2,8 +2,6 @@
 #![tactic(auto)]
 
 #[cfg(test)]
-mod ahead_tests;
-#[cfg(test)]
 mod arena_tests;
 #[cfg(test)]
 mod programs;
