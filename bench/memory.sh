@@ -1,6 +1,7 @@
 #!/usr/bin/env bash
 # What an answer that is too large takes: a reader's default of 200,000 letters, copied 20,000 times by a payload of a few bytes, is
-# `output too large` in memory of at most 4 times the limit of an answer, and the payloads before it and after it are answered.
+# `output too large` in memory of at most 4 times the limit of an answer, and the payloads before it and after it are answered; the same where
+# the slot of the default is filled after another, so that slots are put in order.
 # Not part of the gate. Usage: bench/memory.sh PROGRAM
 set -euo pipefail
 exec python3 - "$(realpath "$1")" <<'PYTHON'
@@ -18,26 +19,32 @@ def number(n):
         n >>= 7
     return bytes(out) + bytes([n])
 
-def payload(items):
-    return (number(items) + b"\0").hex() if items else "00"
+def payload(items, item):
+    return (number(items) + item * items + b"\0").hex() if items else "00"
 
-def answer(items):
-    one = number(LETTERS) + b"a" * LETTERS
+def answer(items, item):
+    one = number(LETTERS) + b"a" * LETTERS + item
     return "done " + ((number(items) + one * items if items else b"") + b"\0").hex()
 
 large = "output too large"
-rows = [(payload(0), answer(0)), (payload(1), answer(1)), (payload(20_000), large), (payload(2), answer(2)), (payload(20_000), large), (payload(1), answer(1))]
-text = "\n".join([record(""), record('{"name":"s","type":"string","default":"%s"}' % ("a" * LETTERS))] + [line for line, _ in rows]) + "\n"
-with tempfile.TemporaryFile() as given, tempfile.TemporaryFile() as taken:
-    given.write(text.encode())
-    given.seek(0)
-    child = subprocess.Popen([sys.argv[1], "transcode"], stdin=given, stdout=taken)
-    _, status, usage = os.wait4(child.pid, 0)
-    taken.seek(0)
-    lines = taken.read().decode().split("\n")[:-1]
-assert status == 0, status
-assert lines == [line for _, line in rows], [line[:40] for line in lines]
-peak = usage.ru_maxrss * 1024 / LIMIT
-print("peak memory %.2f times the limit of an answer (4 at most), all %d lines answered" % (peak, len(rows)))
-sys.exit(0 if peak <= 4 else 1)
+
+def peak(written, item):
+    """The peak memory of a run, where the default stands before such fields, each item of these bytes."""
+    rows = [(payload(n, item), large if n > 2 else answer(n, item)) for n in (0, 1, 20_000, 2, 20_000, 1)]
+    default = '{"name":"s","type":"string","default":"%s"}' % ("a" * LETTERS)
+    text = "\n".join([record(written), record(",".join(filter(None, [default, written])))] + [line for line, _ in rows]) + "\n"
+    with tempfile.TemporaryFile() as given, tempfile.TemporaryFile() as taken:
+        given.write(text.encode())
+        given.seek(0)
+        child = subprocess.Popen([sys.argv[1], "transcode"], stdin=given, stdout=taken)
+        _, status, usage = os.wait4(child.pid, 0)
+        taken.seek(0)
+        lines = taken.read().decode().split("\n")[:-1]
+    assert status == 0, status
+    assert lines == [line for _, line in rows], [line[:40] for line in lines]
+    return usage.ru_maxrss * 1024 / LIMIT
+
+alone, first = peak("", b""), peak('{"name":"n","type":"int"}', b"\x0a")
+print("peak memory %.2f times the limit of an answer, and %.2f where the default's slot is filled after another (4 at most), all lines answered" % (alone, first))
+sys.exit(0 if max(alone, first) <= 4 else 1)
 PYTHON
