@@ -1,6 +1,4 @@
 pub mod Lines
-pub mod Parts
-pub mod Numbers
 pub mod Reading
 pub mod Each
 pub mod Places

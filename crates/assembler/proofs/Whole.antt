@@ -12,7 +12,7 @@ use Rattle.assembler.specs.declared.fault.AsmErrorKind.TheVariants.{BadHeader}
 use Rattle.assembler.specs.declared.fault.AsmFault.{AsmFault}
 use Rattle.assembler.specs.Assembling.{◌>>=◌, Gives, after_header, assembled, fault, in_range, nothing, with_header, with_lines}
 use Rattle.assembler.specs.Listing.{listing_of}
-use Rattle.assembler.specs.Words.{parts}
+use Rattle.listing_words.specs.Words.{parts}
 use Rattle.assembler.proofs.Fit.{Fits, program_fits}
 use Rattle.assembler.proofs.Joined.{joined, joined_parts}
 use Rattle.assembler.proofs.Said.{same_bytes}

@@ -7,11 +7,9 @@ mod fault;
 mod laws;
 mod listing;
 mod things;
-mod words;
 
 pub use assembling::assemble;
 pub use fault::{AsmError, AsmErrorKind, AsmFault};
 pub use laws::listing_is_of_one_program;
 pub use listing::disassemble;
 pub use things::bytes_of;
-pub use words::is_numeral;

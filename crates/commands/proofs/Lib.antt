@@ -3,5 +3,4 @@ pub mod OneOutput
 pub mod PiecesLeft
 pub mod SchemaLines
 pub mod Stopping
-pub mod Traffic
 pub mod UpToEnd

@@ -11,7 +11,7 @@ use Rattle.resolver.specs.Outcome.{IsOutcome}
 use Rattle.simulation.specs.Alone.{EndsAreLast, RowsAreCounted, RunsGoOn}
 use Rattle.answer_lines.specs.OutcomeLine.{line_of}
 use Rattle.answer_lines.specs.RunLine.{line_of_run}
-use Rattle.commands.specs.Answer.{AreAnswers, IsAnswer, IsAnswers, IsPayloadAnswer}
+use Rattle.answer_lines.specs.Answer.{AreAnswers, IsAnswer, IsAnswers, IsPayloadAnswer}
 use Rattle.answer_lines.specs.Lines.{lines}
 use Rattle.commands.specs.Listed.{listed}
 use Rattle.commands.specs.Output.{HasOneOutput, HasOutput, IsCompiled, IsForSchemas, IsRun, IsTranscoded, text_of_program}

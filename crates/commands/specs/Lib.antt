@@ -1,4 +1,3 @@
-pub mod Answer
 pub mod Listed
 pub mod Names
 pub mod Output

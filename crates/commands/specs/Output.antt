@@ -7,7 +7,7 @@ use Rattle.assembler.specs.Listing.{listing_of}
 use Rattle.avro_loader.specs.Image.{image_of}
 use Rattle.isa.specs.Program.{Program}
 use Rattle.program_code.specs.Code.{code_of}
-use Rattle.commands.specs.Answer.{AreAnswers, IsAnswers}
+use Rattle.answer_lines.specs.Answer.{AreAnswers, IsAnswers}
 use Rattle.answer_lines.specs.Lines.{line_at, lines}
 use Rattle.commands.specs.Listed.{listed}
 use Rattle.session_commands.specs.Debugging.{IsDebugged, debugged}

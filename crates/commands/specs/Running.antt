@@ -2,7 +2,7 @@
 use Rattle.std.specs.Prelude.{◌≡◌, ◌≤◌, ◌<◌, ℕ, true, List, length, codes, nat_lt, Option, Some, is_some, MatchBool, MatchOption}
 use Rattle.std.specs.List.{concat}
 use Rattle.assembler.specs.Things.{each_in}
-use Rattle.assembler.specs.Words.{parts}
+use Rattle.listing_words.specs.Words.{parts}
 use Rattle.isa.specs.Program.{Program}
 use Rattle.isa.specs.State.{State}
 use Rattle.outcome.specs.declared.limits.TheConstants.{MOST_PAYLOAD}

@@ -7,17 +7,15 @@ ghost use Rattle.commands.specs.declared.status.Status.TheVariants.{Answered, Re
 
 use crate::compile::compile;
 use crate::debugging::debug;
-use crate::input::read_all;
-use crate::output::write_whole;
 use crate::refusal::Refusal;
 use crate::running::run_listed;
 use crate::schemas::schemas_of;
 use crate::status::Status;
 use crate::transcode::transcode;
+use answer_lines::{RunError, read_all, write_whole};
 use session_commands::replay;
-use std::alloc::{AllocError, AllocFailed, Global};
+use std::alloc::{AllocError, Global};
 use std::io::{Read, Write};
-use thiserror::Error;
 
 /// What to do with the input.
 #[derive(Clone, Copy, Debug, PartialEq, Eq)]
@@ -32,37 +30,6 @@ pub enum Verb {
     Debug,
     /// Answers events of a world of sessions.
     Replay,
-}
-
-/// Why a run was broken off.
-#[derive(Clone, Copy, Debug, PartialEq, Eq, Error)]
-pub enum RunError {
-    #[error("the input cannot be read to its end")]
-    Read,
-    #[error("the output cannot be written")]
-    Write,
-    #[error("out of memory")]
-    NoMemory,
-}
-
-impl From<AllocError> for RunError {
-    ghost use Rattle.commands.specs.declared.command.RunError.TheVariants.{NoMemory};
-
-    ghost from_gives = { λ _ e. e ≡ NoMemory };
-
-    fn from(_error: AllocError) -> RunError {
-        RunError::NoMemory
-    }
-}
-
-impl<T: Drop> From<AllocFailed<T>> for RunError {
-    ghost use Rattle.commands.specs.declared.command.RunError.TheVariants.{NoMemory};
-
-    ghost from_gives = { λ _ e. e ≡ NoMemory };
-
-    fn from(_error: AllocFailed<T>) -> RunError {
-        RunError::NoMemory
-    }
 }
 
 /// The output for an input that is answered.

@@ -1,5 +1,5 @@
 ghost use Rattle.std.specs.Prelude.{◌≡◌, ◌<◌, ◌∷◌, [], IfOk, MatchOption, length};
-ghost use Rattle.assembler.specs.Words.{parts};
+ghost use Rattle.listing_words.specs.Words.{parts};
 ghost use Rattle.commands.specs.Running.{pieces_of};
 
 use answer_lines::payload_of;

@@ -5,7 +5,7 @@ ghost use Rattle.assembler.specs.declared.fault.AsmFault.{AsmFault};
 ghost use Rattle.isa.specs.Program.{Program as Parted};
 ghost use Rattle.outcome.specs.declared.limits.TheConstants.{MOST_PAYLOAD};
 ghost use Rattle.answer_lines.specs.Lines.{lines};
-ghost use Rattle.commands.specs.Answer.{AreAnswers};
+ghost use Rattle.answer_lines.specs.Answer.{AreAnswers};
 ghost use Rattle.commands.specs.Listed.{listed};
 ghost use Rattle.commands.specs.Running.{IsRunAnswer, IsRunLine, StopsIn};
 

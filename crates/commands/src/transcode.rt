@@ -1,12 +1,11 @@
 ghost use Rattle.std.specs.Prelude.{◌≡◌, ◌⊎◌, string_bytes, IfErr, IfOk, Some, None};
 ghost use Rattle.isa.specs.Program.{Program};
 ghost use Rattle.program_code.specs.Code.{code_of};
-ghost use Rattle.commands.specs.Answer.{IsAnswers};
+ghost use Rattle.answer_lines.specs.Answer.{IsAnswers};
 ghost use Rattle.answer_lines.specs.Lines.{lines};
 
-use crate::answer::push_answer;
 use crate::refusal::Refusal;
-use answer_lines::split_line;
+use answer_lines::{push_answer, split_line};
 use avro_types::Nodes;
 use machine::Transcoder;
 use program_compiler::CompileError;

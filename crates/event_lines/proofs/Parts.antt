@@ -4,7 +4,7 @@ use Rattle.std.specs.List.{position_or_len, before_first, after_first}
 use Rattle.std.specs.Str.{IsUtf8, is_utf8}
 use Rattle.std.proofs.lemmas.Bool.{eqb-true}
 use Rattle.std.proofs.lemmas.Str.{IsUtf8-from_is_utf8, is_utf8-from_IsUtf8}
-use Rattle.assembler.specs.Words.{in_front, parts, words}
+use Rattle.listing_words.specs.Words.{in_front, parts, words}
 use Rattle.event_lines.specs.Words.{words_left, joined, text_in, words_of_text}
 
 abbrev is_space : ℕ → Bool

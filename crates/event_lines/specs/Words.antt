@@ -4,7 +4,7 @@ use Rattle.std.specs.Borrow.{Bor}
 use Rattle.std.specs.Str.{bytes_eq, is_utf8}
 use Rattle.std.specs.Str.Parse.{digits_value}
 use Rattle.assembler.specs.Things.{◌>>=◌, at_end, bytes_in}
-use Rattle.assembler.specs.Words.{is_numeral, words}
+use Rattle.listing_words.specs.Words.{is_numeral, words}
 use Rattle.schema_registry.specs.declared.level.Level.{Level}
 use Rattle.schema_registry.specs.declared.level.Level.TheVariants as levels
 use Rattle.schema_registry.specs.Level.{level_name}

@@ -2,7 +2,7 @@ ghost use Rattle.std.specs.Prelude.{◌≡◌, ◌^◌, option_map};
 ghost use Rattle.event_lines.specs.Words.{first_number, last_number, last_rows, number_and_rows, number_below, two_numbers, words_left};
 
 use crate::words::{next_word, only_word};
-use assembler::is_numeral;
+use listing_words::is_numeral;
 
 /// The number below 2^32 that a word is.
 fn number_of(word: &str) -> Option<u32>

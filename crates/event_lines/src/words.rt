@@ -1,6 +1,6 @@
 ghost use Rattle.std.specs.Prelude.{◌≡◌, ◌∷◌, [], MatchOption, option_map};
 ghost use Rattle.assembler.specs.Things.{at_end};
-ghost use Rattle.assembler.specs.Words.{words};
+ghost use Rattle.listing_words.specs.Words.{words};
 ghost use Rattle.event_lines.specs.Words.{named, only_word, two_words, word_and_text, words_left, words_of_text};
 
 /// The first word, and what follows the space behind it.

@@ -10,7 +10,7 @@ ghost use Rattle.avro_types.specs.Node.{UnionNode, node_of};
 
 use avro_types::{Datum, Kind};
 use schema_drafts::{Draft, DraftField};
-use schema_names::SchemaError;
+use schema_names::{SchemaError, default_member};
 use serde_json::{Map, Number, Value};
 use std::alloc::Global;
 
@@ -118,10 +118,10 @@ fn union_default(
         (ok_or (by_first (drafts_of drafts.now) (value_of (view value.now) (drafts_of drafts.now))
         (Some (Whole (UnionNode members.now)))) SchemaError.BadDefault) }
 {
-    let Some(first) = members.first() else {
+    let Some(first) = default_member(members) else {
         return Err(SchemaError::BadDefault);
     };
-    let Some(draft) = drafts.get(*first) else {
+    let Some(draft) = drafts.get(first) else {
         return Err(SchemaError::BadDefault);
     };
     let datum = plain_default(alloc, drafts, draft, value)?;

@@ -1,19 +1,17 @@
 -- Names kept in order beside what has them, so that each is found without a look at the others.
-use Rattle.std.specs.Prelude.{◌≡◌, ℕ, ◌==◌, ◌&&◌, List, [], ◌∷◌, ◌++◌, length, false, if◌then◌else◌, Option, Some, None, String, slice_get}
+use Rattle.std.specs.Prelude.{◌≡◌, ℕ, List, [], ◌∷◌, ◌++◌, length, false, if◌then◌else◌, Option, Some, None, String, slice_get}
 use Rattle.std.specs.Arc.{arc_str_bytes}
 use Rattle.std.specs.BTreeMap.{BTreeMap, UpdatesBy, get_by_text}
 use Rattle.std.specs.Cmp.Lexicographic.{slice_cmp}
 use Rattle.std.specs.String.{string_bytes, string_cmp}
-use Rattle.std.specs.BTreeSet.{BTreeSet, contains, contains_text}
-use Rattle.std.specs.List.{list_any}
+use Rattle.std.specs.BTreeSet.{BTreeSet, contains_text}
 use Rattle.std.specs.Ordering.{nat_cmp}
 use Rattle.avro_types.specs.declared.name.Name.{Name}
 use Rattle.schema_drafts.specs.declared.namespace.Namespace.{Namespace}
 use Rattle.schema_drafts.specs.Draft.{Draft, DraftField, field_names}
 use Rattle.avro_types.specs.FullNames.{dot, has_dot, inside, namespace_of}
-use Rattle.schema_drafts.specs.Head.{Head, Named, defined_at, heads_of, is_named_head}
+use Rattle.schema_drafts.specs.Head.{Head, Named, defined_at, heads_of}
 use Rattle.avro_types.specs.Symbols.{is_used, place_of}
-use Rattle.schema_drafts.specs.Head.{head_at}
 
 -- ---- namespaces
 
@@ -70,11 +68,6 @@ pub record IsIndexOf {A : Type 0} (numbers : BTreeMap (String A) ℕ) (scopes : 
       → has_dot last ≡ false → get_by_text scope last ≡ defined_at (inside namespace last) (heads_of ds)
   pub once : AreOnce (heads_of ds)
   pub begins_none : BeginWithNoDot (heads_of ds)
-
--- the set has those of the members that have names
-abbrev pub AreNamedMembers : BTreeSet ℕ → List ℕ → List Head → Type 0
-AreNamedMembers named members heads = (n : ℕ)
-    → contains nat_cmp named n ≡ (is_named_head (head_at heads n) && list_any (λ m. n == m) members)
 
 -- the names are those of the fields
 abbrev pub AreNamesOf : {A : Type 0} → BTreeSet (String A) → List DraftField → Type 0

@@ -2,4 +2,3 @@ pub mod Draft
 pub mod Head
 pub mod Index
 pub mod JsonCode
-pub mod Unnamed

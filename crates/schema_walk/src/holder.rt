@@ -5,7 +5,7 @@ ghost use Rattle.schema_walk.specs.Holder.{holder_node};
 use avro_types::Kind;
 
 /// A kind that holds values of one type.
-#[derive(Clone, Copy, Debug)]
+#[derive(Clone, Copy)]
 pub enum Holder {
     Array,
     Map,

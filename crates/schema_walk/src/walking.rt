@@ -10,10 +10,10 @@ ghost use Rattle.schema_walk.specs.Walk.{leaf, reference, named, walk, members, 
 
 use crate::holder::Holder;
 use avro_types::{Kind, MOST_FIELDS, MOST_NODES};
-use schema_drafts::{Draft, DraftField, Drafts, FieldList, Namespace, are_apart};
+use schema_drafts::{Draft, DraftField, Drafts, FieldList, Namespace};
 use schema_names::{
-    Form, SchemaError, Word, default_symbol, defined_node, field_aliases, field_name, new_names,
-    size_of, symbols_of,
+    Form, SchemaError, Word, are_apart, default_symbol, defined_node, field_aliases, field_name,
+    new_names, size_of, symbols_of,
 };
 use serde_json::Value;
 use std::alloc::Global;

@@ -1,6 +1,6 @@
 -- What is answered so far goes before the answers of the lines that are left, and the pair stays.
 use Rattle.std.proofs.Common.{◌≡◌, string_bytes, length}
-use Rattle.commands.specs.Answer.{IsAnswer}
+use Rattle.answer_lines.specs.Answer.{IsAnswer}
 use Rattle.commands.proofs.Answers.{Continues}
 use Rattle.answer_lines.specs.Lines.{lines}
 use Rattle.commands.proofs.transcode.answers.Given as goal

@@ -1,5 +1,5 @@
 use Rattle.std.proofs.Common.{◌≡◌, ◌^◌, true, false}
-use Rattle.assembler.specs.Words.{is_numeral}
+use Rattle.listing_words.specs.Words.{is_numeral}
 use Rattle.event_lines.proofs.Numerals.{no_number, parsed}
 use Rattle.event_lines.proofs.numbers.rows_of.Goals as goal
 

@@ -1,5 +1,5 @@
 use Rattle.std.proofs.Common.{◌≡◌}
-use Rattle.assembler.specs.Words.{words}
+use Rattle.listing_words.specs.Words.{words}
 use Rattle.event_lines.proofs.Parts.{no_words, text_words}
 use Rattle.event_lines.proofs.words.first_word.Goals as goal
 

@@ -79,19 +79,19 @@ default_at-returns-in-Record t c =
 
 pub union_default-plain_default-requires : goal.union_default-plain_default-requires
 union_default-plain_default-requires t c =
-    let placed = draft-at c.args.drafts.now c.in-Some.first.now c.in-Some-get.draft.now c.in-Some-get.ensures.lookup.3.0 c.in-Some-get.ensures.lookup.1 in
-    (omega arith, (c.requires.few, few-at (drafts_of c.args.drafts.now) c.in-Some.first.now _ c.requires.few placed))
+    let placed = draft-at c.args.drafts.now c.in-Some.first c.in-Some-get.draft.now c.in-Some-get.ensures.lookup.3.0 c.in-Some-get.ensures.lookup.1 in
+    (omega arith, (c.requires.few, few-at (drafts_of c.args.drafts.now) c.in-Some.first _ c.requires.few placed))
 
 pub union_default-returns-in_err-datum : goal.union_default-returns-in_err-datum
 union_default-returns-in_err-datum t c =
     let p = err_from_is_err_and c.from_residual.result c.from_residual.ensures.1 in
-    let placed = draft-at c.args.drafts.now c.in-Some.first.now c.in-Some-get.draft.now c.in-Some-get.ensures.lookup.3.0 c.in-Some-get.ensures.lookup.1 in
-    rw (p.1, p.2) (λ known. rw (union-value (drafts_of c.args.drafts.now) _ c.args.members.now c.in-Some.first.now _ c.in-Some.ensures.value placed) (fault-map (UnionDatum 0) _ _ (c.in_err-datum.ensures known)))
+    let placed = draft-at c.args.drafts.now c.in-Some.first c.in-Some-get.draft.now c.in-Some-get.ensures.lookup.3.0 c.in-Some-get.ensures.lookup.1 in
+    rw (p.1, p.2) (λ known. rw (union-value (drafts_of c.args.drafts.now) _ c.args.members.now c.in-Some.first _ c.in-Some.ensures placed) (fault-map (UnionDatum 0) _ _ (c.in_err-datum.ensures known)))
 
 pub union_default-returns : goal.union_default-returns
 union_default-returns t c =
-    let placed = draft-at c.args.drafts.now c.in-Some.first.now c.in-Some-get.draft.now c.in-Some-get.ensures.lookup.3.0 c.in-Some-get.ensures.lookup.1 in
-    rw (union-value (drafts_of c.args.drafts.now) (value_of (view c.args.value.now) (drafts_of c.args.drafts.now)) c.args.members.now c.in-Some.first.now _ c.in-Some.ensures.value placed, c.in_ok-new.ensures.ok) (told-map (UnionDatum 0) _ _ c.in_ok-datum.ensures)
+    let placed = draft-at c.args.drafts.now c.in-Some.first c.in-Some-get.draft.now c.in-Some-get.ensures.lookup.3.0 c.in-Some-get.ensures.lookup.1 in
+    rw (union-value (drafts_of c.args.drafts.now) (value_of (view c.args.value.now) (drafts_of c.args.drafts.now)) c.args.members.now c.in-Some.first _ c.in-Some.ensures placed, c.in_ok-new.ensures.ok) (told-map (UnionDatum 0) _ _ c.in_ok-datum.ensures)
 
 pub fields_default-default_at-requires : goal.fields_default-default_at-requires
 fields_default-default_at-requires t c =
