@@ -7,8 +7,8 @@ ghost use Rattle.listing_words.specs.Words.{parts};
 
 use crate::draft::{Draft, fault};
 use crate::fault::{AsmError, AsmErrorKind};
-use listing_words::{is_text, split_line};
 use isa::Program;
+use listing_words::{is_text, split_line};
 use std::alloc::Global;
 
 /// What the lines after the header say.

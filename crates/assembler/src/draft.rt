@@ -8,11 +8,11 @@ ghost use Rattle.assembler.specs.declared.fault.AsmError.TheVariants as errors;
 
 use crate::fault::{AsmError, AsmErrorKind, AsmFault};
 use crate::things::{constant_of, first_number, instr_of, list_of, miss_of};
-use listing_words::{is_text, number_of, split_word};
 use isa::{
     Lists, MOST_CONSTANT_BYTES, MOST_ENTRIES, MOST_INSTRS, MOST_TABLES, Parts, Program,
     ProgramError,
 };
+use listing_words::{is_text, number_of, split_word};
 use std::alloc::Global;
 use std::marker::Model;
 

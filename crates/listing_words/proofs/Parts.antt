@@ -1,5 +1,5 @@
 -- How the first separator splits a text.
-use Rattle.std.proofs.Common.{◌≡◌, ℕ, zero, suc, ◌+◌, ◌<◌, ◌≤◌, nat_eq, cond, Bool, true, false, List, [], ◌∷◌, length, take, drop, get_or, refl, ap, sym, ◌∙◌, add-one, arith}
+use Rattle.std.proofs.Common.{◌≡◌, ℕ, zero, suc, ◌+◌, ◌<◌, nat_eq, cond, Bool, true, false, List, [], ◌∷◌, length, take, drop, get_or, refl, add-one, arith}
 use Rattle.std.proofs.lemmas.List.{drop_all}
 use Rattle.listing_words.specs.Words.{in_front, later, parts, words}
 

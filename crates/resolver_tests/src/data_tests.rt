@@ -3,6 +3,7 @@
 use crate::again::{parsed, read_again, written};
 use crate::lines::{bytes_of, is_answer, malformed_line, written_line};
 use crate::rows::DATA;
+use crate::same::{holds, same};
 use avro_bytes::{Fault, MOST_UNITS, MalformedKind, Meter, WireForm, read_and_skip};
 use avro_datum::{NodeForm, PayloadError, WriteError, write};
 use avro_schema::Datum;
@@ -44,12 +45,12 @@ fn payloads_are_read_and_written(rt: HostRuntime) -> Result<(), Fail> {
     let lines: Vec<&str> = DATA.lines().collect(rt.alloc())?;
     for row in lines.chunks(3) {
         let [text, payload, answer] = row else {
-            assert!(rt; false, "rows have three lines");
+            holds(&rt, false, "rows have three lines");
             return Ok(());
         };
         let bytes = bytes_of(rt.alloc(), payload)?;
         let found = line_of_payload(&rt, text, &bytes)?;
-        assert!(rt; is_answer(&found, answer), "{text} {payload}: {found}");
+        holds(&rt, is_answer(&found, answer), &found);
     }
     Ok(())
 }
@@ -62,7 +63,7 @@ fn skipping_is_reading_less_the_value(rt: HostRuntime) -> Result<(), Fail> {
     let payload = [0x00, 0x36, 0x06, 0x66, 0x6f, 0x6f, 0x01];
     let (read, skip) = read_and_skip(&form, &payload, 1, Meter::START);
     let after = Meter { depth: 0, units: 1 };
-    assert_eq!(rt; skip, Ok((6, after)));
+    same(&rt, skip, Ok((6, after)));
     assert!(rt; matches!(&read, Ok((_, 6, _)) | Err(Fault::NoMemory)));
     let many = Meter {
         depth: 0,
@@ -72,7 +73,7 @@ fn skipping_is_reading_less_the_value(rt: HostRuntime) -> Result<(), Fail> {
         kind: MalformedKind::TooMany,
         at: 1,
     };
-    assert_eq!(rt; form.skip(&payload, 1, many), Err(refused));
+    same(&rt, form.skip(&payload, 1, many), Err(refused));
     Ok(())
 }
 
@@ -83,7 +84,7 @@ fn a_map_is_skipped(rt: HostRuntime) -> Result<(), Fail> {
     let form = NodeForm::new(rt.alloc(), schema.nodes(), 0);
     let payload = [0x07, 0x01, 0x06, 0x02, 0x61, 0x02, 0x00, 0x09];
     let after = Meter { depth: 0, units: 1 };
-    assert_eq!(rt; form.skip(&payload, 1, Meter::START), Ok((7, after)));
+    same(&rt, form.skip(&payload, 1, Meter::START), Ok((7, after)));
     Ok(())
 }
 
@@ -121,10 +122,11 @@ fn a_datum_that_would_be_written_too_large(rt: HostRuntime) -> Result<(), Fail> 
         longest.push_str("0123456789abcdef0123456789abcdef0123456789abcdef0123456789abcdef")?;
     }
     let mut out = vec![in rt.alloc(); 9u8]?;
-    assert_eq!(rt;
+    same(
+        &rt,
         write(&Datum::Text(longest), &mut out),
-        Err(WriteError::TooLarge)
+        Err(WriteError::TooLarge),
     );
-    assert_eq!(rt; out.as_slice(), [9].as_slice());
+    same(&rt, out.as_slice(), [9].as_slice());
     Ok(())
 }

@@ -15,3 +15,5 @@ mod outcome_tests;
 mod resolving_tests;
 #[cfg(test)]
 mod rows;
+#[cfg(test)]
+mod same;

@@ -3,6 +3,7 @@
 use crate::again::{outcome, parsed, readable};
 use crate::lines::{bytes_of, is_answer, outcome_line};
 use crate::rows::{OUTCOMES, SAFETY};
+use crate::same::holds;
 use resolver::{MOST_PAYLOAD, TranscodeError, transcode_tree};
 use std::alloc::Global;
 use std::test::Fail;
@@ -35,14 +36,11 @@ fn outcomes_of_pairs(rt: HostRuntime) -> Result<(), Fail> {
     let lines: Vec<&str> = OUTCOMES.lines().collect(rt.alloc())?;
     for row in lines.chunks(4) {
         let [writer, reader, payload, answer] = row else {
-            assert!(rt; false, "rows have four lines");
+            holds(&rt, false, "rows have four lines");
             return Ok(());
         };
         let found = line_of_outcome(rt.alloc(), writer, reader, payload)?;
-        assert!(rt;
-            is_answer(&found, answer),
-            "{writer} {reader} {payload}: {found}"
-        );
+        holds(&rt, is_answer(&found, answer), &found);
     }
     Ok(())
 }
@@ -52,11 +50,11 @@ fn readers_that_are_safe(rt: HostRuntime) -> Result<(), Fail> {
     let lines: Vec<&str> = SAFETY.lines().collect(rt.alloc())?;
     for row in lines.chunks(3) {
         let [writer, reader, answer] = row else {
-            assert!(rt; false, "rows have three lines");
+            holds(&rt, false, "rows have three lines");
             return Ok(());
         };
         let found = safety_of(rt.alloc(), writer, reader)?;
-        assert!(rt; is_answer(found, answer), "{writer} {reader}");
+        holds(&rt, is_answer(found, answer), reader);
     }
     Ok(())
 }

@@ -2,6 +2,7 @@
 
 use crate::again::parsed;
 use crate::lines::{outcome_line, written_line};
+use crate::same::same;
 use avro_datum::write;
 use avro_schema::{Datum, Nodes, Schema};
 use resolver::{
@@ -72,18 +73,18 @@ fn line_for(alloc: Global, reader: &str) -> Result<String, Fail> {
 #[test]
 fn fields_go_by_name(rt: HostRuntime) -> Result<(), Fail> {
     let found = line_for(rt.alloc(), REORDERED)?;
-    assert_eq!(rt; found.as_str(), "written 06666f6f36");
+    same(&rt, found.as_str(), "written 06666f6f36");
     let found = line_for(rt.alloc(), SHORTER)?;
-    assert_eq!(rt; found.as_str(), "written 06666f6f");
+    same(&rt, found.as_str(), "written 06666f6f");
     Ok(())
 }
 
 #[test]
 fn mismatches(rt: HostRuntime) -> Result<(), Fail> {
     let found = line_for(rt.alloc(), LONGER)?;
-    assert_eq!(rt; found.as_str(), "mismatch NoDefault 0 3");
+    same(&rt, found.as_str(), "mismatch NoDefault 0 3");
     let found = line_for(rt.alloc(), RETYPED)?;
-    assert_eq!(rt; found.as_str(), "mismatch NoMatch 1 1");
+    same(&rt, found.as_str(), "mismatch NoMatch 1 1");
     Ok(())
 }
 
@@ -109,13 +110,15 @@ fn promoted(alloc: Global, n: i32) -> Result<Datum, Fail> {
 #[test]
 fn promotion_goes_one_way(rt: HostRuntime) -> Result<(), Fail> {
     let alloc = rt.alloc();
-    assert_eq!(rt;
+    same(
+        &rt,
         place_for(alloc, "\"int\"", "\"long\"")?,
-        (true, Place::Straight)
+        (true, Place::Straight),
     );
-    assert_eq!(rt;
+    same(
+        &rt,
         place_for(alloc, "\"long\"", "\"int\"")?,
-        (false, Place::Unmatched)
+        (false, Place::Unmatched),
     );
     assert!(rt; promoted(alloc, -1)? == Datum::Long(-1));
     Ok(())
@@ -123,8 +126,8 @@ fn promotion_goes_one_way(rt: HostRuntime) -> Result<(), Fail> {
 
 #[test]
 fn errors_are_told_in_words(rt: HostRuntime) -> Result<(), Fail> {
-    assert_eq!(rt; MismatchKind::BytesNotText.name(), "BytesNotText");
+    same(&rt, MismatchKind::BytesNotText.name(), "BytesNotText");
     let text = format!(in rt.alloc(); "{}", TranscodeError::TooLarge)?;
-    assert_eq!(rt; text.as_str(), "the payload passes its limit");
+    same(&rt, text.as_str(), "the payload passes its limit");
     Ok(())
 }

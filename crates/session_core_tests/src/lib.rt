@@ -10,4 +10,6 @@ mod pair_row_tests;
 #[cfg(test)]
 mod rows;
 #[cfg(test)]
+mod same;
+#[cfg(test)]
 mod world_tests;

@@ -1,6 +1,7 @@
 //! Rows of pairs that are filled, and those that are full.
 
 use crate::again::{parsed, published, row_for};
+use crate::same::same;
 use avro_schema::Schema;
 use session_core::{PairRow, PublishError};
 use std::alloc::{AllocError, Global};
@@ -18,11 +19,15 @@ fn one_cell_holds_one_pair(rt: HostRuntime) -> Result<(), Fail> {
     let spaced = parsed(alloc, " { \"type\" : \"int\" } ")?;
     let ints = parsed(alloc, "{\"type\":\"array\",\"items\":\"int\"}")?;
     let row = row_for(alloc, 1)?;
-    assert_eq!(rt; len_of(&row, &int, &int), Ok(2));
-    assert_eq!(rt; len_of(&row, &ints, &ints), Err(PublishError::Clash));
-    assert_eq!(rt; len_of(&row, &int, &ints), Err(PublishError::Clash));
-    assert_eq!(rt; len_of(&row, &int, &int), Ok(2));
-    assert_eq!(rt; len_of(&row, &spaced, &spaced), Err(PublishError::Clash));
+    same(&rt, len_of(&row, &int, &int), Ok(2));
+    same(&rt, len_of(&row, &ints, &ints), Err(PublishError::Clash));
+    same(&rt, len_of(&row, &int, &ints), Err(PublishError::Clash));
+    same(&rt, len_of(&row, &int, &int), Ok(2));
+    same(
+        &rt,
+        len_of(&row, &spaced, &spaced),
+        Err(PublishError::Clash),
+    );
     Ok(())
 }
 
@@ -35,13 +40,14 @@ fn each_pair_has_its_own_cell(rt: HostRuntime) -> Result<(), Fail> {
     let spaced = parsed(alloc, "{ \"items\" : \"int\" , \"type\" : \"array\" }")?;
     let row = row_for(alloc, 2)?;
     let many = len_of(&row, &ints, &ints)?;
-    assert_eq!(rt; len_of(&row, &int, &long), Ok(2));
-    assert_eq!(rt; len_of(&row, &spaced, &spaced), Ok(many));
-    assert_eq!(rt; len_of(&row, &int, &long), Ok(2));
-    assert_eq!(rt; len_of(&row, &long, &long), Err(PublishError::Clash));
-    assert_eq!(rt;
+    same(&rt, len_of(&row, &int, &long), Ok(2));
+    same(&rt, len_of(&row, &spaced, &spaced), Ok(many));
+    same(&rt, len_of(&row, &int, &long), Ok(2));
+    same(&rt, len_of(&row, &long, &long), Err(PublishError::Clash));
+    same(
+        &rt,
         len_of(&row_for(alloc, 0)?, &int, &int),
-        Err(PublishError::Clash)
+        Err(PublishError::Clash),
     );
     Ok(())
 }
@@ -93,11 +99,12 @@ fn no_cell_is_filled_by_a_pair_without_program(rt: HostRuntime) -> Result<(), Fa
     let (few, many) = (rows(alloc, 1)?, rows(alloc, 648)?);
     let reader = wide(alloc, 200)?;
     let row = row_for(alloc, 1)?;
-    assert_eq!(rt;
+    same(
+        &rt,
         len_of(&row, &many, &reader),
-        Err(PublishError::ProgramTooLarge)
+        Err(PublishError::ProgramTooLarge),
     );
     assert!(rt; len_of(&row, &few, &reader).is_ok());
-    assert_eq!(rt; len_of(&row, &many, &reader), Err(PublishError::Clash));
+    same(&rt, len_of(&row, &many, &reader), Err(PublishError::Clash));
     Ok(())
 }

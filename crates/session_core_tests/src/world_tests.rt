@@ -3,6 +3,7 @@
 use crate::again::row_for;
 use crate::lines::answer_to;
 use crate::rows::{BREAKS, REFUSALS, REFUSED, REPLAY};
+use crate::same::same;
 use session_core::{PairRow, World};
 use std::alloc::{AllocError, Global};
 use std::process::Abort;
@@ -81,7 +82,7 @@ fn ends(alloc: Global) -> Result<String, AllocError> {
 /// Whether a new world answers each event as its row has it.
 fn assert_rows(rt: &(impl Abort + AllocGlobal), pairs: usize, rows: &str) -> Result<(), Fail> {
     let answered = answered(rt.alloc(), pairs, rows)?;
-    assert_eq!(rt; answered.as_str(), rows);
+    same(rt, answered.as_str(), rows);
     Ok(())
 }
 
@@ -108,9 +109,10 @@ fn breakpoints_stop_before_a_row(rt: HostRuntime) -> Result<(), Fail> {
 #[test]
 fn a_refused_growth_ends_one_session(rt: HostRuntime) -> Result<(), Fail> {
     let ends = ends(rt.alloc())?;
-    assert_eq!(rt;
+    same(
+        &rt,
         ends.as_str(),
-        "done 3606666f6f count 10, done 06666f6f36 count 10"
+        "done 3606666f6f count 10, done 06666f6f36 count 10",
     );
     Ok(())
 }

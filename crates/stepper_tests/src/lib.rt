@@ -10,6 +10,8 @@ mod programs;
 #[cfg(test)]
 mod row_tests;
 #[cfg(test)]
+mod same;
+#[cfg(test)]
 mod show_tests;
 #[cfg(test)]
 mod slice_tests;

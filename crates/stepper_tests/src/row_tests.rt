@@ -1,6 +1,7 @@
 //! Worked rows: what programs answer, and after how many rows. Each line of a table is a program, its input and the answer.
 
 use crate::programs::{ALL, bytes, told};
+use crate::same::holds;
 use std::alloc::Global;
 use std::test::Fail;
 
@@ -66,8 +67,8 @@ fn is_true(alloc: Global, line: &str, piece: usize, k: u64) -> Result<bool, Fail
 #[test]
 fn worked_rows_come_out(rt: HostRuntime) -> Result<(), Fail> {
     for line in ROWS.lines() {
-        assert!(rt; is_true(rt.alloc(), line, 1_000_000, ALL)?, "whole: {line}");
-        assert!(rt; is_true(rt.alloc(), line, 1, ALL)?, "in pieces: {line}");
+        holds(&rt, is_true(rt.alloc(), line, 1_000_000, ALL)?, line);
+        holds(&rt, is_true(rt.alloc(), line, 1, ALL)?, line);
     }
     Ok(())
 }
@@ -75,8 +76,8 @@ fn worked_rows_come_out(rt: HostRuntime) -> Result<(), Fail> {
 #[test]
 fn slices_change_nothing(rt: HostRuntime) -> Result<(), Fail> {
     for line in ROWS.lines() {
-        assert!(rt; is_true(rt.alloc(), line, 1, 1)?, "row by row: {line}");
-        assert!(rt; is_true(rt.alloc(), line, 3, 2)?, "two rows each: {line}");
+        holds(&rt, is_true(rt.alloc(), line, 1, 1)?, line);
+        holds(&rt, is_true(rt.alloc(), line, 3, 2)?, line);
     }
     Ok(())
 }
@@ -84,7 +85,7 @@ fn slices_change_nothing(rt: HostRuntime) -> Result<(), Fail> {
 #[test]
 fn traps_are_told(rt: HostRuntime) -> Result<(), Fail> {
     for line in TRAPS.lines() {
-        assert!(rt; is_true(rt.alloc(), line, 1, ALL)?, "{line}");
+        holds(&rt, is_true(rt.alloc(), line, 1, ALL)?, line);
     }
     Ok(())
 }
@@ -92,7 +93,7 @@ fn traps_are_told(rt: HostRuntime) -> Result<(), Fail> {
 #[test]
 fn depth_and_units_have_limits(rt: HostRuntime) -> Result<(), Fail> {
     for line in LIMITS.lines() {
-        assert!(rt; is_true(rt.alloc(), line, 1, ALL)?, "{line}");
+        holds(&rt, is_true(rt.alloc(), line, 1, ALL)?, line);
     }
     Ok(())
 }

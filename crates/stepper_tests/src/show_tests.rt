@@ -1,5 +1,6 @@
 //! The texts of states, each after so many rows of a program on an input. A comma stands for each LF but the last.
 
+use crate::same::{holds, same};
 use assembler::{AsmError, assemble};
 use debugger::{list, show};
 use isa::Program;
@@ -60,15 +61,17 @@ fn is_shown(alloc: Global, listing: &str, hex: &str, k: u64, want: &str) -> Resu
 fn records_are_shown_slot_by_slot(rt: HostRuntime) -> Result<(), Fail> {
     let first =
         "count 4 pc 5 pos 1 units 1 part - mark - over 0 state running,out -,call 1,rec 0 36 -";
-    assert!(rt;
+    holds(
+        &rt,
         is_shown(rt.alloc(), RECORD, "3606666f6f", 4, first)?,
-        "a number is decoded"
+        "a number is decoded",
     );
     let second =
         "count 6 pc 6 pos 2 units 1 part 3 2 mark - over 0 state running,out -,call 1,rec 1 36 06";
-    assert!(rt;
+    holds(
+        &rt,
         is_shown(rt.alloc(), RECORD, "3606666f6f", 6, second)?,
-        "a text is begun"
+        "a text is begun",
     );
     Ok(())
 }
@@ -77,21 +80,24 @@ fn records_are_shown_slot_by_slot(rt: HostRuntime) -> Result<(), Fail> {
 fn arrays_are_shown_with_their_blocks(rt: HostRuntime) -> Result<(), Fail> {
     let counted =
         "count 3 pc 3 pos 2 units 1 part - mark - over 0 state running,out -,blocks 1 0 1 - 1 06";
-    assert!(rt;
+    holds(
+        &rt,
         is_shown(rt.alloc(), ARRAY, "04060800", 3, counted)?,
-        "a block by its count"
+        "a block by its count",
     );
     let sized =
         "count 3 pc 3 pos 3 units 1 part - mark - over 0 state running,out -,blocks 1 0 2 2 1 06";
-    assert!(rt;
+    holds(
+        &rt,
         is_shown(rt.alloc(), ARRAY, "0304060800", 3, sized)?,
-        "a block with its size"
+        "a block with its size",
     );
     let skipped =
         "count 3 pc 3 pos 1 units 2 part - mark - over 0 state running,out -,sblocks 1 0 1 -,skip";
-    assert!(rt;
+    holds(
+        &rt,
         is_shown(rt.alloc(), SKIPPED, "0400", 3, skipped)?,
-        "one that is skipped"
+        "one that is skipped",
     );
     Ok(())
 }
@@ -99,21 +105,28 @@ fn arrays_are_shown_with_their_blocks(rt: HostRuntime) -> Result<(), Fail> {
 #[test]
 fn ends_are_shown(rt: HostRuntime) -> Result<(), Fail> {
     let done = "count 10 pc 1 pos 5 units 1 part - mark - over 0 state done,out 3606666f6f";
-    assert!(rt;
+    holds(
+        &rt,
         is_shown(rt.alloc(), RECORD, "3606666f6f", 99, done)?,
-        "an output"
+        "an output",
     );
     let missed = "count 2 pc 1 pos 0 units 0 part - mark 0 over 0 state mismatch,out -";
-    assert!(rt; is_shown(rt.alloc(), MISSED, "", 99, missed)?, "a mismatch");
+    holds(
+        &rt,
+        is_shown(rt.alloc(), MISSED, "", 99, missed)?,
+        "a mismatch",
+    );
     let malformed = "count 1 pc 0 pos 0 units 0 part - mark - over 0 state malformed,out -";
-    assert!(rt;
+    holds(
+        &rt,
         is_shown(rt.alloc(), "avro program 1,0 BOOL", "02", 99, malformed)?,
-        "bad bytes"
+        "bad bytes",
     );
     let trap = "count 1 pc 0 pos 0 units 0 part - mark - over 0 state trap,out -";
-    assert!(rt;
+    holds(
+        &rt,
         is_shown(rt.alloc(), "avro program 1,0 RET", "", 99, trap)?,
-        "a trap"
+        "a trap",
     );
     Ok(())
 }
@@ -123,7 +136,7 @@ fn want_of_memory_is_shown(rt: HostRuntime) -> Result<(), Fail> {
     let machine = Machine::new(rt.alloc());
     let text = show(rt.alloc(), &machine, true)?;
     let want = "count 0 pc 0 pos 0 units 0 part - mark - over 0 state memory\nout -\n";
-    assert_eq!(rt; text.as_str(), want);
+    same(&rt, text.as_str(), want);
     Ok(())
 }
 
@@ -137,7 +150,7 @@ fn is_listed(alloc: Global, listing: &str) -> Result<bool, Fail> {
 
 #[test]
 fn programs_are_listed(rt: HostRuntime) -> Result<(), Fail> {
-    assert!(rt; is_listed(rt.alloc(), RECORD)?, "a record");
-    assert!(rt; is_listed(rt.alloc(), MISSED)?, "a miss");
+    holds(&rt, is_listed(rt.alloc(), RECORD)?, "a record");
+    holds(&rt, is_listed(rt.alloc(), MISSED)?, "a miss");
     Ok(())
 }

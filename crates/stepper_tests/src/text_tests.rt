@@ -1,6 +1,7 @@
 //! Texts: rows by 64 bytes, and what is known of a cut character.
 
 use crate::programs::{ALL, bytes, told};
+use crate::same::same;
 use std::alloc::{AllocError, Global};
 use std::test::Fail;
 
@@ -65,7 +66,7 @@ fn texts_take_a_row_for_64_bytes(rt: HostRuntime) -> Result<(), Fail> {
         let (input, want) = input_of(rt.alloc(), line)?;
         for piece in [1, 7, 1000] {
             let told = answer(rt.alloc(), "0 TEXT,1 HALT", &input, piece)?;
-            assert_eq!(rt; told.as_str(), want, "in pieces of {piece}");
+            same(&rt, told.as_str(), want);
         }
     }
     Ok(())
@@ -81,7 +82,7 @@ fn bytes_that_are_no_text_are_a_miss(rt: HostRuntime) -> Result<(), Fail> {
             &input,
             1,
         )?;
-        assert_eq!(rt; told.as_str(), want, "{line}");
+        same(&rt, told.as_str(), want);
     }
     Ok(())
 }

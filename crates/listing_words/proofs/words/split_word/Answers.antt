@@ -1,6 +1,5 @@
 use Rattle.std.proofs.Common.{arith, length}
 use Rattle.std.proofs.lemmas.List.{take_all}
-use Rattle.listing_words.specs.Words.{later, words}
 use Rattle.listing_words.proofs.Parts.{word_split, word_whole}
 use Rattle.listing_words.proofs.words.split_word.Goals as goal
 

@@ -1,4 +1,3 @@
-use Rattle.std.proofs.Common.{rules}
 use Rattle.listing_words.proofs.Numbers.{one_digit}
 use Rattle.listing_words.proofs.words.value_of.Goals as goal
 
