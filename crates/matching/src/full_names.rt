@@ -26,9 +26,18 @@ fn is_one_of(name: &Name, aliases: &[Name]) -> bool
     false
 }
 
+/// Whether the last parts of two full names are the same. They are compared from their ends, since the names of many types
+/// differ there, and often there alone.
+fn have_same_last(one: &Name, other: &Name) -> bool
+    ensures { result ≡ bytes_eq (unqualified one.now) (unqualified other.now) }
+{
+    let (one, other) = (one.last().as_bytes(), other.last().as_bytes());
+    one.len() == other.len() && one.last() == other.last() && one == other
+}
+
 /// Whether the last parts of two full names are the same, or the writer's is an alias of the reader's.
 pub(crate) fn have_matching_names(writer: &Name, reader: &Name, aliases: &[Name]) -> bool
     ensures { result ≡ (bytes_eq (unqualified writer.now) (unqualified reader.now) || is_used writer.now aliases.now) }
 {
-    writer.last() == reader.last() || is_one_of(writer, aliases)
+    have_same_last(writer, reader) || is_one_of(writer, aliases)
 }

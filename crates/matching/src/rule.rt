@@ -101,30 +101,19 @@ fn kinds_match(writer: &Kind, reader: &Kind) -> bool
         || names_match(writer, reader)
 }
 
-/// Whether the items or values of two nodes match, where there are such, by so many steps.
-#[tactic(auto, unfolding(crate::specs::Matching::matches_within))]
-#[cycle(matches)]
-fn parts_match(steps: usize, w: &Nodes, r: &Nodes, parts: Option<(usize, usize)>) -> bool
-    requires { IfSome parts (ArePair w.now r.now) }
-    ensures { result ≡ given parts false (λ p. matches_within w.now r.now steps p.0 p.1) }
-{
-    match parts {
-        Some((wn, rn)) => steps > 0 && matches_within(steps - 1, w, wn, r, rn),
-        None => false,
-    }
-}
-
 /// Whether a writer's node and a reader's node match, by so many steps into items and values.
 #[tactic(auto, unfolding(crate::specs::Matching::matches_within))]
-#[cycle(matches)]
 fn matches_within(steps: usize, w: &Nodes, wn: usize, r: &Nodes, rn: usize) -> bool
     requires writer { wn < length w.now }
     requires reader { rn < length r.now }
     ensures { result ≡ matches_within w.now r.now (suc steps) wn rn }
 {
-    kinds_match(w.kind(wn), r.kind(rn))
-        || parts_match(steps, w, r, both_items(w, wn, r, rn))
-        || parts_match(steps, w, r, both_values(w, wn, r, rn))
+    match (w.kind(wn), r.kind(rn)) {
+        (Kind::Array(item), Kind::Array(other)) | (Kind::Map(item), Kind::Map(other)) => {
+            steps > 0 && matches_within(steps - 1, w, *item, r, *other)
+        }
+        (writer, reader) => kinds_match(writer, reader),
+    }
 }
 
 /// Whether a writer's node and a reader's node match.
