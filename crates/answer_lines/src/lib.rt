@@ -1,5 +1,5 @@
-//! What commands read and write: a whole input, its lines, payloads in hexadecimal, the answers to them, how a run ended, and a
-//! whole output.
+//! What commands read and write: a whole input, its lines, payloads in hexadecimal, the answers to them, how a run
+//! ended, and a whole output.
 #![tactic(auto)]
 
 mod answer;

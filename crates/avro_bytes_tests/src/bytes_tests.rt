@@ -20,7 +20,8 @@ fn malformed(kind: MalformedKind, at: usize) -> Fault {
     Fault::Malformed { kind, at }
 }
 
-/// Whether an answer is as it is wanted. All answers are compared here: what an assertion does where it fails is then looked at once a type.
+/// Whether an answer is as it is wanted. All answers are compared here: what an assertion does where it fails is then
+/// looked at once a type.
 fn same<T: PartialEq + Debug + Copy>(rt: &impl Abort, found: T, want: T) {
     assert_eq!(rt; found, want);
 }

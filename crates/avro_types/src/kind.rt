@@ -17,8 +17,8 @@ pub enum Kind {
         aliases: Vec<Name>,
         size: usize,
     },
-    /// An enum under its full name, with its aliases as full names, its symbols, and the position of the one that stands
-    /// for unknown ones.
+    /// An enum under its full name, with its aliases as full names, its symbols, and the position of the one that
+    /// stands for unknown ones.
     Enum {
         name: Name,
         aliases: Vec<Name>,

@@ -72,8 +72,8 @@ impl Nodes {
         let _opened = &self.kinds;
     }
 
-    /// The law that no text, byte string or key in a default is longer, and no array or map in it of more items, than the
-    /// text of a schema may have bytes.
+    /// The law that no text, byte string or key in a default is longer, and no array or map in it of more items, than
+    /// the text of a schema may have bytes.
     pub fn defaults_are_short(&self)
         ensures { DefaultsHaveSizesWithin MOST_TEXT MOST_TEXT self.now }
     {

@@ -1,5 +1,5 @@
-//! Reads a program from standard input, as `bench/programs.sh` measures it: a listing to the word `assemble`, an image to the word
-//! `load`. Prints how many instructions it has; ends with status 1 where it is none.
+//! Reads a program from standard input, as `bench/programs.sh` measures it: a listing to the word `assemble`, an image
+//! to the word `load`. Prints how many instructions it has; ends with status 1 where it is none.
 #![tactic(auto)]
 
 use std::alloc::{AllocError, Global};

@@ -1,6 +1,6 @@
 //! Registers schemas in a shared registry, as `bench/registry.sh` measures it: so many as the first word says, then the
-//! same once more, and finds so many ids as the second word says. Prints the last id of each round and how many ids showed
-//! a schema, and to the standard error the microseconds of each.
+//! same once more, and finds so many ids as the second word says. Prints the last id of each round and how many ids
+//! showed a schema, and to the standard error the microseconds of each.
 #![tactic(auto)]
 
 use schema_registry::{Refusal, SharedRegistry};

@@ -1,7 +1,7 @@
-//! Transcodes messages from standard input in process, for measurements: the writer's schema and the reader's stand in its first two
-//! lines, and then the container of the messages. With `--passes N` it transcodes all of them N times, by one transcoder, and
-//! prints how many were answered by bytes, and how many bytes; with `--dump`, once, and prints the container of the answers. It ends with
-//! status 1 where something else came.
+//! Transcodes messages from standard input in process, for measurements: the writer's schema and the reader's stand in
+//! its first two lines, and then the container of the messages. With `--passes N` it transcodes all of them N times, by
+//! one transcoder, and prints how many were answered by bytes, and how many bytes; with `--dump`, once, and prints the
+//! container of the answers. It ends with status 1 where something else came.
 #![tactic(auto)]
 
 mod messages;

@@ -17,8 +17,8 @@ fn split_number(bytes: &[u8]) -> Option<(usize, &[u8])> {
     Some((LittleEndian::read_u32(bytes) as usize, &bytes[4..]))
 }
 
-/// Messages in a container: how many there are, the length of each, and then their bytes, one after another. Numbers are of 32 bits
-/// with the least byte first.
+/// Messages in a container: how many there are, the length of each, and then their bytes, one after another. Numbers
+/// are of 32 bits with the least byte first.
 #[derive(Drop)]
 pub(crate) struct Messages<'a> {
     lengths: &'a [u8],

@@ -57,7 +57,8 @@ impl Read for Trickle<'_> {
     }
 }
 
-/// A writer to memory that takes a byte at a time, fails at one call, a flush too, and is interrupted at each third one.
+/// A writer to memory that takes a byte at a time, fails at one call, a flush too, and is interrupted at each third
+/// one.
 #[derive(Drop)]
 pub(crate) struct Drip {
     pub(crate) taken: Vec<u8>,

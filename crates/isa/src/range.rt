@@ -83,8 +83,8 @@ pub(crate) fn first_out<T: Ranged>(items: &[T], sizes: &Sizes) -> Option<usize>
     items.iter().position(|item| !item.is_in_range(sizes))
 }
 
-/// The first of these lists that has something out of range, and where. Items that lists share are tested once, unless one
-/// of them is out of range.
+/// The first of these lists that has something out of range, and where. Items that lists share are tested once, unless
+/// one of them is out of range.
 #[tactic(auto, using(crate::proofs::Turns::out_here, crate::proofs::Turns::out_later))]
 pub(crate) fn first_out_in<T: Ranged>(lists: &Lists<T>, sizes: &Sizes) -> Option<(usize, usize)>
     ensures { result ≡ first_out_in (T.in_range sizes.now) lists.now }

@@ -1,4 +1,5 @@
-//! The words of a listing's lines: what stands between separators, numbers, and the words that name an operation or a kind.
+//! The words of a listing's lines: what stands between separators, numbers, and the words that name an operation or a
+//! kind.
 #![tactic(auto)]
 
 mod words;

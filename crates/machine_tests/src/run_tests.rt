@@ -156,7 +156,8 @@ fn a_run_waits_for_bytes(rt: HostRuntime) {
     assert_run_waits(&rt, &program);
 }
 
-/// A breakpoint where no instruction stands. Where there is one, rows are taken one by one, and nothing is looked for ahead.
+/// A breakpoint where no instruction stands. Where there is one, rows are taken one by one, and nothing is looked for
+/// ahead.
 const NOWHERE: u32 = u32::MAX;
 
 /// Whether the arena of a run on a payload is the payload, after so many rows, one by one.

@@ -26,8 +26,8 @@ fn is_one_of(name: &Name, aliases: &[Name]) -> bool
     false
 }
 
-/// Whether the last parts of two full names are the same. They are compared from their ends, since the names of many types
-/// differ there, and often there alone.
+/// Whether the last parts of two full names are the same. They are compared from their ends, since the names of many
+/// types differ there, and often there alone.
 fn have_same_last(one: &Name, other: &Name) -> bool
     ensures { result ≡ bytes_eq (unqualified one.now) (unqualified other.now) }
 {

@@ -9,8 +9,8 @@ pub fn matches_by_rule()
     ensures relation { MatchesWhereItHolds }
 {}
 
-/// The law that a field goes to the one of its name, where there is one, and else by an alias of its partner's; no two of
-/// a writer's fields have one partner.
+/// The law that a field goes to the one of its name, where there is one, and else by an alias of its partner's; no two
+/// of a writer's fields have one partner.
 pub fn partners_by_rule()
     ensures name { NamesGoFirst }
     ensures alias { OthersGoByAlias }

@@ -237,7 +237,8 @@ impl Buffers {
         &self.arena
     }
 
-    /// The law that the segments of each lie in the arena, none is empty, and of two neighbours the second does not begin where the first ends.
+    /// The law that the segments of each lie in the arena, none is empty, and of two neighbours the second does not
+    /// begin where the first ends.
     pub fn are_laid(&self)
         ensures { AreLaid self.now }
     {
@@ -275,7 +276,8 @@ impl Buffers {
         self.slots.resize(len + more, Buffer::Empty)
     }
 
-    /// The slots from a first one on go to the end of another one, in order, between bytes of which so many stand before them.
+    /// The slots from a first one on go to the end of another one, in order, between bytes of which so many stand
+    /// before them.
     pub fn close(
         &mut self,
         first: usize,

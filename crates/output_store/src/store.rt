@@ -405,7 +405,8 @@ impl Store {
         self.units = units;
     }
 
-    /// The newest frame is closed: what it holds goes, between bytes of which so many stand before it, to the current buffer below.
+    /// The newest frame is closed: what it holds goes, between bytes of which so many stand before it, to the current
+    /// buffer below.
     fn close(&mut self, around: &[u8], before: usize) -> Result<(), AllocError>
         requires holds { HoldsBuffers self.old.store.frames }
         requires below { has_current_below self.old.store.frames ≡ true }
@@ -452,8 +453,8 @@ impl Store {
         self.close(&[], 0)
     }
 
-    /// The newest frame, which is an array or a map, is closed: its items go in one block to the current buffer below it. The
-    /// scratch is used on the way.
+    /// The newest frame, which is an array or a map, is closed: its items go in one block to the current buffer below
+    /// it. The scratch is used on the way.
     pub fn close_blocks(&mut self, scratch: &mut Vec<u8>) -> Result<(), AllocError>
         requires blocks { is_some (walk_of self.old.store.frames) ≡ true }
         requires below { has_current_below self.old.store.frames ≡ true }

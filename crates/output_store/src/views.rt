@@ -152,7 +152,8 @@ impl Store {
         out.extend_from_slice(&bytes)
     }
 
-    /// The law that the bytes of a buffer are the arena's at its segments, joined in order, of which none is empty and none begins where the one before it ends.
+    /// The law that the bytes of a buffer are the arena's at its segments, joined in order, of which none is empty and
+    /// none begins where the one before it ends.
     pub fn are_laid(&self, at: BufferAt)
         requires { is_some (buffer_of at self.now.store) ≡ true }
         ensures bytes { buffer_of at self.now.store

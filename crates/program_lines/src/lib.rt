@@ -1,4 +1,5 @@
-//! The lines of a pair of schemas: the code of each section that is called for, before its numbers and addresses are known.
+//! The lines of a pair of schemas: the code of each section that is called for, before its numbers and addresses are
+//! known.
 #![tactic(auto)]
 
 mod blank;

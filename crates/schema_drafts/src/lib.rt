@@ -1,5 +1,5 @@
-//! Drafts of a schema's nodes, and where each name is defined (Avro 1.11 Specification, "Names"): what the walk over a schema
-//! stands on.
+//! Drafts of a schema's nodes, and where each name is defined (Avro 1.11 Specification, "Names"): what the walk over a
+//! schema stands on.
 #![tactic(auto)]
 
 mod draft;

@@ -143,8 +143,8 @@ fn found_all(alloc: Global, shared: &SharedRegistry) -> Result<String, AllocErro
     Ok(lines)
 }
 
-/// What a shared registry replies to a line: to a command, to `find` with the text under an id, to `receipt` with what is
-/// shown for a text.
+/// What a shared registry replies to a line: to a command, to `find` with the text under an id, to `receipt` with what
+/// is shown for a text.
 fn reply_to<R: Wait>(
     rt: &R,
     alloc: Global,

@@ -127,8 +127,8 @@ fn answers(
     Ok(output)
 }
 
-/// The answers to the commands of a debugger, a line each, which follow the line of a payload. The payload is there whole
-/// before the first command.
+/// The answers to the commands of a debugger, a line each, which follow the line of a payload. The payload is there
+/// whole before the first command.
 pub fn debug(
     alloc: Global,
     writer: &Nodes,

@@ -260,7 +260,8 @@ impl Machine {
         self.store.add(&self.scratch)
     }
 
-    /// The shortest spelling of a number that was read at the end of the current buffer: its own, where that is the shortest.
+    /// The shortest spelling of a number that was read at the end of the current buffer: its own, where that is the
+    /// shortest.
     pub(crate) fn add_spelled(&mut self, n: i64, spelling: &[u8]) -> Result<(), AllocError>
         requires room { has_current self.old.state.store.frames ≡ true }
         requires tight { IsTight spelling.now → spelling.now ≡ shortest n }

@@ -100,7 +100,8 @@ impl Machine {
         self.store.push_buffer(self.alloc, at, out)
     }
 
-    /// The law that the bytes of a buffer are the arena's at its segments, joined in order, of which none is empty and none begins where the one before it ends.
+    /// The law that the bytes of a buffer are the arena's at its segments, joined in order, of which none is empty and
+    /// none begins where the one before it ends.
     pub fn are_laid(&self, at: BufferAt)
         requires { is_some (buffer_of at self.now.state.store) ≡ true }
         ensures bytes { buffer_of at self.now.state.store
@@ -110,7 +111,8 @@ impl Machine {
         self.store.are_laid(at);
     }
 
-    /// The place in the arena and the length of a segment of a buffer, by its number, where there are so many. It takes no memory.
+    /// The place in the arena and the length of a segment of a buffer, by its number, where there are so many. It takes
+    /// no memory.
     pub fn segment(&self, at: BufferAt, number: usize) -> Option<(usize, usize)>
         requires { is_some (buffer_of at self.now.state.store) ≡ true }
         ensures { result ≡ option_map place_and_length (slice_get (segments_of_buffer at self.now.layout) number) }

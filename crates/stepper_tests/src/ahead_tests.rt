@@ -1,4 +1,5 @@
-//! What looking ahead finds of a whole payload. No contract says that it finds anything, so usual records are tried here.
+//! What looking ahead finds of a whole payload. No contract says that it finds anything, so usual records are tried
+//! here.
 
 use crate::programs::{bytes, program};
 use crate::same::same;

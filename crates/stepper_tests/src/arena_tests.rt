@@ -13,7 +13,8 @@ const ARRAY: &str = "0 BLOCKS,1 NEXT 4,2 LONG,3 JUMP 1,4 HALT";
 /// More segments than any buffer of these tests has.
 const SEGMENTS: usize = 4;
 
-/// A breakpoint where no instruction stands. Where there is one, rows are taken one by one, and nothing is looked for ahead.
+/// A breakpoint where no instruction stands. Where there is one, rows are taken one by one, and nothing is looked for
+/// ahead.
 const NOWHERE: u32 = u32::MAX;
 
 const SWAPPED: &str = "0 CALL 2,1 HALT,2 RECORD 2,3 SLOT 1,4 LONG,5 SLOT 0,6 TEXT,7 ENDREC,8 RET";

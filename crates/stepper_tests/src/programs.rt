@@ -17,8 +17,8 @@ const TURNS: usize = 20_000;
 /// More rows than any test takes.
 pub(crate) const ALL: u64 = 1_000_000_000;
 
-/// The program of these lines under the header, where a comma stands for each LF but the last. It is assembled again where memory
-/// ran out the first time.
+/// The program of these lines under the header, where a comma stands for each LF but the last. It is assembled again
+/// where memory ran out the first time.
 pub(crate) fn program(alloc: Global, lines: &str) -> Result<Program, AsmError> {
     let mut text = Vec::from_slice(alloc, b"avro program 1\n")?;
     for byte in lines.as_bytes() {

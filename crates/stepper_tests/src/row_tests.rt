@@ -1,4 +1,5 @@
-//! Worked rows: what programs answer, and after how many rows. Each line of a table is a program, its input and the answer.
+//! Worked rows: what programs answer, and after how many rows. Each line of a table is a program, its input and the
+//! answer.
 
 use crate::programs::{ALL, bytes, told};
 use crate::same::holds;
