@@ -41,10 +41,15 @@ fn split_schema(alloc: Global, input: &[u8]) -> Option<(Schema, &[u8])> {
     }
 }
 
-/// A message, transcoded to bytes, in the room of another answer.
-fn answer(transcoder: &mut Transcoder<'_>, message: &[u8], room: Vec<u8>) -> Option<Vec<u8>> {
-    match transcoder.transcode_in(message, room) {
-        Ok(Outcome::Done(bytes)) => Some(bytes),
+/// A message, transcoded to bytes, in the place of another outcome.
+fn answer<'o>(
+    transcoder: &mut Transcoder<'_>,
+    message: &[u8],
+    outcome: &'o mut Outcome,
+) -> Option<&'o [u8]> {
+    transcoder.transcode_over(message, outcome).ok()?;
+    match outcome {
+        Outcome::Done(bytes) => Some(bytes.as_slice()),
         _ => None,
     }
 }
@@ -57,9 +62,9 @@ fn pass(
     tally: Tally,
 ) -> Option<Tally> {
     let mut tally = tally;
-    let mut bytes = Vec::new(alloc);
+    let mut outcome = Outcome::Done(Vec::new(alloc));
     for message in messages {
-        bytes = answer(transcoder, message, bytes)?;
+        let bytes = answer(transcoder, message, &mut outcome)?;
         tally = Tally {
             answers: tally.answers.wrapping_add(1),
             bytes: tally.bytes.wrapping_add(bytes.len() as u64),
@@ -90,10 +95,11 @@ fn dump(alloc: Global, transcoder: &mut Transcoder<'_>, messages: &[&[u8]]) -> O
     let mut container = Vec::new(alloc);
     let mut answers = Vec::new(alloc);
     put_number(&mut container, messages.len())?;
+    let mut outcome = Outcome::Done(Vec::new(alloc));
     for message in messages {
-        let answer = answer(transcoder, message, Vec::new(alloc))?;
+        let answer = answer(transcoder, message, &mut outcome)?;
         put_number(&mut container, answer.len())?;
-        answers.extend_from_slice(&answer).ok()?;
+        answers.extend_from_slice(answer).ok()?;
     }
     container.extend_from_slice(&answers).ok()?;
     Some(container)

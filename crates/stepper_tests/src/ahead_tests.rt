@@ -17,10 +17,12 @@ fn found_words(
 ) -> Result<String, AllocError> {
     let mut machine = Machine::new(alloc);
     let mut all = String::new(alloc);
+    let mut output = Vec::new(alloc);
     'times: for _time in 0..times {
-        match machine.output_ahead(program, payload, Vec::new(alloc)) {
-            Some(output) => all.push_str(hex::encode(alloc, output.as_slice())?.as_str())?,
-            None => all.push_str("none")?,
+        if machine.output_ahead(program, payload, &mut output) {
+            all.push_str(hex::encode(alloc, output.as_slice())?.as_str())?;
+        } else {
+            all.push_str("none")?;
         }
         all.push_str(", ")?;
     }
