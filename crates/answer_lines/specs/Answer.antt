@@ -1,4 +1,4 @@
--- The answers to payload lines.
+-- The answers to payload lines. This project's own.
 use Rattle.std.specs.Prelude.{◌≡◌, List, [], ◌∷◌, ◌++◌, ℕ, length, codes, nat_lt, MatchBool, MatchOption}
 use Rattle.avro_types.specs.Node.{Node}
 use Rattle.answer_lines.specs.OutcomeLine.{line_of}

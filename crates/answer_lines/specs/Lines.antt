@@ -1,4 +1,4 @@
--- The lines of an input.
+-- The lines of an input. This project's own.
 use Rattle.std.specs.Prelude.{◌≡◌, ◌⊎◌, ℕ, ◌==◌, if◌then◌else◌, List, [], ◌∷◌, ◌++◌, slice_index_or}
 
 -- a byte at the front of the first line, which is a new one where there was none

@@ -1,4 +1,4 @@
--- The payload of a line.
+-- The payload of a line. This project's own.
 use Rattle.std.specs.Prelude.{ℕ, ◌&&◌, Bool, nat_le, if◌then◌else◌, List, Option, None}
 use Rattle.std.specs.List.{list_any}
 use Rattle.std.specs.Result.{result_ok}

@@ -1,4 +1,4 @@
--- The numbers with which the program exits.
+-- The numbers with which the program exits. This project's own.
 use Rattle.std.specs.Prelude.{ℕ}
 use Rattle.commands.specs.declared.status.Status.{Status}
 use Rattle.commands.specs.declared.status.Status.TheVariants as statuses

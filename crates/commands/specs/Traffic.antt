@@ -1,4 +1,4 @@
--- What a run reads and writes.
+-- What a run reads and writes. This project's own.
 use Rattle.std.specs.Prelude.{◌≡◌, ℕ, List, Option, IfSome}
 use Rattle.std.specs.Io.KnownBytes.{Appends}
 use Rattle.answer_lines.specs.Traffic.{Begins}

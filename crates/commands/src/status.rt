@@ -10,7 +10,7 @@ pub enum Status {
     Refused,
     /// The words are no command.
     BadWords,
-    /// A read, a write or a bind failed.
+    /// A read or a write failed.
     BadTraffic,
     NoMemory,
 }

@@ -1,4 +1,5 @@
--- The first thing that keeps parts from being a program: of what is out of range the first in the order of maps, jump tables, misses and code.
+-- The first thing that keeps parts from being a program: of what is out of range the first in the order of maps, jump
+-- tables, misses and code. This project's own.
 use Rattle.std.specs.Prelude.{ℕ, suc, Bool, true, not, ◌&&◌, List, [], ◌∷◌, length, Option, Some, None, option_map, nat_le, nat_lt, ◌==◌, if◌then◌else◌, position, Result, Ok, Err}
 use Rattle.std.specs.Option.{option_or}
 use Rattle.outcome.specs.declared.mismatch.Mismatch.{Mismatch}

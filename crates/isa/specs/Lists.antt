@@ -1,4 +1,4 @@
--- Lists that lie in one piece of memory.
+-- Lists that lie in one piece of memory. This project's own.
 use Rattle.std.specs.Prelude.{ℕ, ◌+◌, ◌-◌, ◌≤◌, List, [], ◌∷◌, length, map, take, drop}
 use Rattle.std.specs.List.{AllByRecursion}
 use Rattle.isa.specs.declared.lists.Stretch.{Stretch}

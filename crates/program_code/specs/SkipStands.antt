@@ -44,7 +44,7 @@ module _ (W : List Node) (P : Program) (Begins : Section → ℕ → Type 0) whe
       k_array : {pc w : ℕ} (item q : ℕ) → slice_get W w ≡ Some (ArrayNode item) → At P pc op.SkipBlocks
           → At P (pc + 1) (op.SkipNext (q + 1)) → Skips (pc + 1 + 1) item q → At P q (op.Jump (pc + 1))
           → SkipsPlain pc w (q + 1)
-      -- "and map the same with STEXT before K(values)"
+      -- map: the same with STEXT before K(values)
       k_map : {pc w : ℕ} (value q : ℕ) → slice_get W w ≡ Some (MapNode value) → At P pc op.SkipBlocks
           → At P (pc + 1) (op.SkipNext (q + 1)) → At P (pc + 1 + 1) op.SkipText
           → Skips (pc + 1 + 1 + 1) value q → At P q (op.Jump (pc + 1)) → SkipsPlain pc w (q + 1)

@@ -37,7 +37,7 @@ defaults_code routes j [] = []
 defaults_code routes j (g ∷ fields) = put_in j (default_bytes routes j g) ++ defaults_code routes (suc j) fields
 
 module _ (W R : List Node) where
-  -- "records, a default is missing: MISS NoDefault; K(w)", and else CALL routine of (w, r)
+  -- records: where a default is missing MISS NoDefault and K(w), and else CALL of the routine of (w, r)
   abbrev pub record_code : ℕ → ℕ → Option FieldNode → List Line
   record_code w r (Some g) = Miss (miss kinds.NoDefault w g.node) ∷ K W w
   record_code w r None = Call (Write w r) ∷ []
@@ -58,14 +58,15 @@ module _ (W R : List Node) where
   straight_node X w r (Some (UnionNode members)) reader = Lost ∷ []
   straight_node X w r None reader = Lost ∷ []
 
-  -- "r is a union, member j is the first that matches: PUT spelling of j; X(w, j)", "none matches: MISS NoBranch; K(w)", "no match: MISS NoMatch; K(w)"
+  -- r is a union: where member j is the first that matches, PUT of its position and X(w, j); where none matches, MISS
+  -- NoBranch and K(w); no union and no match: MISS NoMatch and K(w)
   abbrev pub placed_node : (ℕ → ℕ → List Line) → ℕ → ℕ → Place → List Line
   placed_node X w r (IntoMember j member) = Put (shortest (pos j)) ∷ straight_node X w member (slice_get W w) (slice_get R member)
   placed_node X w r Nowhere = Miss (miss kinds.NoBranch w r) ∷ K W w
   placed_node X w r Unmatched = Miss (miss kinds.NoMatch w r) ∷ K W w
   placed_node X w r Straight = straight_node X w r (slice_get W w) (slice_get R r)
 
-  -- "w is a union: BRANCH t; X(member, r) for each member" goes first
+  -- w is a union: BRANCH t and X(member, r) for each member; this goes first
   abbrev pub write_node : (ℕ → ℕ → List Line) → ℕ → ℕ → Option Node → List Line
   write_node X w r (Some (UnionNode members)) = branched (map (λ member. X member r) members)
   write_node X w r _ = placed_node X w r (place W R w r)
@@ -80,7 +81,7 @@ module _ (W R : List Node) where
 
   -- ---- routines
 
-  -- "for each of w's fields, in order, SLOT j and X where the partner is r's field j, else K"
+  -- for each of w's fields, in order: SLOT j and X where the partner is r's field j, else K
   abbrev pub field_code : Route → List Line
   field_code route = given route.partner (K W route.node) (λ p. Op (op.Slot p.position) ∷ X route.node p.node)
 
@@ -88,7 +89,7 @@ module _ (W R : List Node) where
   fields_code [] = []
   fields_code (route ∷ routes) = field_code route ++ fields_code routes
 
-  -- "RECORD number of r's fields", the fields, the defaults, "ENDREC; RET"
+  -- RECORD with the number of r's fields, the fields, the defaults, ENDREC and RET
   abbrev pub write_routine : List FieldNode → List FieldNode → List Line
   write_routine fs gs = Op (op.Record (length gs)) ∷ (fields_code (routes fs gs) ++ (defaults_code (routes fs gs) 0 gs ++ Op op.EndRecord ∷ Op op.Return ∷ []))
 

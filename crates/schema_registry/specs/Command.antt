@@ -1,4 +1,4 @@
--- What a registry is asked, wherever its texts lie in memory.
+-- What a registry is asked, wherever its texts lie in memory. This project's own.
 use Rattle.std.specs.Prelude.{ℕ, List, Option, option_map, string_bytes}
 use Rattle.schema_registry.specs.declared.command.Version.{Version}
 use Rattle.schema_registry.specs.declared.level.Level.{Level}

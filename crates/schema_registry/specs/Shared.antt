@@ -1,4 +1,4 @@
--- What is said of a registry that threads share: receipts, and answers in some state.
+-- What is said of a registry that threads share: receipts, and answers in some state. This project's own.
 use Rattle.std.specs.Prelude.{◌≡◌, ◌≢◌, ℕ, ◌-◌, ◌<◌, ◌≤◌, List, Option, Result, Ok, Err, IsSome, slice_index_or}
 use Rattle.std.specs.Global.{Global}
 use Rattle.once_cell.specs.Once.{cell_name}

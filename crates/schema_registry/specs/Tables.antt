@@ -1,4 +1,4 @@
--- How a registry's maps go together with its lists.
+-- How a registry's maps go together with its lists. This project's own.
 use Rattle.std.specs.Prelude.{◌≡◌, ◌≢◌, ℕ, zero, suc, ◌+◌, ◌++◌, ◌≤◌, ◌<◌, ◌==◌, ◌&&◌, List, [], ◌∷◌, length, Bool, not, true, is_some, nat_eq, nat_le, Option, Some, None, IfSome, Ok, String}
 use Rattle.std.specs.BTreeMap.{BTreeMap, btree_map_len, get, get_by_text}
 use Rattle.std.specs.List.{AllByRecursion, IsDistinct, position_from}

@@ -1,4 +1,4 @@
--- The names of refusals.
+-- The names of refusals. This project's own.
 use Rattle.std.specs.Prelude.{ℕ, List, codes}
 use Rattle.session.specs.declared.refusal.SessionRefusal.{SessionRefusal}
 use Rattle.session.specs.declared.refusal.SessionRefusal.TheVariants as refusals

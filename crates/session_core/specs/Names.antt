@@ -1,4 +1,4 @@
--- The names of refusals.
+-- The names of refusals. This project's own.
 use Rattle.std.specs.Prelude.{ℕ, List, codes}
 use Rattle.schema_registry.specs.Refusal as registry
 use Rattle.session.specs.Names as session

@@ -11,7 +11,7 @@ use once_cell::race::OnceBox;
 use program_compiler::{CompileError, compile};
 use std::alloc::{AllocError, Global};
 
-/// The programs of so many pairs of schemas, which threads share. A pair has its cell for good.
+/// The programs of so many pairs of schemas. A pair has its cell for good.
 #[derive(Drop)]
 pub struct PairRow {
     alloc: Global,
