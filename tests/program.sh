@@ -21,6 +21,7 @@ printf '"float"\n' | "$program" transcode >"$out" 2>"$err"; want 'bad schema' 1 
 "$program" transcode --fast </dev/null >"$out" 2>"$err"; want 'no such flag' 2 none some
 "$program" $'tr\xffans' </dev/null >"$out" 2>"$err"; want 'a word that is no UTF-8' 2 none some
 "$program" --help </dev/null >"$out" 2>"$err"; want help 0 some none
+"$program" --help </dev/null >/dev/full 2>"$err"; status=$?; : >"$out"; (exit $status); want 'help to a full device' 3 none none
 printf '%s03\n' "$schemas" | "$program" transcode >/dev/full 2>"$err"; status=$?; : >"$out"; (exit $status); want 'full device' 3 none none
 "$program" transcode <&- >"$out" 2>"$err"; want 'closed input' 3 none none
 printf '%s' "$schemas" | "$program" transcode >"$out" 2>"$err"; want 'no payload' 0 none none

@@ -1,2 +1,3 @@
+mod AliasPlaces
 mod Copies
 mod SymbolPositions

@@ -1,3 +1,4 @@
+pub mod Aliases
 pub mod Conforming
 pub mod Datum
 pub mod DatumCode

@@ -54,12 +54,12 @@ node_of kinds.Int = IntNode
 node_of kinds.Long = LongNode
 node_of kinds.Bytes = BytesNode
 node_of kinds.Text = TextNode
-node_of (kinds.Fixed name aliases size) = FixedNode (names_of name aliases.items) size
-node_of (kinds.Enum name aliases symbols default) = EnumNode (names_of name aliases.items) symbols default
+node_of (kinds.Fixed name aliases size) = FixedNode (names_of name aliases) size
+node_of (kinds.Enum name aliases symbols default) = EnumNode (names_of name aliases) symbols default
 node_of (kinds.Array item) = ArrayNode item
 node_of (kinds.Map value) = MapNode value
 node_of (kinds.Union members) = UnionNode members.items
-node_of (kinds.Record name aliases fields) = RecordNode (names_of name aliases.items) (fields_of fields.items)
+node_of (kinds.Record name aliases fields) = RecordNode (names_of name aliases) (fields_of fields.items)
 
 abbrev pub nodes_of : List Kind → List Node
 nodes_of ks = map node_of ks

@@ -1,3 +1,4 @@
+use crate::aliases::Aliases;
 use crate::datum::Datum;
 use crate::name::Name;
 use crate::symbols::Symbols;
@@ -14,14 +15,14 @@ pub enum Kind {
     /// A fixed under its full name, with its aliases as full names, of so many bytes.
     Fixed {
         name: Name,
-        aliases: Vec<Name>,
+        aliases: Aliases,
         size: usize,
     },
     /// An enum under its full name, with its aliases as full names, its symbols, and the position of the one that
     /// stands for unknown ones.
     Enum {
         name: Name,
-        aliases: Vec<Name>,
+        aliases: Aliases,
         symbols: Symbols,
         default: Option<u32>,
     },
@@ -34,7 +35,7 @@ pub enum Kind {
     /// A record under its full name, with its aliases as full names, and its fields in the order of their declaration.
     Record {
         name: Name,
-        aliases: Vec<Name>,
+        aliases: Aliases,
         fields: Vec<Field>,
     },
 }

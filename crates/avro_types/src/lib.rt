@@ -2,6 +2,7 @@
 //! Declaration").
 #![tactic(auto)]
 
+mod aliases;
 mod copying;
 mod datum;
 mod kind;
@@ -10,6 +11,7 @@ mod name;
 mod nodes;
 mod symbols;
 
+pub use aliases::Aliases;
 pub use datum::Datum;
 pub use kind::{Field, Kind};
 pub use limits::{MOST_FIELDS, MOST_FIXED, MOST_NODES, MOST_SYMBOLS, MOST_TEXT, limits_are_these};

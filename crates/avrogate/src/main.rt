@@ -95,11 +95,13 @@ fn explain(rt: &(impl Print + Eprint), error: &clap::Error) -> Status {
     if error.kind() == ErrorKind::OutOfMemory {
         return Status::NoMemory;
     }
-    let _ = error.print(rt);
-    if error.exit_code() == 0 {
-        Status::Answered
-    } else {
-        Status::BadWords
+    let told = error.print(rt);
+    if error.exit_code() != 0 {
+        return Status::BadWords;
+    }
+    match told {
+        Ok(()) => Status::Answered,
+        Err(_) => Status::BadTraffic,
     }
 }
 

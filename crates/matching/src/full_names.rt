@@ -3,28 +3,7 @@ ghost use Rattle.std.specs.Str.{bytes_eq};
 ghost use Rattle.avro_types.specs.FullNames.{unqualified};
 ghost use Rattle.avro_types.specs.Symbols.{is_used};
 
-use avro_types::Name;
-
-/// Whether two full names are the same, in both their parts.
-fn are_same(one: &Name, other: &Name) -> bool
-    ensures { result ≡ bytes_eq one.now other.now }
-{
-    one.has_two_parts();
-    other.has_two_parts();
-    one.last() == other.last() && one.namespace() == other.namespace()
-}
-
-/// Whether a full name is one of these.
-fn is_one_of(name: &Name, aliases: &[Name]) -> bool
-    ensures { result ≡ is_used name.now aliases.now }
-{
-    for alias in aliases {
-        if are_same(alias, name) {
-            return true;
-        }
-    }
-    false
-}
+use avro_types::{Aliases, Name};
 
 /// Whether the last parts of two full names are the same. They are compared from their ends, since the names of many
 /// types differ there, and often there alone.
@@ -36,8 +15,8 @@ fn have_same_last(one: &Name, other: &Name) -> bool
 }
 
 /// Whether the last parts of two full names are the same, or the writer's is an alias of the reader's.
-pub(crate) fn have_matching_names(writer: &Name, reader: &Name, aliases: &[Name]) -> bool
+pub(crate) fn have_matching_names(writer: &Name, reader: &Name, aliases: &Aliases) -> bool
     ensures { result ≡ (bytes_eq (unqualified writer.now) (unqualified reader.now) || is_used writer.now aliases.now) }
 {
-    have_same_last(writer, reader) || is_one_of(writer, aliases)
+    have_same_last(writer, reader) || aliases.contains(writer)
 }

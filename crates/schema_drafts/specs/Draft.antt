@@ -41,7 +41,7 @@ draft_field_of f =
 
 abbrev pub draft_of : rust.Draft → Draft
 draft_of (drafts.Whole kind) = Whole (node_of kind)
-draft_of (drafts.Record name aliases fields) = RecordDraft (names_of name aliases.items) (map draft_field_of fields.items)
+draft_of (drafts.Record name aliases fields) = RecordDraft (names_of name aliases) (map draft_field_of fields.items)
 
 abbrev pub drafts_of : List rust.Draft → List Draft
 drafts_of ds = map draft_of ds

@@ -1,4 +1,4 @@
-use avro_types::{Kind, Name};
+use avro_types::{Aliases, Kind, Name};
 use serde_json::Value;
 
 /// What a node is before the defaults of its fields have been read.
@@ -9,7 +9,7 @@ pub enum Draft<'v> {
     /// A record under its full name, with its aliases as full names.
     Record {
         name: Name,
-        aliases: Vec<Name>,
+        aliases: Aliases,
         fields: Vec<DraftField<'v>>,
     },
 }

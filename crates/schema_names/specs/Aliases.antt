@@ -1,8 +1,9 @@
 -- The aliases that attributes give (Avro 1.11, "Aliases").
-use Rattle.std.specs.Prelude.{ℕ, List, [], map, Option, Some, None, Result, Ok}
+use Rattle.std.specs.Prelude.{ℕ, List, [], Option, Some, None, Result, Ok}
 use Rattle.std.specs.List.{list_all}
 use Rattle.serde_json.specs.Data.{Data}
-use Rattle.avro_types.specs.FullNames.{full_name, is_full_name, is_name, namespace_of}
+use Rattle.avro_types.specs.Aliases.{full_names}
+use Rattle.avro_types.specs.FullNames.{is_full_name, is_name, namespace_of}
 use Rattle.avro_types.specs.Node.{Names, names_of}
 use Rattle.schema_names.specs.declared.error.SchemaError.{SchemaError}
 use Rattle.schema_names.specs.declared.error.SchemaError.TheVariants.{BadName}
@@ -19,13 +20,7 @@ alias_texts (Some d) = texts_of (Some d)
 -- "A type alias may be specified either as a fully namespace-qualified, or relative to the namespace of the name it is
 -- an alias for."
 abbrev pub full_aliases : List ℕ → List (List ℕ) → List (List ℕ)
-full_aliases full texts = map (full_name (namespace_of full)) texts
-
--- a full name by the rule for names
-abbrev pub if_full_name : List ℕ → Result (List ℕ) SchemaError
-if_full_name full = do
-  _ ← require (is_full_name full) BadName
-  Ok full
+full_aliases full texts = full_names (namespace_of full) texts
 
 -- full names, each by the rule for names
 abbrev pub if_full_names : List (List ℕ) → Result (List (List ℕ)) SchemaError

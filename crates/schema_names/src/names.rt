@@ -46,7 +46,7 @@ pub fn is_name(text: &[u8]) -> bool
 }
 
 /// Whether a text is names joined by dots.
-fn is_full_name(text: &str) -> bool
+pub fn is_full_name(text: &str) -> bool
     ensures { result ≡ is_full_name text.now }
 {
     let mut rest = text;

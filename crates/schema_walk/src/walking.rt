@@ -9,7 +9,7 @@ ghost use Rattle.avro_types.specs.Node.{node_of};
 ghost use Rattle.schema_walk.specs.Walk.{leaf, reference, named, walk, members, if_room, union_of, or_unknown, fields, fields_after, field};
 
 use crate::holder::Holder;
-use avro_types::{Kind, MOST_FIELDS, MOST_NODES};
+use avro_types::{Aliases, Kind, MOST_FIELDS, MOST_NODES};
 use schema_drafts::{Draft, DraftField, Drafts, FieldList, Namespace};
 use schema_names::{
     Form, SchemaError, Word, are_apart, default_symbol, defined_node, field_aliases, field_name,
@@ -258,7 +258,7 @@ fn walk_record<'v>(
     let new = new_names(alloc, value, enclosing, drafts)?;
     let open = Draft::Record {
         name: new.name.copy()?,
-        aliases: Vec::new(alloc),
+        aliases: Aliases::of_texts(alloc, new.name.shared_namespace()?, Vec::new(alloc))?,
         fields: Vec::new(alloc),
     };
     let number = drafts.define(alloc, &new.name, new.number, open)?;

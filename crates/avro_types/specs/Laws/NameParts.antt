@@ -44,7 +44,7 @@ split-behind (c ∷ cs) last = rw (split-behind cs last) (at (is_dot c))
     at true = refl
     at false = onto-append c (slice_split is_dot cs) (slice_split is_dot last) (omega (arith, length-slice_split is_dot cs))
 
-undotted-part : (last : List ℕ) → has_dot last ≡ false → slice_split is_dot last ≡ last ∷ []
+pub undotted-part : (last : List ℕ) → has_dot last ≡ false → slice_split is_dot last ≡ last ∷ []
 undotted-part [] none = refl
 undotted-part (c ∷ cs) none = let h = neither (is_dot c) (has_dot cs) none in rw (h.0, undotted-part cs h.1) refl
 

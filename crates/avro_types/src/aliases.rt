@@ -1,0 +1,135 @@
+ghost use Rattle.std.specs.Prelude.{◌≡◌, ◌&&◌, ◌||◌, IfOk, OnOk, false, ℕ, List, map, string_bytes};
+ghost use Rattle.std.specs.Arc.{arc_str_bytes};
+ghost use Rattle.std.specs.BTreeSet.{contains_text};
+ghost use Rattle.std.specs.Str.{bytes_eq};
+ghost use Rattle.avro_types.specs.Aliases.{full_names, is_found, stands_under};
+ghost use Rattle.avro_types.specs.FullNames.{full_name, has_dot, inside};
+ghost use Rattle.avro_types.specs.Symbols.{is_used};
+
+use crate::name::Name;
+use std::alloc::{AllocError, Global};
+use std::collections::{BTreeMap, BTreeSet};
+use std::marker::Model;
+use std::sync::ArcStr;
+
+/// The aliases of a record, an enum or a fixed, each of which is found by its full name (Avro 1.11, "Aliases"). Callers
+/// see them as full names, in their order.
+///
+/// One that is written without a dot stands in the namespace of the type, whose text it shares.
+#[derive(Debug, Drop)]
+pub struct Aliases {
+    namespace: ArcStr,
+    texts: Vec<String>,
+    /// Those without a dot.
+    alone: BTreeSet<String>,
+    /// The last parts of the others, under their namespaces.
+    under: BTreeMap<String, BTreeSet<String>>,
+}
+
+impl Model for Aliases {
+    ghost use Rattle.std.specs.Prelude.{false, ℕ, List, map, string_bytes};
+    ghost use Rattle.std.specs.Arc.{arc_str_bytes};
+    ghost use Rattle.avro_types.specs.Aliases.{AreFound, full_names};
+
+    ghost Value = { List (List ℕ) };
+
+    ghost view = { λ a. full_names (arc_str_bytes a.namespace) (map string_bytes a.texts.items) };
+
+    ghost invariant = { λ a. AreFound (arc_str_bytes a.namespace) a.texts.items a.alone a.under };
+}
+
+/// Puts a last part under its namespace.
+fn put_under(
+    alloc: Global,
+    under: &mut BTreeMap<String, BTreeSet<String>>,
+    namespace: &str,
+    last: &str,
+) -> Result<(), AllocError>
+    ensures { (other another : List ℕ) → OnOk result (stands_under under.new other another
+        ≡ ((bytes_eq namespace.now other && bytes_eq last.now another) || stands_under under.old other another)) }
+{
+    let mut lasts = match under.remove(namespace) {
+        Some(lasts) => lasts,
+        None => BTreeSet::new(alloc),
+    };
+    lasts.insert(String::from_str(alloc, last)?)?;
+    under.insert(String::from_str(alloc, namespace)?, lasts)?;
+    Ok(())
+}
+
+/// Puts what a text means where it is found: alone where it has no dot, and else under its namespace. A text that begins
+/// with its only dot is no name, and is found nowhere.
+fn put(
+    alloc: Global,
+    alone: &mut BTreeSet<String>,
+    under: &mut BTreeMap<String, BTreeSet<String>>,
+    text: &str,
+) -> Result<(), AllocError>
+    ensures { (own namespace last : List ℕ) → has_dot last ≡ false
+        → OnOk result (is_found own alone.new under.new namespace last ≡ (is_found own alone.old under.old namespace last
+        || bytes_eq (full_name own text.now) (inside namespace last))) }
+{
+    let Some((namespace, last)) = text.rsplit_once('.') else {
+        alone.insert(String::from_str(alloc, text)?)?;
+        return Ok(());
+    };
+    if namespace.is_empty() {
+        return Ok(());
+    }
+    put_under(alloc, under, namespace, last)?;
+    Ok(())
+}
+
+/// Whether a namespace is the type's own, and a last part stands alone.
+fn stands_alone(own: &ArcStr, alone: &BTreeSet<String>, namespace: &str, last: &str) -> bool
+    ensures { result ≡ (bytes_eq namespace.now (arc_str_bytes own.now) && contains_text alone.now last.now) }
+{
+    alone.contains(last) && namespace == own.as_str()
+}
+
+/// Whether a last part stands under a namespace.
+fn stands_under(under: &BTreeMap<String, BTreeSet<String>>, namespace: &str, last: &str) -> bool
+    ensures { result ≡ stands_under under.now namespace.now last.now }
+{
+    match under.get(namespace) {
+        Some(lasts) => lasts.contains(last),
+        None => false,
+    }
+}
+
+impl Aliases {
+    /// What texts mean for a type in a namespace: a text without a dot a name in that namespace, another itself.
+    pub fn of_texts(
+        alloc: Global,
+        namespace: ArcStr,
+        texts: Vec<String>,
+    ) -> Result<Aliases, AllocError>
+        ensures { IfOk result (λ aliases.
+            aliases ≡ full_names (arc_str_bytes namespace) (map string_bytes texts.items)) }
+    {
+        let mut alone = BTreeSet::new(alloc);
+        let mut under = BTreeMap::new(alloc);
+        for text in &texts {
+            put(alloc, &mut alone, &mut under, text)?;
+        }
+        Ok(Aliases {
+            namespace,
+            texts,
+            alone,
+            under,
+        })
+    }
+
+    /// Whether a full name is one of them.
+    pub fn contains(&self, name: &Name) -> bool
+        ensures { result ≡ is_used name.now self.now }
+    {
+        if self.texts.is_empty() {
+            return false;
+        }
+        name.has_two_parts();
+        let (namespace, last) = (name.namespace(), name.last());
+        stands_alone(&self.namespace, &self.alone, namespace, last)
+            || stands_under(&self.under, namespace, last)
+    }
+}
