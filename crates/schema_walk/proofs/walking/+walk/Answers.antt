@@ -1,4 +1,4 @@
-use Rattle.std.proofs.Common.{rules, codes, ◌≤◌, ◌<◌, ◌≡◌, ◌∙◌, sym, ap, refl, arith, option_map, length, map, []}
+use Rattle.std.proofs.Common.{rules, codes, ◌≤◌, ◌<◌, ◌≡◌, ◌∙◌, sym, ap, refl, arith, option_map, length, map, [], string_bytes}
 use Rattle.schema_drafts.specs.Draft.{field_names}
 use Rattle.std.specs.Arc.{arc_str_bytes}
 use Rattle.std.proofs.lemmas.Result.{err_from_is_err_and}
@@ -10,6 +10,7 @@ use Rattle.avro_types.specs.declared.limits.TheConstants.{MOST_FIELDS, MOST_NODE
 use Rattle.schema_walk.specs.Contract.{holder_walk, object_walk}
 use Rattle.schema_drafts.specs.Draft.{Whole, RecordDraft, draft_field_of}
 use Rattle.schema_drafts.specs.Head.{Named}
+use Rattle.avro_types.specs.Aliases.{full_names}
 use Rattle.avro_types.specs.Node.{UnionNode, names_of}
 use Rattle.schema_walk.specs.Walk.{walk}
 use Rattle.schema_drafts.proofs.DraftLists.{map-push}
@@ -220,7 +221,7 @@ walk_record-walk_fields-requires t c =
 pub walk_record-returns-in_err-fields : goal.walk_record-returns-in_err-fields
 walk_record-returns-in_err-fields t c =
     let p = err_from_is_err_and c.from_residual-in_err-fields.result c.from_residual-in_err-fields.ensures.1 in
-    let there = pushed-record c.args.drafts.now c.define.new.self c.in_ok-new.new.name c.in_ok-copy.field-0 c.new.result.items (map draft_field_of c.new-2.result.items) c.in_ok-number.ensures.nodes c.in_ok-copy.ensures c.new.ensures.items (ap (map draft_field_of) c.new-2.ensures.items) in
+    let there = pushed-record c.args.drafts.now c.define.new.self c.in_ok-new.new.name c.in_ok-copy.field-0 c.in_ok-of_texts.field-0 (map draft_field_of c.new-2.result.items) c.in_ok-number.ensures.nodes c.in_ok-copy.ensures (c.in_ok-of_texts.ensures ∙ ap (λ ts. full_names (arc_str_bytes c.in_ok-shared_namespace.field-0) (map string_bytes ts)) c.new.ensures.items) (ap (map draft_field_of) c.new-2.ensures.items) in
     let room : length c.args.drafts.now < MOST_NODES = omega (arith, c.in_ok-node.ensures.node, c.in_ok-node.ensures.room) in
     let named = c.in_ok-new.ensures.names in
     rw (p.1, p.2, ← c.get.ensures)
@@ -235,13 +236,13 @@ walk_record-define-requires t c = record {
 
 pub walk_record-set-requires : goal.walk_record-set-requires
 walk_record-set-requires t c =
-    let there = pushed-record c.args.drafts.now c.define.new.self c.in_ok-new.new.name c.in_ok-copy.field-0 c.new.result.items (map draft_field_of c.new-2.result.items) c.in_ok-number.ensures.nodes c.in_ok-copy.ensures c.new.ensures.items (ap (map draft_field_of) c.new-2.ensures.items) in
+    let there = pushed-record c.args.drafts.now c.define.new.self c.in_ok-new.new.name c.in_ok-copy.field-0 c.in_ok-of_texts.field-0 (map draft_field_of c.new-2.result.items) c.in_ok-number.ensures.nodes c.in_ok-copy.ensures (c.in_ok-of_texts.ensures ∙ ap (λ ts. full_names (arc_str_bytes c.in_ok-shared_namespace.field-0) (map string_bytes ts)) c.new.ensures.items) (ap (map draft_field_of) c.new-2.ensures.items) in
     let n : c.in_ok-node.node ≡ length c.args.drafts.now = c.in_ok-node.ensures.node in
     rw n (run-keeps _ _ c.args.drafts.now (RecordDraft (names_of c.in_ok-new.new.name []) []) _ _ (rw (c.in_ok-own.ensures.text, there) at c.in_ok-fields.ensures))
 
 pub walk_record-returns : goal.walk_record-returns
 walk_record-returns t c =
-    let there = pushed-record c.args.drafts.now c.define.new.self c.in_ok-new.new.name c.in_ok-copy.field-0 c.new.result.items (map draft_field_of c.new-2.result.items) c.in_ok-number.ensures.nodes c.in_ok-copy.ensures c.new.ensures.items (ap (map draft_field_of) c.new-2.ensures.items) in
+    let there = pushed-record c.args.drafts.now c.define.new.self c.in_ok-new.new.name c.in_ok-copy.field-0 c.in_ok-of_texts.field-0 (map draft_field_of c.new-2.result.items) c.in_ok-number.ensures.nodes c.in_ok-copy.ensures (c.in_ok-of_texts.ensures ∙ ap (λ ts. full_names (arc_str_bytes c.in_ok-shared_namespace.field-0) (map string_bytes ts)) c.new.ensures.items) (ap (map draft_field_of) c.new-2.ensures.items) in
     let room : length c.args.drafts.now < MOST_NODES = omega (arith, c.in_ok-node.ensures.node, c.in_ok-node.ensures.room) in
     let named = c.in_ok-new.ensures.names in
     let n : c.in_ok-node.node ≡ length c.args.drafts.now = c.in_ok-node.ensures.node in
