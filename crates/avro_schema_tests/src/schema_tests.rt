@@ -526,50 +526,57 @@ fn are_texts(texts: &[String], others: &[&str]) -> bool {
     true
 }
 
-/// Whether full names are these.
-fn are_names(names: &[Name], others: &[&str]) -> bool {
-    if names.len() != others.len() {
-        return false;
+/// Whether a full name is an alias of a kind.
+fn is_alias(kind: &Kind, name: &Name) -> bool {
+    match kind {
+        Kind::Record { aliases, .. }
+        | Kind::Enum { aliases, .. }
+        | Kind::Fixed { aliases, .. } => aliases.contains(name),
+        _ => false,
     }
-    for at in 0..others.len() {
-        if !is_full(&names[at], others[at]) {
-            return false;
-        }
-    }
-    true
 }
 
-/// Whether the aliases of a schema are those of the next test.
+/// For each fixed of a schema whether its name is an alias of a kind: `+`, or `-`.
+fn marks_of(alloc: Global, kind: &Kind, names: &Schema) -> Result<String, AllocError> {
+    let mut marks = String::new(alloc);
+    for node in 0..names.len() {
+        if let Kind::Fixed { name, .. } = names.kind(node) {
+            marks.push_str(if is_alias(kind, name) { "+" } else { "-" })?;
+        }
+    }
+    Ok(marks)
+}
+
+/// Whether the aliases of the fields of a schema are those of the next test.
 fn assert_aliases(rt: &impl Abort, schema: &Schema) {
     assert!(rt; schema.len() == 5);
-    let Kind::Record {
-        aliases,
-        fields,
-        ..
-    } = schema.kind(0)
-    else {
+    let Kind::Record { fields, .. } = schema.kind(0) else {
         panic!(rt; "no record");
     };
-    assert!(rt; are_names(aliases, &["a.c", "x.y", "a.c"]) && fields.len() == 3);
+    assert!(rt; fields.len() == 3);
     assert!(rt; are_texts(&fields[0].aliases, &["e", "e", "int"]) && fields[1].aliases.is_empty());
-    let Kind::Fixed { aliases, .. } = schema.kind(1) else {
-        panic!(rt; "no fixed");
-    };
-    assert!(rt; are_names(aliases, &["int", "n.long"]));
-    let Kind::Enum { aliases, .. } = schema.kind(2) else {
-        panic!(rt; "no enum");
-    };
-    assert!(rt; are_names(aliases, &["m.F"]));
 }
 
 #[test]
 fn aliases_stand_in_the_namespace_of_their_type(rt: HostRuntime) {
     let text = r#"{"type":"record","name":"a.b","aliases":["c","x.y","c"],"fields":[
-        {"name":"d","aliases":["e","e","int"],"type":{"type":"fixed","name":"F","namespace":"","size":1,"aliases":["int","n.long"]}},
+        {"name":"d","aliases":["e","e","int"],"type":{"type":"fixed","name":"F","namespace":"","size":1,"aliases":["int","n.long","G"]}},
         {"name":"g","type":{"type":"enum","name":"m.E","symbols":[],"aliases":["F"]}},
         {"name":"h","type":{"type":"array","items":{"type":"string","aliases":3},"aliases":3}}]}"#;
     let schema = parsed(rt.alloc(), text).expect(&rt, "a schema");
     assert_aliases(&rt, &schema);
+    let names = r#"[{"type":"fixed","name":"a.c","size":1},{"type":"fixed","name":"x.y","size":1},{"type":"fixed","name":"c","size":1},
+        {"type":"fixed","name":"y","size":1},{"type":"fixed","name":"a.y","size":1},{"type":"fixed","name":"a.b","size":1},
+        {"type":"fixed","name":"m.F","size":1},{"type":"fixed","name":"F","size":1},{"type":"fixed","name":"G","size":1},
+        {"type":"fixed","name":"m.G","size":1}]"#;
+    let names = parsed(rt.alloc(), names).expect(&rt, "a schema");
+    assert!(&rt; schema.len() == 5);
+    let record = marks_of(rt.alloc(), schema.kind(0), &names).expect(&rt, "memory");
+    let fixed = marks_of(rt.alloc(), schema.kind(1), &names).expect(&rt, "memory");
+    let symbols = marks_of(rt.alloc(), schema.kind(2), &names).expect(&rt, "memory");
+    assert_eq!(&rt; record.as_str(), "++--------");
+    assert_eq!(&rt; fixed.as_str(), "--------+-");
+    assert_eq!(&rt; symbols.as_str(), "------+---");
 }
 
 /// Appends the text of a fixed in a namespace of so many bytes, to its first alias.
@@ -605,21 +612,31 @@ fn aliased(alloc: Global, namespace: usize, aliases: u32) -> Result<Schema, Sche
     parsed(alloc, &text)
 }
 
-/// Whether the aliases of a schema are those of the next test.
-fn assert_shared(rt: &impl Abort, schema: &Schema) {
-    assert!(rt; schema.len() == 1);
-    let Kind::Fixed { name, aliases, .. } = schema.kind(0) else {
-        panic!(rt; "no fixed");
-    };
-    assert!(rt; name.namespace().len() == 60_000 && aliases.len() == 5_000);
-    let first = &aliases[0];
-    assert!(rt; first.last() == "A" && first.namespace() == name.namespace());
-    let last = &aliases[4_999];
-    assert!(rt; last.last() == "a4999" && last.namespace() == name.namespace());
+/// Appends the text of types in a namespace of so many bytes, three of them fixed.
+fn push_three(text: &mut String, namespace: usize) -> Result<(), AllocError> {
+    text.push_str(r#"{"type":"record","name":"F","namespace":""#)?;
+    push_times(text, "n", namespace)?;
+    text.push_str(r#"","fields":[{"name":"a","type":{"type":"fixed","name":"A","size":1}},"#)?;
+    text.push_str(r#"{"name":"b","type":{"type":"fixed","name":"a4999","size":1}},"#)?;
+    text.push_str(r#"{"name":"c","type":{"type":"fixed","name":"a5000","size":1}}]}"#)?;
+    Ok(())
+}
+
+/// The schema of such types.
+fn three(alloc: Global, namespace: usize) -> Result<Schema, SchemaError> {
+    let mut text = String::new(alloc);
+    push_three(&mut text, namespace)?;
+    parsed(alloc, &text)
 }
 
 #[test]
 fn aliases_share_a_long_namespace(rt: HostRuntime) {
     let schema = aliased(rt.alloc(), 60_000, 5_000).expect(&rt, "a schema");
-    assert_shared(&rt, &schema);
+    let names = three(rt.alloc(), 60_000).expect(&rt, "a schema");
+    let others = three(rt.alloc(), 59_999).expect(&rt, "a schema");
+    assert!(&rt; schema.len() == 1);
+    let marks = marks_of(rt.alloc(), schema.kind(0), &names).expect(&rt, "memory");
+    let none = marks_of(rt.alloc(), schema.kind(0), &others).expect(&rt, "memory");
+    assert_eq!(&rt; marks.as_str(), "++-");
+    assert_eq!(&rt; none.as_str(), "---");
 }
