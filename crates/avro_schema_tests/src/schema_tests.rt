@@ -529,9 +529,8 @@ fn are_texts(texts: &[String], others: &[&str]) -> bool {
 /// Whether a full name is an alias of a kind.
 fn is_alias(kind: &Kind, name: &Name) -> bool {
     match kind {
-        Kind::Record { aliases, .. }
-        | Kind::Enum { aliases, .. }
-        | Kind::Fixed { aliases, .. } => aliases.contains(name),
+        Kind::Record { aliases, .. } | Kind::Enum { aliases, .. } | Kind::Fixed { aliases, .. } =>
+            aliases.contains(name),
         _ => false,
     }
 }
@@ -565,7 +564,8 @@ fn aliases_stand_in_the_namespace_of_their_type(rt: HostRuntime) {
         {"name":"h","type":{"type":"array","items":{"type":"string","aliases":3},"aliases":3}}]}"#;
     let schema = parsed(rt.alloc(), text).expect(&rt, "a schema");
     assert_aliases(&rt, &schema);
-    let names = r#"[{"type":"fixed","name":"a.c","size":1},{"type":"fixed","name":"x.y","size":1},{"type":"fixed","name":"c","size":1},
+    let names =
+        r#"[{"type":"fixed","name":"a.c","size":1},{"type":"fixed","name":"x.y","size":1},{"type":"fixed","name":"c","size":1},
         {"type":"fixed","name":"y","size":1},{"type":"fixed","name":"a.y","size":1},{"type":"fixed","name":"a.b","size":1},
         {"type":"fixed","name":"m.F","size":1},{"type":"fixed","name":"F","size":1},{"type":"fixed","name":"G","size":1},
         {"type":"fixed","name":"m.G","size":1}]"#;

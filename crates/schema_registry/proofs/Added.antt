@@ -24,7 +24,7 @@ use Rattle.schema_registry.proofs.Numbers.{all-push}
 -- ---- ids
 
 -- the id that is found is one of the schemas'
-id-within : (text : List ℕ) (n : ℕ) (schemas : List Declaration) (id : ℕ) → position_from (λ (s : Declaration). bytes_eq s.text text) n schemas ≡ Some id
+pub id-within : (text : List ℕ) (n : ℕ) (schemas : List Declaration) (id : ℕ) → position_from (λ (s : Declaration). bytes_eq s.text text) n schemas ≡ Some id
     → (n ≤ id) × (id < n + length schemas)
 id-within text n [] id is = absurd (let no : ⊥ = cc in no)
 id-within text n (s ∷ schemas) id is = at (bytes_eq s.text text) is (id-within text (n + 1) schemas id)

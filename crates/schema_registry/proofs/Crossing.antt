@@ -6,6 +6,7 @@ use Rattle.std.proofs.Crossing.{crosses}
 use Rattle.std.proofs.MapsCrossing as maps
 use Rattle.std.proofs.sync.Mutex.TheSendSync as mutex
 use Rattle.once_cell.proofs.race.once_box.OnceBox.TheSendSync as cell
+use Rattle.avro_types.proofs.aliases.Aliases.TheSendSync as aliases
 use Rattle.avro_types.proofs.datum.Datum.TheLaws.TheKnot as knot
 use Rattle.avro_types.proofs.name.Name.TheSendSync as name
 use Rattle.avro_types.proofs.symbols.Symbols.TheSendSync as symbols
@@ -19,10 +20,10 @@ use Rattle.schema_registry.proofs.level.Level.TheSendSync as level
 use Rattle.schema_registry.proofs.versions.Versions.TheSendSync as versions
 
 nodes-send : IsSend nodes.the_row
-nodes-send = search (name.the_send, symbols.the_send, knot.crosses, maps.String-send, crosses, sendable) depth 60 fits 20000
+nodes-send = search (aliases.the_send, name.the_send, symbols.the_send, knot.crosses, maps.String-send, crosses, sendable) depth 60 fits 20000
 
 nodes-sync : IsSync nodes.the_row
-nodes-sync = search (name.the_sync, symbols.the_sync, knot.crosses, maps.String-sync, crosses, sendable) depth 60 fits 20000
+nodes-sync = search (aliases.the_sync, name.the_sync, symbols.the_sync, knot.crosses, maps.String-sync, crosses, sendable) depth 60 fits 20000
 
 schema-send : IsSend schema.the_row
 schema-send = search (nodes-send, nodes-sync, crosses, sendable) depth 60 fits 20000

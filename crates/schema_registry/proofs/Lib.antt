@@ -6,5 +6,6 @@ pub mod Named
 pub mod Kept
 pub mod Told
 pub mod Added
+pub mod GivenIds
 pub mod Crossing
 pub mod SomeAnswer

@@ -1,5 +1,5 @@
 -- What is said of a registry that threads share: receipts, and answers in some state. This project's own.
-use Rattle.std.specs.Prelude.{◌≡◌, ◌≢◌, ℕ, ◌-◌, ◌<◌, ◌≤◌, List, Option, Result, Ok, Err, IsSome, slice_index_or}
+use Rattle.std.specs.Prelude.{◌≡◌, ◌≢◌, ◌⊎◌, ℕ, ◌-◌, ◌<◌, ◌≤◌, List, Option, Result, Ok, Err, IsSome, IfSome, slice_index_or}
 use Rattle.std.specs.Global.{Global}
 use Rattle.once_cell.specs.Once.{cell_name}
 use Rattle.avro_schema.specs.Schema.{Declaration}
@@ -10,7 +10,7 @@ use Rattle.schema_registry.specs.declared.shared.Receipt.{Receipt}
 use Rattle.schema_registry.specs.declared.shared.SharedRegistry.{SharedRegistry}
 use Rattle.schema_registry.specs.Command.{Command, RegisterCommand}
 use Rattle.schema_registry.specs.Reply.{Reply, IdReply}
-use Rattle.schema_registry.specs.Accepting.{registry_after}
+use Rattle.schema_registry.specs.Accepting.{compacted, registry_after}
 use Rattle.schema_registry.specs.Answers.{AreAccepted, IsAnswer, answer_to}
 
 -- the id of a receipt
@@ -35,15 +35,30 @@ pub record IsAnswered (c : Command) (result : Result Reply Refusal) : Type 0 whe
   pub accepted : AreAccepted commands
   pub answer : IsAnswer (answer_to (registry_after commands) c) result
 
--- the answer is such a one, but for want of memory and a cell that holds another schema
-abbrev pub IsSomeAnswer : Command → Result Reply Refusal → Type 0
-IsSomeAnswer c (Ok reply) = IsAnswered c (Ok reply)
-IsSomeAnswer c (Err refusal) = refusal ≢ NoMemory → refusal ≢ Clash → IsAnswered c (Err refusal)
+-- a cell of the registry shows a schema of another compact text
+pub record ShowsAnother (shared : SharedRegistry) (text : List ℕ) : Type 0 where
+  pub receipt : Receipt
+  pub is_receipt : IsReceiptOf shared receipt
+  pub another : IfSome (receipt_schema receipt) (λ s. s.text ≢ text)
+
+-- why a command is refused as a clash: no other than a registration is
+abbrev pub IsClash : SharedRegistry → Command → Type 0
+IsClash shared (RegisterCommand subject text) = ShowsAnother shared (compacted text)
+IsClash shared c = ⊥
+
+-- a refusal is such an answer or a clash, unless memory ran out
+abbrev pub IsSomeRefusal : SharedRegistry → Command → Refusal → Type 0
+IsSomeRefusal shared c refusal = refusal ≢ NoMemory → ((refusal ≡ Clash) × IsClash shared c) ⊎ IsAnswered c (Err refusal)
+
+-- a reply is such an answer
+abbrev pub IsSomeAnswer : SharedRegistry → Command → Result Reply Refusal → Type 0
+IsSomeAnswer shared c (Ok reply) = IsAnswered c (Ok reply)
+IsSomeAnswer shared c (Err refusal) = IsSomeRefusal shared c refusal
 
 -- the same of the id that a registration gives
-abbrev pub IsSomeIdOf : Command → Result (ℕ × Receipt) Refusal → Type 0
-IsSomeIdOf c (Ok r) = IsAnswered c (Ok (IdReply r.0))
-IsSomeIdOf c (Err refusal) = refusal ≢ NoMemory → refusal ≢ Clash → IsAnswered c (Err refusal)
+abbrev pub IsSomeIdOf : SharedRegistry → Command → Result (ℕ × Receipt) Refusal → Type 0
+IsSomeIdOf shared c (Ok r) = IsAnswered c (Ok (IdReply r.0))
+IsSomeIdOf shared c (Err refusal) = IsSomeRefusal shared c refusal
 
-abbrev pub IsSomeId : List ℕ → List ℕ → Result (ℕ × Receipt) Refusal → Type 0
-IsSomeId subject text result = IsSomeIdOf (RegisterCommand subject text) result
+abbrev pub IsSomeId : SharedRegistry → List ℕ → List ℕ → Result (ℕ × Receipt) Refusal → Type 0
+IsSomeId shared subject text result = IsSomeIdOf shared (RegisterCommand subject text) result

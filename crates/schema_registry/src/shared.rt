@@ -1,4 +1,4 @@
-ghost use Rattle.std.specs.Prelude.{◌≡◌, Some, IfErr, IfOk, IfSome, string_bytes, vec_len};
+ghost use Rattle.std.specs.Prelude.{◌≡◌, ◌<◌, ◌≤◌, Some, IfErr, IfOk, IfSome, string_bytes, vec_len};
 ghost use Rattle.schema_registry.specs.Accepting.{compacted};
 ghost use Rattle.schema_registry.specs.Command.{command_of};
 ghost use Rattle.schema_registry.specs.Reply.{answer_of};
@@ -44,7 +44,7 @@ impl Receipt {
 }
 
 impl SharedRegistry {
-    ghost use Rattle.schema_registry.specs.Shared.{IsReceiptOf, IsSomeAnswer, IsSomeId, IsSomeIdOf, receipt_id, receipt_schema};
+    ghost use Rattle.schema_registry.specs.Shared.{IsReceiptOf, IsSomeAnswer, IsSomeId, IsSomeIdOf, ShowsAnother, receipt_id, receipt_schema};
 
     /// An empty registry.
     pub fn new(alloc: Global) -> Result<SharedRegistry, AllocError> {
@@ -107,7 +107,7 @@ impl SharedRegistry {
     ) -> Result<(u32, Receipt), Refusal>
         ensures receipt { IfOk result (λ r. IsReceiptOf self.now r.1 × (receipt_id r.1 ≡ r.0)
             × IfSome (receipt_schema r.1) (λ s. s.text ≡ compacted (string_bytes text))) }
-        ensures answer { IsSomeId (string_bytes subject) (string_bytes text) result }
+        ensures answer { IsSomeId self.now (string_bytes subject) (string_bytes text) result }
     {
         if !is_subject(&subject) {
             return Err(Refusal::BadSubject);
@@ -128,7 +128,7 @@ impl SharedRegistry {
         requires { AsksToRegister (command_of command.now) (string_bytes subject) schema }
         ensures receipt { IfOk result (λ r. IsReceiptOf self.now r.1 × (receipt_id r.1 ≡ r.0)
             × IfSome (receipt_schema r.1) (λ s. s.text ≡ schema.text)) }
-        ensures answer { IsSomeIdOf (command_of command.now) result }
+        ensures answer { IsSomeIdOf self.now (command_of command.now) result }
     {
         let kept = schema.copy()?;
         let shown = Box::new(self.alloc, schema.copy()?)?;
@@ -140,13 +140,11 @@ impl SharedRegistry {
 
     /// Shows a schema in the cell of its id.
     fn show(&self, id: u32, shown: Box<Schema>, kept: &Schema) -> Result<Receipt, Refusal>
+        requires known { (0 < id) × (id ≤ MOST_SCHEMAS) }
         ensures receipt { IfOk result (λ r. IsReceiptOf self.now r × (receipt_id r ≡ id)
             × IfSome (receipt_schema r) (λ s. s.text ≡ kept.now.text)) }
-        ensures clash { IfErr result (λ e. e ≡ Refusal.Clash) }
+        ensures clash { IfErr result (λ e. (e ≡ Refusal.Clash) × ShowsAnother self.now kept.now.text) }
     {
-        if id == 0 || id as usize > MOST_SCHEMAS {
-            return Err(Refusal::Clash);
-        }
         let cell = &self.cells[id as usize - 1];
         let mut note = cell.note();
         let seen = cell.get_or_init_as(move || shown, &mut note);
@@ -158,7 +156,7 @@ impl SharedRegistry {
 
     /// Does or answers what a command asks, or refuses it.
     pub fn apply<R: Wait>(&self, rt: &R, command: Command) -> Result<Reply, Refusal>
-        ensures { IsSomeAnswer (command_of command) (answer_of result) }
+        ensures { IsSomeAnswer self.now (command_of command) (answer_of result) }
     {
         match command {
             Command::Register { subject, text } => {
@@ -171,7 +169,7 @@ impl SharedRegistry {
 
     /// Does or answers what a command asks that shows no schema in a cell.
     fn apply_to_registry<R: Wait>(&self, rt: &R, command: Command) -> Result<Reply, Refusal>
-        ensures { IsSomeAnswer (command_of command) (answer_of result) }
+        ensures { IsSomeAnswer self.now (command_of command) (answer_of result) }
     {
         let mut registry = self.registry.lock(rt);
         registry.is_accepted();

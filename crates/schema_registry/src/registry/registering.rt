@@ -1,4 +1,4 @@
-ghost use Rattle.std.specs.Prelude.{◌≡◌, ◌≢◌, ◌↔◌, ◌≤◌, [], ◌∷◌, ◌++◌, ℕ, List, Ok, Err, Some, None, true, false, is_some, IfOk, IsTrue, MatchResult, OnOk, OnErr, if◌then◌else◌, option_map, string_bytes};
+ghost use Rattle.std.specs.Prelude.{◌≡◌, ◌<◌, ◌≢◌, ◌↔◌, ◌≤◌, [], ◌∷◌, ◌++◌, ℕ, List, Ok, Err, Some, None, true, false, is_some, IfOk, IsTrue, MatchResult, OnOk, OnErr, if◌then◌else◌, option_map, string_bytes};
 ghost use Rattle.std.specs.BTreeMap.{IsUnchanged, get_by_text};
 ghost use Rattle.std.specs.Str.{bytes_eq};
 ghost use Rattle.schema_names.specs.declared.error.SchemaError.{SchemaError};
@@ -155,6 +155,7 @@ impl Registry {
     ) -> Result<u32, Refusal>
         requires { AsksToRegister (command_of command.now) (string_bytes subject) schema }
         ensures answer { GivesId (registry_after self.old) (string_bytes subject) schema result }
+        ensures known { IfOk result (λ id. (0 < id) × (id ≤ MOST_SCHEMAS)) }
         ensures accepted { AreAccepted self.old }
     {
         self.is_accepted();

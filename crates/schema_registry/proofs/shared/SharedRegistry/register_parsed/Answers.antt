@@ -1,6 +1,7 @@
-use Rattle.std.proofs.Common.{string_bytes}
+use Rattle.std.proofs.Common.{string_bytes, inl, inr}
 use Rattle.std.proofs.lemmas.Result.{err_from_is_err_and}
 use Rattle.schema_registry.specs.Accepting.{registry_after}
+use Rattle.schema_registry.proofs.GivenIds.{declared-text}
 use Rattle.schema_registry.proofs.Told.{registered-refusal}
 use Rattle.schema_registry.proofs.shared.SharedRegistry.register_parsed.Goals as goal
 
@@ -8,9 +9,15 @@ pub returns-in_err-id-clause-answer : goal.returns-in_err-id-clause-answer
 returns-in_err-id-clause-answer g c =
     let p = err_from_is_err_and c.from_residual-in_err-id.result c.from_residual-in_err-id.ensures.1 in
     let asked = c.requires in
-    rw (p.1, p.2, asked.command_is) (λ known _. record {
+    rw (p.1, p.2, asked.command_is) (λ known. inr (record {
       commands = c.deref_mut.result.now;
       accepted = c.in_err-id.ensures.accepted;
       answer = registered-refusal (registry_after c.deref_mut.result.now) (string_bytes c.args.subject) asked.text c.args.schema asked.subject_is asked.declares
           c.in_err-id.field-0.0 (c.in_err-id.ensures.answer known);
-    })
+    }))
+
+pub returns-in_err-receipt-clause-answer : goal.returns-in_err-receipt-clause-answer
+returns-in_err-receipt-clause-answer g c =
+    let p = err_from_is_err_and c.from_residual-in_err-receipt.result c.from_residual-in_err-receipt.ensures.1 in
+    let asked = c.requires in
+    rw (p.1, p.2, asked.command_is, ← declared-text asked.text c.args.schema asked.declares) (λ _. inl (rw (← c.in_ok-kept.ensures) c.in_err-receipt.ensures.clash))
