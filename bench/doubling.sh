@@ -1,6 +1,6 @@
 #!/usr/bin/env bash
 # Whether time is linear: the program on payloads of nested arrays of records, and on schemas of many symbols, of many long names that
-# differ at their ends, of many defaults, members, aliases, and names in one long namespace, each of one size and of twice that size, in one
+# differ at their ends, of many defaults, members, aliases that are one, or are met often, and names in one long namespace, each of one size and of twice that size, in one
 # run. And whether a datum costs the same with a schema of twice the size: records of many fields, unions of many members, enums of many
 # symbols, long names, lists of many levels. Not part of the gate. Usage: bench/doubling.sh PROGRAM [WORD], which takes the rows alone whose names have that word.
 set -euo pipefail
@@ -83,6 +83,15 @@ def aliases(size):
     reader = '{"type":"record","name":"R","namespace":"%s","aliases":[%s,"W"],"fields":[%s]}' % (space, others, read)
     return writer + "\n" + reader + "\n" + "02" * count + "\n"
 
+def aliases_met(size):
+    """A fixed of many aliases, all of them the writer's last part in another long namespace, which is met in many fields."""
+    space, many = "n" * (size // 4), size // 50
+    fields = ",".join('{"name":"f%04d","type":"w"}' % i for i in range(1, many))
+    def whole(last, name, more):
+        return ('{"type":"record","name":"W","namespace":"%s.%s","fields":[{"name":"f","type":{"type":"fixed","name":"%s","size":1%s}},%s]}\n'
+                % (space, last, name, more, fields.replace('"w"', '"%s"' % name)))
+    return whole("a", "w", "") + whole("b", "R", ',"aliases":[%s]' % ",".join(['"w"'] * (size // 16)))
+
 def enum_fields(size):
     """Fields of one great enum to an enum that lacks a symbol, so that each field's line of the program names its misses."""
     symbols = ['"S%08d"' % i for i in range(size // 25)]
@@ -145,7 +154,7 @@ for name, make, size, turns in [("payload", points, 1 << 21, 10), ("schema of en
                                 ("schema of defaults of one enum", defaults, 50_000, 30), ("schema of fields of one enum", enum_fields, 50_000, 30),
                                 ("schema of one long default", long_default, 100_000, 30), ("schema of one union", members, 100_000, 30),
                                 ("schema of one long namespace", namespace, 100_000, 30), ("schema of references in one long namespace", references, 100_000, 30),
-                                ("schema of many aliases", aliases, 100_000, 30)]:
+                                ("schema of many aliases", aliases, 100_000, 30), ("schema of aliases that are met often", aliases_met, 25_000, 30)]:
     if word not in name:
         continue
     once, twice = (took - start for took in least(turns, *(make(size * k).encode() for k in (1, 2))))
