@@ -35,15 +35,22 @@ pub record IsAnswered (c : Command) (result : Result Reply Refusal) : Type 0 whe
   pub accepted : AreAccepted commands
   pub answer : IsAnswer (answer_to (registry_after commands) c) result
 
--- a cell of the registry shows a schema of another compact text
-pub record ShowsAnother (shared : SharedRegistry) (text : List ℕ) : Type 0 where
+-- the cell of an id shows a schema of another compact text
+pub record ShowsAnother (shared : SharedRegistry) (id : ℕ) (text : List ℕ) : Type 0 where
   pub receipt : Receipt
   pub is_receipt : IsReceiptOf shared receipt
+  pub of_id : receipt_id receipt ≡ id
   pub another : IfSome (receipt_schema receipt) (λ s. s.text ≢ text)
+
+-- a command is answered an id whose cell shows a schema of another compact text
+pub record ShowsAnotherFor (shared : SharedRegistry) (c : Command) (text : List ℕ) : Type 0 where
+  pub id : ℕ
+  pub answered : IsAnswered c (Ok (IdReply id))
+  pub shows : ShowsAnother shared id text
 
 -- why a command is refused as a clash: no other than a registration is
 abbrev pub IsClash : SharedRegistry → Command → Type 0
-IsClash shared (RegisterCommand subject text) = ShowsAnother shared (compacted text)
+IsClash shared (RegisterCommand subject text) = ShowsAnotherFor shared (RegisterCommand subject text) (compacted text)
 IsClash shared c = ⊥
 
 -- a refusal is such an answer or a clash, unless memory ran out

@@ -143,7 +143,7 @@ impl SharedRegistry {
         requires known { (0 < id) × (id ≤ MOST_SCHEMAS) }
         ensures receipt { IfOk result (λ r. IsReceiptOf self.now r × (receipt_id r ≡ id)
             × IfSome (receipt_schema r) (λ s. s.text ≡ kept.now.text)) }
-        ensures clash { IfErr result (λ e. (e ≡ Refusal.Clash) × ShowsAnother self.now kept.now.text) }
+        ensures clash { IfErr result (λ e. (e ≡ Refusal.Clash) × ShowsAnother self.now id kept.now.text) }
     {
         let cell = &self.cells[id as usize - 1];
         let mut note = cell.note();

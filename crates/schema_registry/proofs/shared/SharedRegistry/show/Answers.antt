@@ -29,6 +29,7 @@ returns-then-ne-clause-clash c =
       record {
         receipt = receipt;
         is_receipt = of_registry;
+        of_id = refl;
         another = rw c.get_or_init_as-seen.ensures.value.0 (λ same. no_more (bytes_eq one other) c.if-ne.ensures ((bytes_eq-Decides one other).1 (c.text.ensures ∙ same ∙ sym c.text-2.ensures)));
       },
     )
