@@ -15,8 +15,8 @@ use Rattle.std.proofs.lemmas.Slice.Eq.{bytes_eq-Decides}
 use Rattle.avro_types.specs.Aliases.{AreFound, full_names, has_last, is_found, stands_under}
 use Rattle.avro_types.specs.FullNames.{AreParts, full_name, has_dot, inside, is_dot, namespace_of, unqualified}
 use Rattle.avro_types.specs.Symbols.{is_used}
-use Rattle.avro_types.specs.Laws.Booleans.{both, false_by, or_false, or_true, same_by}
-use Rattle.avro_types.specs.Laws.Dots.{back-undotted, namespace-inside, split-parts, unqualified-inside}
+use Rattle.avro_types.specs.Laws.Booleans.{both, false_by, no_true, or_false, same_by}
+use Rattle.avro_types.specs.Laws.Dots.{back-undotted, dotted-behind, namespace-inside, split-parts, unqualified-inside}
 use Rattle.avro_types.specs.Laws.NameParts.{name-undotted}
 use Rattle.avro_types.proofs.SymbolPositions.{names, names-take}
 
@@ -40,14 +40,6 @@ inside-eq a s b t s_none t_none =
     let parts = both (bytes_eq a b) (bytes_eq s t) e in
     (bytes_eq-Decides (inside a s) (inside b t)).1 (ap (λ x. inside x s) ((bytes_eq-Decides a b).0 parts.0) ∙ ap (inside b) ((bytes_eq-Decides s t).0 parts.1)))
 
-dotted-behind : (front back : List ℕ) → has_dot (front ++ 46 ∷ back) ≡ true
-dotted-behind [] back = refl
-dotted-behind (c ∷ cs) back = rw (dotted-behind cs back) (or_true (is_dot c))
-
-not_both : (b : Bool) → b ≡ true → b ≡ false → ⊥
-not_both true e f = cc
-not_both false e f = cc
-
 no-length : (s : List ℕ) → eqb (length s) 0 ≡ true → s ≡ []
 no-length [] z = refl
 no-length (c ∷ cs) z = absurd (omega (arith, eqb-true (length (c ∷ cs)) 0 z))
@@ -56,13 +48,13 @@ no-length (c ∷ cs) z = absurd (omega (arith, eqb-true (length (c ∷ cs)) 0 z)
 beginning : (back space last : List ℕ) → has_dot back ≡ false → has_dot last ≡ false → bytes_eq (46 ∷ back) (inside space last) ≡ false
 beginning back [] last none undotted =
     false_by (bytes_eq (46 ∷ back) last)
-    (λ e. not_both (has_dot last) (ap has_dot (sym ((bytes_eq-Decides (46 ∷ back) last).0 e))) undotted)
+    (λ e. no_true (has_dot last) (ap has_dot (sym ((bytes_eq-Decides (46 ∷ back) last).0 e))) undotted)
 beginning back (c ∷ cs) last none undotted =
     false_by (bytes_eq (46 ∷ back) (inside (c ∷ cs) last))
     (λ e.
     let same : 46 ∷ back ≡ c ∷ (cs ++ 46 ∷ last) = (bytes_eq-Decides (46 ∷ back) (inside (c ∷ cs) last)).0 e in
     let rest : back ≡ cs ++ 46 ∷ last = cc in
-    not_both (has_dot back) (ap has_dot rest ∙ dotted-behind cs last) none)
+    no_true (has_dot back) (ap has_dot rest ∙ dotted-behind cs last) none)
 
 -- ---- one text more
 
@@ -94,18 +86,18 @@ eq-turned : (a b : List ℕ) → bytes_eq a b ≡ bytes_eq b a
 eq-turned a b = same_by (bytes_eq a b) (bytes_eq b a) (λ e. (bytes_eq-Decides b a).1 (sym ((bytes_eq-Decides a b).0 e))) (λ e. (bytes_eq-Decides a b).1 (sym ((bytes_eq-Decides b a).0 e)))
 
 -- the text has no dot
-pub put-alone : (own text : List ℕ) (alone more : Lasts) (under : Under) → has_dot text ≡ false → set.UpdatesBy string_cmp (λ k. slice_cmp nat_cmp text (string_bytes k)) alone more true
-    → (space last : List ℕ) → has_dot last ≡ false → is_found own more under space last ≡ (is_found own alone under space last || bytes_eq (full_name own text) (inside space last))
-put-alone own text alone more under none updates space last undotted =
+pub put-alone : (own text : List ℕ) (relative more : Lasts) (qualified : Under) → has_dot text ≡ false → set.UpdatesBy string_cmp (λ k. slice_cmp nat_cmp text (string_bytes k)) relative more true
+    → (space last : List ℕ) → has_dot last ≡ false → is_found own more qualified space last ≡ (is_found own relative qualified space last || bytes_eq (full_name own text) (inside space last))
+put-alone own text relative more qualified none updates space last undotted =
     let means : full_name own text ≡ inside own text = rw none refl in
     let new : bytes_eq (full_name own text) (inside space last) ≡ (bytes_eq space own && bytes_eq text last) =
     ap (λ s. bytes_eq s (inside space last)) means ∙ inside-eq own text space last none undotted ∙ ap (λ b. b && bytes_eq text last) (eq-turned own space) in
-    ap (λ b. (bytes_eq space own && b) || stands_under under space last) (btree_set_updates_text text alone more true updates last)
-    ∙ sym (join-alone (bytes_eq space own) (set.contains_text alone last) (stands_under under space last) (bytes_eq text last))
-    ∙ ap (λ b. is_found own alone under space last || b) (sym new)
+    ap (λ b. (bytes_eq space own && b) || stands_under qualified space last) (btree_set_updates_text text relative more true updates last)
+    ∙ sym (join-alone (bytes_eq space own) (set.contains_text relative last) (stands_under qualified space last) (bytes_eq text last))
+    ∙ ap (λ b. is_found own relative qualified space last || b) (sym new)
 
 -- the text is a namespace and a last part
-module _ (own text front back : List ℕ) (split : SplitsAroundMatch (RFindsChar 46) text front back) (alone : Lasts) (under : Under) where
+module _ (own text front back : List ℕ) (split : SplitsAroundMatch (RFindsChar 46) text front back) (relative : Lasts) (qualified : Under) where
   means : full_name own text ≡ front ++ 46 ∷ back
   means = rw (split-parts text front back split, dotted-behind front back) refl
 
@@ -113,29 +105,29 @@ module _ (own text front back : List ℕ) (split : SplitsAroundMatch (RFindsChar
   behind [] some space last undotted = absurd (some refl)
   behind (c ∷ cs) some space last undotted = inside-eq (c ∷ cs) back space last (back-undotted text front back split) undotted
 
-  pub put-behind : (more : Under) → (front ≡ [] → ⊥) → ((space last : List ℕ) → stands_under more space last ≡ ((bytes_eq front space && bytes_eq back last) || stands_under under space last))
-      → (space last : List ℕ) → has_dot last ≡ false → is_found own alone more space last ≡ (is_found own alone under space last || bytes_eq (full_name own text) (inside space last))
+  pub put-behind : (more : Under) → (front ≡ [] → ⊥) → ((space last : List ℕ) → stands_under more space last ≡ ((bytes_eq front space && bytes_eq back last) || stands_under qualified space last))
+      → (space last : List ℕ) → has_dot last ≡ false → is_found own relative more space last ≡ (is_found own relative qualified space last || bytes_eq (full_name own text) (inside space last))
   put-behind more some put space last undotted =
-      ap (λ b. (bytes_eq space own && set.contains_text alone last) || b) (put space last)
-      ∙ sym (join-under (bytes_eq space own && set.contains_text alone last) (stands_under under space last) (bytes_eq front space && bytes_eq back last))
-      ∙ ap (λ b. is_found own alone under space last || b) (sym (ap (λ s. bytes_eq s (inside space last)) means ∙ behind front some space last undotted))
+      ap (λ b. (bytes_eq space own && set.contains_text relative last) || b) (put space last)
+      ∙ sym (join-under (bytes_eq space own && set.contains_text relative last) (stands_under qualified space last) (bytes_eq front space && bytes_eq back last))
+      ∙ ap (λ b. is_found own relative qualified space last || b) (sym (ap (λ s. bytes_eq s (inside space last)) means ∙ behind front some space last undotted))
 
-  put-nowhere : front ≡ [] → (space last : List ℕ) → has_dot last ≡ false → is_found own alone under space last ≡ (is_found own alone under space last || bytes_eq (full_name own text) (inside space last))
+  put-nowhere : front ≡ [] → (space last : List ℕ) → has_dot last ≡ false → is_found own relative qualified space last ≡ (is_found own relative qualified space last || bytes_eq (full_name own text) (inside space last))
   put-nowhere none space last undotted =
-      sym (or_false (is_found own alone under space last))
-      ∙ ap (λ b. is_found own alone under space last || b) (sym (ap (λ s. bytes_eq s (inside space last)) (means ∙ ap (λ s. s ++ 46 ∷ back) none) ∙ beginning back space last (back-undotted text front back split) undotted))
+      sym (or_false (is_found own relative qualified space last))
+      ∙ ap (λ b. is_found own relative qualified space last || b) (sym (ap (λ s. bytes_eq s (inside space last)) (means ∙ ap (λ s. s ++ 46 ∷ back) none) ∙ beginning back space last (back-undotted text front back split) undotted))
 
-  pub put-nothing : eqb (length front) 0 ≡ true → (space last : List ℕ) → has_dot last ≡ false → is_found own alone under space last ≡ (is_found own alone under space last || bytes_eq (full_name own text) (inside space last))
+  pub put-nothing : eqb (length front) 0 ≡ true → (space last : List ℕ) → has_dot last ≡ false → is_found own relative qualified space last ≡ (is_found own relative qualified space last || bytes_eq (full_name own text) (inside space last))
   put-nothing none = put-nowhere (no-length front none)
 
   pub has-front : eqb (length front) 0 ≡ false → front ≡ [] → ⊥
-  has-front some none = not_both (eqb (length front) 0) (ap (λ s. eqb (length s) 0) none) some
+  has-front some none = no_true (eqb (length front) 0) (ap (λ s. eqb (length s) 0) none) some
 
 -- one text more is found
-pub found-on : (own : List ℕ) (ts : List (String Global)) (i : ℕ) (t : String Global) → i < length ts → t ≡ get_or ts i t → (alone more : Lasts) (under others : Under) → AreFound own (take i ts) alone under
-    → ((space last : List ℕ) → has_dot last ≡ false → is_found own more others space last ≡ (is_found own alone under space last || bytes_eq (full_name own (string_bytes t)) (inside space last)))
+pub found-on : (own : List ℕ) (ts : List (String Global)) (i : ℕ) (t : String Global) → i < length ts → t ≡ get_or ts i t → (relative more : Lasts) (qualified others : Under) → AreFound own (take i ts) relative qualified
+    → ((space last : List ℕ) → has_dot last ≡ false → is_found own more others space last ≡ (is_found own relative qualified space last || bytes_eq (full_name own (string_bytes t)) (inside space last)))
     → AreFound own (take (i + 1) ts) more others
-found-on own ts i t lt is alone more under others found put space last undotted =
+found-on own ts i t lt is relative more qualified others found put space last undotted =
     one_more own (inside space last) ts i t lt is
     ∙ ap (λ b. b || bytes_eq (full_name own (string_bytes t)) (inside space last)) (found space last undotted)
     ∙ sym (put space last undotted)
@@ -143,7 +135,7 @@ found-on own ts i t lt is alone more under others found put space last undotted 
 -- ---- before the first text, and behind the last
 
 pub none-found : (own : List ℕ) (ts : List (String Global)) (relative : Lasts) (qualified : Under) → set.IsEmpty relative → qualified.entries ≡ [] → AreFound own (take 0 ts) relative qualified
-none-found own ts relative qualified alone under space last undotted = rw (alone, under) (nothing (bytes_eq space own))
+none-found own ts relative qualified no_relative no_qualified space last undotted = rw (no_relative, no_qualified) (nothing (bytes_eq space own))
   where
     nothing : (b : Bool) → false ≡ ((b && false) || false)
     nothing true = refl
@@ -151,10 +143,10 @@ none-found own ts relative qualified alone under space last undotted = rw (alone
 
 -- ---- a full name is looked for
 
-pub found-name : (own : List ℕ) (ts : List (String Global)) (alone : Lasts) (under : Under) → AreFound own ts alone under → (aliases : List (List ℕ)) → full_names own (names ts) ≡ aliases
+pub found-name : (own : List ℕ) (ts : List (String Global)) (relative : Lasts) (qualified : Under) → AreFound own ts relative qualified → (aliases : List (List ℕ)) → full_names own (names ts) ≡ aliases
     → (full : List ℕ) → AreParts (namespace_of full) (unqualified full) → inside (namespace_of full) (unqualified full) ≡ full
-    → is_used full aliases ≡ ((bytes_eq (namespace_of full) own && set.contains_text alone (unqualified full)) || stands_under under (namespace_of full) (unqualified full))
-found-name own ts alone under found aliases view full parts joined =
+    → is_used full aliases ≡ ((bytes_eq (namespace_of full) own && set.contains_text relative (unqualified full)) || stands_under qualified (namespace_of full) (unqualified full))
+found-name own ts relative qualified found aliases view full parts joined =
     ap (is_used full) (sym view)
     ∙ ap (λ s. is_used s (full_names own (names ts))) (sym joined)
     ∙ found (namespace_of full) (unqualified full) (name-undotted (unqualified full) parts.last_is)

@@ -17,13 +17,17 @@ has_last None last = false
 has_last (Some lasts) last = contains_text lasts last
 
 abbrev pub stands_under : {A B : Type 0} → BTreeMap (String A) (BTreeSet (String B)) → List ℕ → List ℕ → Bool
-stands_under lasts namespace last = has_last (get_by_text lasts namespace) last
+stands_under qualified namespace last = has_last (get_by_text qualified namespace) last
 
--- the last part stands alone, and the namespace is that of the type, or it stands under the namespace
-abbrev pub is_found : {A B C : Type 0} → List ℕ → BTreeSet (String A) → BTreeMap (String B) (BTreeSet (String C)) → List ℕ → List ℕ → Bool
-is_found own alone under namespace last = (bytes_eq namespace own && contains_text alone last) || stands_under under namespace last
+-- the last part is a relative alias, and the namespace is that of the type, or it stands under the namespace
+abbrev pub is_found : {A B C : Type 0} → List ℕ
+    → BTreeSet (String A) → BTreeMap (String B) (BTreeSet (String C)) → List ℕ → List ℕ → Bool
+is_found own relative qualified namespace last =
+    (bytes_eq namespace own && contains_text relative last) || stands_under qualified namespace last
 
 -- A full name is one of those that the texts mean where it is found.
-abbrev pub AreFound : {A B C D : Type 0} → List ℕ → List (String A) → BTreeSet (String B) → BTreeMap (String C) (BTreeSet (String D)) → Type 0
-AreFound own texts alone under = (namespace last : List ℕ) → has_dot last ≡ false
-    → is_used (inside namespace last) (full_names own (map string_bytes texts)) ≡ is_found own alone under namespace last
+abbrev pub AreFound : {A B C D : Type 0} → List ℕ
+    → List (String A) → BTreeSet (String B) → BTreeMap (String C) (BTreeSet (String D)) → Type 0
+AreFound own texts relative qualified = (namespace last : List ℕ) → has_dot last ≡ false
+    → is_used (inside namespace last) (full_names own (map string_bytes texts))
+    ≡ is_found own relative qualified namespace last

@@ -21,9 +21,9 @@ pub struct Aliases {
     namespace: ArcStr,
     texts: Vec<String>,
     /// Those without a dot.
-    alone: BTreeSet<String>,
+    relative: BTreeSet<String>,
     /// The last parts of the others, under their namespaces.
-    under: BTreeMap<String, BTreeSet<String>>,
+    qualified: BTreeMap<String, BTreeSet<String>>,
 }
 
 impl Model for Aliases {
@@ -35,63 +35,64 @@ impl Model for Aliases {
 
     ghost view = { λ a. full_names (arc_str_bytes a.namespace) (map string_bytes a.texts.items) };
 
-    ghost invariant = { λ a. AreFound (arc_str_bytes a.namespace) a.texts.items a.alone a.under };
+    ghost invariant = { λ a. AreFound (arc_str_bytes a.namespace) a.texts.items a.relative a.qualified };
 }
 
 /// Puts a last part under its namespace.
-fn put_under(
+fn put_qualified(
     alloc: Global,
-    under: &mut BTreeMap<String, BTreeSet<String>>,
+    qualified: &mut BTreeMap<String, BTreeSet<String>>,
     namespace: &str,
     last: &str,
 ) -> Result<(), AllocError>
-    ensures { (other another : List ℕ) → OnOk result (stands_under under.new other another
-        ≡ ((bytes_eq namespace.now other && bytes_eq last.now another) || stands_under under.old other another)) }
+    ensures { (other another : List ℕ) → OnOk result (stands_under qualified.new other another
+        ≡ ((bytes_eq namespace.now other && bytes_eq last.now another) || stands_under qualified.old other another)) }
 {
-    let mut lasts = match under.remove(namespace) {
+    let mut lasts = match qualified.remove(namespace) {
         Some(lasts) => lasts,
         None => BTreeSet::new(alloc),
     };
     lasts.insert(String::from_str(alloc, last)?)?;
-    under.insert(String::from_str(alloc, namespace)?, lasts)?;
+    qualified.insert(String::from_str(alloc, namespace)?, lasts)?;
     Ok(())
 }
 
-/// Puts what a text means where it is found: alone where it has no dot, and else under its namespace. A text that begins
-/// with its only dot is no name, and is found nowhere.
+/// Puts what a text means where it is found: among the relative ones where it has no dot, and else under its namespace.
+/// A text that begins with its only dot is no name, and is found nowhere.
 fn put(
     alloc: Global,
-    alone: &mut BTreeSet<String>,
-    under: &mut BTreeMap<String, BTreeSet<String>>,
+    relative: &mut BTreeSet<String>,
+    qualified: &mut BTreeMap<String, BTreeSet<String>>,
     text: &str,
 ) -> Result<(), AllocError>
-    ensures { (own namespace last : List ℕ) → has_dot last ≡ false
-        → OnOk result (is_found own alone.new under.new namespace last ≡ (is_found own alone.old under.old namespace last
+    ensures { (own namespace last : List ℕ) → has_dot last ≡ false → OnOk result
+        (is_found own relative.new qualified.new namespace last
+        ≡ (is_found own relative.old qualified.old namespace last
         || bytes_eq (full_name own text.now) (inside namespace last))) }
 {
     let Some((namespace, last)) = text.rsplit_once('.') else {
-        alone.insert(String::from_str(alloc, text)?)?;
+        relative.insert(String::from_str(alloc, text)?)?;
         return Ok(());
     };
     if namespace.is_empty() {
         return Ok(());
     }
-    put_under(alloc, under, namespace, last)?;
+    put_qualified(alloc, qualified, namespace, last)?;
     Ok(())
 }
 
-/// Whether a namespace is the type's own, and a last part stands alone.
-fn stands_alone(own: &ArcStr, alone: &BTreeSet<String>, namespace: &str, last: &str) -> bool
-    ensures { result ≡ (bytes_eq namespace.now (arc_str_bytes own.now) && contains_text alone.now last.now) }
+/// Whether a namespace is the type's own, and a last part is a relative alias.
+fn is_relative(own: &ArcStr, relative: &BTreeSet<String>, namespace: &str, last: &str) -> bool
+    ensures { result ≡ (bytes_eq namespace.now (arc_str_bytes own.now) && contains_text relative.now last.now) }
 {
-    alone.contains(last) && namespace == own.as_str()
+    relative.contains(last) && namespace == own.as_str()
 }
 
 /// Whether a last part stands under a namespace.
-fn stands_under(under: &BTreeMap<String, BTreeSet<String>>, namespace: &str, last: &str) -> bool
-    ensures { result ≡ stands_under under.now namespace.now last.now }
+fn stands_under(qualified: &BTreeMap<String, BTreeSet<String>>, namespace: &str, last: &str) -> bool
+    ensures { result ≡ stands_under qualified.now namespace.now last.now }
 {
-    match under.get(namespace) {
+    match qualified.get(namespace) {
         Some(lasts) => lasts.contains(last),
         None => false,
     }
@@ -107,16 +108,16 @@ impl Aliases {
         ensures { IfOk result (λ aliases.
             aliases ≡ full_names (arc_str_bytes namespace) (map string_bytes texts.items)) }
     {
-        let mut alone = BTreeSet::new(alloc);
-        let mut under = BTreeMap::new(alloc);
+        let mut relative = BTreeSet::new(alloc);
+        let mut qualified = BTreeMap::new(alloc);
         for text in &texts {
-            put(alloc, &mut alone, &mut under, text)?;
+            put(alloc, &mut relative, &mut qualified, text)?;
         }
         Ok(Aliases {
             namespace,
             texts,
-            alone,
-            under,
+            relative,
+            qualified,
         })
     }
 
@@ -129,7 +130,7 @@ impl Aliases {
         }
         name.has_two_parts();
         let (namespace, last) = (name.namespace(), name.last());
-        stands_alone(&self.namespace, &self.alone, namespace, last)
-            || stands_under(&self.under, namespace, last)
+        is_relative(&self.namespace, &self.relative, namespace, last)
+            || stands_under(&self.qualified, namespace, last)
     }
 }

@@ -104,10 +104,23 @@ fn by_alias(
     ensures place { result ≡ by_alias (field_names (fields_of ws.now)) partners.now (field_of field.now) }
     ensures within { IfSome result (λ i. i < length ws.now) }
 {
+    if field.aliases.is_empty() {
+        return None;
+    }
     match position_of(ws, table, &field.name) {
         Some(_) => None,
         None => first_free(ws, table, partners, &field.aliases),
     }
+}
+
+/// The names of the writer's fields as a table, where they are many and aliases are looked for among them.
+fn table_for(alloc: Global, ws: &[Field], rs: &[Field]) -> Result<Option<Symbols>, AllocError>
+    ensures { IfOk result (λ o. IfSome o (λ names. names ≡ field_names (fields_of ws.now))) }
+{
+    if rs.iter().all(|field| field.aliases.is_empty()) {
+        return Ok(None);
+    }
+    table(alloc, ws)
 }
 
 /// For each of the writer's fields, the position of its partner among the reader's: by name, and then by an alias.
@@ -115,7 +128,7 @@ pub fn partners(alloc: Global, ws: &[Field], rs: &[Field]) -> Result<Vec<Option<
     ensures { IfOk result (λ v. v.items ≡ partners (fields_of ws.now) (fields_of rs.now)) }
 {
     let mut partners = by_name(alloc, ws, rs)?;
-    let table = table(alloc, ws)?;
+    let table = table_for(alloc, ws, rs)?;
     for (position, field) in rs.iter().enumerate() {
         if let Some(place) = by_alias(ws, &table, &partners, field) {
             partners[place] = Some(position);

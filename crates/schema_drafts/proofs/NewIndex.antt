@@ -23,7 +23,7 @@ use Rattle.schema_drafts.proofs.IndexSteps.{once-behind}
 use Rattle.schema_drafts.proofs.DraftLists.{length-heads_of}
 use Rattle.schema_drafts.proofs.Namespaces.{at-last, spaceless, namespaces-numbered, namespaces-one}
 
-pub begins-unruled : (last : List ℕ) → is_full_name (46 ∷ last) ≡ false
+begins-unruled : (last : List ℕ) → is_full_name (46 ∷ last) ≡ false
 unfolding is_name
 begins-unruled last = refl
 

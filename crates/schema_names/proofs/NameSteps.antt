@@ -4,11 +4,11 @@ use Rattle.std.proofs.lemmas.Bool.{eqb-true}
 use Rattle.serde_json.specs.Data.{Data}
 use Rattle.schema_names.specs.declared.error.SchemaError.{SchemaError}
 use Rattle.schema_names.specs.declared.error.SchemaError.TheVariants.{BadName, Redefined}
-use Rattle.avro_types.specs.FullNames.{has_dot, full_name, inside, is_dot, is_full_name, is_name, is_namespace, unqualified}
+use Rattle.avro_types.specs.FullNames.{has_dot, full_name, inside, is_full_name, is_name, is_namespace, unqualified}
 use Rattle.schema_drafts.specs.Head.{Head, defined_at}
 use Rattle.schema_names.specs.Names.{if_new, new_name, text_of}
 use Rattle.schema_names.specs.Word.{is_primitive, word_of}
-use Rattle.avro_types.specs.Laws.Dots.{unqualified-inside}
+use Rattle.avro_types.specs.Laws.Dots.{dotted-behind, unqualified-inside}
 use Rattle.avro_types.specs.Laws.NameParts.{full-inside}
 
 -- ---- by its parts
@@ -47,20 +47,12 @@ module _ (namespace last : List ℕ) (none : has_dot last ≡ false) where
 
 -- ---- a text with a dot, and one without
 
-or_true : (a b : Bool) → b ≡ true → (a || b) ≡ true
-or_true true b e = refl
-or_true false b e = e
-
 pub begins-bad : (last : List ℕ) (heads : List Head) → if_new (46 ∷ last) heads ≡ Err BadName
 unfolding is_name
 begins-bad last heads = refl
 
-has-dot : (front back : List ℕ) → has_dot (front ++ 46 ∷ back) ≡ true
-has-dot [] back = refl
-has-dot (c ∷ cs) back = or_true (is_dot c) (has_dot (cs ++ 46 ∷ back)) (has-dot cs back)
-
 pub dotted : (s front back : List ℕ) → s ≡ front ++ 46 ∷ back → has_dot s ≡ true
-dotted s front back e = ap has_dot e ∙ has-dot front back
+dotted s front back e = ap has_dot e ∙ dotted-behind front back
 
 pub dotted-full : (enclosing s front back : List ℕ) → s ≡ front ++ 46 ∷ back → full_name enclosing s ≡ s
 dotted-full enclosing s front back e = rw (dotted s front back e) refl

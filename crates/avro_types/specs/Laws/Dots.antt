@@ -1,5 +1,5 @@
 -- Where a text is split at its last dot.
-use Rattle.std.proofs.Common.{◌≡◌, ◌≢◌, ℕ, zero, suc, ◌+◌, ◌-◌, ◌<◌, ◌≤◌, Bool, false, eqb, not, List, [], ◌∷◌, ◌++◌, length, length-append, drop, take, get_or, None, refl, sym, ap, ◌∙◌, arith}
+use Rattle.std.proofs.Common.{◌≡◌, ◌≢◌, ℕ, zero, suc, ◌+◌, ◌-◌, ◌<◌, ◌≤◌, Bool, true, false, eqb, not, List, [], ◌∷◌, ◌++◌, length, length-append, drop, take, get_or, None, refl, sym, ap, ◌∙◌, arith}
 use Rattle.std.specs.List.{suffix_len}
 use Rattle.std.specs.Str.Pattern.{RFindsChar, SplitsAroundMatch, HasCharAt}
 use Rattle.std.proofs.Math.Seq.{take-append_seam, drop-append-add, drop-cons}
@@ -8,8 +8,8 @@ use Rattle.std.proofs.lemmas.List.{get_or-append-add, take-append-drop}
 use Rattle.std.proofs.lemmas.List.Sums.{suffix_len_is}
 use Rattle.std.proofs.lemmas.Str.{len_utf8_ascii}
 use Rattle.std.proofs.lemmas.Str.Pattern.{NoCharPasses-char}
-use Rattle.avro_types.specs.FullNames.{has_dot, inside, namespace_of, unqualified}
-use Rattle.avro_types.specs.Laws.Booleans.{neither}
+use Rattle.avro_types.specs.FullNames.{has_dot, inside, is_dot, namespace_of, unqualified}
+use Rattle.avro_types.specs.Laws.Booleans.{neither, or_true}
 
 -- ---- texts without dots
 
@@ -24,6 +24,10 @@ pub undotted-at : (s : List ℕ) → has_dot s ≡ false → (k : ℕ) → k < l
 undotted-at [] h k lt e = absurd (omega arith)
 undotted-at (c ∷ cs) h zero lt e = let no : eqb c 46 ≡ false = (neither (eqb c 46) (has_dot cs) h).0 in grind (arith, nat_tests)
 undotted-at (c ∷ cs) h (suc k) lt e = undotted-at cs (neither (eqb c 46) (has_dot cs) h).1 k (omega arith) e
+
+pub dotted-behind : (front back : List ℕ) → has_dot (front ++ 46 ∷ back) ≡ true
+dotted-behind [] back = refl
+dotted-behind (c ∷ cs) back = rw (dotted-behind cs back) (or_true (is_dot c))
 
 -- ---- where the last part begins
 

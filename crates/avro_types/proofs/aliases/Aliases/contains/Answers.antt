@@ -7,20 +7,20 @@ use Rattle.avro_types.specs.Symbols.{is_used}
 use Rattle.avro_types.proofs.AliasPlaces.{found-alone, found-name, found-under}
 use Rattle.avro_types.proofs.aliases.Aliases.contains.Goals as goal
 
-pub returns-then-stands_alone : goal.returns-then-stands_alone
-returns-then-stands_alone c =
+pub returns-then-is_relative : goal.returns-then-is_relative
+returns-then-is_relative c =
     let a = c.self.inside in
     let namespace = c.namespace-namespace.result.now in
     let last = c.last-last.result.now in
-    let found : is_used c.args.name.now c.args.self.now ≡ ((bytes_eq namespace (arc_str_bytes a.namespace) && contains_text a.alone last) || stands_under a.under namespace last) =
-    rw (c.namespace-namespace.ensures, c.last-last.ensures) (found-name (arc_str_bytes a.namespace) a.texts.items a.alone a.under c.self.invariant c.args.self.now c.self.view_is c.args.name.now c.has_two_parts.ensures.parts c.has_two_parts.ensures.joined) in
-    found-alone c.stands_alone.result (bytes_eq namespace (arc_str_bytes a.namespace) && contains_text a.alone last) (stands_under a.under namespace last) (is_used c.args.name.now c.args.self.now) found c.stands_alone.ensures c.if-stands_alone.true
+    let found : is_used c.args.name.now c.args.self.now ≡ ((bytes_eq namespace (arc_str_bytes a.namespace) && contains_text a.relative last) || stands_under a.qualified namespace last) =
+    rw (c.namespace-namespace.ensures, c.last-last.ensures) (found-name (arc_str_bytes a.namespace) a.texts.items a.relative a.qualified c.self.invariant c.args.self.now c.self.view_is c.args.name.now c.has_two_parts.ensures.parts c.has_two_parts.ensures.joined) in
+    found-alone c.is_relative.result (bytes_eq namespace (arc_str_bytes a.namespace) && contains_text a.relative last) (stands_under a.qualified namespace last) (is_used c.args.name.now c.args.self.now) found c.is_relative.ensures c.if-is_relative.true
 
-pub returns-else-stands_alone : goal.returns-else-stands_alone
-returns-else-stands_alone c =
+pub returns-else-is_relative : goal.returns-else-is_relative
+returns-else-is_relative c =
     let a = c.self.inside in
     let namespace = c.namespace-namespace.result.now in
     let last = c.last-last.result.now in
-    let found : is_used c.args.name.now c.args.self.now ≡ ((bytes_eq namespace (arc_str_bytes a.namespace) && contains_text a.alone last) || stands_under a.under namespace last) =
-    rw (c.namespace-namespace.ensures, c.last-last.ensures) (found-name (arc_str_bytes a.namespace) a.texts.items a.alone a.under c.self.invariant c.args.self.now c.self.view_is c.args.name.now c.has_two_parts.ensures.parts c.has_two_parts.ensures.joined) in
-    found-under c.stands_alone.result c.stands_under.result (bytes_eq namespace (arc_str_bytes a.namespace) && contains_text a.alone last) (stands_under a.under namespace last) (is_used c.args.name.now c.args.self.now) found c.stands_alone.ensures c.if-stands_alone.false c.stands_under.ensures
+    let found : is_used c.args.name.now c.args.self.now ≡ ((bytes_eq namespace (arc_str_bytes a.namespace) && contains_text a.relative last) || stands_under a.qualified namespace last) =
+    rw (c.namespace-namespace.ensures, c.last-last.ensures) (found-name (arc_str_bytes a.namespace) a.texts.items a.relative a.qualified c.self.invariant c.args.self.now c.self.view_is c.args.name.now c.has_two_parts.ensures.parts c.has_two_parts.ensures.joined) in
+    found-under c.is_relative.result c.stands_under.result (bytes_eq namespace (arc_str_bytes a.namespace) && contains_text a.relative last) (stands_under a.qualified namespace last) (is_used c.args.name.now c.args.self.now) found c.is_relative.ensures c.if-is_relative.false c.stands_under.ensures

@@ -5,4 +5,4 @@ use Rattle.avro_types.specs.Aliases.{AreFound}
 use Rattle.avro_types.proofs.aliases.Aliases.of_texts.Given as goal
 
 abbrev pub invariant-loop-text : goal.invariant-loop-text
-invariant-loop-text l = AreFound (arc_str_bytes l.namespace) (take l.text-index l.fn.texts.items) l.alone l.under
+invariant-loop-text l = AreFound (arc_str_bytes l.namespace) (take l.text-index l.fn.texts.items) l.relative l.qualified
