@@ -1,6 +1,7 @@
 pub mod Appended
+pub mod Kept
+pub mod Named
 pub mod NoBytes
-pub mod Members
 pub mod Numbered
 pub mod RoutineSteps
 pub mod SectionSteps

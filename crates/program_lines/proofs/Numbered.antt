@@ -68,11 +68,14 @@ nat_at a b = grind arith
 eq_is : (a b : ℕ) → (a == b) ≡ true → a ≡ b
 eq_is a b h = grind arith
 
+pub nat_is : (a b : ℕ) → is_eq (nat_cmp a b) ≡ true → b ≡ a
+nat_is a b at = eq_is b a (sym (nat_at a b) ∙ at)
+
 pub skip_at : (w v : ℕ) → is_eq (nat_cmp w v) ≡ same_section (Skip v) (Skip w)
 skip_at w v = nat_at w v
 
 pub skip_fresh : (w v : ℕ) (ss : List Section) → place (Skip w) ss ≡ None → is_eq (nat_cmp w v) ≡ true → place (Skip v) ss ≡ None
-skip_fresh w v ss fresh at = ap (λ n. place (Skip n) ss) (eq_is v w (sym (nat_at w v) ∙ at)) ∙ fresh
+skip_fresh w v ss fresh at = ap (λ n. place (Skip n) ss) (nat_is w v at) ∙ fresh
 
 then_at : (a b : Ordering) → is_eq (ordering_then a b) ≡ (is_eq a && is_eq b)
 then_at Less b = refl
@@ -86,10 +89,13 @@ both_are : (a b : Bool) → (a && b) ≡ true → (a ≡ true) × (b ≡ true)
 both_are true b h = (refl, h)
 both_are false b h = absurd (let no : ⊥ = cc in no)
 
+pub pair_is : (p q : ℕ × ℕ) → is_eq (pair_cmp p q) ≡ true → q ≡ p
+pair_is p q at =
+    let both = both_are (q.0 == p.0) (q.1 == p.1) (sym (pair_at p.0 p.1 q) ∙ at) in
+    ap (λ n. (n, q.1)) (eq_is q.0 p.0 both.0) ∙ ap (λ n. (p.0, n)) (eq_is q.1 p.1 both.1)
+
 pub write_fresh : (w r : ℕ) (p : ℕ × ℕ) (ss : List Section) → place (Write w r) ss ≡ None → is_eq (pair_cmp (w, r) p) ≡ true → place (Write p.0 p.1) ss ≡ None
-write_fresh w r p ss fresh at =
-    let both = both_are (p.0 == w) (p.1 == r) (sym (pair_at w r p) ∙ at) in
-    ap (λ n. place (Write n p.1) ss) (eq_is p.0 w both.0) ∙ ap (λ n. place (Write w n) ss) (eq_is p.1 r both.1) ∙ fresh
+write_fresh w r p ss fresh at = ap (λ q. place (Write q.0 q.1) ss) (pair_is (w, r) p at) ∙ fresh
 
 -- ---- the sections that lines call
 

@@ -1,6 +1,6 @@
 -- Lines after lines, by the case of the definition that they are of.
-use Rattle.std.proofs.Common.{◌≡◌, ℕ, List, [], ◌∷◌, ◌++◌, Option, Some, None, refl, sym, ap, ◌∙◌}
-use Rattle.std.specs.Prelude.{slice_get}
+use Rattle.std.proofs.Common.{◌≡◌, ℕ, true, false, List, [], ◌∷◌, ◌++◌, Option, Some, None, is_some, refl, sym, ap, ◌∙◌}
+use Rattle.std.specs.Prelude.{option_map, slice_get}
 use Rattle.std.specs.Global.{Vec}
 use Rattle.avro_types.specs.declared.kind.Kind.{Kind}
 use Rattle.avro_types.specs.declared.kind.Kind.TheVariants as kinds
@@ -8,11 +8,11 @@ use Rattle.avro_types.specs.Node.{Node, FieldNode, node_of}
 use Rattle.matching.specs.declared.place.Place.{Place}
 use Rattle.matching.specs.Matching.{place}
 use Rattle.matching.specs.Options.{given}
-use Rattle.matching.specs.declared.pairing.Route.{Route}
-use Rattle.matching.specs.Partners.{routes}
-use Rattle.program_code.specs.Lines.{Line, Lost}
+use Rattle.outcome.specs.declared.mismatch.MismatchKind.TheVariants as misses
+use Rattle.program_code.specs.Lines.{Line, Call, Lost, Miss, Write, miss}
+use Rattle.program_code.specs.Skipping.{K}
 use Rattle.program_code.specs.Writing.{placed_node, record_code, straight_node, write_node}
-use Rattle.resolver.specs.Resolution.{field_lists, lacking, lacking_from}
+use Rattle.resolver.specs.Resolution.{lacking}
 
 pub straight_more : (W R : List Node) (F : ℕ → ℕ → List Line) (w r : ℕ) (reader : Option Node) (node : Node) (old new code : List Line) → slice_get W w ≡ Some node → straight_node W R F w r (Some node) reader ≡ code → new ≡ old ++ code → new ≡ old ++ straight_node W R F w r (slice_get W w) reader
 straight_more W R F w r reader node old new code at is h = h ∙ ap (λ l. old ++ l) (sym is) ∙ ap (λ x. old ++ straight_node W R F w r x reader) (sym at)
@@ -26,11 +26,34 @@ parts_none parts f old new e h = h ∙ ap (λ x. old ++ given x (Lost ∷ []) f)
 pub parts_some : {A : Type 0} (parts : Option A) (p : A) (f : A → List Line) (old new code : List Line) → parts ≡ Some p → f p ≡ code → new ≡ old ++ code → new ≡ old ++ given parts (Lost ∷ []) f
 parts_some parts p f old new code e is h = h ∙ ap (λ l. old ++ l) (sym is) ∙ ap (λ x. old ++ given x (Lost ∷ []) f) (sym e)
 
--- two records, with a field that lacks or none
-pub record_more : (W R : List Node) (w r : ℕ) (fs gs : List FieldNode) (found : Option FieldNode) (rs : List Route) (old new code : List Line) → field_lists (slice_get W w) (slice_get R r) ≡ Some (fs, gs) → rs ≡ routes fs gs → lacking_from rs 0 gs ≡ found → record_code W R w r found ≡ code → new ≡ old ++ code → new ≡ old ++ given (field_lists (slice_get W w) (slice_get R r)) (Lost ∷ []) (λ p. record_code W R w r (lacking p.0 p.1))
-record_more W R w r fs gs found rs old new code at same lack is h =
-    let l : lacking fs gs ≡ found = ap (λ x. lacking_from x 0 gs) (sym same) ∙ lack in
-    parts_some (field_lists (slice_get W w) (slice_get R r)) (fs, gs) (λ p. record_code W R w r (lacking p.0 p.1)) old new code at (ap (record_code W R w r) l ∙ is) h
+-- the lines of two records, with a field that lacks or none, and of other nodes, which have no fields
+module _ (W R : List Node) (w r : ℕ) (old new : List Line) where
+  pub record_lost : (lists : Option (List FieldNode × List FieldNode)) → is_some lists ≡ false → new ≡ old ++ Lost ∷ []
+      → new ≡ old ++ given lists (Lost ∷ []) (λ p. record_code W R w r (lacking p.0 p.1))
+  record_lost None none h = h
+  record_lost (Some p) none h = absurd (let no : ⊥ = cc in no)
+
+  pub record_lacks : (lists : Option (List FieldNode × List FieldNode)) (n : ℕ) → given lists None (λ p. option_map (λ g. g.node) (lacking p.0 p.1)) ≡ Some n
+      → new ≡ old ++ Miss (miss misses.NoDefault w n) ∷ K W w → new ≡ old ++ given lists (Lost ∷ []) (λ p. record_code W R w r (lacking p.0 p.1))
+  record_lacks None n found h = absurd (let no : ⊥ = cc in no)
+  record_lacks (Some p) n found h = at (lacking p.0 p.1) found
+    where
+      at : (g : Option FieldNode) → option_map (λ g. g.node) g ≡ Some n → new ≡ old ++ record_code W R w r g
+      at None e = absurd (let no : ⊥ = cc in no)
+      at (Some g) e = let same : n ≡ g.node = cc in h ∙ ap (λ k. old ++ Miss (miss misses.NoDefault w k) ∷ K W w) same
+
+  pub record_calls : (lists : Option (List FieldNode × List FieldNode)) → is_some lists ≡ true → given lists None (λ p. option_map (λ g. g.node) (lacking p.0 p.1)) ≡ None
+      → new ≡ old ++ Call (Write w r) ∷ [] → new ≡ old ++ given lists (Lost ∷ []) (λ p. record_code W R w r (lacking p.0 p.1))
+  record_calls None some found h = absurd (let no : ⊥ = cc in no)
+  record_calls (Some p) some found h = at (lacking p.0 p.1) found
+    where
+      at : (g : Option FieldNode) → option_map (λ g. g.node) g ≡ None → new ≡ old ++ record_code W R w r g
+      at None e = h
+      at (Some g) e = absurd (let no : ⊥ = cc in no)
+
+pub some_too : {A B : Type 0} (f : A → B) (o : Option A) → is_some (option_map f o) ≡ is_some o
+some_too f None = refl
+some_too f (Some a) = refl
 
 -- no union of the writer's goes into its place
 pub no_union : (W R : List Node) (F : ℕ → ℕ → List Line) (w r : ℕ) (kind : Kind) → ((members : Vec ℕ) → kind ≡ kinds.Union members → ⊥) → write_node W R F w r (Some (node_of kind)) ≡ placed_node W R F w r (place W R w r)

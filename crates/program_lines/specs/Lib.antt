@@ -1,3 +1,4 @@
+pub mod Known
 pub mod Lines
 pub mod Sections
 pub mod Walking

@@ -4,7 +4,9 @@
 
 mod blank;
 mod error;
+mod known;
 mod lines;
+mod members;
 mod routines;
 mod sections;
 mod skipping;

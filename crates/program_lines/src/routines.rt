@@ -9,9 +9,11 @@ ghost use Rattle.program_code.specs.Lines.{Lost};
 ghost use Rattle.program_code.specs.Skipping.{skip_fields, skip_routine};
 ghost use Rattle.program_code.specs.Writing.{default_bytes, defaults_code, field_code, fields_code, put_in, section, write_routine};
 ghost use Rattle.resolver.specs.Resolution.{field_lists};
+ghost use Rattle.program_lines.specs.Known.{AreKnown};
 ghost use Rattle.program_lines.specs.Lines.{default_of, fields_of_record, lines_in, section_of};
 
 use crate::blank::is_blank;
+use crate::known::Known;
 use crate::lines::{Constant, Line, Section, put};
 use crate::skipping::skip;
 use crate::writing::write;
@@ -97,17 +99,20 @@ fn put_field(
     alloc: Global,
     w: &Nodes,
     r: &Nodes,
+    known: &mut Known,
     route: &Route,
     lines: &mut Vec<Line>,
 ) -> Result<(), AllocError>
-    requires { IsRoute (length w.now) (length r.now) MOST_FIELDS route.now }
-    ensures { OnOk result (lines_in w.now r.now lines.new.items ≡ lines_in w.now r.now lines.old.items
+    requires route { IsRoute (length w.now) (length r.now) MOST_FIELDS route.now }
+    requires known { AreKnown w.now r.now known.old }
+    ensures lines { OnOk result (lines_in w.now r.now lines.new.items ≡ lines_in w.now r.now lines.old.items
         ++ field_code w.now r.now route.now) }
+    ensures known { AreKnown w.now r.now known.new }
 {
     match route.partner {
         Some(partner) => {
             put(lines, Line::Op(Instr::Slot(partner.position as u32)))?;
-            write(alloc, w, r, route.node, partner.node, lines)
+            write(alloc, w, r, known, route.node, partner.node, lines)
         }
         None => skip(alloc, w, r, route.node, lines),
     }
@@ -118,15 +123,18 @@ fn put_fields(
     alloc: Global,
     w: &Nodes,
     r: &Nodes,
+    known: &mut Known,
     routes: &[Route],
     lines: &mut Vec<Line>,
 ) -> Result<(), AllocError>
-    requires { AreRoutes (length w.now) (length r.now) MOST_FIELDS routes.now }
-    ensures { OnOk result (lines_in w.now r.now lines.new.items ≡ lines_in w.now r.now lines.old.items
+    requires routes { AreRoutes (length w.now) (length r.now) MOST_FIELDS routes.now }
+    requires known { AreKnown w.now r.now known.old }
+    ensures lines { OnOk result (lines_in w.now r.now lines.new.items ≡ lines_in w.now r.now lines.old.items
         ++ fields_code w.now r.now routes.now) }
+    ensures known { AreKnown w.now r.now known.new }
 {
     for route in routes {
-        put_field(alloc, w, r, route, lines)?;
+        put_field(alloc, w, r, known, route, lines)?;
     }
     Ok(())
 }
@@ -154,15 +162,18 @@ fn put_routine(
     alloc: Global,
     w: &Nodes,
     r: &Nodes,
+    known: &mut Known,
     wn: usize,
     rn: usize,
     lines: &mut Vec<Line>,
 ) -> Result<(), AllocError>
     requires writer { wn < length w.now }
     requires reader { rn < length r.now }
-    ensures { OnOk result (lines_in w.now r.now lines.new.items ≡ lines_in w.now r.now lines.old.items
+    requires known { AreKnown w.now r.now known.old }
+    ensures lines { OnOk result (lines_in w.now r.now lines.new.items ≡ lines_in w.now r.now lines.old.items
         ++ given (field_lists (slice_get w.now wn) (slice_get r.now rn)) (Lost ∷ [])
         (λ p. write_routine w.now r.now p.0 p.1)) }
+    ensures known { AreKnown w.now r.now known.new }
 {
     w.is_well_formed();
     r.is_well_formed();
@@ -171,7 +182,7 @@ fn put_routine(
     };
     let routes = routes(alloc, ws, rs)?;
     put(lines, Line::Op(Instr::Record(rs.len() as u32)))?;
-    put_fields(alloc, w, r, &routes, lines)?;
+    put_fields(alloc, w, r, known, &routes, lines)?;
     put_defaults(alloc, r, rn, &routes, rs, lines)?;
     put(lines, Line::Op(Instr::EndRecord))?;
     put(lines, Line::Op(Instr::Return))
@@ -203,17 +214,20 @@ fn put_section(
     alloc: Global,
     w: &Nodes,
     r: &Nodes,
+    known: &mut Known,
     part: Section,
     lines: &mut Vec<Line>,
 ) -> Result<(), AllocError>
-    ensures { OnOk result (lines_in w.now r.now lines.new.items ≡ lines_in w.now r.now lines.old.items
+    requires known { AreKnown w.now r.now known.old }
+    ensures lines { OnOk result (lines_in w.now r.now lines.new.items ≡ lines_in w.now r.now lines.old.items
         ++ section w.now r.now (section_of part)) }
+    ensures known { AreKnown w.now r.now known.new }
 {
     w.is_well_formed();
     r.is_well_formed();
     match part {
         Section::Main => {
-            write(alloc, w, r, 0, 0, lines)?;
+            write(alloc, w, r, known, 0, 0, lines)?;
             put(lines, Line::Op(Instr::Halt))
         }
         Section::Write(wn, rn) => {
@@ -223,7 +237,7 @@ fn put_section(
             if rn >= r.len() {
                 return put(lines, Line::Lost);
             }
-            put_routine(alloc, w, r, wn, rn, lines)
+            put_routine(alloc, w, r, known, wn, rn, lines)
         }
         Section::Skip(wn) => {
             if wn >= w.len() {
@@ -239,11 +253,14 @@ pub(crate) fn section(
     alloc: Global,
     w: &Nodes,
     r: &Nodes,
+    known: &mut Known,
     part: Section,
 ) -> Result<Vec<Line>, AllocError>
-    ensures { IfOk result (λ v. lines_in w.now r.now v.items ≡ section w.now r.now (section_of part)) }
+    requires { AreKnown w.now r.now known.old }
+    ensures lines { IfOk result (λ v. lines_in w.now r.now v.items ≡ section w.now r.now (section_of part)) }
+    ensures known { AreKnown w.now r.now known.new }
 {
     let mut lines = Vec::new(alloc);
-    put_section(alloc, w, r, part, &mut lines)?;
+    put_section(alloc, w, r, known, part, &mut lines)?;
     Ok(lines)
 }

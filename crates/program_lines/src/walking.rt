@@ -3,6 +3,7 @@ ghost use Rattle.program_lines.specs.Lines.{section_of};
 ghost use Rattle.program_lines.specs.Walking.{Walks, start_at};
 
 use crate::error::CompileError;
+use crate::known::Known;
 use crate::lines::{Line, Section, put_all};
 use crate::routines::section;
 use crate::sections::{Sections, note_calls};
@@ -54,12 +55,13 @@ pub fn walk(alloc: Global, w: &Nodes, r: &Nodes) -> Result<Listing, CompileError
     let mut sections = Sections::new(alloc)?;
     let mut starts = Vec::new(alloc);
     let mut lines = Vec::new(alloc);
+    let mut known = Known::new(alloc);
     while let Some(next) = sections.get(starts.len()) {
         if lines.len() >= MOST_INSTRS {
             return Err(CompileError::ProgramTooLarge);
         }
         starts.push(lines.len())?;
-        let code = section(alloc, w, r, next)?;
+        let code = section(alloc, w, r, &mut known, next)?;
         note_calls(&mut sections, &code)?;
         put_all(&mut lines, code)?;
     }

@@ -8,15 +8,17 @@ ghost use Rattle.matching.specs.Options.{given};
 ghost use Rattle.program_code.specs.Lines.{BytesText, Lost, Op, begins, looped, miss, one_of};
 ghost use Rattle.program_code.specs.Writing.{X, is_text, placed_node, record_code, straight_node, write_within};
 ghost use Rattle.resolver.specs.Resolution.{field_lists, lacking};
+ghost use Rattle.program_lines.specs.Known.{AreKnown};
 ghost use Rattle.program_lines.specs.Lines.{lines_in};
 
+use crate::known::Known;
 use crate::lines::{Constant, Go, Line, Section, put, put_all, put_loop, set_jump};
 use crate::skipping::skip;
 use avro_types::{Kind, MOST_NODES, Nodes};
 use isa::Instr;
-use matching::{Place, both_items, both_values, place_of, routes};
+use matching::{Place, both_items, both_values};
 use outcome::{Mismatch, MismatchKind};
-use resolver::{field_lists, first_lacking};
+use resolver::field_lists;
 use std::alloc::{AllocError, Global};
 
 /// The line that tells a miss.
@@ -50,26 +52,25 @@ fn record(
     alloc: Global,
     w: &Nodes,
     r: &Nodes,
+    known: &mut Known,
     wn: usize,
     rn: usize,
     lines: &mut Vec<Line>,
 ) -> Result<(), AllocError>
     requires writer { wn < length w.now }
     requires reader { rn < length r.now }
-    ensures { OnOk result (lines_in w.now r.now lines.new.items ≡ lines_in w.now r.now lines.old.items
+    requires known { AreKnown w.now r.now known.old }
+    ensures lines { OnOk result (lines_in w.now r.now lines.new.items ≡ lines_in w.now r.now lines.old.items
         ++ given (field_lists (slice_get w.now wn) (slice_get r.now rn)) (Lost ∷ [])
         (λ p. record_code w.now r.now wn rn (lacking p.0 p.1))) }
+    ensures known { AreKnown w.now r.now known.new }
 {
-    let Some((ws, rs)) = field_lists(w, wn, r, rn) else {
+    if field_lists(w, wn, r, rn).is_none() {
         return put(lines, Line::Lost);
-    };
-    let routes = routes(alloc, ws, rs)?;
-    match first_lacking(alloc, &routes, rs)? {
-        Some(field) => {
-            put(
-                lines,
-                Line::Miss(miss(MismatchKind::NoDefault, wn, field.node)),
-            )?;
+    }
+    match known.lacking_node(alloc, w, r, wn, rn)? {
+        Some(node) => {
+            put(lines, Line::Miss(miss(MismatchKind::NoDefault, wn, node)))?;
             skip(alloc, w, r, wn, lines)
         }
         None => put(lines, Line::Call(Section::Write(wn, rn))),
@@ -82,19 +83,22 @@ fn items(
     alloc: Global,
     w: &Nodes,
     r: &Nodes,
+    known: &mut Known,
     parts: Option<(usize, usize)>,
     steps: usize,
     lines: &mut Vec<Line>,
 ) -> Result<(), AllocError>
-    requires { IfSome parts (ArePair w.now r.now) }
-    ensures { OnOk result (lines_in w.now r.now lines.new.items ≡ lines_in w.now r.now lines.old.items
+    requires parts { IfSome parts (ArePair w.now r.now) }
+    requires known { AreKnown w.now r.now known.old }
+    ensures lines { OnOk result (lines_in w.now r.now lines.new.items ≡ lines_in w.now r.now lines.old.items
         ++ given parts (Lost ∷ []) (λ p. Op op.Blocks ∷ looped op.Next (write_within w.now r.now steps p.0 p.1))) }
+    ensures known { AreKnown w.now r.now known.new }
 {
     let Some((wn, rn)) = parts else {
         return put(lines, Line::Lost);
     };
     let mut body = Vec::new(alloc);
-    write_within(alloc, w, r, wn, rn, steps, &mut body)?;
+    write_within(alloc, w, r, known, wn, rn, steps, &mut body)?;
     put(lines, Line::Op(Instr::Blocks))?;
     put_loop(lines, Go::Next, body)
 }
@@ -105,21 +109,24 @@ fn values(
     alloc: Global,
     w: &Nodes,
     r: &Nodes,
+    known: &mut Known,
     parts: Option<(usize, usize)>,
     steps: usize,
     lines: &mut Vec<Line>,
 ) -> Result<(), AllocError>
-    requires { IfSome parts (ArePair w.now r.now) }
-    ensures { OnOk result (lines_in w.now r.now lines.new.items ≡ lines_in w.now r.now lines.old.items
+    requires parts { IfSome parts (ArePair w.now r.now) }
+    requires known { AreKnown w.now r.now known.old }
+    ensures lines { OnOk result (lines_in w.now r.now lines.new.items ≡ lines_in w.now r.now lines.old.items
         ++ given parts (Lost ∷ [])
         (λ p. Op op.Blocks ∷ looped op.Next (Op op.Text ∷ write_within w.now r.now steps p.0 p.1))) }
+    ensures known { AreKnown w.now r.now known.new }
 {
     let Some((wn, rn)) = parts else {
         return put(lines, Line::Lost);
     };
     let mut body = Vec::new(alloc);
     put(&mut body, Line::Op(Instr::Text))?;
-    write_within(alloc, w, r, wn, rn, steps, &mut body)?;
+    write_within(alloc, w, r, known, wn, rn, steps, &mut body)?;
     put(lines, Line::Op(Instr::Blocks))?;
     put_loop(lines, Go::Next, body)
 }
@@ -130,6 +137,7 @@ fn straight(
     alloc: Global,
     w: &Nodes,
     r: &Nodes,
+    known: &mut Known,
     wn: usize,
     rn: usize,
     steps: usize,
@@ -137,8 +145,10 @@ fn straight(
 ) -> Result<(), AllocError>
     requires writer { wn < length w.now }
     requires reader { rn < length r.now }
-    ensures { OnOk result (lines_in w.now r.now lines.new.items ≡ lines_in w.now r.now lines.old.items
+    requires known { AreKnown w.now r.now known.old }
+    ensures lines { OnOk result (lines_in w.now r.now lines.new.items ≡ lines_in w.now r.now lines.old.items
         ++ straight_node w.now r.now (write_within w.now r.now steps) wn rn (slice_get w.now wn) (slice_get r.now rn)) }
+    ensures known { AreKnown w.now r.now known.new }
 {
     match w.kind(wn) {
         Kind::Null => Ok(()),
@@ -155,10 +165,10 @@ fn straight(
                 reader: rn,
             },
         ),
-        Kind::Array(_) => items(alloc, w, r, both_items(w, wn, r, rn), steps, lines),
-        Kind::Map(_) => values(alloc, w, r, both_values(w, wn, r, rn), steps, lines),
+        Kind::Array(_) => items(alloc, w, r, known, both_items(w, wn, r, rn), steps, lines),
+        Kind::Map(_) => values(alloc, w, r, known, both_values(w, wn, r, rn), steps, lines),
         Kind::Union(_) => put(lines, Line::Lost),
-        Kind::Record { .. } => record(alloc, w, r, wn, rn, lines),
+        Kind::Record { .. } => record(alloc, w, r, known, wn, rn, lines),
     }
 }
 
@@ -168,6 +178,7 @@ fn placed(
     alloc: Global,
     w: &Nodes,
     r: &Nodes,
+    known: &mut Known,
     wn: usize,
     rn: usize,
     steps: usize,
@@ -175,14 +186,16 @@ fn placed(
 ) -> Result<(), AllocError>
     requires writer { wn < length w.now }
     requires reader { rn < length r.now }
-    ensures { OnOk result (lines_in w.now r.now lines.new.items ≡ lines_in w.now r.now lines.old.items
+    requires known { AreKnown w.now r.now known.old }
+    ensures lines { OnOk result (lines_in w.now r.now lines.new.items ≡ lines_in w.now r.now lines.old.items
         ++ placed_node w.now r.now (write_within w.now r.now steps) wn rn (place w.now r.now wn rn)) }
+    ensures known { AreKnown w.now r.now known.new }
 {
-    match place_of(w, wn, r, rn) {
-        Place::Straight => straight(alloc, w, r, wn, rn, steps, lines),
+    match known.place_of(alloc, w, wn, r, rn)? {
+        Place::Straight => straight(alloc, w, r, known, wn, rn, steps, lines),
         Place::IntoMember { position, node } => {
             put(lines, Line::Put(Constant::Position(position)))?;
-            straight(alloc, w, r, wn, node, steps, lines)
+            straight(alloc, w, r, known, wn, node, steps, lines)
         }
         Place::Nowhere => {
             put(lines, Line::Miss(miss(MismatchKind::NoBranch, wn, rn)))?;
@@ -201,6 +214,7 @@ fn write_within(
     alloc: Global,
     w: &Nodes,
     r: &Nodes,
+    known: &mut Known,
     wn: usize,
     rn: usize,
     levels: usize,
@@ -208,8 +222,10 @@ fn write_within(
 ) -> Result<(), AllocError>
     requires writer { wn < length w.now }
     requires reader { rn < length r.now }
-    ensures { OnOk result (lines_in w.now r.now lines.new.items ≡ lines_in w.now r.now lines.old.items
+    requires known { AreKnown w.now r.now known.old }
+    ensures lines { OnOk result (lines_in w.now r.now lines.new.items ≡ lines_in w.now r.now lines.old.items
         ++ write_within w.now r.now levels wn rn) }
+    ensures known { AreKnown w.now r.now known.new }
 {
     if levels == 0 {
         return put(lines, Line::Lost);
@@ -218,11 +234,11 @@ fn write_within(
         Kind::Union(members) => {
             let mut fars = Vec::new(alloc);
             let mut code = Vec::new(alloc);
-            write_members(alloc, w, r, members, rn, levels - 1, &mut fars, &mut code)?;
+            write_members(alloc, w, r, known, members, rn, levels - 1, &mut fars, &mut code)?;
             put(lines, Line::Branch(fars))?;
             put_all(lines, code)
         }
-        _ => placed(alloc, w, r, wn, rn, levels - 1, lines),
+        _ => placed(alloc, w, r, known, wn, rn, levels - 1, lines),
     }
 }
 
@@ -232,6 +248,7 @@ fn write_members(
     alloc: Global,
     w: &Nodes,
     r: &Nodes,
+    known: &mut Known,
     members: &[usize],
     rn: usize,
     steps: usize,
@@ -241,23 +258,25 @@ fn write_members(
     requires members { AllByRecursion (λ m. m < length w.now) members.now }
     requires few { length members.now ≤ MOST_NODES }
     requires reader { rn < length r.now }
+    requires known { AreKnown w.now r.now known.old }
     ensures lines { OnOk result (lines_in w.now r.now code.new.items
         ≡ lines_in w.now r.now code.old.items ++ one_of (map (λ m. write_within w.now r.now steps m rn) members.now)) }
     ensures places { OnOk result (fars.new.items
         ≡ fars.old.items
         ++ begins (length code.old.items + 1) (map (λ m. write_within w.now r.now steps m rn) members.now)) }
+    ensures known { AreKnown w.now r.now known.new }
 {
     let Some((first, rest)) = members.split_first() else {
         return Ok(());
     };
     fars.push(code.len() + 1)?;
-    write_within(alloc, w, r, *first, rn, steps, code)?;
+    write_within(alloc, w, r, known, *first, rn, steps, code)?;
     if rest.is_empty() {
         return Ok(());
     }
     let end = code.len();
     put(code, Line::Lost)?;
-    write_members(alloc, w, r, rest, rn, steps, fars, code)?;
+    write_members(alloc, w, r, known, rest, rn, steps, fars, code)?;
     set_jump(code, end);
     Ok(())
 }
@@ -267,15 +286,18 @@ pub(crate) fn write(
     alloc: Global,
     w: &Nodes,
     r: &Nodes,
+    known: &mut Known,
     wn: usize,
     rn: usize,
     lines: &mut Vec<Line>,
 ) -> Result<(), AllocError>
     requires writer { wn < length w.now }
     requires reader { rn < length r.now }
-    ensures { OnOk result
+    requires known { AreKnown w.now r.now known.old }
+    ensures lines { OnOk result
         (lines_in w.now r.now lines.new.items ≡ lines_in w.now r.now lines.old.items ++ X w.now r.now wn rn) }
+    ensures known { AreKnown w.now r.now known.new }
 {
     w.is_well_formed();
-    write_within(alloc, w, r, wn, rn, w.len() + 1, lines)
+    write_within(alloc, w, r, known, wn, rn, w.len() + 1, lines)
 }

@@ -3,11 +3,13 @@ use Rattle.std.proofs.Common.{◌≡◌, ◌++◌, drop, length}
 use Rattle.matching.specs.Partners.{AreRoutes}
 use Rattle.avro_types.specs.declared.limits.TheConstants.{MOST_FIELDS}
 use Rattle.program_code.specs.Writing.{fields_code}
+use Rattle.program_lines.specs.Known.{AreKnown}
 use Rattle.program_lines.specs.Lines.{lines_in}
 use Rattle.program_lines.proofs.routines.put_fields.Given as goal
 
 abbrev pub invariant-loop-route : goal.invariant-loop-route
 invariant-loop-route l = record {
   so_far : lines_in l.w l.r l.lines.items ++ fields_code l.w l.r (drop l.route-index l.routes) ≡ lines_in l.w l.r l.fn.lines.items ++ fields_code l.w l.r l.routes;
+  known : AreKnown l.w l.r l.known;
   left : AreRoutes (length l.w) (length l.r) MOST_FIELDS (drop l.route-index l.routes);
 }

@@ -18,8 +18,8 @@ use Rattle.program_lines.proofs.Steps.{two}
 use Rattle.program_lines.proofs.WriteSteps.{parts_none, parts_some}
 use Rattle.program_lines.proofs.routines.put_routine.Goals as goal
 
-pub returns-in_default : goal.returns-in_default
-returns-in_default c = on_ok_weaker c.put.result (λ h. parts_none _ _ _ _ (sym c.field_lists.ensures.lists ∙ ap (option_map both_lists) c.in_default.is) (h c.args.w.now c.args.r.now)) c.put.ensures
+pub returns-in_default-clause-lines : goal.returns-in_default-clause-lines
+returns-in_default-clause-lines c = on_ok_weaker c.put.result (λ h. parts_none _ _ _ _ (sym c.field_lists.ensures.lists ∙ ap (option_map both_lists) c.in_default.is) (h c.args.w.now c.args.r.now)) c.put.ensures
 
 pub put_defaults-requires-clause-few : goal.put_defaults-requires-clause-few
 put_defaults-requires-clause-few c =
@@ -36,13 +36,13 @@ overflow_cast-rs c =
     let few = few_fields c.args.r.now (slice_get c.args.w.now c.args.wn) c.args.rn _ _ c.is_well_formed-2.ensures (sym c.field_lists.ensures.lists ∙ ap (option_map both_lists) c.in-Some.is) in
     omega (arith, few, length-map rs field_of)
 
-pub put_fields-requires : goal.put_fields-requires
-put_fields-requires c =
+pub put_fields-requires-clause-routes : goal.put_fields-requires-clause-routes
+put_fields-requires-clause-routes c =
     let few = few_fields c.args.r.now (slice_get c.args.w.now c.args.wn) c.args.rn _ _ c.is_well_formed-2.ensures (sym c.field_lists.ensures.lists ∙ ap (option_map both_lists) c.in-Some.is) in
     subst (λ (rs : List Route). AreRoutes (length c.args.w.now) (length c.args.r.now) MOST_FIELDS rs) (sym (c.deref.ensures.value ∙ c.in_ok-routes.ensures)) (routes_within (length c.args.w.now) (length c.args.r.now) MOST_FIELDS _ _ c.in-Some.ensures.writer.below c.in-Some.ensures.reader.below few)
 
-pub returns : goal.returns
-returns c =
+pub returns-clause-lines : goal.returns-clause-lines
+returns-clause-lines c =
     let W = c.args.w.now in
     let R = c.args.r.now in
     let old = lines_in W R c.args.lines.now.items in
@@ -50,7 +50,7 @@ returns c =
     let gs = fields_of c.in-Some.rs.now in
     let lists = sym c.field_lists.ensures.lists ∙ ap (option_map both_lists) c.in-Some.is in
     let opened = c.in_ok-put.ensures W R ∙ ap (λ n. old ++ Op (op.Record n) ∷ []) (sym (length-map c.in-Some.rs.now field_of)) in
-    let fields = c.in_ok-put_fields.ensures ∙ ap (λ rs. lines_in W R c.put-2.new.lines.items ++ fields_code W R rs) (c.deref.ensures.value ∙ c.in_ok-routes.ensures) in
+    let fields = c.in_ok-put_fields.ensures.lines ∙ ap (λ rs. lines_in W R c.put-2.new.lines.items ++ fields_code W R rs) (c.deref.ensures.value ∙ c.in_ok-routes.ensures) in
     let defaults = c.in_ok-put_defaults.ensures W ∙ ap (λ rs. lines_in W R c.put_fields.new.lines.items ++ defaults_code rs 0 gs) (c.deref-2.ensures.value ∙ c.in_ok-routes.ensures) in
     on_ok_weaker c.put-4.result (λ h. parts_some (field_lists (slice_get W c.args.wn) (slice_get R c.args.rn)) (fs, gs) (λ p. write_routine W R p.0 p.1) old _ (write_routine W R fs gs) lists refl
     (two old _ _ _ _ opened (two (lines_in W R c.put-2.new.lines.items) _ _ _ _ fields (two (lines_in W R c.put_fields.new.lines.items) _ _ _ _ defaults (two (lines_in W R c.put_defaults.new.lines.items) _ _ _ _ (c.in_ok-put-2.ensures W R) (h W R)))))) c.put-4.ensures

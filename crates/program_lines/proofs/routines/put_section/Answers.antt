@@ -7,46 +7,46 @@ use Rattle.program_lines.proofs.SectionSteps.{main_more, no_node, no_reader_node
 use Rattle.program_lines.proofs.Steps.{two}
 use Rattle.program_lines.proofs.routines.put_section.Goals as goal
 
-pub returns-in_ok-write-in-Main : goal.returns-in_ok-write-in-Main
-returns-in_ok-write-in-Main c =
+pub returns-in_ok-write-in-Main-clause-lines : goal.returns-in_ok-write-in-Main-clause-lines
+returns-in_ok-write-in-Main-clause-lines c =
     let W = c.args.w.now in
     let R = c.args.r.now in
     let old = lines_in W R c.args.lines.now.items in
-    on_ok_weaker c.put.result (λ h. main_more W R old _ (two old _ _ _ _ c.in_ok-write-in-Main.ensures (h W R)) ∙ ap (λ p. old ++ section W R (section_of p)) (sym c.in-Main.is)) c.put.ensures
+    on_ok_weaker c.put.result (λ h. main_more W R old _ (two old _ _ _ _ c.in_ok-write-in-Main.ensures.lines (h W R)) ∙ ap (λ p. old ++ section W R (section_of p)) (sym c.in-Main.is)) c.put.ensures
 
-pub returns-then-wn-len : goal.returns-then-wn-len
-returns-then-wn-len c =
+pub returns-then-wn-len-clause-lines : goal.returns-then-wn-len-clause-lines
+returns-then-wn-len-clause-lines c =
     let W = c.args.w.now in
     let R = c.args.r.now in
     let old = lines_in W R c.args.lines.now.items in
     let le : length W ≤ c.in-Write.wn = omega (arith, c.len.ensures, c.if-wn-len.true) in
     on_ok_weaker c.put-then-wn-len.result (λ h. no_writer_node W R old _ c.in-Write.wn c.in-Write.rn le (h W R) ∙ ap (λ p. old ++ section W R (section_of p)) (sym c.in-Write.is)) c.put-then-wn-len.ensures
 
-pub returns-then-rn-len : goal.returns-then-rn-len
-returns-then-rn-len c =
+pub returns-then-rn-len-clause-lines : goal.returns-then-rn-len-clause-lines
+returns-then-rn-len-clause-lines c =
     let W = c.args.w.now in
     let R = c.args.r.now in
     let old = lines_in W R c.args.lines.now.items in
     let le : length R ≤ c.in-Write.rn = omega (arith, c.len-in-Write.ensures, c.if-rn-len.true) in
     on_ok_weaker c.put-then-rn-len.result (λ h. no_reader_node W R old _ c.in-Write.wn c.in-Write.rn le (h W R) ∙ ap (λ p. old ++ section W R (section_of p)) (sym c.in-Write.is)) c.put-then-rn-len.ensures
 
-pub returns-else-rn-len : goal.returns-else-rn-len
-returns-else-rn-len c =
+pub returns-else-rn-len-clause-lines : goal.returns-else-rn-len-clause-lines
+returns-else-rn-len-clause-lines c =
     let W = c.args.w.now in
     let R = c.args.r.now in
     let old = lines_in W R c.args.lines.now.items in
-    on_ok_weaker c.put_routine.result (λ h. write_section W R old _ c.in-Write.wn c.in-Write.rn h ∙ ap (λ p. old ++ section W R (section_of p)) (sym c.in-Write.is)) c.put_routine.ensures
+    on_ok_weaker c.put_routine.result (λ h. write_section W R old _ c.in-Write.wn c.in-Write.rn h ∙ ap (λ p. old ++ section W R (section_of p)) (sym c.in-Write.is)) c.put_routine.ensures.lines
 
-pub returns-then-wn-len-2 : goal.returns-then-wn-len-2
-returns-then-wn-len-2 c =
+pub returns-then-wn-len-2-clause-lines : goal.returns-then-wn-len-2-clause-lines
+returns-then-wn-len-2-clause-lines c =
     let W = c.args.w.now in
     let R = c.args.r.now in
     let old = lines_in W R c.args.lines.now.items in
     let le : length W ≤ c.in-Skip.wn = omega (arith, c.len-in-Skip.ensures, c.if-wn-len-2.true) in
     on_ok_weaker c.put-then-wn-len-2.result (λ h. no_node W R old _ c.in-Skip.wn le (h W R) ∙ ap (λ p. old ++ section W R (section_of p)) (sym c.in-Skip.is)) c.put-then-wn-len-2.ensures
 
-pub returns-else-wn-len-2 : goal.returns-else-wn-len-2
-returns-else-wn-len-2 c =
+pub returns-else-wn-len-2-clause-lines : goal.returns-else-wn-len-2-clause-lines
+returns-else-wn-len-2-clause-lines c =
     let W = c.args.w.now in
     let R = c.args.r.now in
     let old = lines_in W R c.args.lines.now.items in

@@ -7,7 +7,7 @@ use Rattle.avro_types.specs.Node.{UnionNode, node_of}
 use Rattle.program_code.specs.Lines.{Lost}
 use Rattle.program_code.specs.Skipping.{skip_within}
 use Rattle.program_lines.specs.Lines.{lines_in}
-use Rattle.program_lines.proofs.Members.{members_below}
+use Rattle.matching.proofs.Members.{members_below}
 use Rattle.program_lines.proofs.Steps.{body_is, key_then, looped_after, skip_more, skip_none}
 use Rattle.program_lines.proofs.Unions.{first_then, hole_below, lines_length, places_then, skip_union}
 use Rattle.program_lines.proofs.skipping.+skip.Goals as goal
