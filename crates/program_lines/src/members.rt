@@ -15,7 +15,9 @@ pub(crate) fn name_of(nodes: &Nodes, n: usize) -> Option<&Name>
     ensures { option_map (λ name. name.now) result ≡ full_name_of (slice_get nodes.now n) }
 {
     match nodes.kind(n) {
-        Kind::Fixed { name, .. } | Kind::Enum { name, .. } | Kind::Record { name, .. } => Some(name),
+        Kind::Fixed { name, .. } | Kind::Enum { name, .. } | Kind::Record { name, .. } => Some(
+            name,
+        ),
         _ => None,
     }
 }

@@ -234,7 +234,17 @@ fn write_within(
         Kind::Union(members) => {
             let mut fars = Vec::new(alloc);
             let mut code = Vec::new(alloc);
-            write_members(alloc, w, r, known, members, rn, levels - 1, &mut fars, &mut code)?;
+            write_members(
+                alloc,
+                w,
+                r,
+                known,
+                members,
+                rn,
+                levels - 1,
+                &mut fars,
+                &mut code,
+            )?;
             put(lines, Line::Branch(fars))?;
             put_all(lines, code)
         }

@@ -27,10 +27,13 @@ pub loop-next-preserved : goal.loop-next-preserved
 loop-next-preserved c =
     let starts : vec_len c.loop-next.starts ≡ length c.loop-next.starts.items = search rules in
     let lines : vec_len c.loop-next.lines ≡ length c.loop-next.lines.items = search rules in
-    record { known = c.in_ok-code.ensures.known; walked =
-    walked_on c.args.w.now c.args.r.now c.loop-next.starts.items c.push.new.self.items c.len.result c.len-in-Some-2.result c.loop-next.sections c.note_calls.new.sections c.loop-next.lines.items (lines_in c.args.w.now c.args.r.now c.put_all.new.lines.items) (section_of c.in-Some.next) c.loop-next.invariant.walked (c.len.ensures ∙ starts) c.in-Some.ensures (c.len-in-Some-2.ensures ∙ lines) (omega (arith, c.len-in-Some-2.ensures, c.len-in-Some.ensures, c.if-len-ge-MOST_INSTRS.false)) c.in_ok-push.ensures.items
-    (c.in_ok-note_calls.ensures c.args.w.now c.args.r.now ∙ ap (λ ls. adding same_section c.loop-next.sections (named_in calls_of (lines_in c.args.w.now c.args.r.now ls))) c.deref.ensures.value ∙ ap (λ ls. adding same_section c.loop-next.sections (named_in calls_of ls)) c.in_ok-code.ensures.lines)
-    (c.in_ok-put_all.ensures c.args.w.now c.args.r.now ∙ ap (λ ls. lines_in c.args.w.now c.args.r.now c.loop-next.lines.items ++ ls) c.in_ok-code.ensures.lines); }
+    record {
+      known = c.in_ok-code.ensures.known;
+      walked =
+          walked_on c.args.w.now c.args.r.now c.loop-next.starts.items c.push.new.self.items c.len.result c.len-in-Some-2.result c.loop-next.sections c.note_calls.new.sections c.loop-next.lines.items (lines_in c.args.w.now c.args.r.now c.put_all.new.lines.items) (section_of c.in-Some.next) c.loop-next.invariant.walked (c.len.ensures ∙ starts) c.in-Some.ensures (c.len-in-Some-2.ensures ∙ lines) (omega (arith, c.len-in-Some-2.ensures, c.len-in-Some.ensures, c.if-len-ge-MOST_INSTRS.false)) c.in_ok-push.ensures.items
+          (c.in_ok-note_calls.ensures c.args.w.now c.args.r.now ∙ ap (λ ls. adding same_section c.loop-next.sections (named_in calls_of (lines_in c.args.w.now c.args.r.now ls))) c.deref.ensures.value ∙ ap (λ ls. adding same_section c.loop-next.sections (named_in calls_of ls)) c.in_ok-code.ensures.lines)
+          (c.in_ok-put_all.ensures c.args.w.now c.args.r.now ∙ ap (λ ls. lines_in c.args.w.now c.args.r.now c.loop-next.lines.items ++ ls) c.in_ok-code.ensures.lines);
+    }
 
 pub returns : goal.returns
 returns c =
