@@ -8,4 +8,5 @@ pub mod Told
 pub mod Added
 pub mod GivenIds
 pub mod Crossing
+pub mod Cells
 pub mod SomeAnswer

@@ -1,5 +1,5 @@
 -- What a registry answers under its lock is an answer after some accepted commands.
-use Rattle.std.specs.Prelude.{List, Result, Ok, Err}
+use Rattle.std.specs.Prelude.{ℕ, List, Result, Ok, Err}
 use Rattle.std.proofs.Common.{inr}
 use Rattle.schema_registry.specs.declared.refusal.Refusal.{Refusal}
 use Rattle.schema_registry.specs.declared.reply.Reply.{Reply}
@@ -8,9 +8,8 @@ use Rattle.schema_registry.specs.Answers.{AreAccepted, Gives, answer_to}
 use Rattle.schema_registry.specs.Command.{Command}
 use Rattle.schema_registry.specs.Reply.{answer_of}
 use Rattle.schema_registry.specs.Shared.{IsSomeAnswer}
-use Rattle.schema_registry.specs.declared.shared.SharedRegistry.{SharedRegistry}
 
-pub some-answer : (shared : SharedRegistry) (commands : List Command) (c : Command) (result : Result Reply Refusal) → AreAccepted commands
-    → Gives (answer_to (registry_after commands) c) result → IsSomeAnswer shared c (answer_of result)
-some-answer shared commands c (Ok reply) accepted gives = record { commands = commands; accepted = accepted; answer = gives }
-some-answer shared commands c (Err refusal) accepted gives = λ known. inr (record { commands = commands; accepted = accepted; answer = gives known })
+pub some-answer : (names : List ℕ) (commands : List Command) (c : Command) (result : Result Reply Refusal) → AreAccepted commands
+    → Gives (answer_to (registry_after commands) c) result → IsSomeAnswer names c (answer_of result)
+some-answer names commands c (Ok reply) accepted gives = record { commands = commands; accepted = accepted; answer = gives }
+some-answer names commands c (Err refusal) accepted gives = λ known. inr (record { commands = commands; accepted = accepted; answer = gives known })

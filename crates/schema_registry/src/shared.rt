@@ -1,7 +1,8 @@
-ghost use Rattle.std.specs.Prelude.{◌≡◌, ◌<◌, ◌≤◌, Some, IfErr, IfOk, IfSome, string_bytes, vec_len};
+ghost use Rattle.std.specs.Prelude.{◌≡◌, ◌<◌, ◌≤◌, Some, IfErr, IfOk, IfSome, length, string_bytes};
 ghost use Rattle.schema_registry.specs.Accepting.{compacted};
 ghost use Rattle.schema_registry.specs.Command.{command_of};
 ghost use Rattle.schema_registry.specs.Reply.{answer_of};
+ghost use Rattle.schema_registry.specs.Shared.{IsReceiptOf, IsSomeAnswer, IsSomeId, IsSomeIdOf, ShowsAnother};
 ghost use Rattle.schema_registry.specs.Tables.{AsksToRegister};
 
 use crate::command::Command;
@@ -14,40 +15,64 @@ use crate::subject::is_subject;
 use avro_schema::Schema;
 use once_cell::race::{Note, OnceBox};
 use std::alloc::{AllocError, Global};
+use std::marker::Model;
 use std::sync::{Mutex, Wait};
 
-/// What stands for the schema of an id, for good and in every thread.
+/// What stands for the schema of an id, for good and in every thread. Callers see it as a `Shown`: the id, the name of
+/// its cell and the schema.
 #[derive(Drop)]
 pub struct Receipt {
     id: u32,
     note: Note<Schema>,
 }
 
-/// A registry that threads share, with a cell for each id that shows its schema without the lock.
+impl Model for Receipt {
+    ghost use Rattle.std.specs.Coded.{codes};
+    ghost use Rattle.avro_types.specs.DatumCode.{datum_coded};
+    ghost use Rattle.schema_registry.specs.Shared.{Shown};
+
+    ghost Value = { Shown };
+
+    ghost coded = { Prim.hlevel (codes, datum_coded) };
+
+    ghost view = { λ r. record { id = r.id; cell = r.note.cell; schema = r.note.known } };
+}
+
+/// A registry that threads share, with a cell for each id that shows its schema without the lock. Callers see it as the
+/// names of its cells, in the order of their ids.
 #[derive(Drop)]
 pub struct SharedRegistry {
     alloc: Global,
     registry: Mutex<Registry>,
     cells: Vec<OnceBox<Schema>>,
-    ghost sized: { vec_len cells ≡ 4096 },
+}
+
+impl Model for SharedRegistry {
+    ghost use Rattle.std.specs.Prelude.{◌≡◌, ℕ, List, length, map};
+    ghost use Rattle.once_cell.specs.Once.{cell_name};
+    ghost use Rattle.schema_registry.specs.declared.limits.TheConstants.{MOST_SCHEMAS};
+
+    ghost Value = { List ℕ };
+
+    ghost view = { λ s. map cell_name s.cells.items };
+
+    ghost invariant = { λ s. length s.cells.items ≡ MOST_SCHEMAS };
 }
 
 impl Receipt {
-    ghost use Rattle.schema_registry.specs.Shared.{receipt_id};
-
     /// The id of its schema.
     pub fn id(&self) -> u32
-        ensures { result ≡ receipt_id self.now }
+        ensures { result ≡ self.now.id }
     {
         self.id
     }
 }
 
 impl SharedRegistry {
-    ghost use Rattle.schema_registry.specs.Shared.{IsReceiptOf, IsSomeAnswer, IsSomeId, IsSomeIdOf, ShowsAnother, receipt_id, receipt_schema};
-
     /// An empty registry.
-    pub fn new(alloc: Global) -> Result<SharedRegistry, AllocError> {
+    pub fn new(alloc: Global) -> Result<SharedRegistry, AllocError>
+        ensures { IfOk result (λ names. length names ≡ MOST_SCHEMAS) }
+    {
         let mut cells = Vec::new(alloc);
         for _ in 0..MOST_SCHEMAS {
             cells.push(OnceBox::new(alloc))?;
@@ -61,8 +86,7 @@ impl SharedRegistry {
 
     /// The schema of an id, where this thread can see one.
     pub fn find(&self, id: u32) -> Option<(&Schema, Receipt)>
-        ensures { IfSome result (λ r. IsReceiptOf self.now r.1 × (receipt_id r.1 ≡ id)
-            × (receipt_schema r.1 ≡ Some r.0.now)) }
+        ensures { IfSome result (λ r. IsReceiptOf self.now r.1 × (r.1.id ≡ id) × (r.1.schema ≡ Some r.0.now)) }
     {
         if id == 0 || id as usize > MOST_SCHEMAS {
             return None;
@@ -76,9 +100,8 @@ impl SharedRegistry {
     /// The schema of a receipt.
     pub fn schema<'a>(&'a self, receipt: &mut Receipt) -> &'a Schema
         requires { IsReceiptOf self.now receipt.old }
-        ensures same { (receipt_id receipt.new ≡ receipt_id receipt.old)
-            × (receipt_schema receipt.new ≡ receipt_schema receipt.old) × IsReceiptOf self.now receipt.new }
-        ensures schema { receipt_schema receipt.old ≡ Some result.now }
+        ensures same { receipt.new ≡ receipt.old }
+        ensures schema { receipt.old.schema ≡ Some result.now }
     {
         let cell = &self.cells[receipt.id as usize - 1];
         match cell.get_as(&mut receipt.note) {
@@ -91,9 +114,9 @@ impl SharedRegistry {
     pub fn agree(&self, one: &mut Receipt, two: &mut Receipt)
         requires one { IsReceiptOf self.now one.old }
         requires two { IsReceiptOf self.now two.old }
-        requires id { receipt_id one.old ≡ receipt_id two.old }
+        requires id { one.old.id ≡ two.old.id }
         ensures same { (one.new ≡ one.old) × (two.new ≡ two.old) }
-        ensures agree { receipt_schema one.old ≡ receipt_schema two.old }
+        ensures agree { one.old.schema ≡ two.old.schema }
     {
         one.note.compare(two.note.again());
     }
@@ -105,8 +128,8 @@ impl SharedRegistry {
         subject: String,
         text: String,
     ) -> Result<(u32, Receipt), Refusal>
-        ensures receipt { IfOk result (λ r. IsReceiptOf self.now r.1 × (receipt_id r.1 ≡ r.0)
-            × IfSome (receipt_schema r.1) (λ s. s.text ≡ compacted (string_bytes text))) }
+        ensures receipt { IfOk result (λ r. IsReceiptOf self.now r.1 × (r.1.id ≡ r.0)
+            × IfSome r.1.schema (λ s. s.text ≡ compacted (string_bytes text))) }
         ensures answer { IsSomeId self.now (string_bytes subject) (string_bytes text) result }
     {
         if !is_subject(&subject) {
@@ -126,8 +149,8 @@ impl SharedRegistry {
         schema: Schema,
     ) -> Result<(u32, Receipt), Refusal>
         requires { AsksToRegister (command_of command.now) (string_bytes subject) schema }
-        ensures receipt { IfOk result (λ r. IsReceiptOf self.now r.1 × (receipt_id r.1 ≡ r.0)
-            × IfSome (receipt_schema r.1) (λ s. s.text ≡ schema.text)) }
+        ensures receipt { IfOk result (λ r. IsReceiptOf self.now r.1 × (r.1.id ≡ r.0)
+            × IfSome r.1.schema (λ s. s.text ≡ schema.text)) }
         ensures answer { IsSomeIdOf self.now (command_of command.now) result }
     {
         let kept = schema.copy()?;
@@ -141,8 +164,8 @@ impl SharedRegistry {
     /// Shows a schema in the cell of its id.
     fn show(&self, id: u32, shown: Box<Schema>, kept: &Schema) -> Result<Receipt, Refusal>
         requires known { (0 < id) × (id ≤ MOST_SCHEMAS) }
-        ensures receipt { IfOk result (λ r. IsReceiptOf self.now r × (receipt_id r ≡ id)
-            × IfSome (receipt_schema r) (λ s. s.text ≡ kept.now.text)) }
+        ensures receipt { IfOk result (λ r. IsReceiptOf self.now r × (r.id ≡ id)
+            × IfSome r.schema (λ s. s.text ≡ kept.now.text)) }
         ensures clash { IfErr result (λ e. (e ≡ Refusal.Clash) × ShowsAnother self.now id kept.now.text) }
     {
         let cell = &self.cells[id as usize - 1];

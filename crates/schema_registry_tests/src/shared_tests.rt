@@ -1,7 +1,7 @@
 //! A registry that threads share.
 
 ghost use Rattle.std.specs.Prelude.{◌≡◌, IfOk};
-ghost use Rattle.schema_registry.specs.Shared.{IsReceiptOf, receipt_id};
+ghost use Rattle.schema_registry.specs.Shared.{IsReceiptOf};
 
 use crate::lines::{answer_line, command_of, reply_line};
 use schema_registry::{Receipt, Refusal, SharedRegistry};
@@ -81,7 +81,7 @@ fn register<R: Wait>(
     shared: &SharedRegistry,
     text: &str,
 ) -> Result<(u32, Receipt), Refusal>
-    ensures { IfOk result (λ r. IsReceiptOf shared.now r.1 × (receipt_id r.1 ≡ r.0)) }
+    ensures { IfOk result (λ r. IsReceiptOf shared.now r.1 × (r.1.id ≡ r.0)) }
 {
     let subject = String::from_str(alloc, "s")?;
     shared.register(rt, subject, String::from_str(alloc, text)?)
@@ -97,7 +97,7 @@ fn found(shared: &SharedRegistry, id: u32) -> &str {
 
 /// The text that a receipt of an id shows, which agrees with one that is found.
 fn shown<'a>(shared: &'a SharedRegistry, id: u32, receipt: &mut Receipt) -> &'a str
-    requires { IsReceiptOf shared.now receipt.old × (receipt_id receipt.old ≡ id) }
+    requires { IsReceiptOf shared.now receipt.old × (receipt.old.id ≡ id) }
 {
     if let Some((_, mut other)) = shared.find(id) {
         shared.agree(receipt, &mut other);

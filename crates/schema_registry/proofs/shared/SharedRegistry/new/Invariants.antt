@@ -1,5 +1,5 @@
-use Rattle.std.proofs.Common.{◌≡◌, vec_len}
+use Rattle.std.proofs.Common.{◌≡◌, length}
 use Rattle.schema_registry.proofs.shared.SharedRegistry.new.Given as goal
 
 abbrev pub invariant-loop : goal.invariant-loop
-invariant-loop l = vec_len l.cells ≡ l.counter
+invariant-loop l = length l.cells.items ≡ l.counter
