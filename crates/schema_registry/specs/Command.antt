@@ -30,3 +30,8 @@ command_of (commands.Version subject version) = VersionCommand (string_bytes sub
 command_of commands.Subjects = SubjectsCommand
 command_of (commands.Schema id) = SchemaCommand id
 command_of (commands.Level subject) = LevelCommand (option_map string_bytes subject)
+
+-- what may want memory: all but asking for a level
+abbrev pub Grows : Command → Type 0
+Grows (LevelCommand subject) = ⊥
+Grows c = Unit {0}

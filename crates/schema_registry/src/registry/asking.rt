@@ -1,4 +1,4 @@
-ghost use Rattle.std.specs.Prelude.{◌≡◌, ◌≢◌, ◌+◌, ◌≤◌, ◌<◌, ◌^◌, [], ◌∷◌, List, ℕ, Ok, Err, Some, None, true, false, IfOk, MatchResult, length, map, option_map, string_bytes};
+ghost use Rattle.std.specs.Prelude.{◌≡◌, ◌≢◌, ◌+◌, ◌≤◌, ◌<◌, ◌^◌, [], ◌∷◌, List, ℕ, Ok, Err, Some, None, true, false, IfErr, IfOk, MatchResult, length, map, option_map, string_bytes};
 ghost use Rattle.schema_registry.specs.Accepting.{registry_after};
 ghost use Rattle.schema_registry.specs.Answers.{Gives, answer_to, entry_answer, where_versions};
 ghost use Rattle.schema_registry.specs.Command.{LookupCommand, CheckCommand, VersionsCommand, VersionCommand, SubjectsCommand, SchemaCommand, LevelCommand};
@@ -181,7 +181,8 @@ impl Registry {
 
     /// The level of a subject, or the global one.
     pub(super) fn level(&self, subject: Option<String>) -> Result<Reply, Refusal>
-        ensures { Gives (answer_to (registry_after self.now) (LevelCommand (option_map string_bytes subject))) result }
+        ensures answer { Gives (answer_to (registry_after self.now) (LevelCommand (option_map string_bytes subject))) result }
+        ensures memory { IfErr result (λ e. e ≢ Refusal.NoMemory) }
     {
         let name = subject.as_deref();
         if !name.map_or(true, |name| is_subject(name)) {

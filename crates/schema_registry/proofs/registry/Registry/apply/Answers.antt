@@ -35,6 +35,6 @@ invariant_of-self c =
           asked (SchemaCommand w.in-Schema.id) (reply_of w.in_ok-reply-in-Schema.reply) are refl answer
       | in-Level+in_ok-reply-in-Level w ↦
           let are = rw (w.in-Level.is, c.self.view_is) at c.and-history.ensures in
-          let answer = w.in_ok-reply-in-Level.ensures in
+          let answer = w.in_ok-reply-in-Level.ensures.answer in
           asked (LevelCommand (option_map string_bytes w.in-Level.subject)) (reply_of w.in_ok-reply-in-Level.reply) are refl answer
     ]
