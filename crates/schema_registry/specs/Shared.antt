@@ -1,12 +1,12 @@
 -- What is said of a registry that threads share: receipts, and answers in some state. This project's own.
-use Rattle.std.specs.Prelude.{◌≡◌, ◌≢◌, ◌⊎◌, ℕ, ◌-◌, ◌<◌, List, Option, Some, Result, Ok, Err, IsSome, IfSome}
+use Rattle.std.specs.Prelude.{◌≡◌, ◌≢◌, ◌⊎◌, ℕ, ◌-◌, ◌<◌, List, Option, Some, Result, Ok, Err, IsSome}
 use Rattle.std.specs.List.{slice_get}
 use Rattle.avro_schema.specs.Schema.{Declaration}
 use Rattle.schema_registry.specs.declared.refusal.Refusal.{Refusal}
 use Rattle.schema_registry.specs.declared.refusal.Refusal.TheVariants.{Clash, NoMemory}
-use Rattle.schema_registry.specs.Command.{Command, RegisterCommand}
+use Rattle.schema_registry.specs.Command.{Command, RegisterCommand, Grows}
 use Rattle.schema_registry.specs.Reply.{Reply, IdReply}
-use Rattle.schema_registry.specs.Accepting.{compacted, registry_after}
+use Rattle.schema_registry.specs.Accepting.{registry_after}
 use Rattle.schema_registry.specs.Answers.{AreAccepted, IsAnswer, answer_to}
 
 -- what a receipt stands for: an id, the name of its cell, and the schema that the cell shows, once it was seen
@@ -29,37 +29,25 @@ pub record IsAnswered (c : Command) (result : Result Reply Refusal) : Type 0 whe
   pub accepted : AreAccepted commands
   pub answer : IsAnswer (answer_to (registry_after commands) c) result
 
--- the cell of an id shows a schema of another compact text
-pub record ShowsAnother (names : List ℕ) (id : ℕ) (text : List ℕ) : Type 0 where
-  pub receipt : Shown
-  pub is_receipt : IsReceiptOf names receipt
-  pub of_id : receipt.id ≡ id
-  pub another : IfSome receipt.schema (λ s. s.text ≢ text)
+-- why a command is refused as a clash: a registration alone is, and one that is answered an id
+abbrev pub IsClash : Command → Type 0
+IsClash (RegisterCommand subject text) = (id : ℕ) × IsAnswered (RegisterCommand subject text) (Ok (IdReply id))
+IsClash c = ⊥
 
--- a command is answered an id whose cell shows a schema of another compact text
-pub record ShowsAnotherFor (names : List ℕ) (c : Command) (text : List ℕ) : Type 0 where
-  pub id : ℕ
-  pub answered : IsAnswered c (Ok (IdReply id))
-  pub shows : ShowsAnother names id text
-
--- why a command is refused as a clash: no other than a registration is
-abbrev pub IsClash : List ℕ → Command → Type 0
-IsClash names (RegisterCommand subject text) = ShowsAnotherFor names (RegisterCommand subject text) (compacted text)
-IsClash names c = ⊥
-
--- a refusal is such an answer or a clash, unless memory ran out
-abbrev pub IsSomeRefusal : List ℕ → Command → Refusal → Type 0
-IsSomeRefusal names c refusal = refusal ≢ NoMemory → ((refusal ≡ Clash) × IsClash names c) ⊎ IsAnswered c (Err refusal)
+-- a refusal is such an answer or a clash, unless memory ran out where some may be wanted
+abbrev pub IsSomeRefusal : Command → Refusal → Type 0
+IsSomeRefusal c refusal = (refusal ≡ NoMemory → Grows c)
+    × (refusal ≢ NoMemory → ((refusal ≡ Clash) × IsClash c) ⊎ IsAnswered c (Err refusal))
 
 -- a reply is such an answer
-abbrev pub IsSomeAnswer : List ℕ → Command → Result Reply Refusal → Type 0
-IsSomeAnswer names c (Ok reply) = IsAnswered c (Ok reply)
-IsSomeAnswer names c (Err refusal) = IsSomeRefusal names c refusal
+abbrev pub IsSomeAnswer : Command → Result Reply Refusal → Type 0
+IsSomeAnswer c (Ok reply) = IsAnswered c (Ok reply)
+IsSomeAnswer c (Err refusal) = IsSomeRefusal c refusal
 
 -- the same of the id that a registration gives
-abbrev pub IsSomeIdOf : List ℕ → Command → Result (ℕ × Shown) Refusal → Type 0
-IsSomeIdOf names c (Ok r) = IsAnswered c (Ok (IdReply r.0))
-IsSomeIdOf names c (Err refusal) = IsSomeRefusal names c refusal
+abbrev pub IsSomeIdOf : Command → Result (ℕ × Shown) Refusal → Type 0
+IsSomeIdOf c (Ok r) = IsAnswered c (Ok (IdReply r.0))
+IsSomeIdOf c (Err refusal) = IsSomeRefusal c refusal
 
-abbrev pub IsSomeId : List ℕ → List ℕ → List ℕ → Result (ℕ × Shown) Refusal → Type 0
-IsSomeId names subject text result = IsSomeIdOf names (RegisterCommand subject text) result
+abbrev pub IsSomeId : List ℕ → List ℕ → Result (ℕ × Shown) Refusal → Type 0
+IsSomeId subject text result = IsSomeIdOf (RegisterCommand subject text) result

@@ -1,8 +1,8 @@
-ghost use Rattle.std.specs.Prelude.{◌≡◌, ◌<◌, ◌≤◌, Some, IfErr, IfOk, IfSome, length, string_bytes};
+ghost use Rattle.std.specs.Prelude.{◌≡◌, ◌≢◌, ◌<◌, ◌≤◌, Some, IfErr, IfOk, IfSome, length, string_bytes};
 ghost use Rattle.schema_registry.specs.Accepting.{compacted};
 ghost use Rattle.schema_registry.specs.Command.{command_of};
 ghost use Rattle.schema_registry.specs.Reply.{answer_of};
-ghost use Rattle.schema_registry.specs.Shared.{IsReceiptOf, IsSomeAnswer, IsSomeId, IsSomeIdOf, ShowsAnother};
+ghost use Rattle.schema_registry.specs.Shared.{IsReceiptOf, IsSomeAnswer, IsSomeId, IsSomeIdOf};
 ghost use Rattle.schema_registry.specs.Tables.{AsksToRegister};
 
 use crate::command::Command;
@@ -130,7 +130,7 @@ impl SharedRegistry {
     ) -> Result<(u32, Receipt), Refusal>
         ensures receipt { IfOk result (λ r. IsReceiptOf self.now r.1 × (r.1.id ≡ r.0)
             × IfSome r.1.schema (λ s. s.text ≡ compacted (string_bytes text))) }
-        ensures answer { IsSomeId self.now (string_bytes subject) (string_bytes text) result }
+        ensures answer { IsSomeId (string_bytes subject) (string_bytes text) result }
     {
         if !is_subject(&subject) {
             return Err(Refusal::BadSubject);
@@ -151,35 +151,38 @@ impl SharedRegistry {
         requires { AsksToRegister (command_of command.now) (string_bytes subject) schema }
         ensures receipt { IfOk result (λ r. IsReceiptOf self.now r.1 × (r.1.id ≡ r.0)
             × IfSome r.1.schema (λ s. s.text ≡ schema.text)) }
-        ensures answer { IsSomeIdOf self.now (command_of command.now) result }
+        ensures answer { IsSomeIdOf (command_of command.now) result }
     {
         let kept = schema.copy()?;
         let shown = Box::new(self.alloc, schema.copy()?)?;
         let mut registry = self.registry.lock(rt);
         let id = registry.register_parsed(command, subject, schema)?;
-        let receipt = self.show(id, shown, &kept)?;
-        Ok((id, receipt))
+        match self.show(id, shown, &kept) {
+            Ok(receipt) => Ok((id, receipt)),
+            Err(_another) => Err(Refusal::Clash),
+        }
     }
 
-    /// Shows a schema in the cell of its id.
-    fn show(&self, id: u32, shown: Box<Schema>, kept: &Schema) -> Result<Receipt, Refusal>
+    /// Shows a schema in the cell of its id; where the cell shows a schema of another text, the error is its receipt.
+    fn show(&self, id: u32, shown: Box<Schema>, kept: &Schema) -> Result<Receipt, Receipt>
         requires known { (0 < id) × (id ≤ MOST_SCHEMAS) }
         ensures receipt { IfOk result (λ r. IsReceiptOf self.now r × (r.id ≡ id)
             × IfSome r.schema (λ s. s.text ≡ kept.now.text)) }
-        ensures clash { IfErr result (λ e. (e ≡ Refusal.Clash) × ShowsAnother self.now id kept.now.text) }
+        ensures clash { IfErr result (λ r. IsReceiptOf self.now r × (r.id ≡ id)
+            × IfSome r.schema (λ s. s.text ≢ kept.now.text)) }
     {
         let cell = &self.cells[id as usize - 1];
         let mut note = cell.note();
         let seen = cell.get_or_init_as(move || shown, &mut note);
         if seen.text() != kept.text() {
-            return Err(Refusal::Clash);
+            return Err(Receipt { id, note });
         }
         Ok(Receipt { id, note })
     }
 
     /// Does or answers what a command asks, or refuses it.
     pub fn apply<R: Wait>(&self, rt: &R, command: Command) -> Result<Reply, Refusal>
-        ensures { IsSomeAnswer self.now (command_of command) (answer_of result) }
+        ensures { IsSomeAnswer (command_of command) (answer_of result) }
     {
         match command {
             Command::Register { subject, text } => {
@@ -192,7 +195,7 @@ impl SharedRegistry {
 
     /// Does or answers what a command asks that shows no schema in a cell.
     fn apply_to_registry<R: Wait>(&self, rt: &R, command: Command) -> Result<Reply, Refusal>
-        ensures { IsSomeAnswer self.now (command_of command) (answer_of result) }
+        ensures { IsSomeAnswer (command_of command) (answer_of result) }
     {
         let mut registry = self.registry.lock(rt);
         registry.is_accepted();

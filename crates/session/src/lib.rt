@@ -8,6 +8,6 @@ mod session;
 mod taking;
 
 pub use end::SessionEnd;
-pub use limits::MOST_BREAKS;
+pub use limits::{MOST_BREAKS, limits_are_these};
 pub use refusal::SessionRefusal;
 pub use session::Session;

@@ -1,4 +1,4 @@
-ghost use Rattle.std.specs.Prelude.{◌≡◌, ◌≤◌, ◌<◌, ◌+◌, ◌^◌, length, is_some, option_map, Some};
+ghost use Rattle.std.specs.Prelude.{◌≡◌, ◌≤◌, ◌<◌, ◌+◌, ◌^◌, false, length, is_some, option_map, Some, IfErr};
 ghost use Rattle.isa.specs.State.{State};
 ghost use Rattle.outcome.specs.declared.limits.TheConstants.{MOST_PAYLOAD};
 ghost use Rattle.program_code.specs.Code.{code_of};
@@ -6,7 +6,7 @@ ghost use Rattle.session.specs.declared.limits.TheConstants.{MOST_BREAKS};
 ghost use Rattle.session.specs.Changes.{Maybe, Surely, break_refusal, clear_refusal, cleared_at, finished, piece_refusal, refused, set_at, with_piece};
 ghost use Rattle.session.specs.Ending.{EarlyEndIsOutcome, EndIsOutcome, IsWithinBound, end_of};
 ghost use Rattle.session.specs.Rows.{TakesRows, go_rows, slice_rows, walk_rows};
-ghost use Rattle.session.specs.Session.{end_in, state_of, without_break};
+ghost use Rattle.session.specs.Session.{end_in, has_break, state_of, without_break};
 
 use crate::end::SessionEnd;
 use crate::limits::MOST_BREAKS;
@@ -97,7 +97,9 @@ impl<'p> Session<'p> {
 
     /// Sets a breakpoint. One that is there is not set again.
     pub fn set_break(&mut self, address: u32) -> Result<(), SessionRefusal>
-        ensures { Maybe (break_refusal address self.old) (set_at address self.old) result self.old self.new }
+        ensures set { Maybe (break_refusal address self.old) (set_at address self.old) result self.old self.new }
+        ensures memory { IfErr result
+            (λ e. e ≡ SessionRefusal.NoMemory → has_break address self.old.breaks ≡ false) }
     {
         if address as usize >= self.run.program().len() {
             return Err(SessionRefusal::BadAddress);

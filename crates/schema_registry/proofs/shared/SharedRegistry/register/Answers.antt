@@ -9,16 +9,19 @@ use Rattle.schema_registry.proofs.shared.SharedRegistry.register.Goals as goal
 pub returns-then-not-is_subject-clause-answer : goal.returns-then-not-is_subject-clause-answer
 returns-then-not-is_subject-clause-answer g c =
     let named : is_subject (string_bytes c.args.subject) ≡ false = search rules in
-    λ _. inr (record { commands = []; accepted = no_command; answer = subject-refused no_lists (string_bytes c.args.subject) (string_bytes c.args.text) named })
+    (λ _. tt, λ _. inr (record { commands = []; accepted = no_command; answer = subject-refused no_lists (string_bytes c.args.subject) (string_bytes c.args.text) named }))
 
 pub returns-in_err-schema-clause-answer : goal.returns-in_err-schema-clause-answer
 returns-in_err-schema-clause-answer g c =
     let p = err_from_is_err_and c.from_residual.result c.from_residual.ensures.1 in
     let named : is_subject (string_bytes c.args.subject) ≡ true = search rules in
-    rw (p.1, p.2) (λ known.
-    let bad = c.in_err-schema.ensures known in
-    inr (record {
-      commands = [];
-      accepted = no_command;
-      answer = schema-refused no_lists (string_bytes c.args.subject) (string_bytes c.args.text) bad.0 c.in_err-schema.field-0.0 named (rw c.deref-2.ensures at bad.2) bad.1;
-    }))
+    rw (p.1, p.2) (
+      λ _. tt,
+      λ known.
+          let bad = c.in_err-schema.ensures known in
+          inr (record {
+            commands = [];
+            accepted = no_command;
+            answer = schema-refused no_lists (string_bytes c.args.subject) (string_bytes c.args.text) bad.0 c.in_err-schema.field-0.0 named (rw c.deref-2.ensures at bad.2) bad.1;
+          }),
+    )

@@ -17,13 +17,9 @@ returns-then-ne-clause-clash c =
     is-cell-of c.self.inside.cells.items c.args.self.now c.args.id cell note.cell c.self.view_is c.requires.known.0 (search rules) c.index-cell.ensures (search rules) in
     let one = c.text.result.now in
     let other = c.text-2.result.now in (
+      (of_cell, rw c.get_or_init_as-seen.ensures.value.0 refl),
       refl,
-      record {
-        receipt = record { id = c.args.id; cell = note.cell; schema = note.known };
-        is_receipt = (of_cell, rw c.get_or_init_as-seen.ensures.value.0 refl);
-        of_id = refl;
-        another = rw c.get_or_init_as-seen.ensures.value.0 (λ same. no_more (bytes_eq one other) c.if-ne.ensures ((bytes_eq-Decides one other).1 (c.text.ensures ∙ same ∙ sym c.text-2.ensures)));
-      },
+      rw c.get_or_init_as-seen.ensures.value.0 (λ same. no_more (bytes_eq one other) c.if-ne.ensures ((bytes_eq-Decides one other).1 (c.text.ensures ∙ same ∙ sym c.text-2.ensures))),
     )
 
 pub returns-clause-receipt : goal.returns-clause-receipt
