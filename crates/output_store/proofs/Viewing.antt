@@ -1,8 +1,9 @@
 -- Frames and buffers by number: what is found of them is what the store shows.
-use Rattle.std.proofs.Common.{◌≡◌, ◌≤◌, ◌<◌, ℕ, zero, suc, ◌+◌, ◌-◌, Bool, true, false, cond, List, [], ◌∷◌, ◌++◌, length, reverse, take, drop, get_or, Option, Some, None, slice_get, refl, sym, ap, ◌∙◌, subst, arith, length-append}
+use Rattle.std.proofs.Common.{◌≡◌, ◌≤◌, ◌<◌, ℕ, zero, suc, ◌+◌, ◌-◌, Bool, true, false, cond, List, [], ◌∷◌, ◌++◌, length, reverse, take, drop, get_or, Option, Some, None, slice_get, refl, sym, ap, ◌∙◌, subst, arith, length-append, append_assoc}
 use Rattle.std.specs.Prelude.{Result, Ok, Err, OnErr, OnOk, is_ok, nat_lt, is_some, option_map, ◌==◌}
 use Rattle.std.proofs.lemmas.Option.{slice_get-get_or, slice_get_past}
-use Rattle.std.proofs.lemmas.List.{get_or-drop, get_or-map, get_or-take, length-drop, length-map, length-reverse, length-take, reverse-append, take-take, take_all, take_more}
+use Rattle.std.proofs.lemmas.List.{get_or-drop, get_or-map, get_or-take, length-drop, length-map, length-reverse, length-take, reverse-append, take-append-drop, take-take, take_all}
+use Rattle.std.proofs.Math.Seq.{drop-cons}
 use Rattle.avro_bytes.specs.Walk.{Walk}
 use Rattle.isa.specs.Lists.{total_length}
 use Rattle.isa.specs.State as state
@@ -16,10 +17,10 @@ use Rattle.output_store.specs.declared.views.BufferAt.{BufferAt}
 use Rattle.output_store.specs.declared.views.BufferAt.TheVariants as at
 use Rattle.output_store.specs.declared.views.FrameView.TheVariants as views
 use Rattle.output_store.specs.Buffers.{AreLaid, IsPlace, Laid, segments_at}
-use Rattle.output_store.specs.Frames.{AreFrames, frames_in, segments_in, slot_of}
+use Rattle.output_store.specs.Frames.{AreFrames, first_of, frames_in, segments_in, slot_of}
 use Rattle.output_store.specs.Segments.{AreSegments, bytes_at, bytes_of}
 use Rattle.output_store.specs.Store.{Held, held_of, out_of, texts_of}
-use Rattle.output_store.specs.Viewing.{buffer_of, end_below, frame_numbered, gathered_in, gathered_place, place_named, segments_of_buffer, slots_in, slot_place, view_at, view_in, view_of}
+use Rattle.output_store.specs.Viewing.{buffer_of, end_below, end_over, frame_numbered, gathered_in, gathered_place, place_named, segments_of_buffer, slots_in, slot_place, view_at, view_in, view_of}
 use Rattle.output_store.proofs.Placing.{all-at}
 
 -- ---- the walk
@@ -30,22 +31,66 @@ numbered-here number frame below end e = ap (λ (b : Bool). cond b (Some (frame,
 numbered-below : (number : ℕ) (frame : Frame) (below : List Frame) (end : ℕ) → (length below ≡ number + 1 → ⊥) → frame_numbered number (frame ∷ below) end ≡ frame_numbered number below (end_below frame end)
 numbered-below number frame below end n = ap (λ (b : Bool). cond b (Some (frame, end)) (frame_numbered number below (end_below frame end))) (let z : (length below == number + 1) ≡ false = grind (arith, n) in z)
 
-pub walk-here : (number : ℕ) (frame : Frame) (fs : List Frame) (at end : ℕ) → 0 < at → at ≤ length fs → at - 1 ≡ number → Some (frame, end) ≡ frame_numbered number (frame ∷ reverse (take at fs)) end
-walk-here number frame fs at end some le e =
-    sym (numbered-here number frame (reverse (take at fs)) end (omega (arith, some, le, e, length-reverse (take at fs), length-take at fs)))
+-- none has a number that is too large
+pub numbered-none : (number : ℕ) (fs : List Frame) (end : ℕ) → length fs ≤ number + 1 → frame_numbered number fs end ≡ None
+numbered-none number [] end few = refl
+numbered-none number (frame ∷ below) end few =
+    numbered-below number frame below end (λ e. absurd (omega (arith, e, few))) ∙ numbered-none number below (end_below frame end) (omega (arith, few))
 
-pub walk-below : (number : ℕ) (frame next : Frame) (fs : List Frame) (at end : ℕ) → 0 < at → at ≤ length fs → (at - 1 ≡ number → ⊥) → next ≡ get_or fs (at - 1) next →
-    frame_numbered number (next ∷ reverse (take (at - 1) fs)) (end_below frame end) ≡ frame_numbered number (frame ∷ reverse (take at fs)) end
-walk-below number frame next fs at end some le n e =
-    let split : reverse (take at fs) ≡ next ∷ reverse (take (at - 1) fs) =
-    ap (λ (k : ℕ). reverse (take k fs)) (let z : at ≡ at - 1 + 1 = omega (arith, some) in z)
-    ∙ ap reverse (take_more fs (at - 1) next (omega (arith, some, le)) ∙ ap (λ (x : Frame). take (at - 1) fs ++ x ∷ []) (sym e))
-    ∙ reverse-append (take (at - 1) fs) (next ∷ []) in
-    sym (numbered-below number frame (reverse (take at fs)) end (other number at some n (reverse (take at fs)) (omega (arith, le, length-reverse (take at fs), length-take at fs)))
-    ∙ ap (λ (x : List Frame). frame_numbered number x (end_below frame end)) split)
+-- the frame below some newer ones
+numbered-at : (number : ℕ) (newer : List Frame) (frame : Frame) (older : List Frame) (end : ℕ) → length older ≡ number + 1
+    → frame_numbered number (newer ++ frame ∷ older) end ≡ Some (frame, end_over newer end)
+numbered-at number [] frame older end e = numbered-here number frame older end e
+numbered-at number (x ∷ newer) frame older end e =
+    numbered-below number x (newer ++ frame ∷ older) end (λ same. absurd (omega (arith, same, e, length-append newer (frame ∷ older))))
+    ∙ numbered-at number newer frame older (end_below x end) e
+
+pub not-newest : (number : ℕ) (top frame : Frame) (fs : List Frame) (slots end : ℕ) → number + 1 < length fs → frame ≡ get_or fs (number + 1) frame
+    → end ≡ end_over (reverse (drop (number + 2) fs)) (end_below top slots) → Some (frame, end) ≡ frame_numbered number (top ∷ reverse fs) slots
+not-newest number top frame fs slots end lt is ends =
+    let older = take (number + 1) fs in
+    let newer = drop (number + 2) fs in
+    let next : number + 2 ≡ suc (number + 1) = omega arith in
+    let split : fs ≡ older ++ frame ∷ newer =
+    ◌∙◌ {b = older ++ drop (number + 1) fs} (sym (take-append-drop (number + 1) fs)) (ap (λ l. older ++ l) (drop-cons fs (number + 1) frame lt ∙ ap (λ x. x ∷ drop (suc (number + 1)) fs) (sym is) ∙ ap (λ n. frame ∷ drop n fs) (sym next))) in
+    let turned : reverse fs ≡ reverse newer ++ frame ∷ reverse older =
+    ap reverse split ∙ reverse-append older (frame ∷ newer) ∙ turn newer older in
+    let many : length (reverse older) ≡ number + 1 = omega (arith, length-reverse older, length-take (number + 1) fs, lt) in
+    ap (λ n. Some (frame, n)) ends ∙ sym (numbered-at number (top ∷ reverse newer) frame (reverse older) slots many) ∙ ap (λ l. frame_numbered number (top ∷ l) slots) (sym turned)
   where
-    other : (number at : ℕ) → 0 < at → (at - 1 ≡ number → ⊥) → (xs : List Frame) → length xs ≡ at → length xs ≡ number + 1 → ⊥
-    other number at some n xs e f = n (omega (arith, e, f))
+    turn : (newer older : List Frame) → reverse (frame ∷ newer) ++ reverse older ≡ reverse newer ++ frame ∷ reverse older
+    turn newer older = ap (λ l. l ++ reverse older) (reverse-append (frame ∷ []) newer) ∙ append_assoc (reverse newer) (frame ∷ []) (reverse older)
+
+-- the oldest of the newer frames comes last
+end-last : (newer : List Frame) (frame : Frame) (end : ℕ) → end_over (newer ++ frame ∷ []) end ≡ end_below frame (end_over newer end)
+end-last [] frame end = refl
+end-last (x ∷ newer) frame end = end-last newer frame (end_below x end)
+
+oldest : (fs : List Frame) (i : ℕ) (frame : Frame) (end : ℕ) → i < length fs → frame ≡ get_or fs i frame → end_over (reverse (drop i fs)) end ≡ end_below frame (end_over (reverse (drop (i + 1) fs)) end)
+oldest fs i frame end lt is =
+    let next : i + 1 ≡ suc i = omega arith in
+    ap (λ l. end_over (reverse l) end) (drop-cons fs i frame lt ∙ ap (λ x. x ∷ drop (suc i) fs) (sym is) ∙ ap (λ n. frame ∷ drop n fs) (sym next))
+    ∙ ap (λ l. end_over l end) (reverse-append (frame ∷ []) (drop (i + 1) fs)) ∙ end-last (reverse (drop (i + 1) fs)) frame end
+
+with-first : (frame : Frame) (first end : ℕ) → first_of frame ≡ Some first → end_below frame end ≡ first
+with-first frames.Bottom first end e = absurd cc
+with-first (frames.Record at selected) first end e = cc
+with-first frames.Skip first end e = absurd cc
+with-first (frames.Blocks at walk items) first end e = cc
+with-first (frames.SkipBlocks walk) first end e = absurd cc
+
+with-none : (frame : Frame) (end : ℕ) → first_of frame ≡ None → end_below frame end ≡ end
+with-none frames.Bottom end e = refl
+with-none (frames.Record at selected) end e = absurd cc
+with-none frames.Skip end e = refl
+with-none (frames.Blocks at walk items) end e = absurd cc
+with-none (frames.SkipBlocks walk) end e = refl
+
+pub ends-here : (fs : List Frame) (i : ℕ) (frame : Frame) (first end whole : ℕ) → i < length fs → frame ≡ get_or fs i frame → first_of frame ≡ Some first → end_over (reverse (drop i fs)) end ≡ whole → first ≡ whole
+ends-here fs i frame first end whole lt is some so_far = sym (with-first frame first (end_over (reverse (drop (i + 1) fs)) end) some) ∙ sym (oldest fs i frame end lt is) ∙ so_far
+
+pub ends-later : (fs : List Frame) (i : ℕ) (frame : Frame) (end whole : ℕ) → i < length fs → frame ≡ get_or fs i frame → first_of frame ≡ None → end_over (reverse (drop i fs)) end ≡ whole → end_over (reverse (drop (i + 1) fs)) end ≡ whole
+ends-later fs i frame end whole lt is none so_far = sym (with-none frame (end_over (reverse (drop (i + 1) fs)) end) none) ∙ sym (oldest fs i frame end lt is) ∙ so_far
 
 -- ---- what is found
 

@@ -54,6 +54,11 @@ end_below (frames.Record first selected) end = first
 end_below (frames.Blocks first walk items) end = first
 end_below frame end = end
 
+-- the same, below some frames
+abbrev pub end_over : List Frame → ℕ → ℕ
+end_over [] end = end
+end_over (frame ∷ newer) end = end_over newer (end_below frame end)
+
 -- the frame of a number, and where its own slots end
 abbrev pub frame_numbered : ℕ → List Frame → ℕ → Option (Frame × ℕ)
 frame_numbered number [] end = None

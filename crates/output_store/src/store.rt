@@ -63,7 +63,7 @@ impl Frame {
     }
 
     /// The first slot of what it holds.
-    fn first(self) -> Option<usize>
+    pub(crate) fn first(self) -> Option<usize>
         ensures { result ≡ first_of self }
     {
         match self {

@@ -1,6 +1,6 @@
 ghost use Rattle.std.specs.Prelude.{◌≡◌, ◌++◌, ◌∷◌, length, Some, reverse, slice_get, option_map, is_some, true, OnErr, OnOk};
 ghost use Rattle.output_store.specs.Segments.{AreSegments, bytes_of};
-ghost use Rattle.output_store.specs.Viewing.{buffer_of, end_below, frame_numbered, place_named, segments_of_buffer, view_at, view_in, view_of};
+ghost use Rattle.output_store.specs.Viewing.{buffer_of, end_below, end_over, frame_numbered, place_named, segments_of_buffer, view_at, view_in, view_of};
 
 use crate::buffers::Place;
 use crate::segment::Segment;
@@ -48,6 +48,19 @@ fn end_below(frame: Frame, end: usize) -> usize
     }
 }
 
+/// Where slots end over which these frames are, the oldest first, and then others, whose slots begin so: where those of
+/// the oldest frame begin that has some.
+fn end_over(newer: &[Frame], end: usize) -> usize
+    ensures { result ≡ end_over (reverse newer.now) end }
+{
+    for frame in newer {
+        if let Some(first) = frame.first() {
+            return first;
+        }
+    }
+    end
+}
+
 /// The frame of a number, and where its slots end: of the newest frame, over so many slots, and those below it.
 fn frame_numbered(
     top: Frame,
@@ -57,18 +70,14 @@ fn frame_numbered(
 ) -> Option<(Frame, usize)>
     ensures { result ≡ frame_numbered number (top ∷ reverse below.now) slots }
 {
-    let mut frame = top;
-    let mut end = slots;
-    let mut at = below.len();
-    while at > 0 {
-        if at - 1 == number {
-            return Some((frame, end));
-        }
-        end = end_below(frame, end);
-        at -= 1;
-        frame = below[at];
+    if number >= below.len() {
+        return None;
     }
-    None
+    if number + 1 == below.len() {
+        return Some((top, slots));
+    }
+    let end = end_over(&below[number + 2..], end_below(top, slots));
+    Some((below[number + 1], end))
 }
 
 /// What a frame is, whose slots end so.
