@@ -1,5 +1,5 @@
 #!/usr/bin/env bash
-# What the built program does beyond `run`: its words, its statuses, and devices that fail. Not part of the gate.
+# What the built program does beyond `run`: its words, its statuses, devices that fail, and the refusals of events at limits. Not part of the gate.
 # Usage: tests/program.sh PROGRAM
 set -uo pipefail
 program=$(realpath "$1")
@@ -48,5 +48,20 @@ printf 'publish 1 1\nno event\n' | "$program" replay >"$out" 2>"$err"; want repl
 printf 'finish 0\n' | "$program" replay >/dev/full 2>"$err"; status=$?; : >"$out"; (exit $status); want 'replay to a full device' 3 none none
 "$program" replay more </dev/null >"$out" 2>"$err"; want 'replay and a further word' 2 none some
 printf '%s02|61\n' "$listing" | "$program" run >/dev/full 2>"$err"; status=$?; : >"$out"; (exit $status); want 'run to a full device' 3 none none
+# last NAME LINE: what the last line of `replay` on the standard input has to be
+last() {
+  "$program" replay >"$out" 2>"$err"
+  local got
+  got=$(tail -n 1 "$out")
+  if [ "$got" = "$2" ]; then passed=$((passed + 1)); else echo "$1: ${got:0:80}, wanted $2"; failed=$((failed + 1)); fi
+}
+# many COUNT FORMAT: the format with each number from 1, one behind a comma after another
+many() { seq 1 "$1" | awk -v format="$2" '{ text = format; gsub(/@/, $1, text); printf "%s%s", NR == 1 ? "" : ",", text }'; }
+fields=$(many 70 '{"name":"f@","type":"int"}')
+{ printf 'register s {"type":"record","name":"R","fields":[%s]}\npublish 1 1\nbegin 1 1\n' "$fields"; seq 0 64 | sed 's/^/break 0 /'; } | last 'a breakpoint too many' 'refused TooManyBreaks'
+{ printf 'register s "bytes"\npublish 1 1\nbegin 1 1\npiece 0 '; head -c 16777217 /dev/zero | od -An -v -tx1 | tr -d ' \n'; printf '\n'; } | last 'pieces too large' 'refused TooLarge'
+seq 1 4097 | sed 's/.*/register s& {"type":"fixed","name":"F&","size":1}/' | last 'a schema too many' 'refused Full'
+{ printf 'register w [%s]\n' "$(many 648 '{"type":"record","name":"n@.R","fields":[]}')"
+  printf 'register r {"type":"record","name":"R","fields":[%s]}\npublish 1 2\n' "$(many 200 '{"name":"f@","type":"int","default":0}')"; } | last 'a program too large' 'refused ProgramTooLarge'
 echo "$passed passed, $failed failed"
 [ "$failed" = 0 ]

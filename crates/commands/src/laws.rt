@@ -1,6 +1,6 @@
 ghost use Rattle.commands.specs.Output.{HasOneOutput, HasOutput};
 
-/// The law that for each input there is just one output, with one status.
+/// The law that for each input of `transcode`, `compile` and `run` there is just one output, with one status.
 pub fn input_has_one_output()
     ensures some { HasOutput }
     ensures one { HasOneOutput }

@@ -15,7 +15,7 @@ pub enum DebugLine {
     Clear(u32),
     /// Rows, at most so many, whatever breakpoints are set.
     Step(u64),
-    /// Rows, at most so many, of which the first alone may be at a breakpoint.
+    /// Rows, at most so many, of which the first alone may be at a breakpoint at which no content is begun.
     Go(u64),
     /// The state is to be told.
     Show,

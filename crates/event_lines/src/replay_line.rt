@@ -34,7 +34,8 @@ pub enum ReplayLine {
     Finish {
         session: u32,
     },
-    /// Rows, at most so many, none at a breakpoint, taken by the worker that holds the session.
+    /// Rows, at most so many, none at a breakpoint at which no content is begun, taken by the worker that holds the
+    /// session.
     Slice {
         session: u32,
         worker: u32,
@@ -64,7 +65,7 @@ pub enum ReplayLine {
         session: u32,
         rows: u64,
     },
-    /// Rows, at most so many, of which the first alone may be at a breakpoint.
+    /// Rows, at most so many, of which the first alone may be at a breakpoint at which no content is begun.
     Go {
         session: u32,
         rows: u64,

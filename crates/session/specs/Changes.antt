@@ -47,7 +47,7 @@ abbrev pub Surely : Option SessionRefusal → Session → Result (Unit {0}) Sess
 Surely refusal done (Ok u) old new = (refusal ≡ None) × (new ≡ done)
 Surely refusal done (Err e) old new = (refusal ≡ Some e) × (new ≡ old)
 
--- The same, unless memory ran out, which changes nothing either.
+-- The same, unless memory ran out where it would be done, which changes nothing either.
 abbrev pub Maybe : Option SessionRefusal → Session → Result (Unit {0}) SessionRefusal → Session → Session → Type 0
 Maybe refusal done (Ok u) old new = (refusal ≡ None) × (new ≡ done)
-Maybe refusal done (Err e) old new = (e ≢ NoMemory → refusal ≡ Some e) × (new ≡ old)
+Maybe refusal done (Err e) old new = ((e ≡ NoMemory → refusal ≡ None) × (e ≢ NoMemory → refusal ≡ Some e)) × (new ≡ old)

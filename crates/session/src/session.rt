@@ -167,7 +167,7 @@ impl<'p> Session<'p> {
         taken.rows
     }
 
-    /// Rows, at most so many, of which the first alone may be at a breakpoint.
+    /// Rows, at most so many, of which the first alone may be at a breakpoint at which no content is begun.
     pub fn go(&mut self, n: u64) -> u64
         ensures rows { TakesRows (go_rows n self.old) self.old result self.new }
         ensures most { result ≤ n }
@@ -268,8 +268,8 @@ impl<'p> Session<'p> {
         let _opened = &self.breaks;
     }
 
-    /// The law that where its program is that of a pair of schemas, its machine ends with the outcome of the bytes
-    /// that came, and within the row bound where they are all.
+    /// The law that where its program is that of a pair of schemas and its machine has ended, it is with the outcome of
+    /// the bytes that came, and within the row bound where they are all.
     pub fn ends_with_the_outcome(&self, w: &Nodes, r: &Nodes)
         requires { code_of w.now r.now ≡ Some self.now.program }
         ensures end { EndIsOutcome w.now r.now self.now }

@@ -25,10 +25,11 @@ Surely refusal done Done old new = (refusal ≡ None) × (new ≡ with_session d
 Surely refusal done (Refused (OfSession e)) old new = (refusal ≡ Some e) × (new ≡ old)
 Surely refusal done reply old new = ⊥
 
--- The same, unless memory is refused; then nothing changes either.
+-- The same, unless memory is refused where it would be done; then nothing changes either.
 abbrev pub Maybe : Option SessionRefusal → Session → EventReply → Held → Held → Type 0
 Maybe refusal done Done old new = (refusal ≡ None) × (new ≡ with_session done old)
-Maybe refusal done (Refused (OfSession e)) old new = (e ≢ NoMemory → refusal ≡ Some e) × (new ≡ old)
+Maybe refusal done (Refused (OfSession e)) old new =
+    ((e ≡ NoMemory → refusal ≡ None) × (e ≢ NoMemory → refusal ≡ Some e)) × (new ≡ old)
 Maybe refusal done reply old new = ⊥
 
 -- All these rows are taken; or memory is refused, and then some fewer, and the session has ended there.

@@ -32,7 +32,8 @@ pub enum Event {
     Finish {
         session: usize,
     },
-    /// Rows, at most so many, none at a breakpoint, taken by the worker that holds the session.
+    /// Rows, at most so many, none at a breakpoint at which no content is begun, taken by the worker that holds the
+    /// session.
     Slice {
         session: usize,
         worker: u32,
@@ -58,7 +59,7 @@ pub enum Event {
         session: usize,
         rows: u64,
     },
-    /// Rows, at most so many, of which the first alone may be at a breakpoint.
+    /// Rows, at most so many, of which the first alone may be at a breakpoint at which no content is begun.
     Go {
         session: usize,
         rows: u64,

@@ -84,8 +84,8 @@ impl<'p> World<'p> {
         }
     }
 
-    /// The law that the program of a session is that of its pair, and that its machine ends with the outcome of its
-    /// own bytes.
+    /// The law that the program of a session is that of its pair, and that where its machine has ended, it is with the
+    /// outcome of its own bytes.
     pub fn ends_with_the_outcome(&self, session: usize)
         ensures { SessionEndsWithOutcome self.now session }
     {

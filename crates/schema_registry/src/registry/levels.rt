@@ -1,10 +1,10 @@
-ghost use Rattle.std.specs.Prelude.{◌≡◌, ◌≢◌, ◌∷◌, [], ◌++◌, Ok, Err, ℕ, List, Some, true, false, MatchResult, OnOk, OnErr, if◌then◌else◌, option_map, string_bytes};
+ghost use Rattle.std.specs.Prelude.{◌≡◌, ◌≢◌, ◌∷◌, [], ◌++◌, Ok, Err, ℕ, List, Some, true, false, MatchResult, IfErr, OnOk, OnErr, if◌then◌else◌, option_map, string_bytes};
 ghost use Rattle.std.specs.BTreeMap.{IsOrdered, IsUnchanged, get_by_text};
 ghost use Rattle.std.specs.Str.{bytes_eq};
 ghost use Rattle.std.specs.String.{string_cmp};
 ghost use Rattle.schema_registry.specs.Accepting.{registry_after};
 ghost use Rattle.schema_registry.specs.Answers.{Gives, answer_to};
-ghost use Rattle.schema_registry.specs.Command.{SetLevelCommand};
+ghost use Rattle.schema_registry.specs.Command.{Grows, SetLevelCommand};
 ghost use Rattle.schema_registry.specs.Lists.{level_of};
 ghost use Rattle.schema_registry.specs.Tables.{lacks_room};
 
@@ -62,6 +62,8 @@ impl Registry {
             (SetLevelCommand (option_map string_bytes subject) level)) result }
         ensures ok { OnOk result (self.new ≡ history.commands) }
         ensures err { OnErr result (self.new ≡ self.old) }
+        ensures memory { IfErr result
+            (λ e. e ≡ Refusal.NoMemory → Grows (SetLevelCommand (option_map string_bytes subject) level)) }
     {
         let Some(subject) = subject else {
             self.global = level;

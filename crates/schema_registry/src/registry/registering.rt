@@ -157,6 +157,8 @@ impl Registry {
         ensures answer { GivesId (registry_after self.old) (string_bytes subject) schema result }
         ensures known { IfOk result (λ id. (0 < id) × (id ≤ MOST_SCHEMAS)) }
         ensures accepted { AreAccepted self.old }
+        ensures ok { OnOk result (self.new ≡ self.old ++ command_of command.now ∷ []) }
+        ensures err { OnErr result (self.new ≡ self.old) }
     {
         self.is_accepted();
         let history = self.history.and(command);
