@@ -58,10 +58,14 @@ last() {
 # many COUNT FORMAT: the format with each number from 1, one behind a comma after another
 many() { seq 1 "$1" | awk -v format="$2" '{ text = format; gsub(/@/, $1, text); printf "%s%s", NR == 1 ? "" : ",", text }'; }
 fields=$(many 70 '{"name":"f@","type":"int"}')
-{ printf 'register s {"type":"record","name":"R","fields":[%s]}\npublish 1 1\nbegin 1 1\n' "$fields"; seq 0 64 | sed 's/^/break 0 /'; } | last 'a breakpoint too many' 'refused TooManyBreaks'
-{ printf 'register s "bytes"\npublish 1 1\nbegin 1 1\npiece 0 '; head -c 16777217 /dev/zero | od -An -v -tx1 | tr -d ' \n'; printf '\n'; } | last 'pieces too large' 'refused TooLarge'
-seq 1 4097 | sed 's/.*/register s& {"type":"fixed","name":"F&","size":1}/' | last 'a schema too many' 'refused Full'
+{ printf 'register s {"type":"record","name":"R","fields":[%s]}\npublish 1 1\nbegin 1 1\n' "$fields"; seq 0 64 | sed 's/^/break 0 /'; } >"$folder/in"
+last 'a breakpoint too many' 'refused TooManyBreaks' <"$folder/in"
+{ printf 'register s "bytes"\npublish 1 1\nbegin 1 1\npiece 0 '; head -c 16777217 /dev/zero | od -An -v -tx1 | tr -d ' \n'; printf '\n'; } >"$folder/in"
+last 'a piece too large' 'refused TooLarge' <"$folder/in"
+seq 1 4097 | sed 's/.*/register s& {"type":"fixed","name":"F&","size":1}/' >"$folder/in"
+last 'a schema too many' 'refused Full' <"$folder/in"
 { printf 'register w [%s]\n' "$(many 648 '{"type":"record","name":"n@.R","fields":[]}')"
-  printf 'register r {"type":"record","name":"R","fields":[%s]}\npublish 1 2\n' "$(many 200 '{"name":"f@","type":"int","default":0}')"; } | last 'a program too large' 'refused ProgramTooLarge'
+  printf 'register r {"type":"record","name":"R","fields":[%s]}\npublish 1 2\n' "$(many 200 '{"name":"f@","type":"int","default":0}')"; } >"$folder/in"
+last 'a program too large' 'refused ProgramTooLarge' <"$folder/in"
 echo "$passed passed, $failed failed"
 [ "$failed" = 0 ]
