@@ -1,6 +1,6 @@
 #!/usr/bin/env bash
 # Whether time is linear: the program on payloads of nested arrays of records, and on schemas of many symbols, of many long names that
-# differ at their ends, of many defaults, members, aliases that are one, or are met often, and names in one long namespace, each of one size and of twice that size, in one
+# differ at their ends, of many defaults, members, aliases that are one, or are met often, a record that is met often, and names in one long namespace, each of one size and of twice that size, in one
 # run. And whether a datum costs the same with a schema of twice the size: records of many fields, unions of many members, enums of many
 # symbols, long names, lists of many levels. Not part of the gate. Usage: bench/doubling.sh PROGRAM [WORD], which takes the rows alone whose names have that word.
 set -euo pipefail
@@ -92,6 +92,12 @@ def aliases_met(size):
                 % (space, last, name, more, fields.replace('"w"', '"%s"' % name)))
     return whole("a", "w", "") + whole("b", "R", ',"aliases":[%s]' % ",".join(['"w"'] * (size // 16)))
 
+def met_often(size):
+    """A record of many fields that is met in as many places."""
+    many = size // 60
+    first = '{"type":"record","name":"M","fields":[%s]}' % ",".join('{"name":"f%d","type":"int"}' % i for i in range(many))
+    return whole(['{"name":"g%d","type":%s}' % (i, '"M"' if i else first) for i in range(many)])
+
 def enum_fields(size):
     """Fields of one great enum to an enum that lacks a symbol, so that each field's line of the program names its misses."""
     symbols = ['"S%08d"' % i for i in range(size // 25)]
@@ -154,7 +160,8 @@ for name, make, size, turns in [("payload", points, 1 << 21, 10), ("schema of en
                                 ("schema of defaults of one enum", defaults, 50_000, 30), ("schema of fields of one enum", enum_fields, 50_000, 30),
                                 ("schema of one long default", long_default, 100_000, 30), ("schema of one union", members, 100_000, 30),
                                 ("schema of one long namespace", namespace, 100_000, 30), ("schema of references in one long namespace", references, 100_000, 30),
-                                ("schema of many aliases", aliases, 100_000, 30), ("schema of aliases that are met often", aliases_met, 25_000, 30)]:
+                                ("schema of many aliases", aliases, 100_000, 30), ("schema of aliases that are met often", aliases_met, 25_000, 30),
+                                ("schema of a record that is met often", met_often, 25_000, 30)]:
     if word not in name:
         continue
     once, twice = (took - start for took in least(turns, *(make(size * k).encode() for k in (1, 2))))
