@@ -21,6 +21,11 @@ pub record StopsIn (P : Program) (payload : List ℕ) (steps : ℕ) (s : State) 
   pub most : s.count ≤ steps
   pub ended : s.count < steps → is_some s.end ≡ true
 
+-- for each program, payload and number of rows there is just one such state
+abbrev pub StopInOneState : Type 0
+StopInOneState = (P : Program) (payload : List ℕ) (steps : ℕ)
+    → (s : State) × StopsIn P payload steps s × ((t : State) → StopsIn P payload steps t → t ≡ s)
+
 -- the answer to a payload: by its size, then by its run
 abbrev pub IsRunAnswer : Program → ℕ → List ℕ → List ℕ → Type 0
 IsRunAnswer P steps answer payload =

@@ -83,6 +83,18 @@ line_in kinds.Show words = option_map Show (last_number words)
 line_in kinds.List words = option_map ListCode (last_number words)
 line_in kinds.Result words = option_map TellResult (last_number words)
 
+-- the kind of a line, by its first word
+unfoldable pub kind_in : List (List ℕ) → Option Kind
+kind_in [] = None
+kind_in (word ∷ words) = kind_named word
+
+-- reading a line of this kind may want memory: it holds a text or bytes
+abbrev pub WantsMemory : Option Kind → Type 0
+WantsMemory (Some kinds.Register) = Unit {0}
+WantsMemory (Some kinds.Level) = Unit {0}
+WantsMemory (Some kinds.Piece) = Unit {0}
+WantsMemory kind = ⊥
+
 unfoldable pub replay_line_in : List (List ℕ) → Option ReplayLine
 replay_line_in [] = None
 replay_line_in (word ∷ words) = do

@@ -1,7 +1,7 @@
-ghost use Rattle.std.specs.Prelude.{◌≡◌, IfOk, option_map};
+ghost use Rattle.std.specs.Prelude.{◌≡◌, IfErr, IfOk, Some, option_map};
 ghost use Rattle.event_lines.specs.ReplayLine.{replay_line_of};
-ghost use Rattle.event_lines.specs.Reading.{line_in, replay_line, slice_in};
-ghost use Rattle.event_lines.specs.Words.{words_left};
+ghost use Rattle.event_lines.specs.Reading.{WantsMemory, kind_in, line_in, replay_line, slice_in};
+ghost use Rattle.event_lines.specs.Words.{words_left, words_of_text};
 
 use crate::kind::Kind;
 use crate::numbers::{first_number, last_number, number_and_rows, pair};
@@ -26,7 +26,8 @@ fn slice_of(left: Option<&str>) -> Option<Line>
 
 /// The line of a kind, by the words that are left.
 fn line_of_kind(alloc: Global, kind: Kind, left: Option<&str>) -> Result<Option<Line>, AllocError>
-    ensures { IfOk result (λ found. option_map replay_line_of found ≡ line_in kind (words_left left.entry)) }
+    ensures line { IfOk result (λ found. option_map replay_line_of found ≡ line_in kind (words_left left.entry)) }
+    ensures memory { IfErr result (λ e. WantsMemory (Some kind)) }
 {
     match kind {
         Kind::Register => register_of(alloc, left),
@@ -49,9 +50,10 @@ fn line_of_kind(alloc: Global, kind: Kind, left: Option<&str>) -> Result<Option<
 }
 
 /// What a line of `replay` says. None where it has none of the forms, or is no text.
-#[tactic(auto, unfolding(crate::specs::Reading::replay_line, crate::specs::Reading::replay_line_in))]
+#[tactic(auto, unfolding(crate::specs::Reading::replay_line, crate::specs::Reading::replay_line_in, crate::specs::Reading::kind_in))]
 pub fn read_replay_line(alloc: Global, line: &[u8]) -> Result<Option<Line>, AllocError>
-    ensures { IfOk result (λ found. option_map replay_line_of found ≡ replay_line line.now) }
+    ensures line { IfOk result (λ found. option_map replay_line_of found ≡ replay_line line.now) }
+    ensures memory { IfErr result (λ e. WantsMemory (kind_in (words_of_text line.now))) }
 {
     let Some((word, left)) = first_word(line) else {
         return Ok(None);
