@@ -6,5 +6,5 @@ mod Longer
 mod Held
 mod Proper
 mod RowLaws
-mod Worked
+pub mod Worked
 pub mod Operations

@@ -7,3 +7,4 @@ pub mod Table
 pub mod Row
 pub mod Bounds
 pub mod Operation
+pub mod Worked

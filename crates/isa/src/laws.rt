@@ -6,6 +6,7 @@ ghost use Rattle.isa.specs.Operation.{at_code, code_of, instr_of, operand_of, op
 ghost use Rattle.isa.specs.Program.{Program};
 ghost use Rattle.isa.specs.Row.{row_of};
 ghost use Rattle.isa.specs.State.{State, start};
+ghost use Rattle.isa.specs.Worked.{BooleanIsBad, LongIsTaken, TextIsBegun};
 
 /// The law that a state has an end or a row, where the input has ended.
 pub fn row_or_end_is_there()
@@ -36,4 +37,12 @@ pub fn operations_go_with_instructions_and_codes()
     ensures instrs { (i : Instr) → instr_of (operation_of i) (operand_of i) ≡ i }
     ensures operations { (o : Operation) (n : ℕ) → operation_of (instr_of o n) ≡ o }
     ensures codes { (o : Operation) (code : ℕ) → at_code code ≡ Some o ↔ code_of o ≡ code }
+{}
+
+/// The law that the rows of worked programs come out: a long is taken, a text is begun, and a byte that is no boolean
+/// is the end.
+pub fn worked_rows_come_out()
+    ensures long { LongIsTaken }
+    ensures text { TextIsBegun }
+    ensures boolean { BooleanIsBad }
 {}

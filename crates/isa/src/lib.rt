@@ -17,7 +17,7 @@ pub use entry::Entry;
 pub use instr::Instr;
 pub use laws::{
     operations_go_with_instructions_and_codes, row_or_end_is_there, row_stays_on_longer_input,
-    row_that_ends_changes_nothing_else, rows_stay_within_bounds,
+    row_that_ends_changes_nothing_else, rows_stay_within_bounds, worked_rows_come_out,
 };
 pub use limits::{
     MOST_CALLS, MOST_CONSTANT_BYTES, MOST_ENTRIES, MOST_FIXED, MOST_INSTRS, MOST_NODES, MOST_PIECE,

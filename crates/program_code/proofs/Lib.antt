@@ -1,4 +1,4 @@
-mod Examples
+pub mod Worked
 pub mod Numbers
 pub mod Placed
 pub mod Numbering

@@ -7,3 +7,4 @@ pub mod SkipStands
 pub mod Stands
 pub mod Linking
 pub mod Limits
+pub mod Worked

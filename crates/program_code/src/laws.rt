@@ -1,5 +1,7 @@
 ghost use Rattle.program_code.specs.Limits.{NoLineIsLost, NoneByLimitsAlone, SectionsAreFound};
 ghost use Rattle.program_code.specs.Linking.{ProgramIsInRange, ProgramIsLinked};
+ghost use Rattle.program_code.specs.Worked.{LongListHasItsProgram, PairHasItsProgram, ReaderHasItsProgram};
+ghost use Rattle.program_code.specs.Worked.{RenamedHasItsProgram};
 
 use avro_types::Nodes;
 
@@ -29,3 +31,12 @@ pub fn no_program_only_past_a_limit(w: &Nodes, r: &Nodes)
     w.is_well_formed();
     r.is_well_formed();
 }
+
+/// The law that worked pairs have the programs that the compiler's table gives them: two records to themselves, one to
+/// a record that takes its fields by aliases, and one with misses, an entry of a map, a skipped field and a default.
+pub fn worked_pairs_have_their_programs()
+    ensures list { LongListHasItsProgram }
+    ensures same { PairHasItsProgram }
+    ensures renamed { RenamedHasItsProgram }
+    ensures other { ReaderHasItsProgram }
+{}

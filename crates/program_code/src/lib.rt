@@ -3,4 +3,7 @@
 
 mod laws;
 
-pub use laws::{no_program_only_past_a_limit, program_is_in_range, program_is_linked};
+pub use laws::{
+    no_program_only_past_a_limit, program_is_in_range, program_is_linked,
+    worked_pairs_have_their_programs,
+};

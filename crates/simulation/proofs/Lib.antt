@@ -37,4 +37,4 @@ mod Inside
 mod Whole
 mod Runs
 mod Simulated
-mod Examples
+pub mod Worked

@@ -1,5 +1,6 @@
 ghost use Rattle.simulation.specs.Alone.{EndsAreLast, RowsAreCounted, RunsGoOn, RunsStay, RunsStayInside};
 ghost use Rattle.simulation.specs.Simulation.{EachEndIsOutcome, EarlyEndIsOutcome, IsSimulated};
+ghost use Rattle.simulation.specs.Worked.{CutIsTruncated, ElevenRowsEnd, HaltWaits, NoRowIsBehindTheEnd};
 
 use avro_types::Nodes;
 
@@ -29,3 +30,12 @@ pub fn runs_alone_are_counted_and_stay()
 {
     isa::row_stays_on_longer_input();
 }
+
+/// The law of what a worked program comes to, run alone: its end, with no row behind it; that it waits before its input
+/// has ended; and the end that a cut input has.
+pub fn worked_program_runs_alone()
+    ensures ends { ElevenRowsEnd }
+    ensures no_more { NoRowIsBehindTheEnd }
+    ensures waits { HaltWaits }
+    ensures cut { CutIsTruncated }
+{}

@@ -3,4 +3,6 @@
 
 mod laws;
 
-pub use laws::{program_ends_with_the_outcome, runs_alone_are_counted_and_stay};
+pub use laws::{
+    program_ends_with_the_outcome, runs_alone_are_counted_and_stay, worked_program_runs_alone,
+};
