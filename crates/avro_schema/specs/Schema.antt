@@ -32,9 +32,16 @@ nodes_in_read (Some d) = nodes_in d
 unfoldable pub schema_of : List ℕ → Result (List Node) SchemaError
 schema_of text = if nat_le (length text) MOST_TEXT then nodes_in_read (read text) else Err TooLarge
 
--- the nodes are those of the value that the text reads as
-abbrev pub TextGives : List ℕ → List Node → Type 0
-TextGives text nodes = nodes_in_read (read text) ≡ Ok nodes
+-- the text is the compact one of the value that it reads as
+pub record IsCompact (text : List ℕ) (value : Data) : Type 0 where
+  pub reads : read text ≡ Some value
+  pub compact : text ≡ compact_text value
+
+-- and that value gives the nodes
+pub record TextGives (text : List ℕ) (nodes : List Node) : Type 0 where
+  pub value : Data
+  pub text : IsCompact text value
+  pub nodes : nodes_in value ≡ Ok nodes
 
 -- The answer is what the text declares, unless memory ran out. Its own text is the compact one of the value that was
 -- read.

@@ -1,8 +1,8 @@
 ghost use Rattle.commands.specs.Output.{HasOneOutput, HasOutput};
 ghost use Rattle.commands.specs.Running.{StopInOneState};
 
-/// The law that a run stops in just one state, and that for each input of `transcode`, `compile` and `run` there is just
-/// one output, with one status.
+/// The law that a run stops in just one state, and that for each input of `transcode`, `compile` and `run` there is
+/// just one output, with one status.
 pub fn input_has_one_output()
     ensures state { StopInOneState }
     ensures some { HasOutput }

@@ -28,7 +28,7 @@ one_at P (n ∷ names) (suc i) name all e = one_at P names i name all.1 e
 differs : (name : List ℕ) → bytes_eq name name ≡ false → ⊥
 differs name e = let same = (bytes_eq-Decides name name).1 refl in let clash : true ≡ false = sym same ∙ e in cc
 
-one_place : (names : List (List ℕ)) (i k : ℕ) (name : List ℕ) → IsDistinct bytes_eq names → slice_get names i ≡ Some name → slice_get names k ≡ Some name → i ≡ k
+pub one_place : (names : List (List ℕ)) (i k : ℕ) (name : List ℕ) → IsDistinct bytes_eq names → slice_get names i ≡ Some name → slice_get names k ≡ Some name → i ≡ k
 one_place [] i k name d a b = absurd cc
 one_place (n ∷ names) zero zero name d a b = refl
 one_place (n ∷ names) zero (suc k) name d a b =

@@ -6,3 +6,4 @@ pub mod Members
 pub mod Names
 pub mod RouteLoop
 pub mod Partnering
+mod Taken

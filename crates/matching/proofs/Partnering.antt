@@ -10,11 +10,11 @@ use Rattle.matching.specs.Partners.{NamesGoFirst, OthersGoByAlias, by_alias, by_
 use Rattle.matching.proofs.Apart.{name_at, set_cases, unnamed}
 
 -- a position that is free, and the name that is there
-record IsFree (names : List (List ℕ)) (ps : List (Option ℕ)) (aliases : List (List ℕ)) (n : ℕ) : Type 0 where
-  free : is_none (slice_index_or ps n None) ≡ true
-  name : List ℕ
-  named : slice_get names n ≡ Some name
-  used : is_used name aliases ≡ true
+pub record IsFree (names : List (List ℕ)) (ps : List (Option ℕ)) (aliases : List (List ℕ)) (n : ℕ) : Type 0 where
+  pub free : is_none (slice_index_or ps n None) ≡ true
+  pub name : List ℕ
+  pub named : slice_get names n ≡ Some name
+  pub used : is_used name aliases ≡ true
 
 free_there : (ps : List (Option ℕ)) (o : Option ℕ) (n : ℕ) → if_free ps o ≡ Some n → (o ≡ Some n) × (is_none (slice_index_or ps n None) ≡ true)
 free_there ps None n e = absurd cc
@@ -38,7 +38,7 @@ free_alias names ps (a ∷ aliases) n e = by_first (if_free ps (place_of a names
       let f = free_there ps (place_of a names) n (is ∙ h) in
       record { free = f.1; name = a; named = place-some a names n f.0; used = ap (λ (b : Bool). b || is_used a aliases) ((bytes_eq-Decides a a).1 refl) }
 
-freely : (names : List (List ℕ)) (ps : List (Option ℕ)) (g : FieldNode) (n : ℕ) → by_alias names ps g ≡ Some n → IsFree names ps g.aliases n
+pub freely : (names : List (List ℕ)) (ps : List (Option ℕ)) (g : FieldNode) (n : ℕ) → by_alias names ps g ≡ Some n → IsFree names ps g.aliases n
 freely names ps g n e = by_place (is_some (place_of g.name names)) e where
   by_place : (b : Bool) → cond b None (first_free names ps g.aliases) ≡ Some n → IsFree names ps g.aliases n
   by_place true h = absurd cc
@@ -63,11 +63,11 @@ keeps names count g ps i j None is e = e
 keeps names count g ps i j (Some n) is e =
     set_apart ps n i (Some count) (Some j) (λ same. let clash : true ≡ false = sym (freely names ps g n is).free ∙ ap (λ (k : ℕ). is_none (slice_index_or ps k None)) same ∙ at_index ps i j e in cc) e
 
-all_keep : (names : List (List ℕ)) (rs : List FieldNode) (count : ℕ) (ps : List (Option ℕ)) (i j : ℕ) → slice_get ps i ≡ Some (Some j) → slice_get (with_aliases names ps count rs) i ≡ Some (Some j)
+pub all_keep : (names : List (List ℕ)) (rs : List FieldNode) (count : ℕ) (ps : List (Option ℕ)) (i j : ℕ) → slice_get ps i ≡ Some (Some j) → slice_get (with_aliases names ps count rs) i ≡ Some (Some j)
 all_keep names [] count ps i j e = e
 all_keep names (g ∷ rs) count ps i j e = all_keep names rs (suc count) (taken_by count (by_alias names ps g) ps) i j (keeps names count g ps i j (by_alias names ps g) refl e)
 
-place_at : (others : List (List ℕ)) (ws : List FieldNode) (i : ℕ) (f : FieldNode) → slice_get ws i ≡ Some f → slice_get (map (λ f. place_of f.name others) ws) i ≡ Some (place_of f.name others)
+pub place_at : (others : List (List ℕ)) (ws : List FieldNode) (i : ℕ) (f : FieldNode) → slice_get ws i ≡ Some f → slice_get (map (λ f. place_of f.name others) ws) i ≡ Some (place_of f.name others)
 place_at others [] i f e = absurd cc
 place_at others (w ∷ ws) zero f e = ap (λ (x : FieldNode). Some (place_of x.name others)) (let same : w ≡ f = cc in same)
 place_at others (w ∷ ws) (suc i) f e = place_at others ws i f e

@@ -330,7 +330,7 @@ impl Buffers {
         self.slots.fill(Buffer::Empty);
     }
 
-    /// The bytes of one after others. An `Err` leaves a beginning of them.
+    /// The bytes of one after others. What stands behind those after an `Err` is not said.
     pub fn write(&self, alloc: Global, place: Place, out: &mut Vec<u8>) -> Result<(), AllocError>
         requires { IsPlace (length self.now.slots) place }
         ensures { OnOk result (out.new.items ≡ out.old.items ++ bytes_of self.now.arena (segments_at self.now place)) }

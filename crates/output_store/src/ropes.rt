@@ -91,7 +91,7 @@ impl Ropes {
         Ok(self.joints.len())
     }
 
-    /// The bytes of a rope's segments after others. An `Err` leaves a beginning of them.
+    /// The bytes of a rope's segments after others. What stands behind those after an `Err` is not said.
     pub fn write(
         &self,
         alloc: Global,

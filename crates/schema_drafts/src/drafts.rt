@@ -1,4 +1,4 @@
-ghost use Rattle.std.specs.Prelude.{◌≡◌, [], ◌∷◌, ◌++◌, length, set, slice_get, string_bytes, Some, None, false, map, IfOk, OnOk};
+ghost use Rattle.std.specs.Prelude.{◌≡◌, [], ◌∷◌, ◌++◌, length, set, slice_get, string_bytes, Some, None, false, map, IfOk, OnErr, OnOk};
 ghost use Rattle.avro_types.specs.FullNames.{has_dot, inside, namespace_of, unqualified};
 ghost use Rattle.avro_types.specs.Node.{node_of};
 ghost use Rattle.avro_types.specs.Symbols.{is_used, place_of};
@@ -111,17 +111,18 @@ impl<'v> Drafts<'v> {
         }
     }
 
-    /// Adds a node of a kind that has no name. An `Err` leaves the nodes as they were.
+    /// Adds a node of a kind that has no name.
     pub fn push(&mut self, kind: Kind) -> Result<(), AllocError>
         requires { IsUnnamed (head_of_node (node_of kind)) }
-        ensures { OnOk result (self.new ≡ self.old ++ Whole (node_of kind) ∷ []) }
+        ensures nodes { OnOk result (self.new ≡ self.old ++ Whole (node_of kind) ∷ []) }
+        ensures refused { OnErr result (self.new ≡ self.old) }
     {
         self.nodes.push(Draft::Whole(kind))?;
         Ok(())
     }
 
     /// Adds the node that defines a full name, which is new, and answers the number of its namespace, where it is given
-    /// if there is one. An `Err` leaves the nodes as they were.
+    /// if there is one.
     pub fn define(
         &mut self,
         alloc: Global,
@@ -133,6 +134,7 @@ impl<'v> Drafts<'v> {
         requires named { head_of (draft_of draft) ≡ Named name.now }
         requires numbered { IsNumbered name.now number self.old }
         ensures nodes { OnOk result (self.new ≡ self.old ++ draft_of draft.entry ∷ []) }
+        ensures refused { OnErr result (self.new ≡ self.old) }
         ensures number { IfOk result (λ n. slice_get (namespaces_of (heads_of self.new))
             n ≡ Some (namespace_of name.now)) }
     {
@@ -161,7 +163,8 @@ impl<'v> Drafts<'v> {
         requires named { head_of (draft_of draft) ≡ Named name.now }
         requires numbered { slice_get (namespaces_of (heads_of self.old)) number ≡ Some
             (namespace_of name.now) }
-        ensures { OnOk result (self.new ≡ self.old ++ draft_of draft.entry ∷ []) }
+        ensures nodes { OnOk result (self.new ≡ self.old ++ draft_of draft.entry ∷ []) }
+        ensures refused { OnErr result (self.new ≡ self.old) }
     {
         name.has_two_parts();
         let node = self.nodes.len();
@@ -185,7 +188,8 @@ impl<'v> Drafts<'v> {
     ) -> Result<(), AllocError>
         requires named { head_of (draft_of draft) ≡ Named name.now }
         requires first { place_of (namespace_of name.now) (namespaces_of (heads_of self.old)) ≡ None }
-        ensures { OnOk result (self.new ≡ self.old ++ draft_of draft.entry ∷ []) }
+        ensures nodes { OnOk result (self.new ≡ self.old ++ draft_of draft.entry ∷ []) }
+        ensures refused { OnErr result (self.new ≡ self.old) }
     {
         let node = self.nodes.len();
         let scope = first_scope(alloc, name.last(), node)?;
@@ -205,7 +209,8 @@ impl<'v> Drafts<'v> {
         requires first { place_of (namespace_of name.now) (namespaces_of (heads_of self.old)) ≡ None }
         requires text { string_bytes namespace ≡ namespace_of name.now }
         requires scope { HasOnly (unqualified name.now) (length self.old) scope }
-        ensures { OnOk result (self.new ≡ self.old ++ draft_of draft.entry ∷ []) }
+        ensures nodes { OnOk result (self.new ≡ self.old ++ draft_of draft.entry ∷ []) }
+        ensures refused { OnErr result (self.new ≡ self.old) }
     {
         name.has_two_parts();
         let number = self.scopes.len();
@@ -300,9 +305,10 @@ impl<'v> FieldList<'v> {
         self.names.contains(name)
     }
 
-    /// Adds a field. An `Err` leaves the fields as they were.
+    /// Adds a field.
     pub fn push(&mut self, field: DraftField<'v>) -> Result<(), AllocError>
-        ensures { OnOk result (self.new ≡ self.old ++ draft_field_of field.entry ∷ []) }
+        ensures fields { OnOk result (self.new ≡ self.old ++ draft_field_of field.entry ∷ []) }
+        ensures refused { OnErr result (self.new ≡ self.old) }
     {
         let name = field.name.clone()?;
         self.fields.push(field)?;

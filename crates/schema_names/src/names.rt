@@ -1,8 +1,9 @@
-ghost use Rattle.std.specs.Prelude.{◌≡◌, ◌&&◌, IfOk, None, false, not, option_map, option_and_then, string_bytes};
+ghost use Rattle.std.specs.Prelude.{◌≡◌, ◌≢◌, ◌&&◌, Err, IfOk, None, false, not, option_map, option_and_then, string_bytes};
 ghost use Rattle.std.specs.List.{list_all};
 ghost use Rattle.serde_json.specs.Find.{as_str};
 ghost use Rattle.schema_drafts.specs.Draft.{data_at, field_names};
 ghost use Rattle.schema_names.specs.Fault.{Tells};
+ghost use Rattle.schema_names.specs.declared.error.SchemaError.TheVariants.{NoMemory};
 ghost use Rattle.avro_types.specs.FullNames.{full_name, has_dot, inside, is_full_name, is_letter, is_letter_or_digit, is_name, is_namespace};
 ghost use Rattle.schema_drafts.specs.Head.{defined_at, heads_of};
 ghost use Rattle.schema_drafts.specs.Index.{IsNamespaceOf, IsNumbered, text_of_namespace};
@@ -82,7 +83,8 @@ pub fn text_at(value: Option<&Value>) -> Option<&str>
 
 /// The text at an attribute that has to be there.
 pub fn text_of(value: Option<&Value>) -> Result<&str, SchemaError>
-    ensures { Tells (λ s. s.now) result (text_of (data_at value.entry)) }
+    ensures told { Tells (λ s. s.now) result (text_of (data_at value.entry)) }
+    ensures room { result ≢ Err NoMemory }
 {
     match text_at(value) {
         Some(text) => Ok(text),

@@ -1,9 +1,10 @@
-ghost use Rattle.std.specs.Prelude.{◌≡◌, ◌≤◌, ◌&&◌, if◌then◌else◌, IfOk, Ok, Err, length, map, string_bytes};
+ghost use Rattle.std.specs.Prelude.{◌≡◌, ◌≢◌, ◌≤◌, ◌&&◌, if◌then◌else◌, IfOk, Ok, Err, length, map, string_bytes};
 ghost use Rattle.std.specs.List.{list_all};
 ghost use Rattle.serde_json.specs.View.{items_view};
 ghost use Rattle.schema_names.specs.Attributes.{default_symbol, size_of, symbols_of, texts_in, texts_of};
 ghost use Rattle.schema_drafts.specs.Draft.{data_at};
 ghost use Rattle.schema_names.specs.Fault.{Tells};
+ghost use Rattle.schema_names.specs.declared.error.SchemaError.TheVariants.{NoMemory};
 ghost use Rattle.avro_types.specs.FullNames.{is_name};
 ghost use Rattle.avro_types.specs.Symbols.{are_distinct};
 
@@ -73,7 +74,8 @@ pub fn symbols_of(alloc: Global, value: Option<&Value>) -> Result<Symbols, Schem
 /// The position of the symbol that `default` names, where there is one.
 pub fn default_symbol(symbols: &Symbols, value: Option<&Value>) -> Result<Option<u32>, SchemaError>
     requires { length (symbols.now) ≤ MOST_SYMBOLS }
-    ensures { Tells (λ n. n) result (default_symbol (symbols.now) (data_at value.entry)) }
+    ensures told { Tells (λ n. n) result (default_symbol (symbols.now) (data_at value.entry)) }
+    ensures room { result ≢ Err NoMemory }
 {
     if value.is_none() {
         return Ok(None);
@@ -87,7 +89,8 @@ pub fn default_symbol(symbols: &Symbols, value: Option<&Value>) -> Result<Option
 
 /// The number of bytes of a fixed.
 pub fn size_of(value: Option<&Value>) -> Result<usize, SchemaError>
-    ensures { Tells (λ n. n) result (size_of (data_at value.entry)) }
+    ensures told { Tells (λ n. n) result (size_of (data_at value.entry)) }
+    ensures room { result ≢ Err NoMemory }
 {
     let Some(value) = value else {
         return Err(SchemaError::Unknown);

@@ -1,5 +1,6 @@
 use Rattle.matching.proofs.Apart.{partners_apart}
 use Rattle.matching.proofs.Partnering.{names_go_first, others_go_by_alias}
+use Rattle.matching.proofs.Taken.{aliases_are_taken}
 use Rattle.matching.proofs.laws.partners_by_rule.Goals as goal
 
 pub returns-clause-name : goal.returns-clause-name
@@ -10,3 +11,6 @@ returns-clause-alias c = others_go_by_alias
 
 pub returns-clause-apart : goal.returns-clause-apart
 returns-clause-apart c = partners_apart
+
+pub returns-clause-taken : goal.returns-clause-taken
+returns-clause-taken c = aliases_are_taken

@@ -16,7 +16,7 @@ pub returns-in_ok-define_in-in-Some-clause-number : goal.returns-in_ok-define_in
 returns-in_ok-define_in-in-Some-clause-number c =
     let d = c.args.self.now in
     let there = place-some _ (namespaces_of (heads_of d)) c.in-Some.number (sym c.requires.numbered ∙ c.in-Some.is) in
-    rw (c.in_ok-define_in-in-Some.ensures, heads-behind d (draft_of c.args.draft)) (namespaces-keep (heads_of d) _ c.in-Some.number _ there)
+    rw (c.in_ok-define_in-in-Some.ensures.nodes, heads-behind d (draft_of c.args.draft)) (namespaces-keep (heads_of d) _ c.in-Some.number _ there)
 
 pub returns-in_ok-define_first-in-None-clause-number : goal.returns-in_ok-define_first-in-None-clause-number
 returns-in_ok-define_first-in-None-clause-number c =
@@ -25,5 +25,5 @@ returns-in_ok-define_first-in-None-clause-number c =
     let n : c.len-number.result ≡ length own.scopes.items = search rules in
     let count : length own.scopes.items ≡ length (namespaces_of (heads_of d)) =
     c.self.invariant.each_has_one ∙ ap (λ ds. length (namespaces_of (heads_of ds))) c.self.view_is in
-    rw (c.in_ok-define_first-in-None.ensures, heads-behind d (draft_of c.args.draft), c.requires.named, n, count)
+    rw (c.in_ok-define_first-in-None.ensures.nodes, heads-behind d (draft_of c.args.draft), c.requires.named, n, count)
     (first-number (heads_of d) c.args.name.now (sym c.requires.numbered ∙ c.in-None.is))

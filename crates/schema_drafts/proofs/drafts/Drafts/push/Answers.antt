@@ -17,5 +17,5 @@ invariant_of-self-2 c =
     let k = rust.Whole c.args.kind in
     index-pushed d.numbers d.scopes.items (drafts_of d.nodes.items) (drafts_of c.push.new.self.items) (draft_of k) _ c.self.invariant c.requires (drafts_of-pushed _ d.nodes.items c.push.new.self.items k c.push.ensures.items)
 
-pub returns : goal.returns
-returns c = rw (← c.self.view_is) (ap drafts_of c.in_ok-push.ensures.items ∙ drafts_of-append c.self.inside.nodes.items _)
+pub returns-clause-nodes : goal.returns-clause-nodes
+returns-clause-nodes c = rw (← c.self.view_is) (ap drafts_of c.in_ok-push.ensures.items ∙ drafts_of-append c.self.inside.nodes.items _)
