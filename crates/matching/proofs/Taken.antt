@@ -5,12 +5,11 @@ use Rattle.std.proofs.lemmas.Slice.Eq.{bytes_eq-Decides}
 use Rattle.avro_types.specs.Laws.Placed.{none-used, place-some}
 use Rattle.avro_types.specs.Node.{FieldNode}
 use Rattle.avro_types.specs.Symbols.{is_used, place_of}
-use Rattle.avro_types.specs.WellFormed.{HaveDistinctNames}
 use Rattle.matching.specs.Options.{or_else}
 use Rattle.matching.specs.Partners.{AliasesAreTaken, by_alias, by_name, field_names, first_free, if_free, taken_by, with_aliases}
 use Rattle.matching.proofs.Apart.{name_at, one_place}
 use Rattle.matching.proofs.Holding.{used_there}
-use Rattle.matching.proofs.Partnering.{all_keep, freely, place_at}
+use Rattle.matching.proofs.Partnering.{all_keep, freely}
 
 -- ---- lists
 

@@ -1,8 +1,9 @@
-ghost use Rattle.std.specs.Prelude.{◌≡◌, ◌<◌, ◌≤◌, ℕ, Some, false, length, option_map, slice_get, IfOk, IfSome};
+ghost use Rattle.std.specs.Prelude.{◌≡◌, ◌<◌, ◌≤◌, ℕ, Some, false, if◌then◌else◌, length, option_map, slice_get, IfOk, IfSome};
 ghost use Rattle.std.specs.List.{AllByRecursion};
 ghost use Rattle.avro_types.specs.Node.{node_of};
 ghost use Rattle.avro_types.specs.WellFormed.{full_name_of, is_union};
 ghost use Rattle.matching.specs.Matching.{IsNodeOf, first_member, matches};
+ghost use Rattle.matching.specs.declared.place.Place.TheVariants.{IntoMember, Nowhere};
 ghost use Rattle.program_lines.specs.Known.{AreNamesOf, IsFoundBy};
 
 use avro_types::{Kind, MOST_NODES, Name, Nodes, Symbols};
@@ -91,7 +92,15 @@ pub(crate) fn find_member(
         return Place::Nowhere;
     };
     let node = members[position];
-    if matches(w, wn, r, node) {
+    member_if(matches(w, wn, r, node), position, node)
+}
+
+/// A union's member, where it matches.
+fn member_if(is_match: bool, position: usize, node: usize) -> Place
+    requires { position < MOST_NODES }
+    ensures { result ≡ if is_match then IntoMember position node else Nowhere }
+{
+    if is_match {
         Place::IntoMember {
             position: position as u32,
             node,

@@ -18,8 +18,8 @@ returns-in_default-clause-place c =
     let none : place_of (unqualified c.args.name.now) c.args.names.now ≡ None = ap (λ t. place_of t c.args.names.now) (sym c.last.ensures) ∙ sym c.position_of.ensures.place ∙ c.in_default.is in
     sym (none_named W R c.args.wn c.args.members.now c.args.names.now c.args.name.now c.requires.name c.requires.no_union c.requires.names holds none)
 
-pub returns-then-matches-clause-place : goal.returns-then-matches-clause-place
-returns-then-matches-clause-place c =
+pub returns-in-Some-clause-place : goal.returns-in-Some-clause-place
+returns-in-Some-clause-place c =
     let W = c.args.w.now in
     let R = c.args.r.now in
     let ms = c.args.members.now in
@@ -28,16 +28,4 @@ returns-then-matches-clause-place c =
     let holds : (m : ℕ) → matches W R c.args.wn m ≡ true → Matches W R c.args.wn m = λ m match. (c.matches_by_rule.ensures.relation W R c.args.wn m c.is_well_formed.ensures).0 match in
     let found : place_of (unqualified c.args.name.now) c.args.names.now ≡ Some k = ap (λ t. place_of t c.args.names.now) (sym c.last.ensures) ∙ sym c.in-Some.ensures.place in
     let at : slice_get ms k ≡ Some node = slice_get-get_or ms k 0 (omega (arith, c.in-Some.ensures.within, c.requires.names.each)) in
-    sym (one_named W R c.args.wn ms c.args.names.now c.args.name.now c.requires.name c.requires.no_union c.requires.names holds k node found at ∙ ap (λ b. cond b (IntoMember k node) Nowhere) (sym c.matches.ensures ∙ c.if-matches.true))
-
-pub returns-else-matches-clause-place : goal.returns-else-matches-clause-place
-returns-else-matches-clause-place c =
-    let W = c.args.w.now in
-    let R = c.args.r.now in
-    let ms = c.args.members.now in
-    let k = c.in-Some.position in
-    let node = get_or ms k 0 in
-    let holds : (m : ℕ) → matches W R c.args.wn m ≡ true → Matches W R c.args.wn m = λ m match. (c.matches_by_rule.ensures.relation W R c.args.wn m c.is_well_formed.ensures).0 match in
-    let found : place_of (unqualified c.args.name.now) c.args.names.now ≡ Some k = ap (λ t. place_of t c.args.names.now) (sym c.last.ensures) ∙ sym c.in-Some.ensures.place in
-    let at : slice_get ms k ≡ Some node = slice_get-get_or ms k 0 (omega (arith, c.in-Some.ensures.within, c.requires.names.each)) in
-    sym (one_named W R c.args.wn ms c.args.names.now c.args.name.now c.requires.name c.requires.no_union c.requires.names holds k node found at ∙ ap (λ b. cond b (IntoMember k node) Nowhere) (sym c.matches.ensures ∙ c.if-matches.false))
+    c.member_if.ensures ∙ sym (one_named W R c.args.wn ms c.args.names.now c.args.name.now c.requires.name c.requires.no_union c.requires.names holds k node found at ∙ ap (λ b. cond b (IntoMember k node) Nowhere) (sym c.matches.ensures))

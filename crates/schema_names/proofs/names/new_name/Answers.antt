@@ -12,7 +12,7 @@ returns-then-is_empty-clause-name c =
     let s = c.in_ok-name.name.now in
     let parts = split-parts s c.in-Some.own.now c.in-Some.last.now c.in-Some.ensures.cases in
     let begins = dotted-empty s c.in-Some.own.now c.in-Some.last.now parts (sym c.is_empty.ensures ∙ c.if-is_empty.true) in
-    λ _. name-dotted (data_at c.args.name) (data_at c.args.namespace) (arc_str_bytes c.args.enclosing.now.text) _ s c.in_ok-name.ensures c.in-Some.own.now c.in-Some.last.now parts ∙ rw begins (begins-bad c.in-Some.last.now _)
+    λ _. name-dotted (data_at c.args.name) (data_at c.args.namespace) (arc_str_bytes c.args.enclosing.now.text) _ s c.in_ok-name.ensures.told c.in-Some.own.now c.in-Some.last.now parts ∙ rw begins (begins-bad c.in-Some.last.now _)
 
 pub own_name-requires : goal.own_name-requires
 own_name-requires c = record { undotted = back-undotted c.in_ok-name.name.now c.in-Some.own.now c.in-Some.last.now c.in-Some.ensures.cases }
@@ -22,7 +22,7 @@ returns-in_err-text_of-in-Some-namespace-clause-name c =
     let s = c.in_ok-name.name.now in
     let p = err_from_is_err_and c.from_residual-in_err-text_of-in-Some-namespace.result c.from_residual-in_err-text_of-in-Some-namespace.ensures.1 in
     rw (p.1, p.2)
-    (λ known. name-no_space (data_at c.args.name) (data_at c.args.namespace) (arc_str_bytes c.args.enclosing.now.text) _ s c.in_ok-name.ensures _ (none-undotted s c.in-None.ensures.cases) (view c.in-Some-namespace.field-0.now) (ap data_at c.in-Some-namespace.is) (c.in_err-text_of-in-Some-namespace.ensures known))
+    (λ known. name-no_space (data_at c.args.name) (data_at c.args.namespace) (arc_str_bytes c.args.enclosing.now.text) _ s c.in_ok-name.ensures.told _ (none-undotted s c.in-None.ensures.cases) (view c.in-Some-namespace.field-0.now) (ap data_at c.in-Some-namespace.is) (c.in_err-text_of-in-Some-namespace.ensures.told known))
 
 pub own_name-requires-in-Some-namespace : goal.own_name-requires-in-Some-namespace
 own_name-requires-in-Some-namespace c = record { undotted = none-undotted c.in_ok-name.name.now c.in-None.ensures.cases }
@@ -35,15 +35,15 @@ returns-else-is_empty-clause-name c =
     let s = c.in_ok-name.name.now in
     let parts = split-parts s c.in-Some.own.now c.in-Some.last.now c.in-Some.ensures.cases in
     let split = dotted-some s c.in-Some.own.now c.in-Some.last.now parts (sym c.is_empty.ensures ∙ c.if-is_empty.false) in
-    rw (name-dotted (data_at c.args.name) (data_at c.args.namespace) (arc_str_bytes c.args.enclosing.now.text) _ s c.in_ok-name.ensures c.in-Some.own.now c.in-Some.last.now parts, split) c.own_name.ensures.name
+    rw (name-dotted (data_at c.args.name) (data_at c.args.namespace) (arc_str_bytes c.args.enclosing.now.text) _ s c.in_ok-name.ensures.told c.in-Some.own.now c.in-Some.last.now parts, split) c.own_name.ensures.name
 
 pub returns-in_ok-text_of-in-Some-namespace-clause-name : goal.returns-in_ok-text_of-in-Some-namespace-clause-name
 returns-in_ok-text_of-in-Some-namespace-clause-name c =
     let s = c.in_ok-name.name.now in
-    rw (name-own (data_at c.args.name) (data_at c.args.namespace) (arc_str_bytes c.args.enclosing.now.text) _ s c.in_ok-name.ensures c.in_ok-text_of-in-Some-namespace.field-0.now (none-undotted s c.in-None.ensures.cases) (view c.in-Some-namespace.field-0.now) (ap data_at c.in-Some-namespace.is) c.in_ok-text_of-in-Some-namespace.ensures)
+    rw (name-own (data_at c.args.name) (data_at c.args.namespace) (arc_str_bytes c.args.enclosing.now.text) _ s c.in_ok-name.ensures.told c.in_ok-text_of-in-Some-namespace.field-0.now (none-undotted s c.in-None.ensures.cases) (view c.in-Some-namespace.field-0.now) (ap data_at c.in-Some-namespace.is) c.in_ok-text_of-in-Some-namespace.ensures.told)
     c.own_name-in-Some-namespace.ensures.name
 
 pub returns-in-None-namespace-clause-name : goal.returns-in-None-namespace-clause-name
 returns-in-None-namespace-clause-name c =
     let s = c.in_ok-name.name.now in
-    rw (name-inherited (data_at c.args.name) (data_at c.args.namespace) (arc_str_bytes c.args.enclosing.now.text) _ s c.in_ok-name.ensures (none-undotted s c.in-None.ensures.cases) (ap data_at c.in-None-namespace.is)) c.inherited_name.ensures.name
+    rw (name-inherited (data_at c.args.name) (data_at c.args.namespace) (arc_str_bytes c.args.enclosing.now.text) _ s c.in_ok-name.ensures.told (none-undotted s c.in-None.ensures.cases) (ap data_at c.in-None-namespace.is)) c.inherited_name.ensures.name

@@ -111,27 +111,27 @@ pub walk_holder-push-requires : goal.walk_holder-push-requires
 walk_holder-push-requires t c = rw c.kind.ensures (holder-unnamed c.args.holder 0)
 
 pub walk_holder-walk_at-requires : goal.walk_holder-walk_at-requires
-walk_holder-walk_at-requires t c = (omega arith, enclosing-pushed c.args.enclosing.now c.args.drafts.now c.push.new.self _ c.requires.known c.in_ok-push.ensures)
+walk_holder-walk_at-requires t c = (omega arith, enclosing-pushed c.args.enclosing.now c.args.drafts.now c.push.new.self _ c.requires.known c.in_ok-push.ensures.nodes)
 
 pub walk_holder-returns-in_err-inner : goal.walk_holder-returns-in_err-inner
 unfolding holder_walk
 walk_holder-returns-in_err-inner t c =
     let p = err_from_is_err_and c.from_residual-in_err-inner.result c.from_residual-in_err-inner.ensures.1 in
-    let there = rw c.kind.ensures at c.in_ok-push.ensures in
+    let there = rw c.kind.ensures at c.in_ok-push.ensures.nodes in
     let room : length c.args.drafts.now < MOST_NODES = omega (arith, c.in_ok-node.ensures.node, c.in_ok-node.ensures.room) in
     rw (p.1, p.2)
     (λ known. run-if_room _ (arc_str_bytes c.args.enclosing.now.text) c.args.drafts.now room ∙ unclosed (λ n. Whole (holder_node c.args.holder n)) (Whole (holder_node c.args.holder 0)) _ (arc_str_bytes c.args.enclosing.now.text) c.args.drafts.now _ (rw there at (c.in_err-inner.ensures known)))
 
 pub walk_holder-set-requires : goal.walk_holder-set-requires
 walk_holder-set-requires t c =
-    let there = rw c.kind.ensures at c.in_ok-push.ensures in
+    let there = rw c.kind.ensures at c.in_ok-push.ensures.nodes in
     let n : c.in_ok-node.node ≡ length c.args.drafts.now = c.in_ok-node.ensures.node in
     rw (n, c.kind-2.ensures, holder-head c.args.holder c.in_ok-inner.inner 0) (run-keeps _ (arc_str_bytes c.args.enclosing.now.text) c.args.drafts.now (Whole (holder_node c.args.holder 0)) _ _ (rw there at c.in_ok-inner.ensures))
 
 pub walk_holder-returns : goal.walk_holder-returns
 unfolding holder_walk
 walk_holder-returns t c =
-    let there = rw c.kind.ensures at c.in_ok-push.ensures in
+    let there = rw c.kind.ensures at c.in_ok-push.ensures.nodes in
     let room : length c.args.drafts.now < MOST_NODES = omega (arith, c.in_ok-node.ensures.node, c.in_ok-node.ensures.room) in
     let n : c.in_ok-node.node ≡ length c.args.drafts.now = c.in_ok-node.ensures.node in
     rw (c.set.ensures, n, c.kind-2.ensures)
@@ -145,31 +145,31 @@ walk_union-returns-in_err-node t c =
     rw (p.1, p.2, c.in_err-node.ensures.full) (λ _. run-no_room _ (arc_str_bytes c.args.enclosing.now.text) c.args.drafts.now c.in_err-node.ensures.none)
 
 pub walk_union-walk_members-requires : goal.walk_union-walk_members-requires
-walk_union-walk_members-requires t c = (omega arith, enclosing-pushed c.args.enclosing.now c.args.drafts.now c.push.new.self _ c.requires.known c.in_ok-push.ensures)
+walk_union-walk_members-requires t c = (omega arith, enclosing-pushed c.args.enclosing.now c.args.drafts.now c.push.new.self _ c.requires.known c.in_ok-push.ensures.nodes)
 
 pub walk_union-returns-in_err-members : goal.walk_union-returns-in_err-members
 walk_union-returns-in_err-members t c =
     let p = err_from_is_err_and c.from_residual-in_err-members.result c.from_residual-in_err-members.ensures.1 in
-    let there = pushed_union c.args.drafts.now c.push.new.self c.new.result.items c.in_ok-push.ensures c.new.ensures.items in
+    let there = pushed_union c.args.drafts.now c.push.new.self c.new.result.items c.in_ok-push.ensures.nodes c.new.ensures.items in
     let room : length c.args.drafts.now < MOST_NODES = omega (arith, c.in_ok-node.ensures.node, c.in_ok-node.ensures.room) in
     rw (p.1, p.2) (λ known. union-failed _ (arc_str_bytes c.args.enclosing.now.text) c.args.drafts.now room _ (rw there at (c.in_err-members.ensures known)))
 
 pub walk_union-returns-then-not-branch : goal.walk_union-returns-then-not-branch
 walk_union-returns-then-not-branch t c =
-    let there = pushed_union c.args.drafts.now c.push.new.self c.new.result.items c.in_ok-push.ensures c.new.ensures.items in
+    let there = pushed_union c.args.drafts.now c.push.new.self c.new.result.items c.in_ok-push.ensures.nodes c.new.ensures.items in
     let room : length c.args.drafts.now < MOST_NODES = omega (arith, c.in_ok-node.ensures.node, c.in_ok-node.ensures.room) in
     let bad = rw c.deref.ensures.value at (sym c.if-not-branch.true ∙ c.in_ok-are_apart.ensures) in
     λ _. union-bad _ (arc_str_bytes c.args.enclosing.now.text) c.args.drafts.now room _ _ (rw there at c.in_ok-members.ensures) bad
 
 pub walk_union-set-requires : goal.walk_union-set-requires
 walk_union-set-requires t c =
-    let there = pushed_union c.args.drafts.now c.push.new.self c.new.result.items c.in_ok-push.ensures c.new.ensures.items in
+    let there = pushed_union c.args.drafts.now c.push.new.self c.new.result.items c.in_ok-push.ensures.nodes c.new.ensures.items in
     let n : c.in_ok-node.node ≡ length c.args.drafts.now = c.in_ok-node.ensures.node in
     rw n (run-keeps _ (arc_str_bytes c.args.enclosing.now.text) c.args.drafts.now (Whole (UnionNode [])) _ _ (rw there at c.in_ok-members.ensures))
 
 pub walk_union-returns : goal.walk_union-returns
 walk_union-returns t c =
-    let there = pushed_union c.args.drafts.now c.push.new.self c.new.result.items c.in_ok-push.ensures c.new.ensures.items in
+    let there = pushed_union c.args.drafts.now c.push.new.self c.new.result.items c.in_ok-push.ensures.nodes c.new.ensures.items in
     let room : length c.args.drafts.now < MOST_NODES = omega (arith, c.in_ok-node.ensures.node, c.in_ok-node.ensures.room) in
     let good = rw c.deref.ensures.value at (sym c.if-not-branch.false ∙ c.in_ok-are_apart.ensures) in
     let n : c.in_ok-node.node ≡ length c.args.drafts.now = c.in_ok-node.ensures.node in
@@ -278,7 +278,7 @@ walk_listed-loop-item-preserved t c =
     let l = c.loop-item in
     let f = c.in_ok-field.field in (
       enclosing-walked _ _ c.args.enclosing.now l.drafts _ _ l.invariant.0 c.in_ok-field.ensures,
-      rw (c.in_ok-push.ensures, map-push (λ g. g.name) l.list (draft_field_of f))
+      rw (c.in_ok-push.ensures.fields, map-push (λ g. g.name) l.list (draft_field_of f))
           (sym (fields-on (arc_str_bytes c.args.enclosing.now.text) c.args.items.now l.item-index c.item-item.result (omega arith) c.item-item.is l.list (field_names l.list) l.drafts _ _ c.in_ok-field.ensures) ∙ l.invariant.1),
     )
 

@@ -21,11 +21,11 @@ pub returns-in_err-size : goal.returns-in_err-size
 returns-in_err-size c =
     let p = err_from_is_err_and c.from_residual-in_err-size.result c.from_residual-in_err-size.ensures.1 in
     let room : length c.args.drafts.now < MOST_NODES = omega (arith, c.in_ok-node.ensures.node, c.in_ok-node.ensures.room) in
-    rw (p.1, p.2) (λ known. run-fixed _ _ _ (arc_str_bytes c.args.enclosing.now.text) c.args.drafts.now room _ ∙ rw (c.in_ok-new.ensures.names, ← c.get.ensures, c.in_err-size.ensures known) refl)
+    rw (p.1, p.2) (λ known. run-fixed _ _ _ (arc_str_bytes c.args.enclosing.now.text) c.args.drafts.now room _ ∙ rw (c.in_ok-new.ensures.names, ← c.get.ensures, c.in_err-size.ensures.told known) refl)
 
 pub returns : goal.returns
 returns c =
     let room : length c.args.drafts.now < MOST_NODES = omega (arith, c.in_ok-node.ensures.node, c.in_ok-node.ensures.room) in
     let n : c.in_ok-node.node ≡ length c.args.drafts.now = c.in_ok-node.ensures.node in
     rw (n, c.in_ok-define.ensures.nodes, c.in_ok-copy.ensures)
-    (run-fixed _ _ _ (arc_str_bytes c.args.enclosing.now.text) c.args.drafts.now room _ ∙ rw (c.in_ok-new.ensures.names, ← c.get.ensures, c.in_ok-size.ensures) (run-one _ (arc_str_bytes c.args.enclosing.now.text) c.args.drafts.now))
+    (run-fixed _ _ _ (arc_str_bytes c.args.enclosing.now.text) c.args.drafts.now room _ ∙ rw (c.in_ok-new.ensures.names, ← c.get.ensures, c.in_ok-size.ensures.told) (run-one _ (arc_str_bytes c.args.enclosing.now.text) c.args.drafts.now))

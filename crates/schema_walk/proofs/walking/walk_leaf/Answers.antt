@@ -12,4 +12,4 @@ returns-in_err-node c =
 pub returns : goal.returns
 returns c =
     let n : c.in_ok-node.node ≡ length c.args.drafts.now = c.in_ok-node.ensures.node in
-    λ enclosing. rw (n, c.in_ok-push.ensures) (run-leaf _ enclosing c.args.drafts.now (let room : length c.args.drafts.now < MOST_NODES = omega (arith, c.in_ok-node.ensures.node, c.in_ok-node.ensures.room) in room))
+    λ enclosing. rw (n, c.in_ok-push.ensures.nodes) (run-leaf _ enclosing c.args.drafts.now (let room : length c.args.drafts.now < MOST_NODES = omega (arith, c.in_ok-node.ensures.node, c.in_ok-node.ensures.room) in room))
