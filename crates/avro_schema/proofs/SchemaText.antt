@@ -1,5 +1,5 @@
 -- The nodes of a text are those that it declares.
-use Rattle.std.proofs.Common.{◌≡◌, ℕ, ◌+◌, List, [], ◌∷◌, length, Bool, true, false, cond, Option, Some, None, Result, Ok, Err, refl, subst, slice_get, nat_le}
+use Rattle.std.proofs.Common.{◌≡◌, ◌∙◌, ℕ, ◌+◌, List, [], ◌∷◌, length, Bool, true, false, cond, Option, Some, None, Result, Ok, Err, ap, refl, subst, sym, slice_get, nat_le}
 use Rattle.std.proofs.lemmas.Bool.{le-leb, leb-true}
 use Rattle.serde_json.specs.Data as json
 use Rattle.serde_json.specs.Read.{read}
@@ -16,7 +16,7 @@ use Rattle.schema_drafts.specs.Draft.{Draft, DraftField, RecordDraft, Whole}
 use Rattle.schema_names.specs.Fault.{◌>>=◌}
 use Rattle.schema_drafts.specs.Head.{Head, heads_of}
 use Rattle.schema_names.specs.Names.{null_namespace}
-use Rattle.avro_schema.specs.Schema.{declared, nodes_in_read, schema_of}
+use Rattle.avro_schema.specs.Schema.{TextGives, declared, nodes_in_read, schema_of}
 use Rattle.avro_schema.specs.SchemaLaw.{DeclaresSchema, FaultsWhereNoneIsDeclared, IsSchema, NodesAreThoseDeclared, ReadsAsSchema}
 use Rattle.schema_walk.specs.Walk.{walk}
 use Rattle.avro_schema.proofs.DeclaredFits.{fits_alone}
@@ -114,6 +114,15 @@ read_at text nodes (Some d) reads e = number_at text d nodes reads (has_float d)
 
 pub reads_as_schema : (text : List ℕ) (nodes : List Node) → nodes_in_read (read text) ≡ Ok nodes → ReadsAsSchema text nodes
 reads_as_schema text nodes e = read_at text nodes (read text) refl e
+
+-- of a schema and its own text
+pub of_own_text : (text : List ℕ) (nodes : List Node) → TextGives text nodes → nodes_in_read (read text) ≡ Ok nodes
+of_own_text text nodes t = ap nodes_in_read t.text.reads ∙ t.nodes
+
+pub same_nodes : (text other : List ℕ) (nodes others : List Node) → text ≡ other → TextGives text nodes → TextGives other others → nodes ≡ others
+same_nodes text other nodes others same t u =
+    let both : Ok nodes ≡ Ok others = sym (of_own_text text nodes t) ∙ ap (λ (s : List ℕ). nodes_in_read (read s)) same ∙ of_own_text other others u in
+    cc
 
 size_at : (text : List ℕ) (nodes : List Node) (b : Bool) → nat_le (length text) MOST_TEXT ≡ b → cond b (nodes_in_read (read text)) (Err TooLarge) ≡ Ok nodes → IsSchema text nodes
 size_at text nodes true le e = record { short = leb-true (length text) MOST_TEXT le; reads = reads_as_schema text nodes e }

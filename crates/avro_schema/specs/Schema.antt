@@ -37,7 +37,7 @@ pub record IsCompact (text : List ℕ) (value : Data) : Type 0 where
   pub reads : read text ≡ Some value
   pub compact : text ≡ compact_text value
 
--- and that value gives the nodes
+-- and that value declares the nodes
 pub record TextGives (text : List ℕ) (nodes : List Node) : Type 0 where
   pub value : Data
   pub text : IsCompact text value

@@ -7,7 +7,7 @@ ghost use Rattle.avro_types.specs.Conforming.{DefaultsConform};
 ghost use Rattle.avro_types.specs.Node.{node_of, nodes_of};
 ghost use Rattle.avro_types.specs.WellFormed.{NodeIsWellFormed};
 ghost use Rattle.schema_names.specs.Fault.{Tells};
-ghost use Rattle.avro_schema.specs.Schema.{Parses, TextGives, declared};
+ghost use Rattle.avro_schema.specs.Schema.{IsCompact, Parses, TextGives, declared};
 ghost use Rattle.avro_schema.specs.SchemaLaw.{ReadsAsSchema};
 
 use crate::numbers::has_float;
@@ -117,9 +117,10 @@ impl Schema {
         &self.parts.nodes
     }
 
-    /// The law that its nodes are those that the JSON value of its text declares.
+    /// The law that its text is the compact one of a JSON value, and that its nodes are those which that value declares.
     pub fn is_declared(&self)
-        ensures { ReadsAsSchema self.now.text self.now.nodes }
+        ensures compact { (value : Data) × IsCompact self.now.text value }
+        ensures nodes { ReadsAsSchema self.now.text self.now.nodes }
     {
         let _opened = &self.parts;
     }

@@ -1,5 +1,5 @@
 -- What `debug` answers: lines change one session, which has its whole payload from the start. This project's own.
-use Rattle.std.specs.Prelude.{◌≡◌, ℕ, List, [], length, nat_lt, if◌then◌else◌, Option, Some, None, Result, Ok, Err, MatchOption}
+use Rattle.std.specs.Prelude.{◌≡◌, ℕ, false, List, [], length, nat_lt, if◌then◌else◌, Option, Some, None, Result, Ok, Err, IfErr, MatchOption}
 use Rattle.answer_lines.specs.Payload.{payload_of}
 use Rattle.avro_types.specs.Node.{Node}
 use Rattle.event_lines.specs.Reading.{debug_line}
@@ -11,8 +11,9 @@ use Rattle.program_code.specs.Code.{code_of}
 use Rattle.session.specs.Changes.{Maybe, Surely, break_refusal, clear_refusal, cleared_at, finished, set_at, with_piece}
 use Rattle.session.specs.Names.{refusal_name}
 use Rattle.session.specs.Rows.{TakesRows, go_rows, walk_rows}
-use Rattle.session.specs.Session.{Session, begun}
+use Rattle.session.specs.Session.{Session, begun, has_break}
 use Rattle.session.specs.declared.refusal.SessionRefusal.{SessionRefusal}
+use Rattle.session.specs.declared.refusal.SessionRefusal.TheVariants.{NoMemory}
 use Rattle.session_commands.specs.declared.debugging.DebugError.{DebugError}
 use Rattle.session_commands.specs.declared.debugging.DebugError.TheVariants.{BadHex, ProgramTooLarge, TooLarge}
 use Rattle.session_commands.specs.Folding.{AnswersAll}
@@ -25,7 +26,8 @@ done_line (Err e) = refused_line (refusal_name e)
 
 abbrev pub Obeys : DebugLine → List ℕ → Session → Session → Type 0
 Obeys (lines.Break a) answer old new =
-    (done : Result (Unit {0}) SessionRefusal) × Maybe (break_refusal a old) (set_at a old) done old new × (answer ≡ done_line done)
+    (done : Result (Unit {0}) SessionRefusal) × Maybe (break_refusal a old) (set_at a old) done old new
+    × IfErr done (λ e. e ≡ NoMemory → has_break a old.breaks ≡ false) × (answer ≡ done_line done)
 Obeys (lines.Clear a) answer old new =
     (done : Result (Unit {0}) SessionRefusal) × Surely (clear_refusal a old) (cleared_at a old) done old new × (answer ≡ done_line done)
 Obeys (lines.Step n) answer old new = (rows : ℕ) × TakesRows (walk_rows n old) old rows new × (answer ≡ [])

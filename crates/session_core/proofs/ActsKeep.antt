@@ -63,7 +63,7 @@ module _ (cs : List Command) where
   acts-keep Finish reply old new a is = surely-keeps None (finished old.session) reply old new refl a is
   acts-keep (Slice worker k) reply old new a is = slices-keep worker k reply old new a is
   acts-keep (Steal worker) reply old new a is = stolen worker old new a.1 is
-  acts-keep (Break address) reply old new a is = maybe-keeps (break_refusal address old.session) (set_at address old.session) reply old new refl a is
+  acts-keep (Break address) reply old new a is = maybe-keeps (break_refusal address old.session) (set_at address old.session) reply old new refl a.0 is
   acts-keep (Clear address) reply old new a is = surely-keeps (clear_refusal address old.session) (cleared_at address old.session) reply old new refl a is
   acts-keep (Walk n) reply old new a is = takes-keep (walk_rows n old.session) reply old new a is
   acts-keep (Go n) reply old new a is = takes-keep (go_rows n old.session) reply old new a is

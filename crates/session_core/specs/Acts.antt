@@ -1,10 +1,10 @@
 -- What happens to one session, and what is replied. All of this is this project's own.
-use Rattle.std.specs.Prelude.{◌≡◌, ◌≢◌, ℕ, Option, Some, None, Result, Ok, Err}
+use Rattle.std.specs.Prelude.{◌≡◌, ◌≢◌, ℕ, false, Option, Some, None, Result, Ok, Err}
 use Rattle.session.specs.declared.refusal.SessionRefusal.{SessionRefusal}
 use Rattle.session.specs.declared.refusal.SessionRefusal.TheVariants.{NoMemory}
 use Rattle.session.specs.Changes.{break_refusal, clear_refusal, cleared_at, finished, piece_refusal, refused, set_at, with_piece}
 use Rattle.session.specs.Rows.{TakesRows, go_rows, slice_rows, walk_rows}
-use Rattle.session.specs.Session.{Session}
+use Rattle.session.specs.Session.{Session, has_break}
 use Rattle.session_core.specs.declared.reply.EventReply.{EventReply}
 use Rattle.session_core.specs.declared.reply.EventReply.TheVariants.{Done, Refused, Rows}
 use Rattle.session_core.specs.declared.refusal.EventRefusal.TheVariants.{NotHeld, OfSession}
@@ -32,6 +32,17 @@ Maybe refusal done (Refused (OfSession e)) old new =
     ((e ≡ NoMemory → refusal ≡ None) × (e ≢ NoMemory → refusal ≡ Some e)) × (new ≡ old)
 Maybe refusal done reply old new = ⊥
 
+-- what holds where memory is refused
+abbrev pub WhereNoMemory : EventReply → Type 0 → Type 0
+WhereNoMemory (Refused (OfSession e)) holds = e ≡ NoMemory → holds
+WhereNoMemory reply holds = Unit {0}
+
+-- A breakpoint that is set takes no memory.
+abbrev pub SetsBreak : ℕ → EventReply → Held → Held → Type 0
+SetsBreak address reply old new =
+    Maybe (break_refusal address old.session) (set_at address old.session) reply old new
+    × WhereNoMemory reply (has_break address old.session.breaks ≡ false)
+
 -- All these rows are taken; or memory is refused, and then some fewer, and the session has ended there.
 abbrev pub Takes : ℕ → EventReply → Held → Held → Type 0
 Takes all (Rows rows) old new = TakesRows all old.session rows new.session × (new ≡ with_session new.session old)
@@ -47,7 +58,7 @@ Acts (Piece bytes) reply old new = Maybe (piece_refusal bytes old.session) (with
 Acts Finish reply old new = Surely None (finished old.session) reply old new
 Acts (Slice worker k) reply old new = Slices worker k reply old new
 Acts (Steal worker) reply old new = (reply ≡ Done) × (new ≡ record old { holder = worker })
-Acts (Break address) reply old new = Maybe (break_refusal address old.session) (set_at address old.session) reply old new
+Acts (Break address) reply old new = SetsBreak address reply old new
 Acts (Clear address) reply old new = Surely (clear_refusal address old.session) (cleared_at address old.session) reply old new
 Acts (Walk n) reply old new = Takes (walk_rows n old.session) reply old new
 Acts (Go n) reply old new = Takes (go_rows n old.session) reply old new

@@ -3,6 +3,7 @@ use Rattle.std.proofs.lemmas.Result.{err_from_is_err_and}
 use Rattle.serde_json.specs.Read.{read}
 use Rattle.serde_json.specs.View.{view}
 use Rattle.avro_types.specs.declared.limits.TheConstants.{MOST_TEXT}
+use Rattle.avro_schema.specs.Schema.{nodes_in_read}
 use Rattle.avro_schema.proofs.Declared.{too-large, small, no-json, some-json, a-float, walked}
 use Rattle.avro_schema.proofs.DeclaredSizes.{declared-within}
 use Rattle.avro_schema.proofs.ReadSizes.{read-within}
@@ -31,7 +32,11 @@ returns-in_err-kinds c =
 pub of_parts-requires : goal.of_parts-requires
 of_parts-requires c =
     let back : read (string_bytes c.in_ok-text.text) ≡ Some (view c.in_ok-value.value) = c.in_ok-text.ensures.reads_back c.in_ok-value.ensures.nests in
-    walked (string_bytes c.in_ok-text.text) (view c.in_ok-value.value) back c.if-has_float.ensures ∙ c.in_ok-kinds.ensures.declared ∙ ap Ok (sym c.new.ensures)
+    record {
+      value = view c.in_ok-value.value;
+      text = record { reads = back; compact = c.in_ok-text.ensures.text (sym c.if-has_float.ensures) };
+      nodes = sym (ap nodes_in_read back) ∙ walked (string_bytes c.in_ok-text.text) (view c.in_ok-value.value) back c.if-has_float.ensures ∙ c.in_ok-kinds.ensures.declared ∙ ap Ok (sym c.new.ensures);
+    }
 
 pub new-requires : goal.new-requires
 new-requires c =
