@@ -10,12 +10,21 @@ use isa::Program;
 use once_cell::race::OnceBox;
 use program_compiler::{CompileError, compile};
 use std::alloc::{AllocError, Global};
+use std::marker::Model;
 
-/// The programs of so many pairs of schemas. A pair has its cell for good.
+/// The programs of so many pairs of schemas, as which callers see it. A pair has its cell for good.
 #[derive(Drop)]
 pub struct PairRow {
     alloc: Global,
     cells: Vec<OnceBox<Entry>>,
+}
+
+impl Model for PairRow {
+    ghost use Rattle.std.specs.Prelude.{ℕ, length};
+
+    ghost Value = { ℕ };
+
+    ghost view = { λ row. length row.cells.items };
 }
 
 /// A pair of schemas and its program.
@@ -29,7 +38,9 @@ struct Entry {
 
 impl PairRow {
     /// A row for so many pairs.
-    pub fn new(alloc: Global, pairs: usize) -> Result<PairRow, AllocError> {
+    pub fn new(alloc: Global, pairs: usize) -> Result<PairRow, AllocError>
+        ensures { IfOk result (λ row. row ≡ pairs) }
+    {
         let mut cells = Vec::new(alloc);
         for _ in 0..pairs {
             cells.push(OnceBox::new(alloc))?;

@@ -181,7 +181,8 @@ impl Registry {
 
     /// The level of a subject, or the global one.
     pub(super) fn level(&self, subject: Option<String>) -> Result<Reply, Refusal>
-        ensures answer { Gives (answer_to (registry_after self.now) (LevelCommand (option_map string_bytes subject))) result }
+        ensures answer { Gives (answer_to (registry_after self.now)
+            (LevelCommand (option_map string_bytes subject))) result }
         ensures memory { IfErr result (λ e. e ≢ Refusal.NoMemory) }
     {
         let name = subject.as_deref();
