@@ -1,5 +1,5 @@
-ghost use Rattle.std.specs.Prelude.{◌≡◌, IfOk, option_map, slice_get, string_bytes};
-ghost use Rattle.schema_registry.specs.Command.{RegisterCommand, SetLevelCommand, command_of};
+ghost use Rattle.std.specs.Prelude.{◌≡◌, IfOk, OnErr, option_map, slice_get, string_bytes};
+ghost use Rattle.schema_registry.specs.Command.{Grows, RegisterCommand, SetLevelCommand, command_of};
 ghost use Rattle.session_core.specs.Ending.{SessionEndsWithOutcome};
 ghost use Rattle.session_core.specs.Event.{Begin, On, Publish, Register, SetLevel, act_of, event_of};
 ghost use Rattle.session_core.specs.Happening.{Adds, Happens, level_reply};
@@ -52,7 +52,8 @@ fn registration(subject: &String, text: &String) -> Result<Command, AllocError>
 
 /// The command that sets a level.
 fn level_command(subject: &Option<String>, level: Level) -> Result<Command, AllocError>
-    ensures { IfOk result (λ c. command_of c ≡ SetLevelCommand (option_map string_bytes subject.now) level) }
+    ensures command { IfOk result (λ c. command_of c ≡ SetLevelCommand (option_map string_bytes subject.now) level) }
+    ensures memory { OnErr result (Grows (SetLevelCommand (option_map string_bytes subject.now) level)) }
 {
     let subject = match subject {
         Some(subject) => Some(subject.clone()?),

@@ -18,8 +18,8 @@ returns-in_default-clause-place c =
     let none : place_of (unqualified c.args.name.now) c.args.names.now ≡ None = ap (λ t. place_of t c.args.names.now) (sym c.last.ensures) ∙ sym c.position_of.ensures.place ∙ c.in_default.is in
     sym (none_named W R c.args.wn c.args.members.now c.args.names.now c.args.name.now c.requires.name c.requires.no_union c.requires.names holds none)
 
-pub returns-in-Some-clause-place : goal.returns-in-Some-clause-place
-returns-in-Some-clause-place c =
+pub returns-clause-place : goal.returns-clause-place
+returns-clause-place c =
     let W = c.args.w.now in
     let R = c.args.r.now in
     let ms = c.args.members.now in

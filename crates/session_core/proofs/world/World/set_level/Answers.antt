@@ -20,6 +20,6 @@ returns c =
     let subject = option_map string_bytes c.args.subject.now in
     let old : World = record { commands = inside.registry; published = inside.published.items; sessions = inside.sessions.items } in
     let new : World = record { commands = c.apply.new.self; published = inside.published.items; sessions = inside.sessions.items } in
-    let happens = level-happens old new subject c.args.level (command_of c.in-Ok.command) c.apply.result c.in-Ok.ensures c.apply.ensures.answer c.apply.ensures.ok c.apply.ensures.err refl in
+    let happens = level-happens old new subject c.args.level (command_of c.in-Ok.command) c.apply.result c.in-Ok.ensures.command c.apply.ensures.answer c.apply.ensures.ok c.apply.ensures.err c.apply.ensures.memory refl in
     subst (λ (w : World). Happens (SetLevel subject c.args.level) c.level_reply.result w new) c.self.view_is
     (subst (λ (r : EventReply). Happens (SetLevel subject c.args.level) r old new) (sym c.level_reply.ensures) happens)
