@@ -117,7 +117,7 @@ reads_as_schema text nodes e = read_at text nodes (read text) refl e
 
 -- of a schema and its own text
 pub of_own_text : (text : List ℕ) (nodes : List Node) → TextGives text nodes → nodes_in_read (read text) ≡ Ok nodes
-of_own_text text nodes t = ap nodes_in_read t.text.reads ∙ t.nodes
+of_own_text text nodes t = ap nodes_in_read t.is_compact.reads ∙ t.gives
 
 pub same_nodes : (text other : List ℕ) (nodes others : List Node) → text ≡ other → TextGives text nodes → TextGives other others → nodes ≡ others
 same_nodes text other nodes others same t u =

@@ -40,8 +40,8 @@ pub record IsCompact (text : List ℕ) (value : Data) : Type 0 where
 -- and that value declares the nodes
 pub record TextGives (text : List ℕ) (nodes : List Node) : Type 0 where
   pub value : Data
-  pub text : IsCompact text value
-  pub nodes : nodes_in value ≡ Ok nodes
+  pub is_compact : IsCompact text value
+  pub gives : nodes_in value ≡ Ok nodes
 
 -- The answer is what the text declares, unless memory ran out. Its own text is the compact one of the value that was
 -- read.

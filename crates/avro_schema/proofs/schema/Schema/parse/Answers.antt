@@ -34,8 +34,8 @@ of_parts-requires c =
     let back : read (string_bytes c.in_ok-text.text) ≡ Some (view c.in_ok-value.value) = c.in_ok-text.ensures.reads_back c.in_ok-value.ensures.nests in
     record {
       value = view c.in_ok-value.value;
-      text = record { reads = back; compact = c.in_ok-text.ensures.text (sym c.if-has_float.ensures) };
-      nodes = sym (ap nodes_in_read back) ∙ walked (string_bytes c.in_ok-text.text) (view c.in_ok-value.value) back c.if-has_float.ensures ∙ c.in_ok-kinds.ensures.declared ∙ ap Ok (sym c.new.ensures);
+      is_compact = record { reads = back; compact = c.in_ok-text.ensures.text (sym c.if-has_float.ensures) };
+      gives = sym (ap nodes_in_read back) ∙ walked (string_bytes c.in_ok-text.text) (view c.in_ok-value.value) back c.if-has_float.ensures ∙ c.in_ok-kinds.ensures.declared ∙ ap Ok (sym c.new.ensures);
     }
 
 pub new-requires : goal.new-requires
