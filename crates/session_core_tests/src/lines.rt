@@ -80,7 +80,7 @@ fn session_event(
 }
 
 /// The event of a line.
-fn event_of(alloc: Global, line: &str) -> Result<Event, AllocError> {
+pub(crate) fn event_of(alloc: Global, line: &str) -> Result<Event, AllocError> {
     let (verb, words) = line.split_once(' ').unwrap_or((line, ""));
     let (word, rest) = words.split_once(' ').unwrap_or((words, ""));
     match shared_event(alloc, verb, word, rest)? {
@@ -90,7 +90,7 @@ fn event_of(alloc: Global, line: &str) -> Result<Event, AllocError> {
 }
 
 /// A reply as a line, but for want of memory.
-fn reply_line(alloc: Global, reply: EventReply) -> Result<String, AllocError> {
+pub(crate) fn reply_line(alloc: Global, reply: EventReply) -> Result<String, AllocError> {
     match reply {
         EventReply::Id(id) => format!(in alloc; "id {id}"),
         EventReply::Done => String::from_str(alloc, "ok"),

@@ -1,10 +1,10 @@
 //! What a world answers to events in a row.
 
-use crate::again::row_for;
-use crate::lines::answer_to;
+use crate::again::{row_for, session_ends};
+use crate::lines::{answer_to, event_of, reply_line};
 use crate::rows::{BREAKS, REFUSALS, REFUSED, REPLAY};
 use crate::same::same;
-use session_core::{PairRow, World};
+use session_core::{Event, PairRow, World, run_events, sessions_are_their_own};
 use std::alloc::{AllocError, Global};
 use std::process::Abort;
 use std::test::Fail;
@@ -38,7 +38,14 @@ fn attempt<'p>(
 ) -> Result<String, AllocError> {
     let begun = answer_to(alloc, world, programs, begin)?;
     let number = begun.strip_prefix("session ").unwrap_or("");
-    for (verb, rest) in [("piece", " 3606666f6f"), ("finish", ""), ("walk", " 99")] {
+    for (verb, rest) in [
+        ("break", " 5"),
+        ("piece", " 3606666f6f"),
+        ("finish", ""),
+        ("slice", " 0 99"),
+        ("go", " 1"),
+        ("walk", " 99"),
+    ] {
         let line = format!(in alloc; "{verb} {number}{rest}")?;
         answer_to(alloc, world, programs, &line)?;
     }
@@ -68,6 +75,7 @@ fn two_ends(alloc: Global, programs: &PairRow) -> Result<String, AllocError> {
             answer_to(alloc, &mut world, programs, line)?;
         }
     }
+    answer_to(alloc, &mut world, programs, "level s FULL")?;
     let one = rewritten(alloc, &mut world, programs, "begin 1 1")?;
     let two = rewritten(alloc, &mut world, programs, "begin 1 2")?;
     format!(in alloc; "{one}, {two}")
@@ -77,6 +85,45 @@ fn two_ends(alloc: Global, programs: &PairRow) -> Result<String, AllocError> {
 fn ends(alloc: Global) -> Result<String, AllocError> {
     let programs = row_for(alloc, 2)?;
     two_ends(alloc, &programs)
+}
+
+/// The events of rows, and what is replied to them, a line each.
+fn events_and_replies(alloc: Global, rows: &str) -> Result<(Vec<Event>, String), AllocError> {
+    let mut events = Vec::new(alloc);
+    let mut replies = String::new(alloc);
+    let mut is_event = false;
+    for (place, line) in rows.lines().enumerate() {
+        if place % 2 == 0 {
+            is_event = !line.starts_with("result ");
+            if is_event {
+                events.push(event_of(alloc, line)?)?;
+            }
+        } else if is_event {
+            let row = format!(in alloc; "{line}\n")?;
+            replies.push_str(&row)?;
+        }
+    }
+    Ok((events, replies))
+}
+
+/// What a new world replies to events in one call, a line each, and how its first two sessions have ended then.
+fn replied(alloc: Global, programs: &PairRow, events: &[Event]) -> Result<String, AllocError> {
+    let (world, replies) = run_events(alloc, programs, events)?;
+    world.ends_with_the_outcome(0);
+    sessions_are_their_own();
+    let mut lines = String::new(alloc);
+    for reply in &replies {
+        let line = reply_line(alloc, *reply)?;
+        let row = format!(in alloc; "{line}\n")?;
+        lines.push_str(&row)?;
+    }
+    let (one, two) = (
+        session_ends(alloc, &world, 0)?,
+        session_ends(alloc, &world, 1)?,
+    );
+    let ends = format!(in alloc; "{one}, {two}")?;
+    lines.push_str(&ends)?;
+    Ok(lines)
 }
 
 /// Whether a new world answers each event as its row has it.
@@ -89,6 +136,16 @@ fn assert_rows(rt: &(impl Abort + AllocGlobal), pairs: usize, rows: &str) -> Res
 #[test]
 fn sessions_go_their_own_ways(rt: HostRuntime) -> Result<(), Fail> {
     assert_rows(&rt, 2, REPLAY)
+}
+
+#[test]
+fn events_go_in_one_call(rt: HostRuntime) -> Result<(), Fail> {
+    let programs = row_for(rt.alloc(), 2)?;
+    let (events, mut want) = events_and_replies(rt.alloc(), REPLAY)?;
+    want.push_str("done 3606666f6f count 10, done 06666f6f36 count 10")?;
+    let found = replied(rt.alloc(), &programs, events.as_slice())?;
+    same(&rt, found.as_str(), want.as_str());
+    Ok(())
 }
 
 #[test]
