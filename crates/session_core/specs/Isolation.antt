@@ -21,6 +21,8 @@ pub record IsLike (s : ℕ) (one other : World) : Type 0 where
   pub session : slice_get one.sessions s ≡ slice_get other.sessions s
 
 -- Where the events of all other sessions are left out, the others have the same replies, and the session is the same.
+abbrev pub IsItsOwn : ℕ → List Step → World → Type 0
+IsItsOwn s steps world = (alone : World) × Happened (own_steps s steps) no_world alone × IsLike s world alone
+
 abbrev pub SessionsAreTheirOwn : Type 0
-SessionsAreTheirOwn = (s : ℕ) (steps : List Step) (world : World) → Happened steps no_world world
-    → (alone : World) × Happened (own_steps s steps) no_world alone × IsLike s world alone
+SessionsAreTheirOwn = (s : ℕ) (steps : List Step) (world : World) → Happened steps no_world world → IsItsOwn s steps world

@@ -1,15 +1,19 @@
-ghost use Rattle.std.specs.Prelude.{◌≡◌, IfOk, length, map};
+ghost use Rattle.std.specs.Prelude.{◌≡◌, ℕ, IfOk, length, map};
+ghost use Rattle.session_core.specs.Ending.{SessionEndsWithOutcome};
 ghost use Rattle.session_core.specs.Event.{event_of};
 ghost use Rattle.session_core.specs.Happening.{Happened, steps_of};
+ghost use Rattle.session_core.specs.Isolation.{IsItsOwn};
 ghost use Rattle.session_core.specs.World.{no_world};
 
 use crate::event::Event;
+use crate::laws::sessions_are_their_own;
 use crate::programs::Programs;
 use crate::reply::EventReply;
 use crate::world::World;
 use std::alloc::{AllocError, Global};
 
-/// The world after events, one after another, with a reply to each.
+/// The world after events, one after another, with a reply to each. A session's machine ends with the outcome of its own
+/// bytes for its own pair, and each session is what its own events make of it.
 pub fn run_events<'p, P: Programs>(
     alloc: Global,
     programs: &'p P,
@@ -17,12 +21,17 @@ pub fn run_events<'p, P: Programs>(
 ) -> Result<(World<'p>, Vec<EventReply>), AllocError>
     ensures many { IfOk result (λ r. length r.1.items ≡ length events.now) }
     ensures happened { IfOk result (λ r. Happened (steps_of (map event_of events.now) r.1.items) no_world r.0) }
+    ensures ends { IfOk result (λ r. (session : ℕ) → SessionEndsWithOutcome r.0 session) }
+    ensures own { IfOk result (λ r. (session : ℕ) →
+        IsItsOwn session (steps_of (map event_of events.now) r.1.items) r.0) }
 {
+    sessions_are_their_own();
     let mut world = World::new(alloc);
     let mut replies = Vec::new(alloc);
     for event in events {
         let reply = world.event(programs, event);
         replies.push(reply)?;
     }
+    world.sessions_end_with_their_outcomes();
     Ok((world, replies))
 }

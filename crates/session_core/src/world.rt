@@ -1,4 +1,4 @@
-ghost use Rattle.std.specs.Prelude.{◌≡◌, IfOk, OnErr, option_map, slice_get, string_bytes};
+ghost use Rattle.std.specs.Prelude.{◌≡◌, ℕ, IfOk, OnErr, option_map, slice_get, string_bytes};
 ghost use Rattle.schema_registry.specs.Command.{Grows, RegisterCommand, SetLevelCommand, command_of};
 ghost use Rattle.session_core.specs.Ending.{SessionEndsWithOutcome};
 ghost use Rattle.session_core.specs.Event.{Begin, On, Publish, Register, SetLevel, act_of, event_of};
@@ -100,6 +100,15 @@ impl<'p> World<'p> {
             return;
         };
         held.session.ends_with_the_outcome(w.nodes(), r.nodes());
+    }
+
+    /// The law that this holds of each session.
+    pub(crate) fn sessions_end_with_their_outcomes(&self)
+        ensures { (session : ℕ) → SessionEndsWithOutcome self.now session }
+    {
+        for session in 0..self.sessions.len() {
+            self.ends_with_the_outcome(session);
+        }
     }
 
     /// A session by its number.
