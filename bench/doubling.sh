@@ -2,13 +2,15 @@
 # Whether time is linear: the program on payloads of nested arrays of records, and on schemas of many symbols, of many long names that
 # differ at their ends, of many defaults, members, aliases that are one, or are met often, a record that is met often, and names in one long namespace, each of one size and of twice that size, in one
 # run. And whether a datum costs the same with a schema of twice the size: records of many fields, unions of many members, enums of many
-# symbols, long names, lists of many levels. Not part of the gate. Usage: bench/doubling.sh PROGRAM [WORD], which takes the rows alone whose names have that word.
+# symbols, long names, lists of many levels. Not part of the gate. Usage: bench/doubling.sh PROGRAM [WORD [instructions]], which takes the rows alone whose names have
+# that word, and counts instructions (by valgrind) in place of time.
 set -euo pipefail
 program=$(realpath "$1")
-exec python3 - "$program" "${2:-}" <<'PYTHON'
-import random, subprocess, sys, time
+exec python3 - "$program" "${2:-}" "${3:-}" <<'PYTHON'
+import random, re, subprocess, sys, time
 
-program, word = sys.argv[1:]
+program, word, mode = sys.argv[1:]
+counting = mode == "instructions"
 
 def number(n):
     n = n * 2 if n >= 0 else -2 * n - 1
@@ -143,17 +145,20 @@ def levels_row(levels):
     lists = 100_000 // levels
     return schema, schema, number(lists) + ((number(7) + number(1)) * (levels - 1) + b"\x80\0\0") * lists + b"\0", lists * levels
 
-def seconds(data, verb="transcode"):
+# milliseconds, or millions of instructions
+def cost(data, verb="transcode"):
+    counted = ["valgrind", "--tool=callgrind", "--callgrind-out-file=/dev/null"] if counting else []
     begin = time.perf_counter()
-    done = subprocess.run([program, verb], input=data, capture_output=True)
+    done = subprocess.run([*counted, program, verb], input=data, capture_output=True)
     took = time.perf_counter() - begin
     assert done.returncode == 0, done.stdout[:200]
-    return took
+    return int(re.search(rb"Collected : (\d+)", done.stderr)[1]) / 1e6 if counting else took * 1e3
 
 # the least of some turns, in which all of them come, so that what else the machine does falls on all alike
 def least(turns, *inputs, verb="transcode"):
-    return [min(took) for took in zip(*([seconds(data, verb) for data in inputs] for _ in range(turns)))]
+    return [min(costs) for costs in zip(*([cost(data, verb) for data in inputs] for _ in range(1 if counting else turns)))]
 
+unit, each = ("million instructions", "instructions") if counting else ("ms", "ns")
 holds = True
 start = least(40, b'"int"\n"int"\n')[0]
 for name, make, size, turns in [("payload", points, 1 << 21, 10), ("schema of enums", enums, 100_000, 30), ("schema of names", names, 100_000, 30),
@@ -166,7 +171,7 @@ for name, make, size, turns in [("payload", points, 1 << 21, 10), ("schema of en
         continue
     once, twice = (took - start for took in least(turns, *(make(size * k).encode() for k in (1, 2))))
     holds = holds and twice / once <= 2.3
-    print("%s of %d and %d bytes: %.1f ms and %.1f ms, ratio %.2f (2.3 at most)" % (name, size, size * 2, once * 1000, twice * 1000, twice / once))
+    print("%s of %d and %d bytes: %.1f and %.1f %s, ratio %.2f (2.3 at most)" % (name, size, size * 2, once, twice, unit, twice / once))
 
 # a text in pieces of 1 KiB, to its own program
 def pieces(size):
@@ -178,7 +183,7 @@ if word in "payload in pieces":
     size = (1 << 23) - 16
     once, twice = least(10, *(pieces(size * k).encode() for k in (1, 2)), verb="run")
     holds = holds and twice / once <= 2.3
-    print("payload in pieces of %d and %d bytes: %.1f ms and %.1f ms, ratio %.2f (2.3 at most)" % (size, size * 2, once * 1000, twice * 1000, twice / once))
+    print("payload in pieces of %d and %d bytes: %.1f and %.1f %s, ratio %.2f (2.3 at most)" % (size, size * 2, once, twice, unit, twice / once))
 
 for name, make, many in [("data of a record by its fields", fields_row, 500), ("data of a union by its members", members_row, 500),
                          ("data of an enum by its symbols", symbols_row, 2000), ("data of a record by the letters of its name", name_row, 50_000),
@@ -192,6 +197,6 @@ for name, make, many in [("data of a record by its fields", fields_row, 500), ("
         alone, whole_line = least(10, schemas, schemas + payload.hex().encode() + b"\n")
         costs.append((whole_line - alone) / data)
     holds = holds and costs[1] / costs[0] <= 1.5
-    print("%s, %d and %d: %.1f ns and %.1f ns a datum, ratio %.2f (1.5 at most)" % (name, many, many * 2, costs[0] * 1e9, costs[1] * 1e9, costs[1] / costs[0]))
+    print("%s, %d and %d: %.1f and %.1f %s a datum, ratio %.2f (1.5 at most)" % (name, many, many * 2, costs[0] * 1e6, costs[1] * 1e6, each, costs[1] / costs[0]))
 sys.exit(0 if holds else 1)
 PYTHON

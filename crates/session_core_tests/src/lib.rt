@@ -4,6 +4,8 @@
 #[cfg(test)]
 mod again;
 #[cfg(test)]
+mod limit_tests;
+#[cfg(test)]
 mod lines;
 #[cfg(test)]
 mod pair_row_tests;
@@ -11,5 +13,7 @@ mod pair_row_tests;
 mod rows;
 #[cfg(test)]
 mod same;
+#[cfg(test)]
+mod texts;
 #[cfg(test)]
 mod world_tests;

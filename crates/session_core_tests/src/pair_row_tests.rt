@@ -2,6 +2,7 @@
 
 use crate::again::{parsed, published, row_for};
 use crate::same::same;
+use crate::texts::{push_fields, push_rows};
 use avro_schema::Schema;
 use session_core::{PairRow, PublishError};
 use std::alloc::{AllocError, Global};
@@ -49,33 +50,6 @@ fn each_pair_has_its_own_cell(rt: HostRuntime) -> Result<(), Fail> {
         len_of(&row_for(alloc, 0)?, &int, &int),
         Err(PublishError::Clash),
     );
-    Ok(())
-}
-
-/// Appends a union of so many records, all named R, without fields.
-fn push_rows(text: &mut String, many: usize) -> Result<(), AllocError> {
-    for row in 0..many {
-        let before = if row == 0 { "[" } else { "," };
-        write!(
-            text,
-            "{before}{{\"type\":\"record\",\"name\":\"n{row}.R\",\"fields\":[]}}"
-        )?;
-    }
-    text.push_str("]")?;
-    Ok(())
-}
-
-/// Appends a record R of so many ints that are 0 by default.
-fn push_fields(text: &mut String, many: usize) -> Result<(), AllocError> {
-    text.push_str("{\"type\":\"record\",\"name\":\"R\",\"fields\":")?;
-    for field in 0..many {
-        let before = if field == 0 { "[" } else { "," };
-        write!(
-            text,
-            "{before}{{\"name\":\"f{field}\",\"type\":\"int\",\"default\":0}}"
-        )?;
-    }
-    text.push_str("]}")?;
     Ok(())
 }
 
