@@ -100,7 +100,7 @@ result 1
 done 06666f6f36 count 10
 "#;
 
-/// Each refusal of an event, but for those at limits, which `tests/program.sh` has.
+/// Each refusal of an event, but for those at limits, which `limit_tests` has.
 pub(crate) const REFUSALS: &str = r#"publish 0 1
 refused NoSchema
 register s "int"
