@@ -18,7 +18,6 @@ use Rattle.avro_bytes.specs.NumberDecoding.{number_at}
 use Rattle.avro_bytes.specs.Position.{position_at}
 use Rattle.avro_bytes.specs.Shortest.{shortest}
 use Rattle.avro_bytes.specs.Walk.{Walk, first_walk}
-use Rattle.avro_bytes.specs.Written.{in_block}
 use Rattle.avro_bytes.specs.Laws.Meters.{was_opened}
 use Rattle.avro_bytes.specs.Laws.Walks.{item_meter, end_meter}
 use Rattle.outcome.specs.Outcome as outcomes
@@ -31,7 +30,7 @@ use Rattle.isa.specs.declared.limits.TheConstants.{MOST_CALLS, MOST_PIECE}
 use Rattle.isa.specs.Program.{Program, constant_of, jumps_of, map_of}
 use Rattle.isa.specs.State.{Blocks, End, Frame, Part, Rec, Skip, SkipBlocks, State, Store, has_current, meter_of, add, frames_size, size_of, miss, total, Out}
 use Rattle.isa.specs.Bounds.{AreBounded, IsBounded}
-use Rattle.isa.specs.Table.{Move, added, anything, begun, close_record, content, dropped, ends_part, entered, finished, fixed, gathered, halt, if_current, leave, missed, moved, moves, next, next_of, only_text, opens, or_miss, passed, pushed, reads, return, select, skip_next_of, stop, trap, wait, with_frames}
+use Rattle.isa.specs.Table.{Move, added, anything, begun, close_record, content, dropped, ends_part, entered, finished, fixed, gathered, halt, if_current, items_closed, leave, missed, moved, moves, next, next_of, only_text, opens, or_miss, passed, pushed, reads, return, select, skip_next_of, stop, trap, wait, with_frames}
 use Rattle.isa.specs.Row.{kept, row, row_at, skipped}
 use Rattle.isa.proofs.Held.{Holds, add_holds, miss_holds, new_slots}
 
@@ -215,8 +214,8 @@ module _ (P : Program) (p : List ℕ) (ended : Bool) (s : State) (running : s.en
       (λ b. counted_units (next to (with_frames (Blocks new (items + 1) buffer ∷ frames) s)) m.units (omega (arith, u.1, u.2)) (framed s (Blocks new (items + 1) buffer ∷ frames) (omega (arith, ap length e)) (omega (arith, ap frames_size e)) b))
   gathered_proper a walk items buffer frames e None to m n =
       let u = end_meter walk p s.pos to (meter_of s) m (omega (arith, ap length e)) n in
-      current_proper (has_current frames) _ (goes (record (added (in_block items buffer) (with_frames frames s)) { pc = a; pos = to; units = m.units }) refl
-      (λ b. counted_units (added (in_block items buffer) (with_frames frames s)) m.units (omega (arith, u.1, b.units_few)) (added_bounded (in_block items buffer) (with_frames frames s) (framed s frames (omega (arith, ap length e)) (omega (arith, ap frames_size e)) b))))
+      current_proper (has_current frames) _ (goes (record (added (items_closed items buffer) (with_frames frames s)) { pc = a; pos = to; units = m.units }) refl
+      (λ b. counted_units (added (items_closed items buffer) (with_frames frames s)) m.units (omega (arith, u.1, b.units_few)) (added_bounded (items_closed items buffer) (with_frames frames s) (framed s frames (omega (arith, ap length e)) (omega (arith, ap frames_size e)) b))))
 
   next_proper : (a : ℕ) (frames : List Frame) → s.store.frames ≡ frames → Proper ended s (next_of P p ended a s frames)
   next_proper a [] e = inr refl

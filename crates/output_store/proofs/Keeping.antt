@@ -25,12 +25,16 @@ use Rattle.output_store.proofs.Texts.{out-added, texts-added, texts-none, texts-
 abbrev pub store_of : List Frame → List (List ℕ) → List ℕ → Option ℕ → Bool → Store
 store_of fs texts out mark over = record { frames = frames_in fs texts; out = out; mark = mark; over = over }
 
-pub total-is : (fs : List Frame) (laid : Laid) (units : ℕ) (mark : Option ℕ) (over : Bool) → IsKept fs laid units mark over → total (held_of fs laid units mark over).store ≡ length laid.arena
-total-is fs laid units mark over k =
-    ap (λ (n : ℕ). n + length (out_of laid)) (sizes fs (texts_of laid) (places-texts fs laid k.places)) ∙ k.counts
+pub total-is : (fs : List Frame) (laid : Laid) (lost units : ℕ) (mark : Option ℕ) (over : Bool) → IsKept fs laid lost units mark over → total (held_of fs laid units mark over).store + lost ≡ length laid.arena
+total-is fs laid lost units mark over k =
+    ap (λ (n : ℕ). n + length (out_of laid) + lost) (sizes fs (texts_of laid) (places-texts fs laid k.places)) ∙ k.counts
   where
     places-texts : (fs : List Frame) (laid : Laid) → AreFrames fs (length laid.slots) → AreFrames fs (length (texts_of laid))
     places-texts fs laid f = subst (AreFrames fs) (sym (length-map laid.slots _)) f
+
+-- no more than the limit
+pub total-fits : (fs : List Frame) (laid : Laid) (lost units : ℕ) (mark : Option ℕ) (over : Bool) → IsKept fs laid lost units mark over → total (held_of fs laid units mark over).store ≤ MOST_OUTPUT
+total-fits fs laid lost units mark over k = omega (arith, total-is fs laid lost units mark over k, k.fits)
 
 over-texts : (fs : List Frame) (laid : Laid) → AreFrames fs (length laid.slots) → AreFrames fs (length (texts_of laid))
 over-texts fs laid f = subst (AreFrames fs) (sym (length-map laid.slots _)) f
@@ -41,8 +45,8 @@ nothing (x ∷ xs) e = absurd (omega (arith, e))
 
 -- ---- emptied
 
-pub kept-none : (fs : List Frame) (laid : Laid) (units : ℕ) (mark mark' : Option ℕ) (over over' : Bool) → IsKept fs laid units mark over → IsKept fs (with_none laid) units mark' over'
-kept-none fs laid units mark mark' over over' k = record {
+pub kept-none : (fs : List Frame) (laid : Laid) (lost units : ℕ) (mark mark' : Option ℕ) (over over' : Bool) → IsKept fs laid lost units mark over → IsKept fs (with_none laid) 0 units mark' over'
+kept-none fs laid lost units mark mark' over over' k = record {
   places = subst (AreFrames fs) (sym (length-replicate (length laid.slots) [])) k.places;
   items = k.items;
   deep = k.deep;
@@ -51,24 +55,25 @@ kept-none fs laid units mark mark' over over' k = record {
   none = λ d. refl;
 }
 
-pub shown-none : (fs : List Frame) (laid : Laid) (units : ℕ) (mark mark' : Option ℕ) (over over' : Bool) → IsKept fs laid units mark over →
+pub shown-none : (fs : List Frame) (laid : Laid) (lost units : ℕ) (mark mark' : Option ℕ) (over over' : Bool) → IsKept fs laid lost units mark over →
     store_of fs (texts_of (with_none laid)) (out_of (with_none laid)) mark' over' ≡ emptied (store_of fs (texts_of laid) (out_of laid) mark' over')
-shown-none fs laid units mark mark' over over' k =
+shown-none fs laid lost units mark mark' over over' k =
     ap (λ (x : List (List ℕ)). store_of fs x [] mark' over') (texts-none laid)
     ∙ ap (λ (x : List state.Frame). record { frames = x; out = []; mark = mark'; over = over' }) (sym (emptied-frames fs (texts_of laid) (over-texts fs laid k.places)))
 
 -- ---- bytes added
 
+-- the limit is passed
+pub shown-passed : (fs : List Frame) (laid : Laid) (lost units : ℕ) (mark : Option ℕ) (over : Bool) (h : Held) → held_of fs laid units mark over ≡ h → IsKept fs laid lost units mark over →
+    store_of fs (texts_of (with_none laid)) (out_of (with_none laid)) mark true ≡ emptied (record h.store { over = true })
+shown-passed fs laid lost units mark over h is k = shown-none fs laid lost units mark mark over true k ∙ ap (λ (x : Held). emptied (record x.store { over = true })) is
+
 -- more than there is room for
-pub add-great : (fs : List Frame) (laid : Laid) (units : ℕ) (mark : Option ℕ) (over : Bool) (x : List ℕ) (h : Held) → held_of fs laid units mark over ≡ h → IsKept fs laid units mark over → is_done mark over ≡ false → MOST_OUTPUT - length laid.arena < length x →
-    store_of fs (texts_of (with_none laid)) (out_of (with_none laid)) mark true ≡ add x h.store
-add-great fs laid units mark over x h is k d lt =
-    shown-none fs laid units mark mark over true k
-    ∙ sym (add-over x (held_of fs laid units mark over).store d (omega (arith, total-is fs laid units mark over k, lt)))
-    ∙ ap (λ (y : Held). add x y.store) is
+pub add-great : (x : List ℕ) (s : Store) → is_done s.mark s.over ≡ false → MOST_OUTPUT - total s < length x → emptied (record s { over = true }) ≡ add x s
+add-great x s d lt = sym (add-over x s d (omega (arith, lt)))
 
 -- no more
-module _ (top : Frame) (below : List Frame) (laid : Laid) (units : ℕ) (mark : Option ℕ) (over : Bool) (x : List ℕ) (place : Place) (k : IsKept (top ∷ below) laid units mark over) (are : AreLaid laid) (d : is_done mark over ≡ false) (p : place_of top ≡ Some place) (le : length x ≤ MOST_OUTPUT - length laid.arena) where
+module _ (top : Frame) (below : List Frame) (laid : Laid) (lost units : ℕ) (mark : Option ℕ) (over : Bool) (x : List ℕ) (place : Place) (k : IsKept (top ∷ below) laid lost units mark over) (are : AreLaid laid) (d : is_done mark over ≡ false) (p : place_of top ≡ Some place) (le : length x ≤ MOST_OUTPUT - total (held_of (top ∷ below) laid units mark over).store) where
   there : IsPlace (length laid.slots) place
   there = placed top below (length laid.slots) place k.places p
 
@@ -79,19 +84,22 @@ module _ (top : Frame) (below : List Frame) (laid : Laid) (units : ℕ) (mark : 
   same-many places.Out = refl
   same-many (places.Slot i) = length-set laid.slots i _
 
-  pub kept-added : IsKept (top ∷ below) (with_added place x laid) units mark over
+  pub kept-added : IsKept (top ∷ below) (with_added place x laid) lost units mark over
   kept-added = record {
     places = subst (AreFrames (top ∷ below)) (sym (same-many place)) k.places;
     items = k.items;
     deep = k.deep;
-    counts = ap (λ (n : ℕ). n + length (out_of (with_added place x laid))) (ap total_length (texts-added laid x are place there))
-        ∙ ap (λ (y : List ℕ). total_length (texts_with place x (texts_of laid)) + length y) (out-added laid x are place there)
-        ∙ total-with place x (out_of laid) (texts_of laid) there-texts
-        ∙ ap (λ (n : ℕ). n + length x) k.counts ∙ sym (arena-added place);
-    fits = omega (arith, arena-added place, le, k.fits);
+    counts = omega (arith, all-added, k.counts, arena-added place);
+    fits = omega (arith, arena-added place, le, total-is (top ∷ below) laid lost units mark over k, total-fits (top ∷ below) laid lost units mark over k);
     none = λ t. absurd (let e : true ≡ false = sym t ∙ d in cc);
   }
     where
+      all-added : total_length (texts_of (with_added place x laid)) + length (out_of (with_added place x laid)) ≡ total_length (texts_of laid) + length (out_of laid) + length x
+      all-added =
+          ap (λ (n : ℕ). n + length (out_of (with_added place x laid))) (ap total_length (texts-added laid x are place there))
+          ∙ ap (λ (y : List ℕ). total_length (texts_with place x (texts_of laid)) + length y) (out-added laid x are place there)
+          ∙ total-with place x (out_of laid) (texts_of laid) there-texts
+
       arena-added : (q : Place) → length (with_added q x laid).arena ≡ length laid.arena + length x
       arena-added places.Out = length-append laid.arena x
       arena-added (places.Slot i) = length-append laid.arena x
@@ -101,7 +109,7 @@ module _ (top : Frame) (below : List Frame) (laid : Laid) (units : ℕ) (mark : 
       ap (λ (y : List (List ℕ)). store_of (top ∷ below) y (out_of (with_added place x laid)) mark over) (texts-added laid x are place there)
       ∙ ap (λ (y : List ℕ). store_of (top ∷ below) (texts_with place x (texts_of laid)) y mark over) (out-added laid x are place there)
       ∙ sym (appended top below (texts_of laid) (out_of laid) x mark over place (over-texts (top ∷ below) laid k.places) p)
-      ∙ sym (add-fits x (held_of (top ∷ below) laid units mark over).store d (omega (arith, total-is (top ∷ below) laid units mark over k, le, k.fits)))
+      ∙ sym (add-fits x (held_of (top ∷ below) laid units mark over).store d (omega (arith, le, total-fits (top ∷ below) laid lost units mark over k)))
       ∙ ap (λ (y : Held). add x y.store) is
 
 pub on_added : {A E : Type 0} (r : Result A E) (P : Laid → Type 0) (laid new grown : Laid) → (P grown) → OnOk r (new ≡ grown) → OnOk r (P new)
@@ -114,10 +122,10 @@ either (Err a) P old new grown p q e f = subst P (sym f) q
 
 -- ---- marked
 
-pub miss-first : (fs : List Frame) (laid : Laid) (units : ℕ) (over : Bool) (m : ℕ) (h : Held) → held_of fs laid units None over ≡ h → IsKept fs laid units None over →
+pub miss-first : (fs : List Frame) (laid : Laid) (lost units : ℕ) (over : Bool) (m : ℕ) (h : Held) → held_of fs laid units None over ≡ h → IsKept fs laid lost units None over →
     store_of fs (texts_of (with_none laid)) (out_of (with_none laid)) (Some m) over ≡ miss m h.store
 unfolding miss
-miss-first fs laid units over m h is k = shown-none fs laid units None (Some m) over over k ∙ ap (λ (y : Held). marked m y.store.mark y.store) is
+miss-first fs laid lost units over m h is k = shown-none fs laid lost units None (Some m) over over k ∙ ap (λ (y : Held). marked m y.store.mark y.store) is
 
 pub miss-later : (m first : ℕ) (s : Store) → s.mark ≡ Some first → s ≡ miss m s
 unfolding miss
@@ -163,15 +171,15 @@ depth (frames.Skip ∷ below) texts n f = omega (arith, depth below texts n f)
 depth (frames.Blocks first walk items ∷ below) texts n f = omega (arith, depth below (take first texts) first f.1)
 depth (frames.SkipBlocks walk ∷ below) texts n f = omega (arith, depth below texts n f)
 
-pub kept-opened : (fs : List Frame) (laid new : Laid) (units more first : ℕ) (mark : Option ℕ) (over : Bool) (o : Opening) (h : Held) → held_of fs laid units mark over ≡ h → IsKept fs laid units mark over → first ≡ length laid.slots → new ≡ with_opened (slots_opened o) laid → units ≤ more → length h.store.frames < MOST_DEPTH →
-    IsKept (opened_at first o ∷ fs) new more mark over
-kept-opened fs laid new units more first mark over o h is k f e le lt =
-    subst (λ (x : Laid). IsKept (opened_at first o ∷ fs) x more mark over) (sym e) (record {
+pub kept-opened : (fs : List Frame) (laid new : Laid) (lost units more first : ℕ) (mark : Option ℕ) (over : Bool) (o : Opening) (h : Held) → held_of fs laid units mark over ≡ h → IsKept fs laid lost units mark over → first ≡ length laid.slots → new ≡ with_opened (slots_opened o) laid → units ≤ more → length h.store.frames < MOST_DEPTH →
+    IsKept (opened_at first o ∷ fs) new lost more mark over
+kept-opened fs laid new lost units more first mark over o h is k f e le lt =
+    subst (λ (x : Laid). IsKept (opened_at first o ∷ fs) x lost more mark over) (sym e) (record {
       places = subst (λ (n : ℕ). AreFrames (opened_at n o ∷ fs) (length (laid.slots ++ replicate (slots_opened o) []))) (sym f)
           (frames-opened fs (length laid.slots) (length (laid.slots ++ replicate (slots_opened o) [])) o k.places (length-append laid.slots (replicate (slots_opened o) []) ∙ ap (λ (n : ℕ). length laid.slots + n) (length-replicate (slots_opened o) [])));
       items = (few-at more first o, more-items units more fs le k.items);
       deep = omega (arith, depth fs (texts_of laid) (length laid.slots) k.places, ap (λ (x : Held). length x.store.frames) is, lt);
-      counts = ap (λ (n : ℕ). n + length (out_of laid)) (ap total_length (texts-opened laid (slots_opened o)) ∙ total-append (texts_of laid) (replicate (slots_opened o) []) ∙ ap (λ (n : ℕ). total_length (texts_of laid) + n) (total-replicate (slots_opened o)) ∙ (let z : total_length (texts_of laid) + 0 ≡ total_length (texts_of laid) = omega arith in z)) ∙ k.counts;
+      counts = ap (λ (n : ℕ). n + length (out_of laid) + lost) (ap total_length (texts-opened laid (slots_opened o)) ∙ total-append (texts_of laid) (replicate (slots_opened o) []) ∙ ap (λ (n : ℕ). total_length (texts_of laid) + n) (total-replicate (slots_opened o)) ∙ (let z : total_length (texts_of laid) + 0 ≡ total_length (texts_of laid) = omega arith in z)) ∙ k.counts;
       fits = k.fits;
       none = k.none;
     })

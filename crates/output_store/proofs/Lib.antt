@@ -8,4 +8,5 @@ pub mod Texts
 pub mod Framing
 pub mod Keeping
 pub mod Closing
+pub mod Dropping
 pub mod Viewing

@@ -391,9 +391,9 @@ in-total [] i = omega arith
 in-total (x ∷ texts) zero = omega arith
 in-total (x ∷ texts) (suc i) = omega (arith, in-total texts i)
 
-pub few-segments : (laid : Laid) (place : Place) → AreLaid laid → IsPlace (length laid.slots) place → total_length (texts_of laid) + length (out_of laid) ≡ length laid.arena → length (segments_at laid place) ≤ length laid.arena
-few-segments laid places.Out are p e = omega (arith, no-more laid.arena laid.out are.out, e)
-few-segments laid (places.Slot i) are p e =
+pub few-segments : (laid : Laid) (place : Place) (n : ℕ) → AreLaid laid → IsPlace (length laid.slots) place → total_length (texts_of laid) + length (out_of laid) ≤ n → length (segments_at laid place) ≤ n
+few-segments laid places.Out n are p e = omega (arith, no-more laid.arena laid.out are.out, e)
+few-segments laid (places.Slot i) n are p e =
     omega (arith, no-more laid.arena (get_or laid.slots i []) (all-at (AreSegments (length laid.arena)) laid.slots i [] are.slots p), in-total (texts_of laid) i, ap (λ (x : List ℕ). length x) (text-at laid i p), e)
 
 -- ---- what the functions answer

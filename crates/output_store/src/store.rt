@@ -2,7 +2,7 @@ ghost use Rattle.std.specs.Prelude.{◌≡◌, ◌≢◌, ℕ, ◌+◌, ◌-◌,
 ghost use Rattle.avro_bytes.specs.declared.limits.TheConstants.{MOST_DEPTH};
 ghost use Rattle.avro_bytes.specs.Written.{block_count};
 ghost use Rattle.outcome.specs.declared.limits.TheConstants.{MOST_OUTPUT};
-ghost use Rattle.isa.specs.State.{add, has_current, is_done, total};
+ghost use Rattle.isa.specs.State.{add, emptied, has_current, is_done, total};
 ghost use Rattle.output_store.specs.Frames.{FewSlots, HasSlot, HoldsBuffers, first_of, frame_of, has_current_below, is_skip, is_skipped, items_of, newest_place, opened_at, place_of, skip_walk_of, slots_of, slots_opened, walk_of};
 ghost use Rattle.output_store.specs.Store.{Appends, around_items, close_blocks, close_record, closed_between, leave, meter_of, next_item, next_skipped, select, with_frames};
 
@@ -143,6 +143,8 @@ pub struct Store {
     pub(crate) top: Frame,
     pub(crate) below: Vec<Frame>,
     pub(crate) buffers: Buffers,
+    /// How many bytes of the arena no buffer holds any more.
+    lost: usize,
     units: u32,
     mark: Option<u32>,
     over: bool,
@@ -156,7 +158,7 @@ impl Model for Store {
 
     ghost view = { λ s. held_of (s.top ∷ reverse s.below.items) s.buffers s.units s.mark s.over };
 
-    ghost invariant = { λ s. IsKept (s.top ∷ reverse s.below.items) s.buffers s.units s.mark s.over };
+    ghost invariant = { λ s. IsKept (s.top ∷ reverse s.below.items) s.buffers s.lost s.units s.mark s.over };
 }
 
 impl Store {
@@ -170,6 +172,7 @@ impl Store {
             top: Frame::Bottom,
             below: Vec::new(alloc),
             buffers: Buffers::new(alloc),
+            lost: 0,
             units: 0,
             mark: None,
             over: false,
@@ -183,6 +186,7 @@ impl Store {
         self.top = Frame::Bottom;
         self.below.clear();
         self.buffers.clear();
+        self.lost = 0;
         self.units = 0;
         self.mark = None;
         self.over = false;
@@ -277,11 +281,19 @@ impl Store {
         self.mark.is_some() || self.over
     }
 
+    /// How many bytes the buffers have.
+    fn held(&self) -> usize
+        ensures held { result ≡ total self.now.store }
+        ensures few { result ≤ MOST_OUTPUT }
+    {
+        self.buffers.arena().len() - self.lost
+    }
+
     /// How many bytes more the buffers may have.
     pub fn room(&self) -> usize
         ensures { result ≡ MOST_OUTPUT - total self.now.store }
     {
-        MOST_OUTPUT - self.buffers.arena().len()
+        MOST_OUTPUT - self.held()
     }
 
     /// Bytes at the end of the current buffer.
@@ -295,9 +307,8 @@ impl Store {
         if self.is_done() {
             return Ok(());
         }
-        if bytes.len() > MOST_OUTPUT - self.buffers.arena().len() {
-            self.over = true;
-            self.buffers.empty_all();
+        if bytes.len() > self.room() {
+            self.pass_limit();
             return Ok(());
         }
         self.buffers.are_laid();
@@ -324,6 +335,7 @@ impl Store {
             None => {
                 self.mark = Some(miss);
                 self.buffers.empty_all();
+                self.lost = 0;
             }
             Some(_) => {}
         }
@@ -405,6 +417,30 @@ impl Store {
         self.units = units;
     }
 
+    /// The output passed its limit, and nothing is held any more.
+    fn pass_limit(&mut self)
+        ensures passed { self.new.store ≡ emptied (record self.old.store { over = true }) }
+        ensures units { self.new.units ≡ self.old.units }
+    {
+        self.over = true;
+        self.buffers.empty_all();
+        self.lost = 0;
+    }
+
+    /// The newest frame goes with its buffers, where nothing is held any more.
+    fn drop_newest(&mut self)
+        requires holds { HoldsBuffers self.old.store.frames }
+        requires done { is_done self.old.store.mark self.old.store.over ≡ true }
+        ensures dropped { self.new.store ≡ with_frames (leave self.old.store.frames) self.old.store }
+        ensures units { self.new.units ≡ self.old.units }
+    {
+        let Some(first) = self.top.first() else {
+            unreachable!()
+        };
+        self.buffers.shorten(first);
+        self.top = popped(&mut self.below);
+    }
+
     /// The newest frame is closed: what it holds goes, between bytes of which so many stand before it, to the current
     /// buffer below.
     fn close(&mut self, around: &[u8], before: usize) -> Result<(), AllocError>
@@ -417,24 +453,21 @@ impl Store {
         ensures arena { OnOk result (Appends around.now self.old self.new) }
         ensures refused { OnErr result (self.new ≡ self.old) }
     {
+        if self.is_done() {
+            self.drop_newest();
+            return Ok(());
+        }
+        if around.len() > self.room() {
+            self.pass_limit();
+            self.drop_newest();
+            return Ok(());
+        }
         let Some(first) = self.top.first() else {
             unreachable!()
         };
         let Some(into) = newest_place(&self.below) else {
             unreachable!()
         };
-        if self.is_done() {
-            self.buffers.shorten(first);
-            self.top = popped(&mut self.below);
-            return Ok(());
-        }
-        if around.len() > MOST_OUTPUT - self.buffers.arena().len() {
-            self.over = true;
-            self.buffers.shorten(first);
-            self.buffers.empty_all();
-            self.top = popped(&mut self.below);
-            return Ok(());
-        }
         self.buffers.are_laid();
         self.buffers.close(first, into, around, before)?;
         self.top = popped(&mut self.below);
@@ -453,9 +486,50 @@ impl Store {
         self.close(&[], 0)
     }
 
+    /// The newest frame, which is an array or a map without items, is closed: `00` goes to the current buffer below it,
+    /// and what its own buffer holds goes nowhere. The scratch is used on the way.
+    fn close_empty(&mut self, alloc: Global, scratch: &mut Vec<u8>) -> Result<(), AllocError>
+        requires blocks { is_some (walk_of self.old.store.frames) ≡ true }
+        requires below { has_current_below self.old.store.frames ≡ true }
+        ensures closed { OnOk result
+            (self.new.store ≡ add (0 ∷ []) (with_frames (leave self.old.store.frames) self.old.store)) }
+        ensures units { self.new.units ≡ self.old.units }
+        ensures arena { OnOk result (Appends (0 ∷ []) self.old self.new) }
+        ensures refused { OnErr result (self.new ≡ self.old) }
+    {
+        if self.is_done() {
+            self.drop_newest();
+            return Ok(());
+        }
+        let Some(first) = self.top.first() else {
+            unreachable!()
+        };
+        let Some(into) = newest_place(&self.below) else {
+            unreachable!()
+        };
+        scratch.clear();
+        self.buffers.write(alloc, Place::Slot(first), scratch)?;
+        let held = self.held() - scratch.len();
+        if held == MOST_OUTPUT {
+            self.pass_limit();
+            self.drop_newest();
+            return Ok(());
+        }
+        self.buffers.are_laid();
+        self.buffers.add(into, &[0])?;
+        self.buffers.shorten(first);
+        self.lost = self.buffers.arena().len() - (held + 1);
+        self.top = popped(&mut self.below);
+        Ok(())
+    }
+
     /// The newest frame, which is an array or a map, is closed: its items go in one block to the current buffer below
     /// it. The scratch is used on the way.
-    pub fn close_blocks(&mut self, scratch: &mut Vec<u8>) -> Result<(), AllocError>
+    pub fn close_blocks(
+        &mut self,
+        alloc: Global,
+        scratch: &mut Vec<u8>,
+    ) -> Result<(), AllocError>
         requires blocks { is_some (walk_of self.old.store.frames) ≡ true }
         requires below { has_current_below self.old.store.frames ≡ true }
         ensures closed { OnOk result (self.new.store ≡ close_blocks self.old.store.frames self.old.store) }
@@ -463,7 +537,11 @@ impl Store {
         ensures arena { OnOk result (Appends (around_items self.old.store.frames) self.old self.new) }
         ensures refused { OnErr result (self.new ≡ self.old) }
     {
-        let before = spell_around(scratch, self.items())?;
+        let items = self.items();
+        if items == 0 {
+            return self.close_empty(alloc, scratch);
+        }
+        let before = spell_around(scratch, items)?;
         self.close(scratch, before)
     }
 

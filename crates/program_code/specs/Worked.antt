@@ -23,8 +23,8 @@ long_list =
     RecordNode (names 76 []) (field 97 1 ∷ field 98 2 ∷ []) ∷ LongNode ∷ UnionNode (3 ∷ 0 ∷ []) ∷ NullNode ∷ []
 
 -- to itself
-abbrev pub LongListHasItsProgram : Type 0
-LongListHasItsProgram = code_of long_list long_list ≡ Some (record {
+abbrev pub long_list_program : Program
+long_list_program = record {
   code = op.Call 2 ∷ op.Halt
       ∷ op.Record 2 ∷ op.Slot 0 ∷ op.Long ∷ op.Slot 1 ∷ op.Branch 0
       ∷ op.Put 0 ∷ op.Jump 11
@@ -34,7 +34,10 @@ LongListHasItsProgram = code_of long_list long_list ≡ Some (record {
   maps = [];
   jumps = (7 ∷ 9 ∷ []) ∷ [];
   misses = [];
-})
+}
+
+abbrev pub LongListHasItsProgram : Type 0
+LongListHasItsProgram = code_of long_list long_list ≡ Some long_list_program
 
 -- ---- {"a": long, "b": string}
 

@@ -10,7 +10,6 @@ use Rattle.avro_bytes.specs.BlockDecoding.{next_item}
 use Rattle.avro_bytes.specs.Decoding.{Decoding, Complete, Failed, Malformed, Need, inside}
 use Rattle.avro_bytes.specs.Length.{length_at}
 use Rattle.avro_bytes.specs.Walk.{Walk}
-use Rattle.avro_bytes.specs.Written.{in_block}
 use Rattle.outcome.specs.Outcome as outcomes
 use Rattle.isa.specs.declared.entry.Entry.{Entry}
 use Rattle.isa.specs.declared.entry.Entry.TheVariants as entries
@@ -19,7 +18,7 @@ use Rattle.isa.specs.declared.limits.TheConstants.{MOST_PIECE}
 use Rattle.isa.specs.Program.{Program}
 use Rattle.isa.specs.Row.{kept, skipped}
 use Rattle.isa.specs.State.{Blocks, Frame, Out, Part, Rec, Skip, SkipBlocks, State, has_current, meter_of}
-use Rattle.isa.specs.Table.{Move, added, anything, begun, close_record, content, ends_part, entered, finished, fixed, gathered, halt, if_current, leave, moved, moves, next, next_of, only_text, opens, or_miss, passed, pushed, reads, return, select, skip_next_of, stop, trap, wait, with_frames}
+use Rattle.isa.specs.Table.{Move, added, anything, begun, close_record, content, ends_part, entered, finished, fixed, gathered, halt, if_current, items_closed, leave, moved, moves, next, next_of, only_text, opens, or_miss, passed, pushed, reads, return, select, skip_next_of, stop, trap, wait, with_frames}
 
 -- with another count
 abbrev pub counted_as : ℕ → State → State
@@ -122,7 +121,7 @@ module _ (P : Program) (p : List ℕ) (ended : Bool) (n : ℕ) where
 
   same_gathered : (a : ℕ) (s : State) (items : ℕ) (buffer : List ℕ) (frames : List Frame) (o : Option Walk) (to : ℕ) (m : Meter) → gathered a (c s) items buffer frames o to m ≡ all (gathered a s items buffer frames o to m)
   same_gathered a s items buffer frames (Some walk) to m = refl
-  same_gathered a s items buffer frames None to m = same_current frames s (λ s. Some (record (added (in_block items buffer) (with_frames frames s)) { pc = a; pos = to; units = m.units })) refl
+  same_gathered a s items buffer frames None to m = same_current frames s (λ s. Some (record (added (items_closed items buffer) (with_frames frames s)) { pc = a; pos = to; units = m.units })) refl
 
   pub same_next : (a : ℕ) (s : State) (frames : List Frame) → next_of P p ended a (c s) frames ≡ all (next_of P p ended a s frames)
   same_next a s [] = refl

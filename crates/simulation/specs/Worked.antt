@@ -1,25 +1,10 @@
--- A worked program, run alone. All of this is this project's own.
-use Rattle.std.specs.Prelude.{◌≡◌, ℕ, true, false, List, [], ◌∷◌, Option, Some, None}
+-- The worked program of the list of longs, run alone. All of this is this project's own.
+use Rattle.std.specs.Prelude.{◌≡◌, ℕ, true, false, List, [], ◌∷◌, Some, None}
 use Rattle.avro_bytes.specs.declared.fault.MalformedKind.TheVariants.{Truncated}
 use Rattle.outcome.specs.Outcome.{Done, Malformed}
-use Rattle.isa.specs.declared.instr.Instr.TheVariants as op
-use Rattle.isa.specs.Program.{Program}
 use Rattle.isa.specs.State.{Out, Rec}
+use Rattle.program_code.specs.Worked.{long_list_program}
 use Rattle.simulation.specs.Alone.{run_alone}
-
--- {"a": long, "b": union of null and the list}, to itself
-abbrev pub long_list_program : Program
-long_list_program = record {
-  code = op.Call 2 ∷ op.Halt
-      ∷ op.Record 2 ∷ op.Slot 0 ∷ op.Long ∷ op.Slot 1 ∷ op.Branch 0
-      ∷ op.Put 0 ∷ op.Jump 11
-      ∷ op.Put 1 ∷ op.Call 2
-      ∷ op.EndRecord ∷ op.Return ∷ [];
-  constants = (0 ∷ []) ∷ (2 ∷ []) ∷ [];
-  maps = [];
-  jumps = (7 ∷ 9 ∷ []) ∷ [];
-  misses = [];
-}
 
 -- 02 00: 1, and no more
 abbrev pub one : List ℕ

@@ -178,7 +178,7 @@ impl Machine {
         ensures appends { OnlyAppends self.old self.new }
         ensures part { self.new.state.part ≡ self.old.state.part }
     {
-        if self.store.close_blocks(&mut self.scratch).is_err() {
+        if self.store.close_blocks(self.alloc, &mut self.scratch).is_err() {
             return Step::NoMemory;
         }
         self.pc = address;

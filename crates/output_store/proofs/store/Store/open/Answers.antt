@@ -11,7 +11,7 @@ invariant_of-self-2 c =
     let fs = i.top ∷ reverse i.below.items in
     let pushed : reverse c.push.new.self.items ≡ fs = ap (λ (x : List Frame). reverse x) (c.in_ok-push.ensures.items ∙ ap (λ (x : List Frame). x ++ i.top ∷ []) c.in_ok-try_reserve.ensures.items) ∙ reverse-append i.below.items (i.top ∷ []) in
     rw (c.frame-self-inside.ensures, pushed)
-    (kept-opened fs i.buffers c.open.new.self i.units c.args.units c.len-first.result i.mark i.over c.args.opening c.args.self.now c.self.view_is c.self.invariant c.len-first.ensures
+    (kept-opened fs i.buffers c.open.new.self i.lost i.units c.args.units c.len-first.result i.mark i.over c.args.opening c.args.self.now c.self.view_is c.self.invariant c.len-first.ensures
     (c.in_ok-open.ensures.opened ∙ ap (λ n. with_opened n i.buffers) c.slots.ensures) (omega (arith, c.requires.units, ap (λ x. x.units) c.self.view_is)) c.requires.deep)
 
 pub returns-clause-opened : goal.returns-clause-opened
