@@ -57,8 +57,8 @@ module _ (misses : List Mismatch) where
       pub fits : IsFit t
       -- another frame that holds the same
       pub refit : (G : C → Frame) → IsHolder wipe size G → Holds G first acc s (record t { frames = G inner ∷ below })
-      -- the frame closed, and what it held added in some form
-      pub closes : (form : C → List ℕ) → ((c : C) → size c ≤ length (form c)) → Becomes (acc >>= λ c. Ok (form c)) s (add (form inner) (record t { frames = below }))
+      -- the frame closed, and what it held added in some form that is as long at least
+      pub closes : (form : C → List ℕ) → ((c : C) → acc ≡ Ok c → size c ≤ length (form c)) → Becomes (acc >>= λ c. Ok (form c)) s (add (form inner) (record t { frames = below }))
 
     module _ (twice : (c : C) → wipe (wipe c) ≡ wipe c) (F : C → Frame) (holder : IsHolder wipe size F) (first c : C) (like : wipe c ≡ wipe first) where
       -- where the buffers were emptied
@@ -73,7 +73,7 @@ module _ (misses : List Mismatch) where
         depth = emptied_length s.frames;
         fits = fit_fits (F c ∷ s.frames) s.out s.mark s.over;
         refit = λ G h. (like, ap (λ (t : Store). record t { frames = G (wipe c) ∷ emptied_frames s.frames }) (pushes F holder) ∙ ap (λ (f : Frame). store (f ∷ emptied_frames s.frames) [] mark over) (sym (h.wiped c)) ∙ sym (pushes G h));
-        closes = λ form small. ap (λ (t : Store). add (form (wipe c)) (record t { frames = emptied_frames s.frames })) (pushes F holder) ∙ closing (form c) (form (wipe c)) (small c);
+        closes = λ form small. ap (λ (t : Store). add (form (wipe c)) (record t { frames = emptied_frames s.frames })) (pushes F holder) ∙ closing (form c) (form (wipe c)) (small c refl);
       }
 
       -- where they stand

@@ -37,7 +37,7 @@ module _ (P : Program) (p : List ℕ) (L : ℕ) where
       let held : HoldsItems P p L (first_walk at) 0 (Ok []) s t = (refl, sym (push_empty (Blocks (first_walk at) 0 []) s ready.fit refl refl)) in
       let inner = runs _ deeper.room in
       let Ended = AllWritten P p L reader effect left _ (pc + 1) (q + 1) q k inner calls s loops back short ready deeper m.units 0 (Ok []) in
-      let goes = write_loop P p L reader effect left _ (pc + 1) (q + 1) q k inner calls s loops back short ready deeper (steps_left m) (first_walk at) 0 (Ok []) t at m.units (omega arith) held in
+      let goes = write_loop P p L reader effect left _ (pc + 1) (q + 1) q k inner calls s loops back short ready deeper (steps_left m) (first_walk at) 0 (Ok []) t at m.units (omega arith) (λ e. refl) held in
       follows_so P p L 0 0 start (items_at (steps_left m) reader p (first_walk at) at m) Ended Q (omega arith)
       (subst (λ (x : Meter). Follows P p L 0 start (items_at (steps_left m) reader p (first_walk at) at x) Ended) (sym m_is) goes)
       (λ vs end last d g h.

@@ -85,7 +85,7 @@ module _ (W R : List Node) (P : Program) (Begins : Section → ℕ → Type 0) (
           let c3 = between (pc + 1) to calls t1 n.units in
           let row1 = row_of_instr P p c1 op.EndRecord refl k.closes ∙ record_closed c1 z.cur on.inner on.below on.is (on.current ∙ ready.current) in
           let row2 = row_of_instr P p c2 op.Return refl k.returns in
-          let after = becomes_so P.misses _ (effect (RecordDatum ds)) s t1 (record_bytes k.gs z.last res z.done ∙ is ds) (on.closes joined (λ c. omega (arith, joined_length c))) in
+          let after = becomes_so P.misses _ (effect (RecordDatum ds)) s t1 (record_bytes k.gs z.last res z.done ∙ is ds) (on.closes joined (λ c _. omega (arith, joined_length c))) in
           let ends = comes_on P p L 1 1 2 c1 c2 c3 (one_row P p L 1 c1 c2 row1 (omega arith)) (one_row P p L 1 c2 c3 row2 (omega arith)) (omega arith) in
           (c3, comes_on P p L (k.q - k.m) 2 (k.q - k.m + 2) d c1 c3 (subst (λ (x : State). Comes P p L (k.q - k.m) x c1) (sym h.1) z.comes) ends (omega arith), (t1, refl, refl, omega (arith, le, h.3), after))
 

@@ -14,7 +14,7 @@ use Rattle.resolver.specs.Resolution.{Resolved, ◌>>=◌}
 use Rattle.isa.specs.declared.instr.Instr.TheVariants as op
 use Rattle.isa.specs.Program.{Program}
 use Rattle.isa.specs.State.{Blocks, Frame, State, Store, add, has_current, meter_of}
-use Rattle.isa.specs.Table.{gathered, next_of, reads}
+use Rattle.isa.specs.Table.{gathered, items_closed, next_of, reads}
 use Rattle.simulation.proofs.Effects.{in_one, in_one_more, in_one_none}
 use Rattle.simulation.proofs.Follow.{Follows, Leads, follows_map, follows_then, reads_then, row_then, stay}
 use Rattle.simulation.proofs.Holding.{Becomes, Holds, IsHolder, Top, becomes_so, holds_more, top}
@@ -26,6 +26,19 @@ use Rattle.simulation.proofs.Writing.{Writes, Wrote}
 
 in_block_longer : (n : ℕ) (x : List ℕ) → length x ≤ length (in_block n x)
 in_block_longer n x = omega (arith, length-append (block_count n) (x ++ shortest (pos 0)), length-append x (shortest (pos 0)))
+
+-- ---- what the row that closes adds, where nothing came before the first item
+
+closed_longer : (n : ℕ) (acc : Resolved (List ℕ)) → (n ≡ 0 → acc ≡ Ok []) → (x : List ℕ) → acc ≡ Ok x → length x ≤ length (items_closed n x)
+closed_longer zero acc none x is =
+    let same : Ok x ≡ Ok [] = sym is ∙ none refl in
+    let empty : x ≡ [] = cc in
+    omega (arith, ap length empty)
+closed_longer (suc n) acc none x is = in_block_longer (suc n) x
+
+closed_in_one : {A : Type 0} (effect : A → Resolved (List ℕ)) (n : ℕ) (acc : Resolved (List ℕ)) → (n ≡ 0 → acc ≡ Ok []) → (acc >>= λ x. Ok (items_closed n x)) ≡ in_one effect n acc []
+closed_in_one effect zero acc none = ap (λ (r : Resolved (List ℕ)). r >>= λ x. Ok (items_closed 0 x)) (none refl) ∙ ap (λ (r : Resolved (List ℕ)). in_one effect 0 r []) (sym (none refl))
+closed_in_one effect (suc n) acc none = in_one_none effect (suc n) acc
 
 abbrev pub no_buffer : List ℕ → List ℕ
 no_buffer x = []
@@ -51,15 +64,15 @@ module _ (P : Program) (p : List ℕ) (L : ℕ) where
     AllWritten u n acc vs to m d = (t : Store) × (d ≡ between e to calls t m.units) × (m.depth ≡ length s.frames) × (u ≤ m.units) × Becomes P.misses (in_one effect n acc vs) s t
 
     abbrev Loops : ℕ → Type 0
-    Loops fuel = (walk : Walk) (n : ℕ) (acc : Resolved (List ℕ)) (t : Store) (at u : ℕ) → suc (MOST_UNITS - u) ≤ fuel → HoldsItems walk n acc s t → Follows P p L 0 (between pc at calls t u) (items_at fuel reader p walk at (deep u)) (AllWritten u n acc)
+    Loops fuel = (walk : Walk) (n : ℕ) (acc : Resolved (List ℕ)) (t : Store) (at u : ℕ) → suc (MOST_UNITS - u) ≤ fuel → (n ≡ 0 → acc ≡ Ok []) → HoldsItems walk n acc s t → Follows P p L 0 (between pc at calls t u) (items_at fuel reader p walk at (deep u)) (AllWritten u n acc)
 
-    pub write_loop : (fuel : ℕ) (walk : Walk) (n : ℕ) (acc : Resolved (List ℕ)) (t : Store) (at u : ℕ) → suc (MOST_UNITS - u) ≤ fuel → HoldsItems walk n acc s t → Follows P p L 0 (between pc at calls t u) (items_at fuel reader p walk at (record { depth = suc (length s.frames); units = u })) (AllWritten u n acc)
+    pub write_loop : (fuel : ℕ) (walk : Walk) (n : ℕ) (acc : Resolved (List ℕ)) (t : Store) (at u : ℕ) → suc (MOST_UNITS - u) ≤ fuel → (n ≡ 0 → acc ≡ Ok []) → HoldsItems walk n acc s t → Follows P p L 0 (between pc at calls t u) (items_at fuel reader p walk at (record { depth = suc (length s.frames); units = u })) (AllWritten u n acc)
     unfolding items_at
-    write_loop zero walk n acc t at u enough held = absurd (omega arith)
-    write_loop (suc fuel) walk n acc t at u enough held =
+    write_loop zero walk n acc t at u enough none held = absurd (omega arith)
+    write_loop (suc fuel) walk n acc t at u enough none held =
         reads_then P p L 0 c0 (next_item walk p at (deep u)) (items_from reader (items_at fuel reader p)) (gathered e c0 n on.inner on.below) (AllWritten u n acc)
         (row_of_instr P p c0 (op.Next e) refl next_here ∙ next_is e c0 walk n on.inner on.below on.is ∙ ap (λ (depth : ℕ). reads P p true c0 (next_item walk p at (record { depth = depth; units = u })) (gathered e c0 n on.inner on.below)) depth_is)
-        (by_step (λ walk n acc t at u enough held. write_loop fuel walk n acc t at u enough held))
+        (by_step (λ walk n acc t at u enough none held. write_loop fuel walk n acc t at u enough none held))
       where
         on : Top P.misses no_buffer length (Blocks walk n) [] acc s t
         on = top P.misses no_buffer length (λ x. refl) (Blocks walk n) (blocks_hold walk n) [] acc s t ready.fit held
@@ -78,9 +91,9 @@ module _ (P : Program) (p : List ℕ) (L : ℕ) where
             let c = end_meter walk p at to (deep u) m (omega arith) is in
             let lt = (end_takes walk p at to (deep u) m is).1 in
             let same : L * m.units ≡ L * u = ap (λ (n : ℕ). L * n) c.1 in
-            let t' = add (in_block n on.inner) (record t { frames = on.below }) in
+            let t' = add (items_closed n on.inner) (record t { frames = on.below }) in
             let d = between e to calls t' m.units in
-            let after = becomes_so P.misses (acc >>= λ x. Ok (in_block n x)) (in_one effect n acc []) s t' (in_one_none effect n acc) (on.closes (in_block n) (in_block_longer n)) in
+            let after = becomes_so P.misses (acc >>= λ x. Ok (items_closed n x)) (in_one effect n acc []) s t' (closed_in_one effect n acc none) (on.closes (items_closed n) (closed_longer n acc none)) in
             record { new = d; row_is = rw current refl; left = 0; follows = (d, stay P p L 0 d, (t', refl, omega (arith, c.0), omega (arith, c.1), after)); pays = omega (arith, same, lt) }
         by_step others (Some next) to m is =
             let c = item_meter walk next p at to (deep u) m is in
@@ -115,6 +128,6 @@ module _ (P : Program) (p : List ℕ) (L : ℕ) where
                 (subst (λ (x : Meter). Follows P p L 1 (between q end calls t2 after.units) (items_at fuel reader p next end x) (AllWritten after.units (n + 1) acc1)) (sym m_is)
                 (row_then P p L 0 1 (between q end calls t2 after.units) (between pc end calls t2 after.units) (items_at fuel reader p next end (deep after.units)) (AllWritten after.units (n + 1) acc1)
                 (row_of_instr P p (between q end calls t2 after.units) (op.Jump pc) refl jump_here)
-                (others next (n + 1) acc1 t2 end after.units enough1 held2)
+                (others next (n + 1) acc1 t2 end after.units enough1 (λ e. absurd (omega (arith, e))) held2)
                 (omega arith)))
                 (λ vs end last d g. (g.0, g.1, g.2, omega (arith, g.3, h.3, one), becomes_so P.misses (in_one effect (n + 1) acc1 vs) (in_one effect n acc (v ∷ vs)) s g.0 (in_one_more effect n acc v vs) g.4)))
