@@ -230,7 +230,7 @@ impl Buffers {
         self.slots.len()
     }
 
-    /// The bytes of all buffers.
+    /// The bytes of all buffers, and those that no buffer holds any more.
     pub fn arena(&self) -> &[u8]
         ensures { result.now ≡ self.now.arena }
     {

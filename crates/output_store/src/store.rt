@@ -216,7 +216,7 @@ impl Store {
         self.over
     }
 
-    /// The bytes of all buffers.
+    /// The bytes of all buffers, and those that no buffer holds any more.
     pub fn arena(&self) -> &[u8]
         ensures { result.now ≡ self.now.layout.arena }
     {
@@ -525,11 +525,7 @@ impl Store {
 
     /// The newest frame, which is an array or a map, is closed: its items go in one block to the current buffer below
     /// it. The scratch is used on the way.
-    pub fn close_blocks(
-        &mut self,
-        alloc: Global,
-        scratch: &mut Vec<u8>,
-    ) -> Result<(), AllocError>
+    pub fn close_blocks(&mut self, alloc: Global, scratch: &mut Vec<u8>) -> Result<(), AllocError>
         requires blocks { is_some (walk_of self.old.store.frames) ≡ true }
         requires below { has_current_below self.old.store.frames ≡ true }
         ensures closed { OnOk result (self.new.store ≡ close_blocks self.old.store.frames self.old.store) }
