@@ -1,5 +1,5 @@
 -- One more version, whose schema the subject lacks.
-use Rattle.std.proofs.Common.{◌≡◌, ◌≢◌, ◌≤◌, ◌<◌, ℕ, suc, ◌+◌, List, [], ◌∷◌, ◌++◌, length, Bool, true, false, cond, not, ◌&&◌, ◌||◌, ◌==◌, Option, Some, None, Result, Ok, Err, is_some, refl, sym, ap, subst, ◌∙◌, arith, inl, inr, String, Global, length-append}
+use Rattle.std.proofs.Common.{◌≡◌, ◌≢◌, ◌≤◌, ◌<◌, ◌^◌, ℕ, suc, ◌+◌, List, [], ◌∷◌, ◌++◌, length, Bool, true, false, cond, not, ◌&&◌, ◌||◌, ◌==◌, Option, Some, None, Result, Ok, Err, is_some, refl, sym, ap, subst, ◌∙◌, arith, inl, inr, String, Global, length-append}
 use Rattle.std.specs.Prelude.{IfSome, nat_le, unwrap_or}
 use Rattle.std.specs.BTreeMap.{BTreeMap, get_by_text}
 use Rattle.std.specs.List.{AllByRecursion, position_from}
@@ -16,10 +16,14 @@ use Rattle.schema_registry.specs.Lists.{Entry, Lists, id_of, level_of, versions_
 use Rattle.schema_registry.specs.Reply.{IdReply}
 use Rattle.schema_names.specs.declared.error.SchemaError.{SchemaError}
 use Rattle.schema_registry.specs.declared.refusal.Refusal.TheVariants.{Full, Incompatible}
-use Rattle.schema_registry.specs.Tables.{Holds, IsId, entry_of, ids_in, number_of, versions_from}
+use Rattle.registry_tables.specs.Maps.{Puts, ids_in, number_of}
+use Rattle.schema_registry.specs.Tables.{Holds, IsId, entry_of, versions_from}
 use Rattle.schema_registry.proofs.Entries.{from-more, length-from, versions-more}
 use Rattle.schema_registry.proofs.Kept.{same-text, version-found}
-use Rattle.schema_registry.proofs.Numbers.{all-push}
+
+pub all-push : {A : Type 0} (P : A → Type 0) (xs : List A) (x : A) → AllByRecursion P xs → P x → AllByRecursion P (xs ++ x ∷ [])
+all-push P [] x all p = (p, tt)
+all-push P (y ∷ xs) x all p = (all.0, all-push P xs x all.1 p)
 
 -- ---- ids
 
@@ -41,6 +45,13 @@ id-known schema schemas = at (id_of schema.text schemas) refl
     at : (o : Option ℕ) → id_of schema.text schemas ≡ o → IsId (cond (is_some o) schemas (schemas ++ schema ∷ [])) (unwrap_or o (length schemas + 1))
     at None is = (omega arith, omega (arith, length-append schemas (schema ∷ [])))
     at (Some id) is = let h = id-within schema.text 1 schemas id is in (omega (arith, h.0), omega (arith, h.1))
+
+pub id-below : (schema : Declaration) (schemas : List Declaration) → length schemas ≤ MOST_SCHEMAS → id_for schema schemas < 2 ^ 31
+id-below schema schemas few = at (id_of schema.text schemas) refl
+  where
+    at : (o : Option ℕ) → id_of schema.text schemas ≡ o → unwrap_or o (length schemas + 1) < 2 ^ 31
+    at None is = omega (arith, few)
+    at (Some id) is = let h = id-within schema.text 1 schemas id is in omega (arith, h.1, few)
 
 -- an id that no schema has yet stands nowhere
 no-number-yet : (schemas : List Declaration) (n id : ℕ) (ids : List ℕ) → AllByRecursion (IsId schemas) ids → length schemas < id → position_from (λ i. i == id) n ids ≡ None
@@ -129,21 +140,18 @@ module _ (schemas : List Declaration) (subjects : BTreeMap (String Global) (List
     few : length (with_schema schema schemas) ≤ MOST_SCHEMAS
     few = few-with-schema schema schemas held.few_schemas id-room
 
-    pub id-few : id ≤ MOST_SCHEMAS
-    id-few = omega (arith, few, (id-known schema schemas).1)
-
     abbrev held-ids : List ℕ → List ℕ
     held-ids t = ids_in (get_by_text subjects t)
 
     module _ (new : BTreeMap (String Global) (List ℕ))
-        (put : (t : List ℕ) → get_by_text new t ≡ cond (bytes_eq s t) (Some (held-ids t ++ id ∷ [])) (get_by_text subjects t)) where
+        (put : Puts subjects new s (held-ids s ++ id ∷ [])) where
       -- what is under a name, by whether it is the subject's
       at-name : (P : List ℕ → Option (List ℕ) → Type 0) (t : List ℕ) → (bytes_eq s t ≡ true → P t (Some (held-ids t ++ id ∷ []))) → (bytes_eq s t ≡ false → P t (get_by_text subjects t))
           → P t (get_by_text new t)
       at-name P t here there = subst (P t) (sym (put t)) (by (bytes_eq s t) refl)
         where
-          by : (b : Bool) → bytes_eq s t ≡ b → P t (cond b (Some (held-ids t ++ id ∷ [])) (get_by_text subjects t))
-          by true is = here is
+          by : (b : Bool) → bytes_eq s t ≡ b → P t (cond b (Some (held-ids s ++ id ∷ [])) (get_by_text subjects t))
+          by true is = subst (λ u. P t (Some (held-ids u ++ id ∷ []))) (sym (same-text s t is)) (here is)
           by false is = there is
 
       abbrev added : Lists

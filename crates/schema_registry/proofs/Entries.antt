@@ -8,7 +8,8 @@ use Rattle.avro_schema.specs.Schema.{Declaration}
 use Rattle.schema_registry.specs.declared.command.Version.{Version}
 use Rattle.schema_registry.specs.declared.command.Version.TheVariants.{Latest, Number}
 use Rattle.schema_registry.specs.declared.level.Level.{Level}
-use Rattle.schema_registry.specs.Answers.{compared, last_of, pairs_of, pairs_with}
+use Rattle.registry_tables.specs.Comparing.{compared, last_of}
+use Rattle.schema_registry.specs.Answers.{pairs_of, pairs_with}
 use Rattle.schema_registry.specs.Level.{is_transitive}
 use Rattle.schema_registry.specs.Lists.{Entry, Lists, numbered, version_at, versions_of, with_id}
 use Rattle.schema_registry.specs.Tables.{entry_of, number_for, numbers_from, versions_from}
@@ -95,17 +96,14 @@ last-from s n [] = (n, refl)
 last-from s n (i ∷ []) = (n, refl)
 last-from s n (i ∷ j ∷ ids) = last-from s (n + 1) (j ∷ ids)
 
-pub compared-from : (level : Level) (s : List ℕ) (n : ℕ) (ids : List ℕ) → (k : ℕ) × (compared level (versions_from s n ids) ≡ versions_from s k (compared level ids))
-compared-from level s n ids = at (is_transitive level)
-  where
-    at : (b : Bool) → (k : ℕ) × (cond b (versions_from s n ids) (last_of (versions_from s n ids)) ≡ versions_from s k (cond b ids (last_of ids)))
-    at true = (n, refl)
-    at false = last-from s n ids
+pub compared-from : (b : Bool) (s : List ℕ) (n : ℕ) (ids : List ℕ) → (k : ℕ) × (compared b (versions_from s n ids) ≡ versions_from s k (compared b ids))
+compared-from true s n ids = (n, refl)
+compared-from false s n ids = last-from s n ids
 
 -- the pairs that a level names, from the ids
 pub pairs-from : (lists : Lists) (level : Level) (new : Declaration) (s : List ℕ) (ids : List ℕ)
-    → pairs_of lists level new (versions_from s 1 ids) ≡ flat_map (pairs_with level new) (filter_map (numbered lists.schemas) (compared level ids))
+    → pairs_of lists level new (versions_from s 1 ids) ≡ flat_map (pairs_with level new) (filter_map (numbered lists.schemas) (compared (is_transitive level) ids))
 pairs-from lists level new s ids =
-    let c = compared-from level s 1 ids in
+    let c = compared-from (is_transitive level) s 1 ids in
     ap (λ es. flat_map (pairs_with level new) (filter_map (λ (e : Entry). numbered lists.schemas e.id) es)) c.1
-    ∙ ap (flat_map (pairs_with level new)) (schemas-from lists.schemas s c.0 (compared level ids))
+    ∙ ap (flat_map (pairs_with level new)) (schemas-from lists.schemas s c.0 (compared (is_transitive level) ids))

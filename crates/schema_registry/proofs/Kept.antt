@@ -4,7 +4,7 @@ use Rattle.std.specs.Prelude.{IfSome, find}
 use Rattle.std.specs.BTreeMap.{BTreeMap, IsEmpty, get_by_text, is_at}
 use Rattle.std.specs.Cmp.Lexicographic.{slice_cmp}
 use Rattle.std.specs.FinMap as finite
-use Rattle.std.specs.List.{filter_map, list_any}
+use Rattle.std.specs.List.{AllByRecursion, filter_map, list_any}
 use Rattle.std.specs.Map.{lookup}
 use Rattle.std.specs.Option.{option_and_then, option_map}
 use Rattle.std.specs.Ordering.{eq_by_cmp, nat_cmp}
@@ -19,7 +19,8 @@ use Rattle.schema_registry.specs.Accepting.{registry_after, taken, taken_all}
 use Rattle.schema_registry.specs.Lists.{Entry, Lists, id_of, is_same, level_set, no_lists, subjects_of, subjects_with_level, versions_of, with_id, with_text}
 use Rattle.schema_registry.specs.Reply.{Reply}
 use Rattle.schema_registry.specs.Answers.{AreAccepted, IsAnswer, answer_to, one_more}
-use Rattle.schema_registry.specs.Tables.{Holds, entry_of, ids_in, number_of, versions_from}
+use Rattle.registry_tables.specs.Maps.{AreSame, ids_in, number_of}
+use Rattle.schema_registry.specs.Tables.{Holds, IsId, entry_of, versions_from}
 use Rattle.schema_registry.proofs.Entries.{with_id-from}
 use Rattle.schema_registry.proofs.Named.{contains-names}
 
@@ -161,6 +162,19 @@ question-accepted schemas subjects levels global old commands held accepted c re
   accepted-more old commands c reply are accepted answer,
 )
 
+-- the same where each subject has what it had
+pub same-held : (schemas : List Declaration) (subjects new : BTreeMap (String Global) (List ℕ)) (levels : BTreeMap (String Global) Level) (global : Level) (lists : Lists)
+    → Holds schemas subjects levels global lists → AreSame subjects new → Holds schemas new levels global lists
+same-held schemas subjects new levels global lists held same = record {
+  schemas_are = held.schemas_are;
+  few_schemas = held.few_schemas;
+  versions_are = λ s. held.versions_are s ∙ ap (λ o. versions_from s 1 (ids_in o)) (sym (same s));
+  none_empty = λ s. subst (λ o. IfSome o (λ ids. ids ≢ [])) (sym (same s)) (held.none_empty s);
+  ids_known = λ s. subst (λ o. AllByRecursion (IsId schemas) (ids_in o)) (sym (same s)) (held.ids_known s);
+  levels_are = held.levels_are;
+  global_is = held.global_is;
+}
+
 -- ---- levels
 
 module _ (schemas : List Declaration) (subjects : BTreeMap (String Global) (List ℕ)) (levels : BTreeMap (String Global) Level) (global : Level)
@@ -193,26 +207,3 @@ module _ (schemas : List Declaration) (subjects : BTreeMap (String Global) (List
           ≡ option_map (λ (l : Option (List ℕ) × Level). l.1) (cond b (Some (Some subject, level)) (find (λ l. is_same l.0 (Some s)) lists.levels))
       at s true = refl
       at s false = refl
-
--- ---- one more version of a subject
-
-module _ (m n : BTreeMap (String Global) (List ℕ)) (s : List ℕ) (o : Option (List ℕ)) (at : get_by_text m s ≡ o) where
-  abbrev Puts : List ℕ → Type 0
-  Puts ids = (t : List ℕ) → get_by_text n t ≡ cond (bytes_eq s t) (Some ids) (get_by_text m t)
-
-  there : (t : List ℕ) → bytes_eq s t ≡ true → get_by_text m t ≡ o
-  there t is = subst (λ t. get_by_text m t ≡ o) (same-text s t is) at
-
-  pub version-added : (id : ℕ) (ids : List ℕ) → ids ≡ ids_in o ++ id ∷ [] → Puts ids → (t : List ℕ) → get_by_text n t ≡ cond (bytes_eq s t) (Some (ids_in (get_by_text m t) ++ id ∷ [])) (get_by_text m t)
-  version-added id ids are put t = put t ∙ by (bytes_eq s t) refl
-    where
-      by : (b : Bool) → bytes_eq s t ≡ b → cond b (Some ids) (get_by_text m t) ≡ cond b (Some (ids_in (get_by_text m t) ++ id ∷ [])) (get_by_text m t)
-      by true is = ap Some are ∙ ap (λ o. Some (ids_in o ++ id ∷ [])) (sym (there t is))
-      by false is = refl
-
-  pub version-kept : (ids : List ℕ) → o ≡ Some ids → Puts ids → (t : List ℕ) → get_by_text n t ≡ get_by_text m t
-  version-kept ids some put t = put t ∙ by (bytes_eq s t) refl
-    where
-      by : (b : Bool) → bytes_eq s t ≡ b → cond b (Some ids) (get_by_text m t) ≡ get_by_text m t
-      by true is = sym (there t is ∙ some)
-      by false is = refl

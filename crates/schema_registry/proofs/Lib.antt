@@ -1,4 +1,3 @@
-pub mod Numbers
 pub mod Ids
 pub mod Safe
 pub mod Entries

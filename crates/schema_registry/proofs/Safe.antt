@@ -1,13 +1,14 @@
 -- Pairs that are safe, one list of them behind another.
-use Rattle.std.proofs.Common.{◌≡◌, ◌<◌, ℕ, suc, ◌+◌, ◌-◌, List, [], ◌∷◌, ◌++◌, length, take, drop, get_or, ◌&&◌, Bool, true, false, Option, Some, None, refl, sym, ap, subst, ◌∙◌, arith, add-one, cond, inl, inr, Result, Ok}
-use Rattle.std.specs.Prelude.{IsTrue, ◌↔◌}
+use Rattle.std.proofs.Common.{◌≡◌, ◌<◌, ℕ, ◌+◌, List, [], ◌∷◌, ◌++◌, length, drop, get_or, ◌&&◌, Bool, true, false, Option, Some, None, refl, sym, ap, subst, ◌∙◌, add-one, cond, inl, inr, Result, Ok}
+use Rattle.std.specs.Prelude.{IsTrue, MatchOption, ◌↔◌}
 use Rattle.std.specs.List.{filter_map, flat_map}
 use Rattle.avro_schema.specs.Schema.{Declaration}
 use Rattle.resolver.specs.Safety.{IsSafe}
 use Rattle.std.proofs.Math.Seq.{drop-cons}
 use Rattle.schema_registry.specs.declared.level.Level.{Level}
+use Rattle.schema_registry.specs.Level.{new_reads_old, old_reads_new}
 use Rattle.schema_registry.specs.Lists.{numbered}
-use Rattle.schema_registry.specs.Answers.{AreSafe, IsAnswer, Pair, WhereSafe, last_of, pairs_with}
+use Rattle.schema_registry.specs.Answers.{AreSafe, IsAnswer, Pair, WhereSafe, pairs_with}
 use Rattle.schema_registry.specs.Reply.{Reply, CompatibleReply}
 use Rattle.schema_registry.specs.declared.refusal.Refusal.{Refusal}
 
@@ -27,15 +28,25 @@ safe-back (p ∷ ps) qs h = safe-back ps qs h.1
 abbrev pub Tests : Bool → List Pair → Type 0
 Tests b ps = IsTrue b ↔ AreSafe ps
 
-pub tests-none : Tests true []
-tests-none = ((λ _. tt), (λ _. refl))
-
-pub tests-one : (b : Bool) (p : Pair) → (IsTrue b ↔ IsSafe p.0.nodes p.1.nodes) → Tests b (p ∷ [])
-tests-one b p h = ((λ e. (h.0 e, tt)), (λ a. h.1 a.0))
+-- of a pair that is there where it is asked for
+pub tests-pair : {P : Type 0} (writer reader : P → Declaration) (o : Option P) (asked b : Bool) (w r : Declaration)
+    → MatchOption o (asked ≡ false) (λ p. (asked ≡ true) × (writer p ≡ w) × (reader p ≡ r))
+    → MatchOption o (IsTrue b) (λ p. IsTrue b ↔ IsSafe (writer p).nodes (reader p).nodes) → Tests b (cond asked ((w, r) ∷ []) [])
+tests-pair writer reader None asked b w r is test = rw is ((λ _. tt), (λ _. test))
+tests-pair writer reader (Some p) asked b w r is test =
+    let h = subst (λ w. IsTrue b ↔ IsSafe w.nodes r.nodes) is.1 (subst (λ r. IsTrue b ↔ IsSafe (writer p).nodes r.nodes) is.2 test) in
+    rw is.0 ((λ e. (h.0 e, tt)), (λ a. h.1 a.0))
 
 pub tests-both : (b c : Bool) (ps qs : List Pair) → Tests b ps → Tests c qs → Tests (b && c) (ps ++ qs)
 tests-both true c ps qs h k = ((λ e. safe-append ps qs (h.0 refl) (k.0 e)), (λ a. k.1 (safe-back ps qs a)))
 tests-both false c ps qs h k = ((λ e. absurd (let no : ⊥ = cc in no)), (λ a. h.1 (safe-front ps qs a)))
+
+pub tests-level : (level : Level) (new old : Declaration) (n o b c : Bool) → n ≡ new_reads_old level → o ≡ old_reads_new level
+    → Tests b (cond n ((old, new) ∷ []) []) → Tests c (cond o ((new, old) ∷ []) []) → Tests (b && c) (pairs_with level new old)
+tests-level level new old n o b c is-n is-o h k =
+    subst (λ n. Tests (b && c) (cond n ((old, new) ∷ []) [] ++ cond (old_reads_new level) ((new, old) ∷ []) [])) is-n
+    (subst (λ o. Tests (b && c) (cond n ((old, new) ∷ []) [] ++ cond o ((new, old) ∷ []) [])) is-o
+    (tests-both b c (cond n ((old, new) ∷ []) []) (cond o ((new, old) ∷ []) []) h k))
 
 -- ---- a new schema beside older ones
 
@@ -72,22 +83,6 @@ module _ (level : Level) (new : Declaration) (schemas : List Declaration) where
 
       pub leaves-unsafe : (AreSafe (pairs_with level new old) → ⊥) → AreSafe (beside ids) → ⊥
       leaves-unsafe unsafe all = unsafe (safe-front (pairs_with level new old) (beside (drop (i + 1) ids)) (subst AreSafe all-left (left.1 all)))
-
--- the last of some ids
-pub last-drop : {A : Type 0} (x : A) (xs : List A) → drop (length xs) (x ∷ xs) ≡ last_of (x ∷ xs)
-last-drop x [] = refl
-last-drop x (y ∷ ys) = last-drop y ys
-
-take-last : {A : Type 0} (x : A) (xs : List A) → take 1 (last_of (x ∷ xs)) ≡ last_of (x ∷ xs)
-take-last x [] = refl
-take-last x (y ∷ ys) = take-last y ys
-
-pub last-range : (xs : List ℕ) → 0 < length xs → take (length xs - (length xs - 1)) (drop (length xs - 1) xs) ≡ last_of xs
-last-range [] lt = absurd (omega arith)
-last-range (x ∷ xs) lt =
-    let e : suc (length xs) - 1 ≡ length xs = omega arith in
-    let one : suc (length xs) - length xs ≡ 1 = omega arith in
-    rw (e, one, last-drop x xs) (take-last x xs)
 
 -- ---- what is answered where a test stands for the safety of some pairs
 

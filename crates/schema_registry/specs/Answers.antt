@@ -10,6 +10,7 @@ use Rattle.schema_registry.specs.declared.level.Level.{Level}
 use Rattle.schema_registry.specs.declared.refusal.Refusal.{Refusal}
 use Rattle.schema_registry.specs.declared.refusal.Refusal.TheVariants.{BadSubject, BadVersion, BadSchema, NoSubject, NoVersion, NoSchema, Incompatible, Full, NoMemory}
 use Rattle.schema_registry.specs.declared.reply.Reply as rust
+use Rattle.registry_tables.specs.Comparing.{compared}
 use Rattle.schema_registry.specs.Command.{Command, RegisterCommand, SetLevelCommand, LookupCommand, CheckCommand, VersionsCommand, VersionCommand, SubjectsCommand, SchemaCommand, LevelCommand}
 use Rattle.schema_registry.specs.Reply.{Reply, IdReply, EntryReply, CompatibleReply, NumbersReply, NamesReply, TextReply, LevelReply, reply_of}
 use Rattle.schema_registry.specs.Level.{is_transitive, new_reads_old, old_reads_new}
@@ -69,15 +70,6 @@ abbrev pub pairs_with : Level → Declaration → Declaration → List Pair
 pairs_with level new old =
     (if new_reads_old level then (old, new) ∷ [] else []) ++ (if old_reads_new level then (new, old) ∷ [] else [])
 
-abbrev pub last_of : {A : Type 0} → List A → List A
-last_of [] = []
-last_of (x ∷ []) = x ∷ []
-last_of (x ∷ y ∷ ys) = last_of (y ∷ ys)
-
--- the latest version, or all of them
-abbrev pub compared : {A : Type 0} → Level → List A → List A
-compared level versions = if is_transitive level then versions else last_of versions
-
 -- there is no room for one more name, and this would be one
 abbrev pub has_no_room : Names → List ℕ → ℕ → Bool
 has_no_room names name most = not (finite.contains_key names name) && nat_le most (finite.len names)
@@ -91,7 +83,7 @@ module _ (lists : Lists) where
   schemas_of versions = filter_map (λ e. numbered lists.schemas e.id) versions
 
   abbrev pub pairs_of : Level → Declaration → List Entry → List Pair
-  pairs_of level new versions = flat_map (pairs_with level new) (schemas_of (compared level versions))
+  pairs_of level new versions = flat_map (pairs_with level new) (schemas_of (compared (is_transitive level) versions))
 
   -- ---- answers
 

@@ -1,3 +1,5 @@
+pub use Rattle.registry_tables.specs.Comparing
+pub use Rattle.registry_tables.specs.Maps
 pub mod Command
 pub mod Reply
 pub mod Level

@@ -1,6 +1,6 @@
 -- What a registry holds, as three lists, and what is found in them (Confluent Schema Registry API, "Schemas", "Subjects", "Config").
 -- That ids and versions have no gaps, and what is marked below, is ours.
-use Rattle.std.specs.Prelude.{ℕ, zero, suc, ◌==◌, List, [], map, filter, find, length, Bool, true, false, Option, Some, None, option_map, unwrap_or, slice_get}
+use Rattle.std.specs.Prelude.{ℕ, ◌==◌, List, [], map, filter, find, length, Bool, true, false, Option, Some, None, option_map, unwrap_or}
 use Rattle.std.specs.List.{filter_map, position_from}
 use Rattle.std.specs.Ordering.{nat_cmp}
 use Rattle.std.specs.Option.{option_and_then}
@@ -8,6 +8,7 @@ use Rattle.std.specs.Cmp.Lexicographic.{slice_cmp}
 use Rattle.std.specs.FinMap as finite
 use Rattle.std.specs.Str.{bytes_eq}
 use Rattle.avro_schema.specs.Schema.{Declaration}
+pub use Rattle.registry_tables.specs.Maps.{numbered}
 use Rattle.schema_registry.specs.declared.command.Version.{Version}
 use Rattle.schema_registry.specs.declared.command.Version.TheVariants.{Latest, Number}
 use Rattle.schema_registry.specs.declared.level.Level.{Level}
@@ -30,11 +31,6 @@ pub record Lists : Type 0 where
 -- nothing is held
 abbrev pub no_lists : Lists
 no_lists = record { schemas = []; entries = []; levels = [] }
-
--- what stands at a number that counts from 1
-abbrev pub numbered : {A : Type 0} → List A → ℕ → Option A
-numbered xs zero = None
-numbered xs (suc n) = slice_get xs n
 
 -- ---- schemas
 

@@ -1,10 +1,10 @@
 -- How a registry's maps go together with its lists. This project's own.
-use Rattle.std.specs.Prelude.{◌≡◌, ◌≢◌, ℕ, zero, suc, ◌+◌, ◌++◌, ◌≤◌, ◌<◌, ◌==◌, ◌&&◌, List, [], ◌∷◌, length, Bool, not, true, is_some, nat_eq, nat_le, Option, Some, None, IfSome, Ok, String}
-use Rattle.std.specs.BTreeMap.{BTreeMap, btree_map_len, get, get_by_text}
-use Rattle.std.specs.List.{AllByRecursion, IsDistinct, position_from}
-use Rattle.std.specs.Ordering.{nat_cmp}
+use Rattle.std.specs.Prelude.{◌≡◌, ◌≢◌, ℕ, zero, suc, ◌+◌, ◌++◌, ◌≤◌, ◌<◌, ◌&&◌, List, [], ◌∷◌, length, Bool, not, true, is_some, nat_le, Some, IfSome, Ok, String}
+use Rattle.std.specs.BTreeMap.{BTreeMap, btree_map_len, get_by_text}
+use Rattle.std.specs.List.{AllByRecursion}
 use Rattle.std.specs.Global.{Global}
 use Rattle.avro_schema.specs.Schema.{Declaration}
+use Rattle.registry_tables.specs.Maps.{ids_in}
 use Rattle.schema_registry.specs.declared.limits.TheConstants.{MOST_SCHEMAS}
 use Rattle.schema_registry.specs.declared.command.Version.{Version}
 use Rattle.schema_registry.specs.declared.command.Version.TheVariants.{Latest, Number}
@@ -17,21 +17,6 @@ use Rattle.schema_registry.specs.Lists.{Entry, Lists, global_level, id_of, level
 -- under each compact text stands the id of its schema
 abbrev pub AreIdsOf : BTreeMap (String Global) ℕ → List Declaration → Type 0
 AreIdsOf ids schemas = (text : List ℕ) → get_by_text ids text ≡ id_of text schemas
-
--- where an id stands among those of a subject's versions, from 1
-abbrev pub number_of : ℕ → List ℕ → Option ℕ
-number_of id ids = position_from (λ i. i == id) 1 ids
-
--- under each id of a subject's versions stands the version; no id stands there twice
-pub record AreNumbersOf (numbers : BTreeMap ℕ ℕ) (ids : List ℕ) : Type 0 where
-  pub found : (id : ℕ) → get nat_cmp numbers id ≡ number_of id ids
-  pub distinct : IsDistinct nat_eq ids
-  pub known : AllByRecursion (λ id. id ≤ MOST_SCHEMAS) ids
-
--- the ids under the name of a subject
-abbrev pub ids_in : Option (List ℕ) → List ℕ
-ids_in None = []
-ids_in (Some ids) = ids
 
 abbrev pub entry_of : List ℕ → ℕ → ℕ → Entry
 entry_of subject number id = record { subject = subject; version = number; id = id }

@@ -1,28 +1,26 @@
 //! Whether a new schema goes together with older ones ("Compatibility types").
 
-ghost use Rattle.std.specs.Prelude.{◌≡◌, ◌↔◌, [], ◌∷◌, if◌then◌else◌, IfOk, IsTrue};
+ghost use Rattle.std.specs.Prelude.{◌↔◌, IfOk, IsTrue, MatchOption};
 ghost use Rattle.std.specs.List.{filter_map, flat_map};
-ghost use Rattle.schema_registry.specs.Answers.{AreSafe, compared, last_of, pairs_with};
+ghost use Rattle.resolver.specs.Safety.{IsSafe};
+ghost use Rattle.schema_registry.specs.Answers.{AreSafe, pairs_with};
 ghost use Rattle.schema_registry.specs.Lists.{numbered};
 
 use crate::level::Level;
 use crate::schemas::SchemaTable;
 use avro_schema::Schema;
+use registry_tables::{newer_reads, older_reads};
 use resolver::can_read;
 use std::alloc::{AllocError, Global};
 
-/// Whether a reader can read all that a writer writes, where that is asked.
-fn reads(
-    alloc: Global,
-    is_asked: bool,
-    writer: &Schema,
-    reader: &Schema,
-) -> Result<bool, AllocError>
-    ensures { IfOk result (λ b. IsTrue b ↔ AreSafe (if is_asked then (writer.now, reader.now) ∷ [] else [])) }
+/// Whether a reader, if there is one, can read all that its writer writes.
+fn reads(alloc: Global, pair: Option<(&Schema, &Schema)>) -> Result<bool, AllocError>
+    ensures { IfOk result (λ b. MatchOption pair.entry (IsTrue b)
+        (λ p. IsTrue b ↔ IsSafe p.0.now.nodes p.1.now.nodes)) }
 {
-    if !is_asked {
+    let Some((writer, reader)) = pair else {
         return Ok(true);
-    }
+    };
     Ok(can_read(alloc, writer.nodes(), reader.nodes())?)
 }
 
@@ -35,8 +33,8 @@ pub(crate) fn goes_with(
 ) -> Result<bool, AllocError>
     ensures { IfOk result (λ b. IsTrue b ↔ AreSafe (pairs_with level new.now old.now)) }
 {
-    let forth = reads(alloc, level.new_reads_old(), old, new)?;
-    let back = reads(alloc, level.old_reads_new(), new, old)?;
+    let forth = reads(alloc, newer_reads(level.new_reads_old(), new, old))?;
+    let back = reads(alloc, older_reads(level.old_reads_new(), new, old))?;
     Ok(forth && back)
 }
 
@@ -60,24 +58,4 @@ pub(crate) fn goes_with_all(
         }
     }
     Ok(true)
-}
-
-/// The last of some ids, or all of them, as the level compares.
-pub(crate) fn compared(level: Level, ids: &[u32]) -> &[u32]
-    ensures { result.now ≡ compared level ids.now }
-{
-    if level.is_transitive() {
-        return ids;
-    }
-    last_of(ids)
-}
-
-/// The last of some ids, if there is one.
-fn last_of(ids: &[u32]) -> &[u32]
-    ensures { result.now ≡ last_of ids.now }
-{
-    if ids.is_empty() {
-        return ids;
-    }
-    &ids[ids.len() - 1..]
 }

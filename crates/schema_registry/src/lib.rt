@@ -13,7 +13,6 @@ mod room;
 mod schemas;
 mod shared;
 mod subject;
-mod versions;
 
 pub use command::{Command, Version};
 pub use level::Level;

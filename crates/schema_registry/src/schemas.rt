@@ -1,11 +1,14 @@
-ghost use Rattle.std.specs.Prelude.{◌≡◌, ◌≤◌, ◌<◌, ◌+◌, ◌^◌, [], ◌∷◌, ◌++◌, length, take, None, option_map, IfOk, OnOk, OnErr};
-ghost use Rattle.avro_schema.specs.Schema.{Declaration};
+ghost use Rattle.std.specs.Prelude.{◌≡◌, ◌≤◌, [], ◌∷◌, ◌++◌, length, None, option_map, IfOk, OnOk, OnErr, if◌then◌else◌, string_bytes};
+ghost use Rattle.std.specs.BTreeMap.{get_by_text};
+ghost use Rattle.registry_tables.specs.Maps.{AreSame, Puts, ids_in, number_of};
+ghost use Rattle.schema_registry.specs.declared.limits.TheConstants.{MOST_SCHEMAS};
 ghost use Rattle.schema_registry.specs.Accepting.{id_for, with_schema};
 ghost use Rattle.schema_registry.specs.Answers.{has_no_id};
 ghost use Rattle.schema_registry.specs.Lists.{id_of, numbered};
 
 use crate::limits::MOST_SCHEMAS;
 use avro_schema::Schema;
+use registry_tables::{Versions, add};
 use std::alloc::{AllocError, Global};
 use std::collections::BTreeMap;
 use std::marker::Model;
@@ -34,6 +37,18 @@ impl Model for SchemaTable {
     ghost invariant = { λ t. AreIdsOf t.ids t.schemas.items };
 }
 
+/// Puts a schema behind the others, if it is new.
+fn push_new(schemas: &mut Vec<Schema>, is_new: bool, schema: Schema) -> Result<(), AllocError>
+    ensures ok { OnOk result (schemas.new.items
+        ≡ (if is_new then schemas.old.items ++ schema ∷ [] else schemas.old.items)) }
+    ensures err { OnErr result (schemas.new.items ≡ schemas.old.items) }
+{
+    if is_new {
+        schemas.push(schema)?;
+    }
+    Ok(())
+}
+
 impl SchemaTable {
     pub(crate) fn new(alloc: Global) -> SchemaTable
         ensures { result ≡ [] }
@@ -42,12 +57,6 @@ impl SchemaTable {
             schemas: Vec::new(alloc),
             ids: BTreeMap::new(alloc),
         }
-    }
-
-    pub(crate) fn len(&self) -> usize
-        ensures { result ≡ length self.now }
-    {
-        self.schemas.len()
     }
 
     /// The schema of an id.
@@ -74,49 +83,33 @@ impl SchemaTable {
         self.id_of(text).is_none() && self.schemas.len() >= MOST_SCHEMAS
     }
 
-    /// The id of a schema, which is the next one where no schema has its text.
-    pub(crate) fn id_for(&mut self, alloc: Global, schema: Schema) -> Result<u32, AllocError>
-        requires { length self.old + 1 < 2 ^ 32 }
+    /// Makes a schema the next version of a subject, under its id, which is the next one where no schema has its text.
+    /// Where memory is refused, nothing changes.
+    pub(crate) fn add_version(
+        &mut self,
+        alloc: Global,
+        subjects: &mut BTreeMap<String, Versions>,
+        subject: String,
+        schema: Schema,
+    ) -> Result<u32, AllocError>
+        requires few { length self.old ≤ MOST_SCHEMAS }
+        requires new { number_of (id_for schema self.old) (ids_in (get_by_text subjects.old (string_bytes subject)))
+            ≡ None }
         ensures id { IfOk result (λ id. id ≡ id_for schema self.old) }
         ensures ok { OnOk result (self.new ≡ with_schema schema self.old) }
-        ensures err { OnErr result (self.new ≡ self.old) }
+        ensures versions { OnOk result (Puts subjects.old subjects.new (string_bytes subject)
+            (ids_in (get_by_text subjects.old (string_bytes subject)) ++ id_for schema self.old ∷ [])) }
+        ensures err { OnErr result ((self.new ≡ self.old) × AreSame subjects.old subjects.new) }
     {
-        if let Some(id) = self.id_of(schema.text()) {
-            return Ok(id);
-        }
-        self.add(alloc, schema)?;
-        Ok(self.schemas.len() as u32)
-    }
-
-    /// Gives a schema the next id.
-    fn add(&mut self, alloc: Global, schema: Schema) -> Result<(), AllocError>
-        requires new { id_of schema.text self.old ≡ None }
-        requires room { length self.old + 1 < 2 ^ 32 }
-        ensures ok { OnOk result (self.new ≡ self.old ++ schema ∷ []) }
-        ensures err { OnErr result (self.new ≡ self.old) }
-    {
-        let text = String::from_str(alloc, schema.text())?;
-        let id = self.schemas.len() as u32 + 1;
-        self.schemas.push(schema)?;
-        match self.ids.insert(text, id) {
-            Ok(_) => Ok(()),
+        let count = self.schemas.len();
+        let named = schema.copy()?;
+        let is_new = self.id_of(named.text()).is_none();
+        push_new(&mut self.schemas, is_new, schema)?;
+        match add(alloc, &mut self.ids, subjects, count, subject, named.text()) {
+            Ok(id) => Ok(id),
             Err(_) => {
-                self.schemas.pop();
+                self.schemas.truncate(count);
                 Err(AllocError)
-            }
-        }
-    }
-
-    /// Takes the schema away that came last, if one came.
-    pub(crate) fn cut_to(&mut self, count: usize)
-        requires one { length self.old ≤ count + 1 }
-        requires new { (s : Declaration) → self.old ≡ take count self.old ++ s ∷ []
-            → id_of s.text (take count self.old) ≡ None }
-        ensures { self.new ≡ take count self.old }
-    {
-        if self.schemas.len() > count {
-            if let Some(schema) = self.schemas.pop() {
-                self.ids.remove(schema.text());
             }
         }
     }

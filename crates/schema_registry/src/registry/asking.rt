@@ -14,7 +14,7 @@ use crate::limits::MOST_VERSION;
 use crate::refusal::Refusal;
 use crate::reply::Reply;
 use crate::subject::is_subject;
-use crate::versions::Versions;
+use registry_tables::Versions;
 use std::alloc::{AllocError, Global};
 
 /// Whether a version may be asked for.

@@ -16,6 +16,7 @@ use crate::refusal::Refusal;
 use crate::reply::Reply;
 use crate::room::lacks_room;
 use crate::subject::is_subject;
+use registry_tables::set_for;
 use std::collections::BTreeMap;
 
 /// Puts a level under a name, where there is room for it.
@@ -44,10 +45,7 @@ impl Registry {
     pub(super) fn level_of(&self, subject: Option<&str>) -> Level
         ensures { result ≡ level_of (option_map (λ s. s.now) subject.entry) (registry_after self.now).levels }
     {
-        match subject {
-            Some(subject) => self.levels.get(subject).copied().unwrap_or(self.global),
-            None => self.global,
-        }
+        set_for(&self.levels, self.global, subject)
     }
 
     /// Sets the level of a subject, or the global one, and keeps the history.

@@ -8,21 +8,20 @@ ghost use Rattle.schema_registry.specs.Answers.{AreAccepted, AreSafe, Gives, Giv
 ghost use Rattle.schema_registry.specs.Command.{RegisterCommand, command_of};
 ghost use Rattle.schema_registry.specs.Lists.{level_of, versions_of, with_text};
 ghost use Rattle.schema_registry.specs.Subject.{is_subject};
-ghost use Rattle.schema_registry.specs.Tables.{AsksToRegister, Registers, entry_of, ids_in, number_of};
+ghost use Rattle.schema_registry.specs.Tables.{AsksToRegister, Registers, entry_of};
 
 use super::Registry;
 use crate::command::Command;
-use crate::compatible::{compared, goes_with_all};
+use crate::compatible::goes_with_all;
 use crate::history::History;
 use crate::limits::MOST_SUBJECTS;
 use crate::refusal::Refusal;
 use crate::reply::Reply;
 use crate::room::lacks_room;
 use crate::subject::is_subject;
-use crate::versions::Versions;
 use avro_schema::{Schema, SchemaError};
+use registry_tables::compared;
 use std::alloc::{AllocError, Global};
-use std::collections::BTreeMap;
 
 /// The schema that a text declares.
 pub(crate) fn parse_schema(alloc: Global, text: &str) -> Result<Schema, Refusal>
@@ -35,29 +34,6 @@ pub(crate) fn parse_schema(alloc: Global, text: &str) -> Result<Schema, Refusal>
         Err(SchemaError::NoMemory) => Err(Refusal::NoMemory),
         Err(error) => Err(Refusal::BadSchema(error)),
     }
-}
-
-/// Makes the schema of an id the next version of a subject.
-fn add_version(
-    alloc: Global,
-    subjects: &mut BTreeMap<String, Versions>,
-    subject: String,
-    id: u32,
-) -> Result<(), AllocError>
-    requires new { number_of id (ids_in (get_by_text subjects.old (string_bytes subject))) ≡ None }
-    requires known { id ≤ MOST_SCHEMAS }
-    ensures ok { OnOk result ((s : List ℕ) → get_by_text subjects.new s
-        ≡ (if bytes_eq (string_bytes subject) s then Some (ids_in (get_by_text subjects.old s) ++ id ∷ [])
-        else get_by_text subjects.old s)) }
-    ensures err { OnErr result ((s : List ℕ) → get_by_text subjects.new s ≡ get_by_text subjects.old s) }
-{
-    if let Some(versions) = subjects.get_mut(subject.as_str()) {
-        versions.add(id)?;
-        return Ok(());
-    }
-    let versions = Versions::one(alloc, id)?;
-    subjects.insert(subject, versions)?;
-    Ok(())
 }
 
 impl Registry {
@@ -82,7 +58,7 @@ impl Registry {
             return Ok(true);
         };
         let level = self.level_of(Some(subject));
-        let ids = compared(level, versions.ids());
+        let ids = compared(level.is_transitive(), versions.ids());
         Ok(goes_with_all(self.alloc, level, schema, &self.schemas, ids)?)
     }
 
@@ -107,18 +83,11 @@ impl Registry {
         ensures ok { OnOk result (self.new ≡ history.commands) }
         ensures err { OnErr result (self.new ≡ self.old) }
     {
-        let count = self.schemas.len();
-        let id = self.schemas.id_for(self.alloc, schema)?;
-        match add_version(self.alloc, &mut self.subjects, subject, id) {
-            Ok(()) => {
-                self.history = history;
-                Ok(id)
-            }
-            Err(_) => {
-                self.schemas.cut_to(count);
-                Err(AllocError)
-            }
-        }
+        let id = self
+            .schemas
+            .add_version(self.alloc, &mut self.subjects, subject, schema)?;
+        self.history = history;
+        Ok(id)
     }
 
     /// Gives a schema its id, and makes it a version of the subject.

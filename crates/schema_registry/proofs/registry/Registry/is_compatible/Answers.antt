@@ -15,5 +15,5 @@ returns c =
     let held = rw c.self.view_is at c.self.invariant.0 in
     let known = versions-found _ _ _ _ _ held s c.in-Some.versions.now (sym c.in-Some.ensures.value) in
     let pairs = ap (pairs_of lists level c.args.schema.now) known.1 ∙ pairs-from lists level c.args.schema.now s c.in-Some.versions.now in
-    let tests = rw (c.compared-ids.ensures, c.ids.ensures, c.level_of-level.ensures, held.schemas_are) at c.in_ok-goes_with_all.ensures in
+    let tests = rw (c.compared-ids.ensures, c.is_transitive.ensures, c.ids.ensures, c.level_of-level.ensures, held.schemas_are) at c.in_ok-goes_with_all.ensures in
     subst (Tests c.in_ok-goes_with_all.field-0) (sym pairs) tests

@@ -1,0 +1,3 @@
+mod Changes
+mod Last
+mod Numbers

@@ -1,0 +1,66 @@
+//! One more version of a subject, whose text has an id or gets the next one.
+
+ghost use Rattle.std.specs.Prelude.{◌≡◌, ◌<◌, ◌^◌, [], ◌∷◌, ◌++◌, None, IfOk, OnOk, OnErr, string_bytes};
+ghost use Rattle.std.specs.BTreeMap.{get_by_text};
+ghost use Rattle.registry_tables.specs.Maps.{AreSame, Puts, id_for, ids_in, number_of};
+
+use crate::versions::Versions;
+use std::alloc::{AllocError, Global};
+use std::collections::BTreeMap;
+
+/// Makes an id the next version of a subject.
+fn add_version(
+    alloc: Global,
+    subjects: &mut BTreeMap<String, Versions>,
+    subject: String,
+    id: u32,
+) -> Result<(), AllocError>
+    requires new { number_of id (ids_in (get_by_text subjects.old (string_bytes subject))) ≡ None }
+    requires known { id < 2 ^ 31 }
+    ensures ok { OnOk result (Puts subjects.old subjects.new (string_bytes subject)
+        (ids_in (get_by_text subjects.old (string_bytes subject)) ++ id ∷ [])) }
+    ensures err { OnErr result (AreSame subjects.old subjects.new) }
+{
+    if let Some(versions) = subjects.get_mut(subject.as_str()) {
+        versions.add(id)?;
+        return Ok(());
+    }
+    let versions = Versions::one(alloc, id)?;
+    subjects.insert(subject, versions)?;
+    Ok(())
+}
+
+/// Makes a text the next version of a subject, under the text's id, which is the next one where the text is new. Where
+/// memory is refused, nothing changes.
+pub fn add(
+    alloc: Global,
+    ids: &mut BTreeMap<String, u32>,
+    subjects: &mut BTreeMap<String, Versions>,
+    count: usize,
+    subject: String,
+    text: &str,
+) -> Result<u32, AllocError>
+    requires room { count < 2 ^ 30 }
+    requires few { id_for ids.old text.now count < 2 ^ 31 }
+    requires new { number_of (id_for ids.old text.now count)
+        (ids_in (get_by_text subjects.old (string_bytes subject))) ≡ None }
+    ensures id { IfOk result (λ id. id ≡ id_for ids.old text.now count) }
+    ensures ids { OnOk result (Puts ids.old ids.new text.now (id_for ids.old text.now count)) }
+    ensures versions { OnOk result (Puts subjects.old subjects.new (string_bytes subject)
+        (ids_in (get_by_text subjects.old (string_bytes subject)) ++ id_for ids.old text.now count ∷ [])) }
+    ensures err { OnErr result (AreSame ids.old ids.new × AreSame subjects.old subjects.new) }
+{
+    if let Some(id) = ids.get(text).copied() {
+        add_version(alloc, subjects, subject, id)?;
+        return Ok(id);
+    }
+    let id = count as u32 + 1;
+    ids.insert(String::from_str(alloc, text)?, id)?;
+    match add_version(alloc, subjects, subject, id) {
+        Ok(()) => Ok(id),
+        Err(_) => {
+            ids.remove(text);
+            Err(AllocError)
+        }
+    }
+}
