@@ -4,23 +4,22 @@ use crate::lines::answer_to;
 use schema_registry::Registry;
 use std::alloc::{AllocError, Global};
 
+/// Adds a row: a line and its answer.
+pub(crate) fn push_row(answered: &mut String, line: &str, answer: &str) -> Result<(), AllocError> {
+    answered.push_str(line)?;
+    answered.push_str("\n")?;
+    answered.push_str(answer)?;
+    answered.push_str("\n")
+}
+
 /// Rows with the answers that a registry gives to their commands.
 fn answered_by(alloc: Global, registry: &mut Registry, rows: &str) -> Result<String, AllocError> {
     let mut answered = String::new(alloc);
-    for (place, line) in rows.lines().enumerate() {
-        if place % 2 == 0 {
-            let answer = answer_to(alloc, registry, line)?;
-            let row = format!(in alloc; "{line}\n{answer}\n")?;
-            answered.push_str(&row)?;
-        }
+    for line in rows.lines().step_by(2) {
+        let answer = answer_to(alloc, registry, line)?;
+        push_row(&mut answered, line, &answer)?;
     }
     Ok(answered)
-}
-
-/// Rows with the answers that a new registry gives to their commands.
-pub(crate) fn answered(alloc: Global, rows: &str) -> Result<String, AllocError> {
-    let mut registry = Registry::new(alloc);
-    answered_by(alloc, &mut registry, rows)
 }
 
 /// Whether a registry answers each command as its row has it, with a number in place of `#`.
@@ -36,21 +35,6 @@ fn answers_numbered(
     Ok(answered == wanted)
 }
 
-/// Whether a registry answers so for each of the numbers from 1 to this one.
-fn answers_each(
-    alloc: Global,
-    registry: &mut Registry,
-    rows: &str,
-    count: usize,
-) -> Result<bool, AllocError> {
-    for number in 1..=count {
-        if !answers_numbered(alloc, registry, rows, number)? {
-            return Ok(false);
-        }
-    }
-    Ok(true)
-}
-
 /// Rows with the answers that a new registry gives to their commands after other rows, which have the numbers from 1 to
 /// a count in place of `#`; or nothing, where those are answered otherwise.
 pub(crate) fn answered_after(
@@ -60,8 +44,10 @@ pub(crate) fn answered_after(
     rows: &str,
 ) -> Result<String, AllocError> {
     let mut registry = Registry::new(alloc);
-    if !answers_each(alloc, &mut registry, numbered_rows, count)? {
-        return Ok(String::new(alloc));
+    for number in 1..=count {
+        if !answers_numbered(alloc, &mut registry, numbered_rows, number)? {
+            return Ok(String::new(alloc));
+        }
     }
     answered_by(alloc, &mut registry, rows)
 }

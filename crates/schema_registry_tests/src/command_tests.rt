@@ -1,77 +1,75 @@
 //! What a registry answers to commands in a row.
 
-use crate::answers::{answered, answered_after};
+use crate::answers::answered_after;
 use crate::rows::{
-    FORWARD, FULL, LATEST, LEVELS, MANY, NUMBERED, OWN, REFUSALS, SUBJECTS, TRANSITIVE, VERSIONS,
+    EACH_ID, EACH_LEVEL, EACH_SUBJECT, FORWARD, FULL, LATEST, LEVELS, MANY, NO_IDS, NO_LEVELS,
+    NO_SUBJECTS, NUMBERED, OWN, REFUSALS, SUBJECTS, TRANSITIVE, VERSIONS,
 };
-use schema_registry::LONGEST_SUBJECT;
+use schema_registry::{LONGEST_SUBJECT, MOST_LEVELS, MOST_SCHEMAS, MOST_SUBJECTS};
 use std::process::Abort;
 use std::test::Fail;
 
-/// Whether a new registry answers each command as its row has it.
-fn assert_rows(rt: &(impl Abort + AllocGlobal), rows: &str) -> Result<(), Fail> {
-    let answered = answered(rt.alloc(), rows)?;
+/// Whether a new registry answers each command as its row has it, after other rows that have the numbers from 1 to a
+/// count in place of `#`.
+fn assert_after(
+    rt: &(impl Abort + AllocGlobal),
+    numbered_rows: &str,
+    count: usize,
+    rows: &str,
+) -> Result<(), Fail> {
+    let answered = answered_after(rt.alloc(), numbered_rows, count, rows)?;
     assert_eq!(rt; answered.as_str(), rows);
+    Ok(())
+}
+
+/// Whether a new registry answers each command as its row has it, for each of some tables of rows.
+fn assert_rows(rt: &(impl Abort + AllocGlobal), tables: &[&str]) -> Result<(), Fail> {
+    for rows in tables {
+        assert_after(rt, "", 0, rows)?;
+    }
     Ok(())
 }
 
 #[test]
 fn answers_each_question(rt: HostRuntime) -> Result<(), Fail> {
-    assert_rows(&rt, VERSIONS)
-}
-
-#[test]
-fn forward_compares_the_other_way(rt: HostRuntime) -> Result<(), Fail> {
-    assert_rows(&rt, FORWARD)
+    assert_rows(&rt, &[VERSIONS])
 }
 
 #[test]
 fn full_compares_both_ways(rt: HostRuntime) -> Result<(), Fail> {
-    assert_rows(&rt, FULL)
+    assert_rows(&rt, &[FULL])
 }
 
 #[test]
-fn backward_compares_the_latest(rt: HostRuntime) -> Result<(), Fail> {
-    assert_rows(&rt, LATEST)
-}
-
-#[test]
-fn transitive_levels_compare_all(rt: HostRuntime) -> Result<(), Fail> {
-    assert_rows(&rt, TRANSITIVE)
-}
-
-#[test]
-fn a_subject_has_a_level_of_its_own(rt: HostRuntime) -> Result<(), Fail> {
-    assert_rows(&rt, OWN)
+fn levels_compare_what_they_name(rt: HostRuntime) -> Result<(), Fail> {
+    assert_rows(&rt, &[FORWARD, LATEST, TRANSITIVE, OWN, LEVELS])
 }
 
 #[test]
 fn shares_ids_over_subjects(rt: HostRuntime) -> Result<(), Fail> {
-    assert_rows(&rt, SUBJECTS)
+    assert_rows(&rt, &[SUBJECTS])
 }
 
 #[test]
 fn refuses_in_order(rt: HostRuntime) -> Result<(), Fail> {
-    assert_rows(&rt, REFUSALS)
-}
-
-#[test]
-fn levels_have_names(rt: HostRuntime) -> Result<(), Fail> {
-    assert_rows(&rt, LEVELS)
+    assert_rows(&rt, &[REFUSALS])
 }
 
 #[test]
 fn maps_grow(rt: HostRuntime) -> Result<(), Fail> {
-    let answered = answered_after(rt.alloc(), NUMBERED, 30, MANY)?;
-    assert_eq!(rt; answered.as_str(), MANY);
-    Ok(())
+    assert_after(&rt, NUMBERED, 30, MANY)
+}
+
+#[test]
+fn registries_are_full_at_their_limits(rt: HostRuntime) -> Result<(), Fail> {
+    assert_after(&rt, EACH_ID, MOST_SCHEMAS, NO_IDS)?;
+    assert_after(&rt, EACH_SUBJECT, MOST_SUBJECTS, NO_SUBJECTS)?;
+    assert_after(&rt, EACH_LEVEL, MOST_LEVELS, NO_LEVELS)
 }
 
 #[test]
 fn names_are_within_255_bytes(rt: HostRuntime) -> Result<(), Fail> {
     let name = "x".repeat(rt.alloc(), LONGEST_SUBJECT)?;
-    let rows = format!(in rt.alloc();
-        "level {name}\nBACKWARD\nlevel {name}x\nrefused BadSubject\n"
-    )?;
-    assert_rows(&rt, &rows)
+    let rows = "level #\nBACKWARD\nlevel #x\nrefused BadSubject\n".replace(rt.alloc(), '#', &name)?;
+    assert_after(&rt, "", 0, &rows)
 }

@@ -6,8 +6,6 @@ mod answers;
 #[cfg(test)]
 mod command_tests;
 #[cfg(test)]
-mod limit_tests;
-#[cfg(test)]
 mod lines;
 #[cfg(test)]
 mod rows;

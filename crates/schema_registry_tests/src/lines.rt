@@ -72,8 +72,7 @@ pub(crate) fn command_of(alloc: Global, line: &str) -> Result<Command, Refusal> 
 fn numbers_line(alloc: Global, numbers: &[u32]) -> Result<String, AllocError> {
     let mut line = String::from_str(alloc, "numbers")?;
     for number in numbers {
-        let word = format!(in alloc; " {number}")?;
-        line.push_str(&word)?;
+        line.push_str(&format!(in alloc; " {number}")?)?;
     }
     Ok(line)
 }

@@ -306,3 +306,63 @@ NONE
 lookup s1 {"type":"fixed","name":"F","size":15}
 entry s1 15 15 {"name":"F","size":15,"type":"fixed"}
 "#;
+
+/// A schema for each id.
+pub(crate) const EACH_ID: &str = r#"set s NONE
+NONE
+register s {"type":"fixed","name":"F","size":#}
+id #
+"#;
+
+/// What is answered once each id has a schema.
+pub(crate) const NO_IDS: &str = r#"register s {"type":"fixed","name":"F","size":0}
+refused Full
+register u {"type":"fixed","name":"F","size":0}
+refused Full
+register s {"type":"fixed","name":"F","size":7}
+id 7
+register u {"type":"fixed","name":"F","size":4096}
+id 4096
+subjects
+names s u
+"#;
+
+/// A version for each subject.
+pub(crate) const EACH_SUBJECT: &str = r#"register s# "int"
+id 1
+"#;
+
+/// What is answered once there are as many subjects as there may be.
+pub(crate) const NO_SUBJECTS: &str = r#"register other "int"
+refused Full
+register other "long"
+refused Full
+register s7 "string"
+refused Incompatible
+register s7 "long"
+id 2
+versions s7
+numbers 1 2
+versions other
+refused NoSubject
+"#;
+
+/// A level for each subject.
+pub(crate) const EACH_LEVEL: &str = "set s# NONE
+NONE
+";
+
+/// What is answered once as many subjects have a level as may have one.
+pub(crate) const NO_LEVELS: &str = "set other FULL
+refused Full
+level other
+BACKWARD
+set s4095 FULL
+FULL
+set * FORWARD
+FORWARD
+level s4095
+FULL
+level other
+FORWARD
+";

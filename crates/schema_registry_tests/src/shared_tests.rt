@@ -3,6 +3,7 @@
 ghost use Rattle.std.specs.Prelude.{◌≡◌, IfOk};
 ghost use Rattle.schema_registry.specs.Shared.{IsReceiptOf};
 
+use crate::answers::push_row;
 use crate::lines::{answer_line, command_of, reply_line};
 use schema_registry::{Receipt, Refusal, SharedRegistry};
 use std::alloc::{AllocError, Global};
@@ -183,12 +184,9 @@ fn answered_by<R: Wait>(
     rows: &str,
 ) -> Result<String, AllocError> {
     let mut answered = String::new(alloc);
-    for (place, line) in rows.lines().enumerate() {
-        if place % 2 == 0 {
-            let answer = answer_to(rt, alloc, shared, line)?;
-            let row = format!(in alloc; "{line}\n{answer}\n")?;
-            answered.push_str(&row)?;
-        }
+    for line in rows.lines().step_by(2) {
+        let answer = answer_to(rt, alloc, shared, line)?;
+        push_row(&mut answered, line, &answer)?;
     }
     Ok(answered)
 }
