@@ -32,22 +32,12 @@ fn assert_rows(rt: &(impl Abort + AllocGlobal), tables: &[&str]) -> Result<(), F
 
 #[test]
 fn answers_each_question(rt: HostRuntime) -> Result<(), Fail> {
-    assert_rows(&rt, &[VERSIONS])
-}
-
-#[test]
-fn full_compares_both_ways(rt: HostRuntime) -> Result<(), Fail> {
-    assert_rows(&rt, &[FULL])
+    assert_rows(&rt, &[VERSIONS, SUBJECTS])
 }
 
 #[test]
 fn levels_compare_what_they_name(rt: HostRuntime) -> Result<(), Fail> {
-    assert_rows(&rt, &[FORWARD, LATEST, TRANSITIVE, OWN, LEVELS])
-}
-
-#[test]
-fn shares_ids_over_subjects(rt: HostRuntime) -> Result<(), Fail> {
-    assert_rows(&rt, &[SUBJECTS])
+    assert_rows(&rt, &[FORWARD, FULL, LATEST, TRANSITIVE, OWN, LEVELS])
 }
 
 #[test]
