@@ -5,6 +5,7 @@ use isa::Program;
 use machine::{Outcome, PairError, Run, TranscodeError, Transcoder, transcode};
 use program_compiler::{CompileError, compile};
 use std::alloc::{AllocError, Global};
+use std::process::Abort;
 
 /// A schema, parsed again where memory ran out the first time.
 pub(crate) fn parsed(alloc: Global, text: &str) -> Result<Schema, SchemaError> {
@@ -35,6 +36,12 @@ pub(crate) fn compiled(alloc: Global, pair: &Pair) -> Result<Program, CompileErr
         Err(CompileError::NoMemory) => compile(alloc, w, r),
         answer => answer,
     }
+}
+
+/// The program of the schemas of two texts.
+pub(crate) fn program_of(rt: &(impl Abort + AllocGlobal), writer: &str, reader: &str) -> Program {
+    let pair = pair_of(rt.alloc(), writer, reader).expect(rt, "schemas");
+    compiled(rt.alloc(), &pair).expect(rt, "a program")
 }
 
 /// A transcoder, made again where memory ran out the first time.

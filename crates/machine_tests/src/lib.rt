@@ -1,4 +1,4 @@
-//! Tests of `machine`, in a crate of their own, so that the library is proved once.
+//! Tests of `program_compiler` and of `machine`, in one crate over both, so that each library is proved once.
 #![tactic(auto)]
 
 #[cfg(test)]
@@ -8,8 +8,14 @@ mod limit_tests;
 #[cfg(test)]
 mod pair_tests;
 #[cfg(test)]
+mod program_limit_tests;
+#[cfg(test)]
+mod program_tests;
+#[cfg(test)]
 mod rows;
 #[cfg(test)]
 mod run_tests;
+#[cfg(test)]
+mod wide_pairs;
 #[cfg(test)]
 mod words;

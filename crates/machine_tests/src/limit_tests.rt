@@ -1,6 +1,7 @@
 //! Payloads, programs and answers at their limits.
 
 use crate::again::{Pair, outcome, pair_of, transcoder};
+use crate::wide_pairs::wide_pair;
 use crate::words::{next_words, outcome_words, pair_words};
 use avro_schema::SchemaError;
 use machine::{TranscodeError, Transcoder};
@@ -8,56 +9,9 @@ use outcome::{MOST_PAYLOAD, Outcome};
 use std::alloc::{AllocError, Global};
 use std::process::Abort;
 
-/// Appends a union of so many records, all named R, without fields.
-fn push_records(text: &mut String, many: usize) -> Result<(), AllocError> {
-    text.push_str("[")?;
-    for number in 0..many {
-        let comma = if number == 0 { "" } else { "," };
-        write!(
-            text,
-            "{comma}{{\"type\":\"record\",\"name\":\"n{number}.R\",\"fields\":[]}}"
-        )?;
-    }
-    text.push_str("]")?;
-    Ok(())
-}
-
-/// Appends a record R of so many ints that are 0 by default.
-fn push_fields(text: &mut String, many: usize) -> Result<(), AllocError> {
-    text.push_str("{\"type\":\"record\",\"name\":\"R\",\"fields\":[")?;
-    for field in 0..many {
-        let comma = if field == 0 { "" } else { "," };
-        write!(
-            text,
-            "{comma}{{\"name\":\"f{field}\",\"type\":\"int\",\"default\":0}}"
-        )?;
-    }
-    text.push_str("]}")?;
-    Ok(())
-}
-
-fn many_records(alloc: Global, many: usize) -> Result<String, AllocError> {
-    let mut text = String::new(alloc);
-    push_records(&mut text, many)?;
-    Ok(text)
-}
-
-fn wide_record(alloc: Global, many: usize) -> Result<String, AllocError> {
-    let mut text = String::new(alloc);
-    push_fields(&mut text, many)?;
-    Ok(text)
-}
-
-/// A pair whose program is too large.
-fn wide_pair(alloc: Global) -> Result<Pair, SchemaError> {
-    let writer = many_records(alloc, 648)?;
-    let reader = wide_record(alloc, 200)?;
-    pair_of(alloc, &writer, &reader)
-}
-
 #[test]
 fn programs_too_large(rt: HostRuntime) {
-    let pair = wide_pair(rt.alloc()).expect(&rt, "schemas");
+    let pair = wide_pair(rt.alloc(), 648).expect(&rt, "schemas");
     let told = pair_words(rt.alloc(), &pair, &[]).expect(&rt, "no memory");
     assert!(rt; told.as_str() == "program too large");
 }
