@@ -48,9 +48,9 @@ printf 'publish 1 1\nno event\n' | "$program" replay >"$out" 2>"$err"; want repl
 printf 'finish 0\n' | "$program" replay >/dev/full 2>"$err"; status=$?; : >"$out"; (exit $status); want 'replay to a full device' 3 none none
 "$program" replay more </dev/null >"$out" 2>"$err"; want 'replay and a further word' 2 none some
 printf '%s02|61\n' "$listing" | "$program" run >/dev/full 2>"$err"; status=$?; : >"$out"; (exit $status); want 'run to a full device' 3 none none
-# last NAME LINE: what the last line of `replay` on the standard input has to be
+# last NAME LINE [VERB]: what the last line of `replay`, or of another verb, on the standard input has to be
 last() {
-  "$program" replay >"$out" 2>"$err"
+  "$program" "${3:-replay}" >"$out" 2>"$err"
   local got
   got=$(tail -n 1 "$out")
   if [ "$got" = "$2" ]; then passed=$((passed + 1)); else echo "$1: ${got:0:80}, wanted $2"; failed=$((failed + 1)); fi
@@ -67,5 +67,13 @@ last 'a schema too many' 'refused Full' <"$folder/in"
 { printf 'register w [%s]\n' "$(many 648 '{"type":"record","name":"n@.R","fields":[]}')"
   printf 'register r {"type":"record","name":"R","fields":[%s]}\npublish 1 2\n' "$(many 200 '{"name":"f@","type":"int","default":0}')"; } >"$folder/in"
 last 'a program too large' 'refused ProgramTooLarge' <"$folder/in"
+# so many times a constant of 60,000 bytes: in an array without items of its own, which lets it go, or as an item
+times() { seq 1 "$1" | sed "s/.*/$2/" | tr -d '\n'; }
+constant=$(times 60000 61)
+{ printf 'avro program 1\nconst 0 %s\n0 BLOCKS\n1 NEXT 6\n2 BLOCKS\n3 PUT 0\n4 NEXT 5\n5 JUMP 1\n6 HALT\nend\n' "$constant"
+  printf 'e012%s00\n' "$(times 1200 00)"; } >"$folder/in"
+last 'bytes that are let go count no more' "done e012$(times 1200 00)00 count 6003" run <"$folder/in"
+{ printf 'avro program 1\nconst 0 %s\n0 BLOCKS\n1 NEXT 4\n2 PUT 0\n3 JUMP 1\n4 HALT\nend\ne01200\n' "$constant"; } >"$folder/in"
+last 'bytes that are held count' 'output too large count 3603' run <"$folder/in"
 echo "$passed passed, $failed failed"
 [ "$failed" = 0 ]
