@@ -13,10 +13,10 @@ use Rattle.std.proofs.lemmas.List.Folds.{list_any-append}
 use Rattle.std.proofs.lemmas.Map.Text.{btree_map_updates_text, btree_set_updates_text}
 use Rattle.std.proofs.lemmas.Slice.Eq.{bytes_eq-Decides}
 use Rattle.avro_types.specs.Aliases.{AreFound, full_names, has_last, is_found, stands_under}
-use Rattle.avro_types.specs.FullNames.{AreParts, full_name, has_dot, inside, is_dot, namespace_of, unqualified}
+use Rattle.avro_types.specs.FullNames.{AreParts, full_name, has_dot, inside, namespace_of, unqualified}
 use Rattle.avro_types.specs.Symbols.{is_used}
 use Rattle.avro_types.specs.Laws.Booleans.{both, false_by, no_true, or_false, same_by}
-use Rattle.avro_types.specs.Laws.Dots.{back-undotted, dotted-behind, namespace-inside, split-parts, unqualified-inside}
+use Rattle.avro_types.specs.Laws.Dots.{back-undotted, dotted-behind, namespace-inside, split-parts, unqualified-behind, unqualified-inside}
 use Rattle.avro_types.specs.Laws.NameParts.{name-undotted}
 use Rattle.avro_types.proofs.SymbolPositions.{names, names-take}
 
@@ -184,3 +184,17 @@ found-alone r false y u found same never = absurd (let no : ⊥ = cc in no)
 pub found-under : (r s x y u : Bool) → u ≡ (x || y) → r ≡ x → r ≡ false → s ≡ y → s ≡ u
 found-under r s true y u found same none here = absurd (let never : ⊥ = cc in never)
 found-under r s false y u found same none here = here ∙ sym found
+
+-- ---- the last part of what a text means
+
+pub last-alone : (own text : List ℕ) → has_dot text ≡ false → text ≡ unqualified (full_name own text)
+last-alone own text none =
+    let full : full_name own text ≡ inside own text = rw none refl in
+    sym (ap unqualified full ∙ unqualified-inside own text none)
+
+pub last-behind : (own text front back : List ℕ) → SplitsAroundMatch (RFindsChar 46) text front back → back ≡ unqualified (full_name own text)
+last-behind own text front back split =
+    let parts : text ≡ front ++ 46 ∷ back = split-parts text front back split in
+    let dotted : has_dot text ≡ true = ap has_dot parts ∙ dotted-behind front back in
+    let full : full_name own text ≡ text = rw dotted refl in
+    sym (ap unqualified (full ∙ parts) ∙ unqualified-behind front back (back-undotted text front back split))

@@ -1,9 +1,9 @@
-ghost use Rattle.std.specs.Prelude.{◌≡◌, ◌==◌, ◌&&◌, ◌||◌, IfOk, OnOk, false, ℕ, List, length, map, string_bytes};
+ghost use Rattle.std.specs.Prelude.{◌≡◌, ◌==◌, ◌&&◌, ◌||◌, IfOk, OnOk, false, ℕ, List, length, map, option_map, slice_get, string_bytes};
 ghost use Rattle.std.specs.Arc.{arc_str_bytes};
 ghost use Rattle.std.specs.BTreeSet.{contains_text};
 ghost use Rattle.std.specs.Str.{bytes_eq};
 ghost use Rattle.avro_types.specs.Aliases.{full_names, is_found, stands_under};
-ghost use Rattle.avro_types.specs.FullNames.{full_name, has_dot, inside};
+ghost use Rattle.avro_types.specs.FullNames.{full_name, has_dot, inside, unqualified};
 ghost use Rattle.avro_types.specs.Symbols.{is_used};
 
 use crate::name::Name;
@@ -98,6 +98,16 @@ fn stands_under(qualified: &BTreeMap<String, BTreeSet<String>>, namespace: &str,
     }
 }
 
+/// What stands after the last dot of a text, which is all of it where it has none.
+fn last_of(text: &str) -> &str
+    ensures { (own : List ℕ) → result.now ≡ unqualified (full_name own text.now) }
+{
+    match text.rsplit_once('.') {
+        Some((_, last)) => last,
+        None => text,
+    }
+}
+
 impl Aliases {
     /// What texts mean for a type in a namespace: a text without a dot a name in that namespace, another itself.
     pub fn of_texts(
@@ -126,6 +136,16 @@ impl Aliases {
         ensures { result ≡ (length self.now == 0) }
     {
         self.texts.is_empty()
+    }
+
+    /// The unqualified name of the one at a position, from 0: what stands after its last dot.
+    pub fn last(&self, position: usize) -> Option<&str>
+        ensures { option_map (λ last. last.now) result ≡ option_map unqualified (slice_get self.now position) }
+    {
+        match self.texts.get(position) {
+            Some(text) => Some(last_of(text)),
+            None => None,
+        }
     }
 
     /// Whether a full name is one of them.

@@ -524,7 +524,7 @@ impl Store {
     }
 
     /// The newest frame, which is an array or a map, is closed: its items go in one block to the current buffer below
-    /// it. The scratch is used on the way.
+    /// it, or `00` alone where it has none. The scratch is used on the way.
     pub fn close_blocks(&mut self, alloc: Global, scratch: &mut Vec<u8>) -> Result<(), AllocError>
         requires blocks { is_some (walk_of self.old.store.frames) ≡ true }
         requires below { has_current_below self.old.store.frames ≡ true }

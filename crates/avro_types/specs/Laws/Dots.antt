@@ -56,11 +56,13 @@ namespace-inside (c ∷ cs) last none =
     ap (λ n. take n (front ++ 46 ∷ last)) (let z : length (front ++ 46 ∷ last) - suffix_len (λ c. not (eqb c 46)) (front ++ 46 ∷ last) - 1 ≡ length front = omega (arith, behind front last none) in z)
     ∙ take-append_seam front (46 ∷ last)
 
+pub unqualified-behind : (front last : List ℕ) → has_dot last ≡ false → unqualified (front ++ 46 ∷ last) ≡ last
+unqualified-behind front last none =
+    ap (λ n. drop n (front ++ 46 ∷ last)) (behind front last none) ∙ drop-append-add front (46 ∷ last) 1
+
 pub unqualified-inside : (namespace last : List ℕ) → has_dot last ≡ false → unqualified (inside namespace last) ≡ last
 unqualified-inside [] last none = ap (λ n. drop n last) (alone last none)
-unqualified-inside (c ∷ cs) last none =
-    let front = c ∷ cs in
-    ap (λ n. drop n (front ++ 46 ∷ last)) (behind front last none) ∙ drop-append-add front (46 ∷ last) 1
+unqualified-inside (c ∷ cs) last none = unqualified-behind (c ∷ cs) last none
 
 -- ---- what a search from the end finds
 
