@@ -1,4 +1,5 @@
-//! Tests of `session_commands` and `commands`, in a crate of their own, so that the libraries are proved once.
+//! Tests of `event_lines`, `session_commands` and `commands`, in one crate over them, so that each library is proved
+//! once.
 #![tactic(auto)]
 
 #[cfg(test)]
@@ -9,6 +10,8 @@ mod compile_tests;
 mod debug_tests;
 #[cfg(test)]
 mod devices;
+#[cfg(test)]
+mod line_forms;
 #[cfg(test)]
 mod replay_tests;
 #[cfg(test)]

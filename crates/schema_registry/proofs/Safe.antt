@@ -29,7 +29,7 @@ abbrev pub Tests : Bool → List Pair → Type 0
 Tests b ps = IsTrue b ↔ AreSafe ps
 
 -- of a pair that is there where it is asked for
-pub tests-pair : {P : Type 0} (writer reader : P → Declaration) (o : Option P) (asked b : Bool) (w r : Declaration)
+tests-pair : {P : Type 0} (writer reader : P → Declaration) (o : Option P) (asked b : Bool) (w r : Declaration)
     → MatchOption o (asked ≡ false) (λ p. (asked ≡ true) × (writer p ≡ w) × (reader p ≡ r))
     → MatchOption o (IsTrue b) (λ p. IsTrue b ↔ IsSafe (writer p).nodes (reader p).nodes) → Tests b (cond asked ((w, r) ∷ []) [])
 tests-pair writer reader None asked b w r is test = rw is ((λ _. tt), (λ _. test))
@@ -37,16 +37,24 @@ tests-pair writer reader (Some p) asked b w r is test =
     let h = subst (λ w. IsTrue b ↔ IsSafe w.nodes r.nodes) is.1 (subst (λ r. IsTrue b ↔ IsSafe (writer p).nodes r.nodes) is.2 test) in
     rw is.0 ((λ e. (h.0 e, tt)), (λ a. h.1 a.0))
 
-pub tests-both : (b c : Bool) (ps qs : List Pair) → Tests b ps → Tests c qs → Tests (b && c) (ps ++ qs)
+tests-both : (b c : Bool) (ps qs : List Pair) → Tests b ps → Tests c qs → Tests (b && c) (ps ++ qs)
 tests-both true c ps qs h k = ((λ e. safe-append ps qs (h.0 refl) (k.0 e)), (λ a. k.1 (safe-back ps qs a)))
 tests-both false c ps qs h k = ((λ e. absurd (let no : ⊥ = cc in no)), (λ a. h.1 (safe-front ps qs a)))
 
-pub tests-level : (level : Level) (new old : Declaration) (n o b c : Bool) → n ≡ new_reads_old level → o ≡ old_reads_new level
+tests-level : (level : Level) (new old : Declaration) (n o b c : Bool) → n ≡ new_reads_old level → o ≡ old_reads_new level
     → Tests b (cond n ((old, new) ∷ []) []) → Tests c (cond o ((new, old) ∷ []) []) → Tests (b && c) (pairs_with level new old)
 tests-level level new old n o b c is-n is-o h k =
     subst (λ n. Tests (b && c) (cond n ((old, new) ∷ []) [] ++ cond (old_reads_new level) ((new, old) ∷ []) [])) is-n
     (subst (λ o. Tests (b && c) (cond n ((old, new) ∷ []) [] ++ cond o ((new, old) ∷ []) [])) is-o
     (tests-both b c (cond n ((old, new) ∷ []) []) (cond o ((new, old) ∷ []) []) h k))
+
+-- of both pairs that a level may ask for
+pub tests-ways : {P : Type 0} (writer reader : P → Declaration) (level : Level) (new old : Declaration) (newer older : Option P) (n o b c : Bool) → n ≡ new_reads_old level → o ≡ old_reads_new level
+    → MatchOption newer (n ≡ false) (λ p. (n ≡ true) × (writer p ≡ old) × (reader p ≡ new)) → MatchOption newer (IsTrue b) (λ p. IsTrue b ↔ IsSafe (writer p).nodes (reader p).nodes)
+    → MatchOption older (o ≡ false) (λ p. (o ≡ true) × (writer p ≡ new) × (reader p ≡ old)) → MatchOption older (IsTrue c) (λ p. IsTrue c ↔ IsSafe (writer p).nodes (reader p).nodes)
+    → Tests (b && c) (pairs_with level new old)
+tests-ways writer reader level new old newer older n o b c is-n is-o forth forth-test back back-test =
+    tests-level level new old n o b c is-n is-o (tests-pair writer reader newer n b old new forth forth-test) (tests-pair writer reader older o c new old back back-test)
 
 -- ---- a new schema beside older ones
 

@@ -1,4 +1,4 @@
-//! Tests of `session_core`, in a crate of their own, so that the library is proved once.
+//! Tests of `session_core` and of `schema_registry`, in one crate over both, so that each library is proved once.
 #![tactic(auto)]
 
 #[cfg(test)]
@@ -9,6 +9,8 @@ mod limit_tests;
 mod lines;
 #[cfg(test)]
 mod pair_row_tests;
+#[cfg(test)]
+mod registry;
 #[cfg(test)]
 mod rows;
 #[cfg(test)]

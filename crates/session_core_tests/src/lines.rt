@@ -6,7 +6,7 @@ use session_core::{Event, EventRefusal, EventReply, PairRow, World};
 use std::alloc::{AllocError, Global};
 
 /// The subject of a word, where `*` is none.
-fn subject_of(alloc: Global, word: &str) -> Result<Option<String>, AllocError> {
+pub(crate) fn subject_of(alloc: Global, word: &str) -> Result<Option<String>, AllocError> {
     if word == "*" {
         return Ok(None);
     }

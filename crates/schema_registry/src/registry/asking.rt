@@ -186,9 +186,9 @@ impl Registry {
         ensures memory { IfErr result (λ e. e ≢ Refusal.NoMemory) }
     {
         let name = subject.as_deref();
-        if !name.map_or(true, |name| is_subject(name)) {
-            return Err(Refusal::BadSubject);
+        match name {
+            Some(name) if !is_subject(name) => Err(Refusal::BadSubject),
+            _ => Ok(Reply::LevelIs(self.level_of(name))),
         }
-        Ok(Reply::LevelIs(self.level_of(name)))
     }
 }

@@ -1,6 +1,6 @@
 //! Lines of `replay` that have none of the forms.
 
-use crate::telling::is_told;
+use crate::line_forms::telling::is_told;
 use std::alloc::AllocError;
 
 #[test]

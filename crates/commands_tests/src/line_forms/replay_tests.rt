@@ -1,6 +1,6 @@
 //! A line of each form.
 
-use crate::telling::is_told;
+use crate::line_forms::telling::is_told;
 use std::alloc::AllocError;
 
 #[test]

@@ -1,6 +1,6 @@
 //! What a line says, told in a form of the tests' own.
 
-use crate::again::read;
+use crate::line_forms::again::read;
 use event_lines::ReplayLine;
 use std::alloc::{AllocError, Global};
 

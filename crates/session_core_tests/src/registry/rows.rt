@@ -4,7 +4,7 @@
 pub(crate) const VERSIONS: &str = r#"level s
 BACKWARD
 subjects
-names
+names []
 register s {"type":"record","name":"T","fields":[{"name":"a","type":"long"},{"name":"b","type":"string"}]}
 id 1
 register s {"type":"record","name":"T","fields":[{"name":"a","type":"long"},{"name":"b","type":"string"}]}
@@ -20,9 +20,9 @@ refused NoSchema
 schema 0
 refused NoSchema
 subjects
-names s
+names ["s"]
 versions s
-numbers 1 2
+numbers [1, 2]
 version s 1
 entry s 1 1 {"fields":[{"name":"a","type":"long"},{"name":"b","type":"string"}],"name":"T","type":"record"}
 version s latest
@@ -50,7 +50,7 @@ id 3
 register s {"type":"record","name":"T","fields":[{"name":"a","type":"long"},{"name":"b","type":"string"}]}
 id 1
 versions s
-numbers 1 2 3
+numbers [1, 2, 3]
 "#;
 
 /// Under FORWARD the older schema reads what the new one writes.
@@ -125,7 +125,7 @@ FULL
 register u {"type":"record","name":"V","fields":[{"name":"a","type":"long"}]}
 id 1
 versions u
-numbers 1 2 3
+numbers [1, 2, 3]
 "#;
 
 /// A subject's own level goes before the global one.
@@ -156,7 +156,7 @@ NONE
 register t "string"
 id 2
 subjects
-names s t
+names ["s", "t"]
 "#;
 
 /// One schema under two subjects, and what counts as a name.
@@ -174,11 +174,11 @@ refused Incompatible
 register Az.0_9- "string"
 id 2
 subjects
-names Az.0_9- s u
+names ["Az.0_9-", "s", "u"]
 set only FULL
 FULL
 subjects
-names Az.0_9- s u
+names ["Az.0_9-", "s", "u"]
 versions only
 refused NoSubject
 set * FORWARD_TRANSITIVE
@@ -259,9 +259,9 @@ refused NoSchema
 register s "string"
 refused Incompatible
 versions s
-numbers 1
+numbers [1]
 subjects
-names s
+names ["s"]
 "#;
 
 /// What levels are called.
@@ -298,7 +298,7 @@ id #
 
 /// What is answered once 30 numbers had these.
 pub(crate) const MANY: &str = r#"versions s30
-numbers 1
+numbers [1]
 version s1 latest
 entry s1 30 30 {"name":"F","size":30,"type":"fixed"}
 level s30
@@ -324,7 +324,7 @@ id 7
 register u {"type":"fixed","name":"F","size":4096}
 id 4096
 subjects
-names s u
+names ["s", "u"]
 "#;
 
 /// A version for each subject.
@@ -342,7 +342,7 @@ refused Incompatible
 register s7 "long"
 id 2
 versions s7
-numbers 1 2
+numbers [1, 2]
 versions other
 refused NoSubject
 "#;

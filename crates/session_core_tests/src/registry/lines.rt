@@ -1,15 +1,8 @@
 //! Commands and replies as lines, as the rows have them.
 
+use crate::lines::subject_of;
 use schema_registry::{Command, Level, Refusal, Registry, Reply, Version};
 use std::alloc::{AllocError, Global};
-
-/// The subject of a word, where `*` is none.
-fn subject_of(alloc: Global, word: &str) -> Result<Option<String>, AllocError> {
-    if word == "*" {
-        return Ok(None);
-    }
-    Ok(Some(String::from_str(alloc, word)?))
-}
 
 /// The version of a word.
 fn version_of(word: &str) -> Result<Version, Refusal> {
@@ -68,25 +61,6 @@ pub(crate) fn command_of(alloc: Global, line: &str) -> Result<Command, Refusal> 
     }
 }
 
-/// Numbers with a space before each.
-fn numbers_line(alloc: Global, numbers: &[u32]) -> Result<String, AllocError> {
-    let mut line = String::from_str(alloc, "numbers")?;
-    for number in numbers {
-        line.push_str(&format!(in alloc; " {number}")?)?;
-    }
-    Ok(line)
-}
-
-/// Names with a space before each.
-fn names_line(alloc: Global, names: &[String]) -> Result<String, AllocError> {
-    let mut line = String::from_str(alloc, "names")?;
-    for name in names {
-        line.push_str(" ")?;
-        line.push_str(name)?;
-    }
-    Ok(line)
-}
-
 /// A reply as a line.
 pub(crate) fn reply_line(alloc: Global, reply: &Reply) -> Result<String, AllocError> {
     match reply {
@@ -98,8 +72,8 @@ pub(crate) fn reply_line(alloc: Global, reply: &Reply) -> Result<String, AllocEr
             text,
         } => format!(in alloc; "entry {subject} {version} {id} {text}"),
         Reply::Compatible(yes) => format!(in alloc; "compatible {yes}"),
-        Reply::Numbers(numbers) => numbers_line(alloc, numbers),
-        Reply::Names(names) => names_line(alloc, names),
+        Reply::Numbers(numbers) => format!(in alloc; "numbers {numbers:?}"),
+        Reply::Names(names) => format!(in alloc; "names {names:?}"),
         Reply::Text(text) => format!(in alloc; "text {text}"),
         Reply::LevelIs(level) => String::from_str(alloc, level.name()),
     }

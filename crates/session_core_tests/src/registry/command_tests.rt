@@ -1,7 +1,7 @@
 //! What a registry answers to commands in a row.
 
-use crate::answers::answered_after;
-use crate::rows::{
+use crate::registry::answers::answered_after;
+use crate::registry::rows::{
     EACH_ID, EACH_LEVEL, EACH_SUBJECT, FORWARD, FULL, LATEST, LEVELS, MANY, NO_IDS, NO_LEVELS,
     NO_SUBJECTS, NUMBERED, OWN, REFUSALS, SUBJECTS, TRANSITIVE, VERSIONS,
 };

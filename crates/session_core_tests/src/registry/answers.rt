@@ -1,6 +1,6 @@
 //! What a registry answers to rows: lines of commands, each with the line of its answer behind it.
 
-use crate::lines::answer_to;
+use crate::registry::lines::answer_to;
 use schema_registry::Registry;
 use std::alloc::{AllocError, Global};
 

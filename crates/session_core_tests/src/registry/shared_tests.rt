@@ -3,8 +3,8 @@
 ghost use Rattle.std.specs.Prelude.{◌≡◌, IfOk};
 ghost use Rattle.schema_registry.specs.Shared.{IsReceiptOf};
 
-use crate::answers::push_row;
-use crate::lines::{answer_line, command_of, reply_line};
+use crate::registry::answers::push_row;
+use crate::registry::lines::{answer_line, command_of, reply_line};
 use schema_registry::{Receipt, Refusal, SharedRegistry};
 use std::alloc::{AllocError, Global};
 use std::process::Abort;

@@ -1,0 +1,7 @@
+//! Tests of `schema_registry`.
+
+mod answers;
+mod command_tests;
+mod lines;
+mod rows;
+mod shared_tests;
