@@ -1,4 +1,5 @@
-ghost use Rattle.std.specs.Prelude.{◌≡◌, ◌≢◌, ◌<◌, ◌≤◌, Some, IfErr, IfOk, IfSome, length, string_bytes};
+ghost use Rattle.std.specs.Prelude.{◌≡◌, ◌≢◌, ◌<◌, ◌≤◌, Some, IfErr, IfOk, IfSome, IsSome, length, string_bytes};
+ghost use Rattle.once_cell.specs.Once.{cell_name};
 ghost use Rattle.schema_registry.specs.Accepting.{compacted};
 ghost use Rattle.schema_registry.specs.Command.{command_of};
 ghost use Rattle.schema_registry.specs.Reply.{answer_of};
@@ -57,6 +58,16 @@ impl Model for SharedRegistry {
     ghost view = { λ s. map cell_name s.cells.items };
 
     ghost invariant = { λ s. length s.cells.items ≡ MOST_SCHEMAS };
+}
+
+/// What stands for the schema that a cell shows, which is this one where it showed none.
+fn seen_in(cell: &OnceBox<Schema>, shown: Box<Schema>) -> Note<Schema>
+    ensures cell { result.cell ≡ cell_name cell.now }
+    ensures known { IsSome result.known }
+{
+    let mut note = cell.note();
+    let _set = cell.set_as(shown, &mut note);
+    note
 }
 
 impl Receipt {
@@ -171,13 +182,12 @@ impl SharedRegistry {
         ensures clash { IfErr result (λ r. IsReceiptOf self.now r × (r.id ≡ id)
             × IfSome r.schema (λ s. s.text ≢ kept.now.text)) }
     {
-        let cell = &self.cells[id as usize - 1];
-        let mut note = cell.note();
-        let seen = cell.get_or_init_as(move || shown, &mut note);
-        if seen.text() != kept.text() {
-            return Err(Receipt { id, note });
+        let note = seen_in(&self.cells[id as usize - 1], shown);
+        let mut receipt = Receipt { id, note };
+        if self.schema(&mut receipt).text() != kept.text() {
+            return Err(receipt);
         }
-        Ok(Receipt { id, note })
+        Ok(receipt)
     }
 
     /// Does or answers what a command asks, or refuses it.

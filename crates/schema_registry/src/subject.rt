@@ -8,7 +8,10 @@ use crate::limits::LONGEST_SUBJECT;
 fn is_subject_byte(byte: u8) -> bool
     ensures { result ≡ is_subject_byte byte }
 {
-    byte.is_ascii_alphanumeric() || byte == b'.' || byte == b'_' || byte == b'-'
+    match byte {
+        b'.' | b'_' | b'-' => true,
+        _ => byte.is_ascii_alphanumeric(),
+    }
 }
 
 /// Whether each byte may stand in the name of a subject.
