@@ -2,11 +2,12 @@ ghost use Rattle.std.specs.Prelude.{◌≡◌, ◌<◌, ◌≤◌, ℕ, List, So
 ghost use Rattle.avro_types.specs.Node.{Node, UnionNode};
 ghost use Rattle.avro_types.specs.WellFormed.{full_name_of};
 ghost use Rattle.matching.specs.Matching.{IsNodeOf, place};
-ghost use Rattle.program_lines.specs.Known.{AreKnown, AreNamed, AreNamesOf, lacking_node};
+ghost use Rattle.program_lines.specs.Known.{AreKnown, lacking_node};
 
-use crate::members::{find_member, member_names, name_of};
-use avro_types::{Kind, Nodes, Symbols};
-use matching::{Place, place_of, routes};
+use crate::members::{find_member, name_of, positions_of};
+use crate::named_types::NamedTypes;
+use avro_types::{Kind, Name, Nodes};
+use matching::{Place, matches_by_rule, place_of, routes};
 use resolver::{field_lists, first_lacking};
 use std::alloc::{AllocError, Global};
 use std::collections::BTreeMap;
@@ -16,11 +17,13 @@ use std::collections::BTreeMap;
 pub(crate) struct Known {
     /// Under two records, the node of the first of the reader's fields that has neither a partner nor a default.
     lacking: BTreeMap<(usize, usize), Option<usize>>,
-    /// Under a reader's union of many members, their names, where each is found by its own.
-    names: BTreeMap<usize, Option<Symbols>>,
+    /// The reader's named types, once a union of many members has met one of the writer's.
+    types: Option<NamedTypes>,
+    /// Under a reader's union of many members, their positions, each under its node.
+    positions: BTreeMap<usize, BTreeMap<usize, u32>>,
 }
 
-/// So many members are looked through one by one.
+/// So many members, or so many candidates for one, are looked through one by one.
 const FEW: usize = 16;
 
 impl Known {
@@ -30,7 +33,8 @@ impl Known {
     {
         Known {
             lacking: BTreeMap::new(alloc),
-            names: BTreeMap::new(alloc),
+            types: None,
+            positions: BTreeMap::new(alloc),
         }
     }
 
@@ -57,26 +61,66 @@ impl Known {
         Ok(node)
     }
 
-    /// Notes the names of a reader's union.
-    fn note_names(
+    /// Notes the reader's named types.
+    fn note_types(&mut self, alloc: Global, r: &Nodes) -> Result<(), AllocError>
+        ensures { (W : List Node) → AreKnown W r.now self.old → AreKnown W r.now self.new }
+    {
+        if self.types.is_none() {
+            self.types = Some(NamedTypes::of_nodes(alloc, r)?);
+        }
+        Ok(())
+    }
+
+    /// Notes the positions of the members of a reader's union.
+    fn note_positions(
         &mut self,
         alloc: Global,
         r: &Nodes,
         rn: usize,
         members: &[usize],
     ) -> Result<(), AllocError>
-        requires union { slice_get r.now rn ≡ Some (UnionNode members.now) }
-        requires named { AreNamed r.now self.old.names }
-        ensures named { AreNamed r.now self.new.names }
-        ensures lacking { self.new.lacking ≡ self.old.lacking }
+        requires { slice_get r.now rn ≡ Some (UnionNode members.now) }
+        ensures { (W : List Node) → AreKnown W r.now self.old → AreKnown W r.now self.new }
     {
-        if self.names.contains_key(&rn) {
+        if self.positions.contains_key(&rn) {
             return Ok(());
         }
         r.is_well_formed();
-        let names = member_names(alloc, r, members)?;
-        self.names.insert(rn, names)?;
+        let positions = positions_of(alloc, members)?;
+        self.positions.insert(rn, positions)?;
         Ok(())
+    }
+
+    /// Where a value of a writer's named type goes with a reader's union: no other member can match than those that
+    /// have its unqualified name. Where too many nodes have it, each member is compared.
+    fn place_by_name(
+        &self,
+        w: &Nodes,
+        wn: usize,
+        name: &Name,
+        r: &Nodes,
+        rn: usize,
+        members: &[usize],
+    ) -> Place
+        requires writer { wn < length w.now }
+        requires name { full_name_of (slice_get w.now wn) ≡ Some name.now }
+        requires reader { rn < length r.now }
+        requires union { slice_get r.now rn ≡ Some (UnionNode members.now) }
+        requires known { AreKnown w.now r.now self.now }
+        ensures place { result ≡ place w.now r.now wn rn }
+        ensures within { IsNodeOf (length r.now) result }
+    {
+        let (Some(types), Some(positions)) = (&self.types, self.positions.get(&rn)) else {
+            return place_of(w, wn, r, rn);
+        };
+        let candidates = types.of_name(name.last());
+        if candidates.len() > FEW {
+            return place_of(w, wn, r, rn);
+        }
+        w.is_well_formed();
+        r.is_well_formed();
+        matches_by_rule();
+        find_member(w, wn, r, members, positions, candidates)
     }
 
     /// Where a value of a writer's node goes with a reader's node.
@@ -104,11 +148,9 @@ impl Known {
         if members.len() <= FEW {
             return Ok(place_of(w, wn, r, rn));
         }
-        self.note_names(alloc, r, rn, members)?;
-        match self.names.get(&rn) {
-            Some(Some(names)) => Ok(find_member(w, wn, r, members, names, name)),
-            _ => Ok(place_of(w, wn, r, rn)),
-        }
+        self.note_types(alloc, r)?;
+        self.note_positions(alloc, r, rn, members)?;
+        Ok(self.place_by_name(w, wn, name, r, rn, members))
     }
 }
 

@@ -7,6 +7,7 @@ mod error;
 mod known;
 mod lines;
 mod members;
+mod named_types;
 mod routines;
 mod sections;
 mod skipping;

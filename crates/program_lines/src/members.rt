@@ -1,14 +1,16 @@
-ghost use Rattle.std.specs.Prelude.{◌≡◌, ◌<◌, ◌≤◌, ℕ, Some, false, if◌then◌else◌, length, option_map, slice_get, IfOk, IfSome};
+ghost use Rattle.std.specs.Prelude.{◌≡◌, ◌<◌, ◌≤◌, ◌&&◌, None, if◌then◌else◌, length, option_map, slice_get, IfOk};
+ghost use Rattle.std.specs.BTreeMap.{get};
 ghost use Rattle.std.specs.List.{AllByRecursion};
-ghost use Rattle.avro_types.specs.Node.{node_of};
-ghost use Rattle.avro_types.specs.WellFormed.{full_name_of, is_union};
+ghost use Rattle.std.specs.Ordering.{nat_cmp};
+ghost use Rattle.avro_types.specs.WellFormed.{full_name_of};
 ghost use Rattle.matching.specs.Matching.{IsNodeOf, first_member, matches};
-ghost use Rattle.matching.specs.declared.place.Place.TheVariants.{IntoMember, Nowhere};
-ghost use Rattle.program_lines.specs.Known.{AreNamesOf, IsFoundBy};
+ghost use Rattle.program_lines.specs.Members.{ArePositionsOf, least};
+ghost use Rattle.program_lines.specs.NamedTypes.{is_among};
 
-use avro_types::{Kind, MOST_NODES, Name, Nodes, Symbols};
-use matching::{Place, matches, matches_by_rule};
+use avro_types::{Kind, MOST_NODES, Name, Nodes};
+use matching::{Place, matches};
 use std::alloc::{AllocError, Global};
+use std::collections::BTreeMap;
 
 /// The full name of a record, an enum or a fixed.
 pub(crate) fn name_of(nodes: &Nodes, n: usize) -> Option<&Name>
@@ -23,89 +25,77 @@ pub(crate) fn name_of(nodes: &Nodes, n: usize) -> Option<&Name>
     }
 }
 
-/// A text by which a member is found: its unqualified name, or what its type is called. A type with aliases has none.
-fn text_of(kind: &Kind) -> Option<&str>
-    ensures { IfSome result (λ text. IsFoundBy (Some (node_of kind.now)) (Some text.now)) }
-{
-    match kind {
-        Kind::Fixed { name, aliases, .. }
-        | Kind::Enum { name, aliases, .. }
-        | Kind::Record { name, aliases, .. } => {
-            if aliases.is_empty() {
-                Some(name.last())
-            } else {
-                None
-            }
-        }
-        Kind::Null => Some("null"),
-        Kind::Boolean => Some("boolean"),
-        Kind::Int => Some("int"),
-        Kind::Long => Some("long"),
-        Kind::Bytes => Some("bytes"),
-        Kind::Text => Some("string"),
-        Kind::Array(_) => Some("array"),
-        Kind::Map(_) => Some("map"),
-        Kind::Union(_) => None,
-    }
-}
-
-/// The texts by which a union's members are found, where each is found by its own.
-pub(crate) fn member_names(
+/// The positions of a union's members, each under its node.
+pub(crate) fn positions_of(
     alloc: Global,
-    r: &Nodes,
     members: &[usize],
-) -> Result<Option<Symbols>, AllocError>
-    requires { AllByRecursion (λ m. m < length r.now) members.now }
-    ensures { IfOk result (λ o. IfSome o (AreNamesOf r.now members.now)) }
+) -> Result<BTreeMap<usize, u32>, AllocError>
+    requires { length members.now ≤ MOST_NODES }
+    ensures { IfOk result (ArePositionsOf members.now) }
 {
-    let mut texts = Vec::new(alloc);
-    for member in members {
-        let Some(text) = text_of(r.kind(*member)) else {
-            return Ok(None);
-        };
-        texts.push(String::from_str(alloc, text)?)?;
+    let mut positions = BTreeMap::new(alloc);
+    for (position, member) in members.iter().enumerate() {
+        positions.entry(*member)?.or_insert(position as u32);
     }
-    Symbols::of_texts(alloc, texts)
+    Ok(positions)
 }
 
-/// The member that a writer's named type goes into: no other than that of its unqualified name can match.
+/// The position of a node, where it is a member and matches.
+fn matching_position(
+    w: &Nodes,
+    wn: usize,
+    r: &Nodes,
+    positions: &BTreeMap<usize, u32>,
+    node: usize,
+) -> Option<u32>
+    requires writer { wn < length w.now }
+    requires reader { node < length r.now }
+    ensures { result ≡ if matches w.now r.now wn node then get nat_cmp positions.now node else None }
+{
+    if matches(w, wn, r, node) {
+        positions.get(&node).copied()
+    } else {
+        None
+    }
+}
+
+/// The lesser of two positions, or the one that there is.
+fn least(one: Option<u32>, other: Option<u32>) -> Option<u32>
+    ensures { result ≡ least one other }
+{
+    match (one, other) {
+        (Some(one), Some(other)) => Some(one.min(other)),
+        (None, other) => other,
+        (one, None) => one,
+    }
+}
+
+/// The first of a union's members that is a candidate and matches.
 pub(crate) fn find_member(
     w: &Nodes,
     wn: usize,
     r: &Nodes,
     members: &[usize],
-    names: &Symbols,
-    name: &Name,
+    positions: &BTreeMap<usize, u32>,
+    candidates: &[usize],
 ) -> Place
     requires writer { wn < length w.now }
-    requires name { full_name_of (slice_get w.now wn) ≡ Some name.now }
     requires members { AllByRecursion (λ m. m < length r.now) members.now }
-    requires no_union { (i m : ℕ) → slice_get members.now i ≡ Some m → is_union (slice_get r.now m) ≡ false }
-    requires few { length members.now ≤ MOST_NODES }
-    requires names { AreNamesOf r.now members.now names.now }
-    ensures place { result ≡ first_member (matches w.now r.now wn) 0 members.now }
+    requires positions { ArePositionsOf members.now positions.now }
+    requires candidates { AllByRecursion (λ m. m < length r.now) candidates.now }
+    ensures place { result
+        ≡ first_member (λ m. is_among m candidates.now && matches w.now r.now wn m) 0 members.now }
     ensures within { IsNodeOf (length r.now) result }
 {
-    w.is_well_formed();
-    matches_by_rule();
-    let Some(position) = names.position_of(name.last()) else {
-        return Place::Nowhere;
-    };
-    let node = members[position];
-    member_if(matches(w, wn, r, node), position, node)
-}
-
-/// A union's member, where it matches.
-fn member_if(is_match: bool, position: usize, node: usize) -> Place
-    requires { position < MOST_NODES }
-    ensures { result ≡ if is_match then IntoMember position node else Nowhere }
-{
-    if is_match {
-        Place::IntoMember {
-            position: position as u32,
-            node,
-        }
-    } else {
-        Place::Nowhere
+    let mut first = None;
+    for candidate in candidates {
+        first = least(first, matching_position(w, wn, r, positions, *candidate));
+    }
+    match first {
+        Some(position) => Place::IntoMember {
+            position,
+            node: members[position as usize],
+        },
+        None => Place::Nowhere,
     }
 }

@@ -1,31 +1,49 @@
--- No member matches but the one of that name.
-use Rattle.std.proofs.Common.{◌≡◌, ◌∙◌, ℕ, None, Some, arith, get_or, cond, sym, ap, true}
-use Rattle.std.specs.Prelude.{slice_get}
-use Rattle.std.proofs.lemmas.Option.{slice_get-get_or}
-use Rattle.avro_types.specs.FullNames.{unqualified}
-use Rattle.avro_types.specs.Symbols.{place_of}
-use Rattle.matching.specs.Matches.{Matches}
+-- The first of the candidates is found by its position.
+use Rattle.std.proofs.Common.{◌≡◌, ◌∙◌, ◌≤◌, ◌&&◌, ℕ, Bool, List, None, Option, ap, cond, get_or, length, sym, take}
+use Rattle.std.specs.List.{position_from}
+use Rattle.std.proofs.lemmas.List.{take_all}
 use Rattle.matching.specs.Matching.{matches}
-use Rattle.matching.specs.declared.place.Place.TheVariants.{IntoMember, Nowhere}
-use Rattle.program_lines.proofs.Named.{none_named, one_named}
+use Rattle.program_lines.specs.Members.{least}
+use Rattle.program_lines.specs.NamedTypes.{is_among}
+use Rattle.program_lines.proofs.FirstMember.{first_at, first_none, first_of_none, first_on}
 use Rattle.program_lines.proofs.members.find_member.Goals as goal
 
-pub returns-in_default-clause-place : goal.returns-in_default-clause-place
-returns-in_default-clause-place c =
-    let W = c.args.w.now in
-    let R = c.args.r.now in
-    let holds : (m : ℕ) → matches W R c.args.wn m ≡ true → Matches W R c.args.wn m = λ m match. (c.matches_by_rule.ensures.relation W R c.args.wn m c.is_well_formed.ensures).0 match in
-    let none : place_of (unqualified c.args.name.now) c.args.names.now ≡ None = ap (λ t. place_of t c.args.names.now) (sym c.last.ensures) ∙ sym c.position_of.ensures.place ∙ c.in_default.is in
-    sym (none_named W R c.args.wn c.args.members.now c.args.names.now c.args.name.now c.requires.name c.requires.no_union c.requires.names holds none)
+pub loop-candidate-init : goal.loop-candidate-init
+loop-candidate-init c = first_of_none (matches c.args.w.now c.args.r.now c.args.wn) 0 c.args.members.now
 
-pub returns-clause-place : goal.returns-clause-place
-returns-clause-place c =
-    let W = c.args.w.now in
-    let R = c.args.r.now in
-    let ms = c.args.members.now in
-    let k = c.in-Some.position in
-    let node = get_or ms k 0 in
-    let holds : (m : ℕ) → matches W R c.args.wn m ≡ true → Matches W R c.args.wn m = λ m match. (c.matches_by_rule.ensures.relation W R c.args.wn m c.is_well_formed.ensures).0 match in
-    let found : place_of (unqualified c.args.name.now) c.args.names.now ≡ Some k = ap (λ t. place_of t c.args.names.now) (sym c.last.ensures) ∙ sym c.in-Some.ensures.place in
-    let at : slice_get ms k ≡ Some node = slice_get-get_or ms k 0 (omega (arith, c.in-Some.ensures.within, c.requires.names.each)) in
-    c.member_if.ensures ∙ sym (one_named W R c.args.wn ms c.args.names.now c.args.name.now c.requires.name c.requires.no_union c.requires.names holds k node found at ∙ ap (λ b. cond b (IntoMember k node) Nowhere) (sym c.matches.ensures))
+pub loop-candidate-preserved : goal.loop-candidate-preserved
+loop-candidate-preserved c =
+    let match = matches c.args.w.now c.args.r.now c.args.wn in
+    let candidates = c.args.candidates.now in
+    let k = c.loop-candidate.candidate-index in
+    let node = get_or candidates k 0 in
+    let own = position_from (λ m. is_among m (take k candidates) && match m) 0 c.args.members.now in
+    c.least-first.ensures
+    ∙ ap (λ o. least o c.matching_position.result) c.loop-candidate.invariant
+    ∙ ap (least own) (c.matching_position.ensures ∙ ap (λ o. cond (match node) o None) (c.requires.positions node))
+    ∙ sym (first_on match candidates k 0 c.args.members.now c.loop-candidate-test.true)
+
+found : (match : ℕ → Bool) (candidates members : List ℕ) (k : ℕ) (first : Option ℕ) → length candidates ≤ k → first ≡ position_from (λ m. is_among m (take k candidates) && match m) 0 members
+    → position_from (λ m. is_among m candidates && match m) 0 members ≡ first
+found match candidates members k first end is = ap (λ l. position_from (λ m. is_among m l && match m) 0 members) (sym (take_all k candidates end)) ∙ sym is
+
+pub bounds-members-position : goal.bounds-members-position
+bounds-members-position c =
+    let match = matches c.args.w.now c.args.r.now c.args.wn in
+    let candidates = c.args.candidates.now in
+    (first_at (λ m. is_among m candidates && match m) c.args.members.now c.in-Some.position
+    (found match candidates c.args.members.now c.loop-candidate.candidate-index c.loop-candidate.first c.loop-candidate-test.false c.loop-candidate.invariant ∙ c.in-Some.is)).0
+
+pub returns-in-Some-clause-place : goal.returns-in-Some-clause-place
+returns-in-Some-clause-place c =
+    let match = matches c.args.w.now c.args.r.now c.args.wn in
+    let candidates = c.args.candidates.now in
+    sym (first_at (λ m. is_among m candidates && match m) c.args.members.now c.in-Some.position
+    (found match candidates c.args.members.now c.loop-candidate.candidate-index c.loop-candidate.first c.loop-candidate-test.false c.loop-candidate.invariant ∙ c.in-Some.is)).1
+
+pub returns-in-None-clause-place : goal.returns-in-None-clause-place
+returns-in-None-clause-place c =
+    let match = matches c.args.w.now c.args.r.now c.args.wn in
+    let candidates = c.args.candidates.now in
+    sym (first_none (λ m. is_among m candidates && match m) 0 c.args.members.now
+    (found match candidates c.args.members.now c.loop-candidate.candidate-index c.loop-candidate.first c.loop-candidate-test.false c.loop-candidate.invariant ∙ c.in-None.is))
