@@ -76,11 +76,10 @@ fn put_names(
         || stands_under nodes.old last n)) }
 {
     put(alloc, nodes, name.last(), node)?;
-    let mut position = 0usize;
-    while let Some(last) = aliases.last(position) {
-        put(alloc, nodes, last, node)?;
-        // More aliases than there are numbers are more than memory holds.
-        position = position.checked_add(1).ok_or(AllocError)?;
+    for position in 0..aliases.len() {
+        if let Some(last) = aliases.last(position) {
+            put(alloc, nodes, last, node)?;
+        }
     }
     Ok(())
 }
