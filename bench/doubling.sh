@@ -67,6 +67,13 @@ def members(size):
     union = '{"name":"u","type":[%s]}' % ",".join('"%s%d"' % ("x" * 60, i) for i in range(types))
     return whole([small(i, "x" * 60) for i in range(types)] + [union])
 
+def aliased_members(size):
+    """A writer's union of records, each of which goes by its alias into a member of another name."""
+    def union(first, aliases):
+        member = '{"type":"record","name":"%s%%d"%s,"fields":[]}' % (first + "x" * 60, aliases)
+        return "[%s]" % ",".join(member.replace("%d", str(i)) for i in range(size // 200))
+    return "%s\n%s\n" % (union("w", ""), union("r", ',"aliases":["w%s%%d"]' % ("x" * 60)))
+
 def namespace(size):
     return whole([small(i, "N") for i in range(size // 200)], ',"namespace":"%s"' % ("n" * (size * 2 // 3)))
 
@@ -164,6 +171,7 @@ start = least(40, b'"int"\n"int"\n')[0]
 for name, make, size, turns in [("payload", points, 1 << 21, 10), ("schema of enums", enums, 100_000, 30), ("schema of names", names, 100_000, 30),
                                 ("schema of defaults of one enum", defaults, 50_000, 30), ("schema of fields of one enum", enum_fields, 50_000, 30),
                                 ("schema of one long default", long_default, 100_000, 30), ("schema of one union", members, 100_000, 30),
+                                ("schema of one union by aliases", aliased_members, 100_000, 30),
                                 ("schema of one long namespace", namespace, 100_000, 30), ("schema of references in one long namespace", references, 100_000, 30),
                                 ("schema of many aliases", aliases, 100_000, 30), ("schema of aliases that are met often", aliases_met, 25_000, 30),
                                 ("schema of a record that is met often", met_often, 25_000, 30)]:
