@@ -4,7 +4,6 @@ use Rattle.std.specs.Prelude.{slice_get}
 use Rattle.std.specs.Str.{bytes_eq}
 use Rattle.std.proofs.lemmas.Bool.{eqb-true}
 use Rattle.std.proofs.lemmas.Bool.Decides.{nat_tests}
-use Rattle.std.proofs.lemmas.List.{length-map, take_all}
 use Rattle.std.proofs.lemmas.List.Folds.{list_any_more}
 use Rattle.std.proofs.lemmas.Option.{get_or_from_slice_get, slice_get-map, slice_get_within}
 use Rattle.avro_types.specs.FullNames.{unqualified}
@@ -33,14 +32,10 @@ named_on parts p part last own old new before at so_far put =
 pub alias_part : (names : Names) (p : ℕ) (part : List ℕ) → Some part ≡ option_map unqualified (slice_get names.aliases p) → slice_get (last_parts names) (p + 1) ≡ Some part
 alias_part names p part at = ap (slice_get (last_parts names)) (add-one p) ∙ slice_get-map unqualified names.aliases p ∙ sym at
 
-no_more : (xs : List (List ℕ)) (p : ℕ) → None ≡ option_map unqualified (slice_get xs p) → length xs ≤ p
+pub no_more : (xs : List (List ℕ)) (p : ℕ) → None ≡ option_map unqualified (slice_get xs p) → length xs ≤ p
 no_more [] p none = omega arith
 no_more (x ∷ xs) zero none = absurd (let no : ⊥ = cc in no)
 no_more (x ∷ xs) (suc p) none = omega (arith, no_more xs p none)
-
--- behind the last alias there is no part
-pub all_parts : (names : Names) (p : ℕ) → None ≡ option_map unqualified (slice_get names.aliases p) → take (p + 1) (last_parts names) ≡ last_parts names
-all_parts names p none = take_all (p + 1) (last_parts names) (omega (arith, no_more names.aliases p none, length-map names.aliases unqualified))
 
 -- ---- the nodes so far
 
