@@ -1,10 +1,12 @@
-//! Tests of `avro_datum` and `resolver`, in a crate of their own, so that the libraries are proved once.
+//! Tests of `avro_bytes`, `avro_datum` and `resolver`, in a crate of their own, so that the libraries are proved once.
 #![tactic(auto)]
 
 #[cfg(test)]
 mod again;
 #[cfg(test)]
 mod alias_tests;
+#[cfg(test)]
+mod bytes_tests;
 #[cfg(test)]
 mod data_tests;
 #[cfg(test)]

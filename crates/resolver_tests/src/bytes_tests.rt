@@ -2,6 +2,7 @@
 
 ghost use Rattle.std.specs.Prelude.{◌≡◌};
 
+use crate::same::same;
 use avro_bytes::{
     Blob, BlockWalk, Bool, Fault, FixedBytes, Int, Long, MOST_CONTENT, MOST_DEPTH, MOST_UNITS,
     MalformedKind, Meter, Position, Text, WireForm, content_is_a_length_and_a_fixed,
@@ -10,7 +11,6 @@ use avro_bytes::{
     walks_pass_the_items, walks_stand_at_their_blocks, walks_tell_the_first_fault,
 };
 use std::alloc::AllocError;
-use std::fmt::Debug;
 use std::process::Abort;
 use std::test::Fail;
 
@@ -18,12 +18,6 @@ const START: Meter = Meter { depth: 0, units: 0 };
 
 fn malformed(kind: MalformedKind, at: usize) -> Fault {
     Fault::Malformed { kind, at }
-}
-
-/// Whether an answer is as it is wanted. All answers are compared here: what an assertion does where it fails is then
-/// looked at once a type.
-fn same<T: PartialEq + Debug + Copy>(rt: &impl Abort, found: T, want: T) {
-    assert_eq!(rt; found, want);
 }
 
 /// Whether a number is spelled by these bytes.
