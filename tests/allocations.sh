@@ -82,7 +82,7 @@ ask_again() {
   done
   echo "$(basename "$tests"): $runs allocations refused in turn"
 }
-ask_again resolver_tests bytes_tests::{texts,faults_of_texts,bytes_after_their_length,so_many_bytes}
+ask_again resolver_tests bytes_tests::{texts,bytes_after_their_length,so_many_bytes}
 ask_again avro_schema_tests schema_tests::{reads_primitives,reads_a_record,keeps_the_last_of_a_repeated_key,tells_the_first_fault}
 ask_again avro_schema_tests schema_tests::{numbers_nodes_in_order_of_appearance,names_stand_in_their_namespaces,reads_defaults_by_type,refuses_defaults_of_other_types}
 ask_again avro_schema_tests schema_tests::{a_name_is_one_however_it_is_told,names_of_other_namespaces_are_others}
