@@ -1,7 +1,7 @@
 //! What texts declare, and each of their faults.
 
 use crate::rows::{ALIAS_FAULTS, BAD_DEFAULTS, FAULTS, FURTHER_FAULTS, FURTHER_NAMES, PRIMITIVES};
-use avro_schema::{Datum, Kind, Name, Schema, SchemaError, parsed_schema_is_declared};
+use avro_schema::{Datum, Kind, Name, Schema, SchemaError};
 use std::alloc::{AllocError, Global};
 use std::process::Abort;
 
@@ -122,7 +122,6 @@ fn assert_two_fields(rt: &impl Abort, schema: &Schema) {
 
 #[test]
 fn reads_a_record(rt: HostRuntime) {
-    parsed_schema_is_declared();
     let text = r#"{ "type": "record", "name": "T", "doc": 7, "aliases": ["U"],
         "fields": [ {"name": "a", "type": "long", "order": "ignore"}, {"name": "int", "type": "string"} ] }"#;
     let compact =

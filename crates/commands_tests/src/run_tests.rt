@@ -3,7 +3,7 @@
 use crate::asserts::{assert_joined, assert_writes, lines, repeated};
 use crate::devices::{Drip, NEVER, Trickle};
 use crate::rows::ROWS;
-use commands::{RunError, Verb, input_has_one_output, run};
+use commands::{RunError, Verb, run};
 use std::alloc::{AllocError, Global};
 use std::process::Abort;
 
@@ -26,7 +26,6 @@ fn assert_answers(rt: &(impl Abort + AllocGlobal), input: &[&str], output: &[&st
 
 #[test]
 fn answers_lines_that_are_no_payloads(rt: HostRuntime) {
-    input_has_one_output();
     for line in ["0", "0A", "Ff", "0g", "00\r", " 00", "\u{e9}", "-"] {
         let input = ["\"long\"\n\"long\"\n", line, "\n7f"];
         assert_answers(&rt, &input, &["bad hex\ndone 7f\n"], 0);

@@ -73,7 +73,7 @@ fn listings_come_back(rt: HostRuntime) -> Result<(), AllocError> {
 }
 
 #[test]
-fn headers(rt: HostRuntime) {
+fn a_listing_begins_with_its_header(rt: HostRuntime) {
     let texts = [
         ("", AsmErrorKind::BadHeader),
         ("avro program 2\n0 HALT\n", AsmErrorKind::BadHeader),
@@ -165,7 +165,7 @@ fn error_of_map(alloc: Global, entries: usize) -> Result<Option<AsmError>, Alloc
 }
 
 #[test]
-fn limits(rt: HostRuntime) {
+fn maps_have_a_limit_of_entries(rt: HostRuntime) {
     let same = map_comes_back(rt.alloc(), 4096).expect(&rt, "no memory");
     assert!(rt; same);
     let found = error_of_map(rt.alloc(), 4097).expect(&rt, "no memory");
@@ -189,13 +189,13 @@ fn jumps_come_back(alloc: Global, many: usize) -> Result<bool, AllocError> {
 }
 
 #[test]
-fn many_instructions(rt: HostRuntime) {
+fn many_instructions_come_back(rt: HostRuntime) {
     let same = jumps_come_back(rt.alloc(), 3000).expect(&rt, "no memory");
     assert!(rt; same);
 }
 
 #[test]
-fn lines_that_are_no_utf_8(rt: HostRuntime) {
+fn lines_that_are_no_utf_8_are_bad(rt: HostRuntime) {
     let answer = assembled(rt.alloc(), b"avro program 1\n0 HALT \xff\n");
     assert!(rt; answer.err() == fault(2, AsmErrorKind::BadLine));
 }

@@ -1,3 +1,4 @@
 mod Alone
 mod Ending
+mod PairErrors
 mod PairRuns

@@ -7,6 +7,8 @@ mod transcoding;
 
 pub use resolver::{Outcome, TranscodeError};
 pub use run::Run;
-pub use stepper::{Machine, Part, Slice, Why};
+pub use stepper::{
+    BufferAt, FrameView, Machine, Part, Slice, Step, Why, machines_go_on_with_more_input,
+};
 pub use transcoder::Transcoder;
 pub use transcoding::{PairError, transcode};

@@ -1,12 +1,12 @@
-ghost use Rattle.std.specs.Prelude.{◌≡◌, ◌≤◌, ◌+◌, ◌++◌, OnOk, OnErr, option_map, Some, false, true};
+ghost use Rattle.std.specs.Prelude.{◌≡◌, ◌≤◌, ◌<◌, ◌+◌, ◌++◌, length, OnOk, OnErr, option_map, Some, false, true};
 ghost use Rattle.program_code.specs.Code.{code_of};
 ghost use Rattle.simulation.specs.Alone.{run_alone};
 ghost use Rattle.stepper.specs.Running.{end_of};
 ghost use Rattle.stepper.specs.Slice.{IsWhy, Rows};
-ghost use Rattle.machine.specs.Ending.{EarlyEndIsOutcome, EndIsOutcome, IsWithinBound};
+ghost use Rattle.machine.specs.Ending.{EarlyEndIsOutcome, EndIsOutcome, EndsWithinBound};
 
 use avro_types::Nodes;
-use isa::{End, Program, rows_stay_within_bounds};
+use isa::{End, Program};
 use simulation::{program_ends_with_the_outcome, runs_alone_are_counted_and_stay};
 use std::alloc::{AllocError, Global};
 use std::marker::Model;
@@ -59,12 +59,16 @@ impl<'p> Run<'p> {
         self.machine.reset();
     }
 
-    /// More bytes, behind those that came.
+    /// More bytes, behind those that came. No bytes take no memory.
     pub fn push(&mut self, piece: &[u8]) -> Result<(), AllocError>
         requires { self.old.ended ≡ false }
         ensures pushed { OnOk result (self.new ≡ record self.old { input = self.old.input ++ piece.now }) }
         ensures refused { OnErr result (self.new ≡ self.old) }
+        ensures grows { OnErr result (0 < length piece.now) }
     {
+        if piece.is_empty() {
+            return Ok(());
+        }
         machines_go_on_with_more_input();
         runs_alone_are_counted_and_stay();
         self.input.extend_from_slice(piece)
@@ -102,18 +106,18 @@ impl<'p> Run<'p> {
     }
 
     /// The law that where its program is that of a pair of schemas, it ends with the outcome of the bytes that came,
-    /// and within the row bound where they are all. So a slice of that many rows with no breakpoint ends it, unless
-    /// memory runs out.
+    /// and within the row bound where they are all: as many rows as the program has instructions for each unit that is
+    /// counted at the end and for the whole, and one for each byte. So a slice of that many rows with no breakpoint
+    /// ends it, unless memory runs out.
     pub fn ends_with_the_outcome(&self, w: &Nodes, r: &Nodes)
         requires { code_of w.now r.now ≡ Some self.now.program }
         ensures end { EndIsOutcome w.now r.now self.now }
         ensures early { EarlyEndIsOutcome w.now r.now self.now }
-        ensures bound { IsWithinBound self.now }
+        ensures bound { EndsWithinBound w.now r.now self.now }
     {
         let _opened = &self.machine;
         program_ends_with_the_outcome(w, r);
         runs_alone_are_counted_and_stay();
-        rows_stay_within_bounds();
     }
 
     /// The program that is run.

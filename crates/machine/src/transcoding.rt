@@ -1,4 +1,5 @@
-ghost use Rattle.machine.specs.Transcoding.{TranscodesPair};
+ghost use Rattle.std.specs.Prelude.{◌≡◌};
+ghost use Rattle.machine.specs.Transcoding.{TranscodesPair, of_compiling, of_payload};
 
 use crate::transcoder::Transcoder;
 use avro_types::Nodes;
@@ -19,18 +20,33 @@ pub enum PairError {
     NoMemory,
 }
 
-/// The outcome of one payload, by the program of its pair of schemas.
+impl From<CompileError> for PairError {
+    ghost from_gives = { λ error e. e ≡ of_compiling error };
+
+    fn from(error: CompileError) -> PairError {
+        match error {
+            CompileError::ProgramTooLarge => PairError::ProgramTooLarge,
+            CompileError::NoMemory => PairError::NoMemory,
+        }
+    }
+}
+
+impl From<TranscodeError> for PairError {
+    ghost from_gives = { λ error e. e ≡ of_payload error };
+
+    fn from(error: TranscodeError) -> PairError {
+        match error {
+            TranscodeError::TooLarge => PairError::TooLarge,
+            TranscodeError::NoMemory => PairError::NoMemory,
+        }
+    }
+}
+
+/// The outcome of one payload, by the program of its pair of schemas. `ProgramTooLarge` where that would pass a limit,
+/// and then `TooLarge` where the payload does.
 pub fn transcode(alloc: Global, w: &Nodes, r: &Nodes, payload: &[u8]) -> Result<Outcome, PairError>
     ensures { TranscodesPair w.now r.now payload.now result }
 {
-    let mut transcoder = match Transcoder::new(alloc, w, r) {
-        Ok(transcoder) => transcoder,
-        Err(CompileError::ProgramTooLarge) => return Err(PairError::ProgramTooLarge),
-        Err(CompileError::NoMemory) => return Err(PairError::NoMemory),
-    };
-    match transcoder.transcode(payload) {
-        Ok(outcome) => Ok(outcome),
-        Err(TranscodeError::TooLarge) => Err(PairError::TooLarge),
-        Err(TranscodeError::NoMemory) => Err(PairError::NoMemory),
-    }
+    let mut transcoder = Transcoder::new(alloc, w, r)?;
+    Ok(transcoder.transcode(payload)?)
 }

@@ -5,10 +5,8 @@ ghost use Rattle.std.specs.Prelude.{◌≡◌};
 use crate::same::same;
 use avro_bytes::{
     Blob, BlockWalk, Bool, Fault, FixedBytes, Int, Long, MOST_CONTENT, MOST_DEPTH, MOST_UNITS,
-    MalformedKind, Meter, Position, Text, WireForm, content_is_a_length_and_a_fixed,
-    limits_are_these, long_len, put_long, read_and_skip, read_boolean, read_int, read_length,
-    read_long, read_position, shortest_spelling_is_shortest, tight_spelling_is_the_shortest,
-    walks_pass_the_items, walks_stand_at_their_blocks, walks_tell_the_first_fault,
+    MalformedKind, Meter, Position, Text, WireForm, long_len, put_long, read_and_skip,
+    read_boolean, read_int, read_length, read_long, read_position,
 };
 use std::alloc::AllocError;
 use std::process::Abort;
@@ -38,7 +36,6 @@ fn assert_number(rt: &impl Abort, n: i64, bytes: &[u8]) {
 
 #[test]
 fn numbers_of_the_specification(rt: HostRuntime) -> Result<(), AllocError> {
-    shortest_spelling_is_shortest();
     let table: [(i64, &[u8]); 10] = [
         (0, &[0x00]),
         (-1, &[0x01]),
@@ -126,9 +123,6 @@ fn assert_positions(rt: &impl Abort) {
 
 #[test]
 fn lengths_and_positions(rt: HostRuntime) {
-    limits_are_these();
-    tight_spelling_is_the_shortest();
-    content_is_a_length_and_a_fixed();
     assert_lengths(&rt);
     assert_positions(&rt);
     let symbol = read_position(MalformedKind::BadEnum, 1, &[0x02], 0, START);
@@ -145,7 +139,7 @@ fn assert_boolean(rt: &impl Abort, bytes: &[u8], answer: Result<bool, Fault>) {
 }
 
 #[test]
-fn booleans(rt: HostRuntime) {
+fn a_boolean_is_one_byte(rt: HostRuntime) {
     assert_boolean(&rt, &[0x00], Ok(false));
     assert_boolean(&rt, &[0x01], Ok(true));
     let bad = malformed(MalformedKind::BadBoolean, 0);
@@ -164,7 +158,7 @@ fn read_text(rt: &impl AllocGlobal, bytes: &[u8]) -> Result<(String, usize, Mete
 }
 
 #[test]
-fn texts(rt: HostRuntime) -> Result<(), Fail> {
+fn a_text_is_read_and_skipped(rt: HostRuntime) -> Result<(), Fail> {
     let (text, to, after) = read_text(&rt, &[0x06, 0x66, 0x6f, 0x6f, 0x00])?;
     assert_eq!(rt; text.as_str(), "foo");
     same(&rt, (to, after), (4, START));
@@ -185,7 +179,7 @@ fn assert_no_text(rt: &(impl Abort + AllocGlobal), bytes: &[u8], fault: Fault) {
 }
 
 #[test]
-fn faults_of_texts(rt: HostRuntime) {
+fn faults_of_texts_are_told(rt: HostRuntime) {
     let too_long = (MOST_CONTENT as i64 + 1) * 2;
     let groups = [
         (too_long % 128) as u8 + 128,
@@ -252,7 +246,7 @@ fn bytes_after_their_length(rt: HostRuntime) {
 }
 
 #[test]
-fn so_many_bytes(rt: HostRuntime) {
+fn a_fixed_is_so_many_bytes(rt: HostRuntime) {
     let form = FixedBytes {
         alloc: rt.alloc(),
         size: 3,
@@ -360,7 +354,6 @@ fn assert_no_block(rt: &impl Abort) -> Result<(), Fault> {
 
 #[test]
 fn blocks_with_and_without_a_size(rt: HostRuntime) -> Result<(), Fault> {
-    walks_pass_the_items();
     assert_block(&rt)?;
     assert_sized_block(&rt)?;
     assert_no_block(&rt)
@@ -368,7 +361,6 @@ fn blocks_with_and_without_a_size(rt: HostRuntime) -> Result<(), Fault> {
 
 #[test]
 fn walks_go_on_from_their_parts(rt: HostRuntime) -> Result<(), Fail> {
-    walks_stand_at_their_blocks();
     let (mut walk, _) = BlockWalk::begin(0, START)?;
     let bytes = [0x03, 0x04, 0x36, 0x36, 0x00];
     same(
@@ -460,8 +452,7 @@ fn assert_full_block(rt: &impl Abort) -> Result<(), Fault> {
 }
 
 #[test]
-fn faults_of_blocks(rt: HostRuntime) -> Result<(), Fault> {
-    walks_tell_the_first_fault();
+fn faults_of_blocks_are_told(rt: HostRuntime) -> Result<(), Fault> {
     assert_bad_block(&rt)?;
     assert_full_block(&rt)?;
     let deep = Meter {

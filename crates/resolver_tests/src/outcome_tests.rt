@@ -67,7 +67,7 @@ fn is_too_large(alloc: Global, payload: &[u8]) -> Result<bool, Fail> {
 }
 
 #[test]
-fn refusals(rt: HostRuntime) -> Result<(), Fail> {
+fn a_payload_past_its_limit_is_refused(rt: HostRuntime) -> Result<(), Fail> {
     let long = vec![in rt.alloc(); 0u8; MOST_PAYLOAD + 1]?;
     assert!(rt; is_too_large(rt.alloc(), &long)?);
     Ok(())

@@ -80,7 +80,7 @@ fn fields_go_by_name(rt: HostRuntime) -> Result<(), Fail> {
 }
 
 #[test]
-fn mismatches(rt: HostRuntime) -> Result<(), Fail> {
+fn a_lacking_default_and_another_type_are_mismatches(rt: HostRuntime) -> Result<(), Fail> {
     let found = line_for(rt.alloc(), LONGER)?;
     same(&rt, found.as_str(), "mismatch NoDefault 0 3");
     let found = line_for(rt.alloc(), RETYPED)?;

@@ -1,10 +1,9 @@
 -- How a session of a pair of schemas ends. All of this is this project's own.
-use Rattle.std.specs.Prelude.{◌≡◌, ◌<◌, ◌+◌, ◌*◌, ℕ, List, ◌++◌, length, true, false, Some, None}
-use Rattle.avro_bytes.specs.declared.limits.TheConstants.{MOST_UNITS}
+use Rattle.std.specs.Prelude.{◌≡◌, ◌<◌, ℕ, List, ◌++◌, true, false, Some, None}
 use Rattle.avro_types.specs.Node.{Node}
 use Rattle.isa.specs.State as state
 use Rattle.outcome.specs.Outcome.{outcome_of}
-use Rattle.simulation.specs.Simulation.{IsOutcomeOf}
+use Rattle.simulation.specs.Simulation.{EndsWithOutcome, IsOutcomeOf}
 use Rattle.session.specs.declared.end.SessionEnd as rust
 use Rattle.session.specs.declared.end.SessionEnd.TheVariants as ends
 use Rattle.session.specs.Session.{OutOfMemory, Out, Session, SessionEnd, Trapped, machine_end}
@@ -23,6 +22,8 @@ EndIsOutcome W R s = (end : state.End) → machine_end s ≡ Some end → IsOutc
 abbrev pub EarlyEndIsOutcome : List Node → List Node → Session → Type 0
 EarlyEndIsOutcome W R s = (more : List ℕ) (end : state.End) → s.closed ≡ false → machine_end s ≡ Some end → IsOutcomeOf W R (s.bytes ++ more) end
 
--- where all bytes came and it has not ended, it has not taken as many rows as the row bound allows
-abbrev pub IsWithinBound : Session → Type 0
-IsWithinBound s = s.closed ≡ true → machine_end s ≡ None → s.count < (MOST_UNITS + 1) * length s.program.code + length s.bytes
+-- Where all bytes came, some number of rows, within the row bound, leads to their outcome; a session whose machine has
+-- not ended has taken fewer.
+abbrev pub EndsWithinBound : List Node → List Node → Session → Type 0
+EndsWithinBound W R s = s.closed ≡ true
+    → (whole : EndsWithOutcome W R s.program s.bytes) × (machine_end s ≡ None → s.count < whole.rows)

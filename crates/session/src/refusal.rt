@@ -1,16 +1,18 @@
 use std::alloc::{AllocError, AllocFailed};
+use thiserror::Error;
 
 /// Why a call of a session was refused, which changed nothing.
-#[derive(Clone, Copy, Debug, PartialEq, Eq)]
+#[derive(Clone, Copy, Debug, PartialEq, Eq, Error)]
 pub enum SessionRefusal {
-    /// The bytes with the piece would pass the limit of a payload.
+    #[error("the bytes with the piece would pass the limit of a payload")]
     TooLarge,
-    /// A piece came after the last.
+    #[error("a piece comes after the last")]
     Ended,
-    /// The address is none of the program's.
+    #[error("the address is none of the program's")]
     BadAddress,
-    /// The session has as many other breakpoints as it may have.
+    #[error("the session has as many other breakpoints as it may have")]
     TooManyBreaks,
+    #[error("out of memory")]
     NoMemory,
 }
 

@@ -4,7 +4,7 @@ ghost use Rattle.outcome.specs.declared.limits.TheConstants.{MOST_PAYLOAD};
 ghost use Rattle.program_code.specs.Code.{code_of};
 ghost use Rattle.session.specs.declared.limits.TheConstants.{MOST_BREAKS};
 ghost use Rattle.session.specs.Changes.{Maybe, Surely, break_refusal, clear_refusal, cleared_at, finished, piece_refusal, refused, set_at, with_piece};
-ghost use Rattle.session.specs.Ending.{EarlyEndIsOutcome, EndIsOutcome, IsWithinBound, end_of};
+ghost use Rattle.session.specs.Ending.{EarlyEndIsOutcome, EndIsOutcome, EndsWithinBound, end_of};
 ghost use Rattle.session.specs.Rows.{TakesRows, go_rows, slice_rows, walk_rows};
 ghost use Rattle.session.specs.Session.{end_in, has_break, state_of, without_break};
 
@@ -74,9 +74,12 @@ impl<'p> Session<'p> {
         }
     }
 
-    /// More bytes. A session that has ended takes them too.
+    /// More bytes. `TooLarge` where all bytes would pass `MOST_PAYLOAD`, and then `Ended` where no more were to come. A
+    /// session that has ended takes them too. No bytes take no memory.
     pub fn piece(&mut self, bytes: &[u8]) -> Result<(), SessionRefusal>
-        ensures { Maybe (piece_refusal bytes.now self.old) (with_piece bytes.now self.old) result self.old self.new }
+        ensures taken { Maybe (piece_refusal bytes.now self.old) (with_piece bytes.now self.old) result
+            self.old self.new }
+        ensures memory { IfErr result (λ e. e ≡ SessionRefusal.NoMemory → 0 < length bytes.now) }
     {
         if bytes.len() > MOST_PAYLOAD - self.run.input().len() {
             return Err(SessionRefusal::TooLarge);
@@ -95,7 +98,8 @@ impl<'p> Session<'p> {
         self.run.close();
     }
 
-    /// Sets a breakpoint. One that is there is not set again.
+    /// Sets a breakpoint. One that is there is not set again. `BadAddress` where the address is none of the program's, and
+    /// then `TooManyBreaks` where `MOST_BREAKS` others are set.
     pub fn set_break(&mut self, address: u32) -> Result<(), SessionRefusal>
         ensures set { Maybe (break_refusal address self.old) (set_at address self.old) result self.old self.new }
         ensures memory { IfErr result
@@ -114,7 +118,7 @@ impl<'p> Session<'p> {
         Ok(())
     }
 
-    /// Clears a breakpoint, where it is set.
+    /// Clears a breakpoint, where it is set. `BadAddress` where the address is none of the program's.
     pub fn clear_break(&mut self, address: u32) -> Result<(), SessionRefusal>
         ensures { Surely (clear_refusal address self.old) (cleared_at address self.old) result self.old self.new }
     {
@@ -274,7 +278,7 @@ impl<'p> Session<'p> {
         requires { code_of w.now r.now ≡ Some self.now.program }
         ensures end { EndIsOutcome w.now r.now self.now }
         ensures early { EarlyEndIsOutcome w.now r.now self.now }
-        ensures bound { IsWithinBound self.now }
+        ensures bound { EndsWithinBound w.now r.now self.now }
     {
         self.run.is_alone();
         self.run.ends_with_the_outcome(w, r);

@@ -14,7 +14,7 @@ use Rattle.session_core.specs.Acts.{Acts, Maybe, Slices, Surely, Takes, with_ses
 use Rattle.session_core.specs.Event.{Act, Break, Clear, Finish, Go, Piece, Refuse, Slice, Steal, Walk}
 use Rattle.avro_schema.specs.Schema.{Declaration}
 use Rattle.avro_types.specs.Node.{Node}
-use Rattle.session.specs.Ending.{EarlyEndIsOutcome, EndIsOutcome, IsWithinBound}
+use Rattle.session.specs.Ending.{EarlyEndIsOutcome, EndIsOutcome, EndsWithinBound}
 use Rattle.session_core.specs.Ending.{EndsWithOutcome}
 use Rattle.session_core.specs.Kept.{IsKept, IsSession}
 use Rattle.session_core.specs.World.{Held, IsCodeOf, World, schema_after}
@@ -59,7 +59,7 @@ module _ (cs : List Command) where
 
   -- so its program is still that of its pair
   pub acts-keep : (act : Act) (reply : EventReply) (old new : Held) → Acts act reply old new → IsSession cs old → IsSession cs new
-  acts-keep (Piece bytes) reply old new a is = maybe-keeps (piece_refusal bytes old.session) (with_piece bytes old.session) reply old new refl a is
+  acts-keep (Piece bytes) reply old new a is = maybe-keeps (piece_refusal bytes old.session) (with_piece bytes old.session) reply old new refl a.0 is
   acts-keep Finish reply old new a is = surely-keeps None (finished old.session) reply old new refl a is
   acts-keep (Slice worker k) reply old new a is = slices-keep worker k reply old new a is
   acts-keep (Steal worker) reply old new a is = stolen worker old new a.1 is
@@ -99,9 +99,10 @@ pub same-held : (found : Option Held) (one other : Held) → found ≡ Some one 
 same-held found one other a b = cc
 
 pub ends-for : (world : World) (one held : Held) (s : ℕ) (w r : Declaration) (W R : List Node) → IsKept world → slice_get world.sessions s ≡ Some held → one ≡ held → schema_after world.commands one.writer ≡ Some w → schema_after world.commands one.reader ≡ Some r → W ≡ w.nodes → R ≡ r.nodes
-    → EndIsOutcome W R one.session → EarlyEndIsOutcome W R one.session → IsWithinBound one.session → EndsWithOutcome world held
+    → EndIsOutcome W R one.session → EarlyEndIsOutcome W R one.session → EndsWithinBound W R one.session → EndsWithOutcome world held
 ends-for world one held s w r W R kept at same w-is r-is W-is R-is end early bound =
     let code = code-of-found world.commands one.writer one.reader one.session.program w r (subst (IsSession world.commands) (sym same) (session-at world s held kept at)) w-is r-is in
     let end_ = subst (λ (x : List Node). EndIsOutcome x r.nodes one.session) W-is (subst (λ (x : List Node). EndIsOutcome W x one.session) R-is end) in
     let early_ = subst (λ (x : List Node). EarlyEndIsOutcome x r.nodes one.session) W-is (subst (λ (x : List Node). EarlyEndIsOutcome W x one.session) R-is early) in
-    subst (EndsWithOutcome world) same (ends-with-outcome world one w r w-is r-is code end_ early_ bound)
+    let bound_ = subst (λ (x : List Node). EndsWithinBound x r.nodes one.session) W-is (subst (λ (x : List Node). EndsWithinBound W x one.session) R-is bound) in
+    subst (EndsWithOutcome world) same (ends-with-outcome world one w r w-is r-is code end_ early_ bound_)

@@ -1,5 +1,5 @@
 -- What happens to one session, and what is replied. All of this is this project's own.
-use Rattle.std.specs.Prelude.{◌≡◌, ◌≢◌, ℕ, false, Option, Some, None, Result, Ok, Err}
+use Rattle.std.specs.Prelude.{◌≡◌, ◌≢◌, ◌<◌, ℕ, false, List, length, Option, Some, None, Result, Ok, Err}
 use Rattle.session.specs.declared.refusal.SessionRefusal.{SessionRefusal}
 use Rattle.session.specs.declared.refusal.SessionRefusal.TheVariants.{NoMemory}
 use Rattle.session.specs.Changes.{break_refusal, clear_refusal, cleared_at, finished, piece_refusal, refused, set_at, with_piece}
@@ -37,6 +37,12 @@ abbrev pub WhereNoMemory : EventReply → Type 0 → Type 0
 WhereNoMemory (Refused (OfSession e)) holds = e ≡ NoMemory → holds
 WhereNoMemory reply holds = Unit {0}
 
+-- No bytes take no memory.
+abbrev pub TakesPiece : List ℕ → EventReply → Held → Held → Type 0
+TakesPiece bytes reply old new =
+    Maybe (piece_refusal bytes old.session) (with_piece bytes old.session) reply old new
+    × WhereNoMemory reply (0 < length bytes)
+
 -- A breakpoint that is set takes no memory.
 abbrev pub SetsBreak : ℕ → EventReply → Held → Held → Type 0
 SetsBreak address reply old new =
@@ -54,7 +60,7 @@ Slices worker k (Refused NotHeld) old new = (old.holder ≢ worker) × (new ≡ 
 Slices worker k reply old new = (old.holder ≡ worker) × Takes (slice_rows k old.session) reply old new
 
 abbrev pub Acts : Act → EventReply → Held → Held → Type 0
-Acts (Piece bytes) reply old new = Maybe (piece_refusal bytes old.session) (with_piece bytes old.session) reply old new
+Acts (Piece bytes) reply old new = TakesPiece bytes reply old new
 Acts Finish reply old new = Surely None (finished old.session) reply old new
 Acts (Slice worker k) reply old new = Slices worker k reply old new
 Acts (Steal worker) reply old new = (reply ≡ Done) × (new ≡ record old { holder = worker })

@@ -1,21 +1,26 @@
 use crate::publish_error::PublishError;
 use schema_registry::Refusal;
 use session::SessionRefusal;
+use thiserror::Error;
 
 /// Why an event was refused, which changed nothing.
-#[derive(Clone, Copy, Debug, PartialEq, Eq)]
+#[derive(Clone, Copy, Debug, PartialEq, Eq, Error)]
 pub enum EventRefusal {
-    /// No session has this number.
+    #[error("no session has this number")]
     NoSession,
-    /// Another worker holds the session.
+    #[error("another worker holds the session")]
     NotHeld,
-    /// The pair is not published.
+    #[error("the pair is not published")]
     NotPublished,
-    /// No schema has this id.
+    #[error("no schema has this id")]
     NoSchema,
+    #[error("out of memory")]
     NoMemory,
+    #[error("{0}")]
     OfSession(SessionRefusal),
+    #[error("{0}")]
     OfRegistry(Refusal),
+    #[error("{0}")]
     OfPublication(PublishError),
 }
 

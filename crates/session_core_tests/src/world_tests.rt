@@ -4,7 +4,7 @@ use crate::again::{row_for, session_ends};
 use crate::lines::{answer_to, event_of, reply_line};
 use crate::rows::{BREAKS, REFUSALS, REFUSED, REPLAY};
 use crate::same::same;
-use session_core::{Event, PairRow, World, run_events, sessions_are_their_own};
+use session_core::{Event, PairRow, World, run_events};
 use std::alloc::{AllocError, Global};
 use std::process::Abort;
 use std::test::Fail;
@@ -109,8 +109,6 @@ fn events_and_replies(alloc: Global, rows: &str) -> Result<(Vec<Event>, String),
 /// What a new world replies to events in one call, a line each, and how its first two sessions have ended then.
 fn replied(alloc: Global, programs: &PairRow, events: &[Event]) -> Result<String, AllocError> {
     let (world, replies) = run_events(alloc, programs, events)?;
-    world.ends_with_the_outcome(0);
-    sessions_are_their_own();
     let mut lines = String::new(alloc);
     for reply in &replies {
         let line = reply_line(alloc, *reply)?;

@@ -4,7 +4,7 @@ use crate::line_forms::telling::is_told;
 use std::alloc::AllocError;
 
 #[test]
-fn words(rt: HostRuntime) -> Result<(), AllocError> {
+fn lines_with_other_words_are_bad(rt: HostRuntime) -> Result<(), AllocError> {
     let lines = [
         "",
         " ",
@@ -47,7 +47,7 @@ fn words(rt: HostRuntime) -> Result<(), AllocError> {
 }
 
 #[test]
-fn numbers(rt: HostRuntime) -> Result<(), AllocError> {
+fn numbers_with_signs_or_leading_zeros_are_bad(rt: HostRuntime) -> Result<(), AllocError> {
     let lines = [
         "show 01",
         "show 00",
@@ -70,7 +70,7 @@ fn numbers(rt: HostRuntime) -> Result<(), AllocError> {
 }
 
 #[test]
-fn bytes(rt: HostRuntime) -> Result<(), AllocError> {
+fn pieces_that_are_no_hexadecimal_are_bad(rt: HostRuntime) -> Result<(), AllocError> {
     let lines = [
         "piece 0",
         "piece 0 ",
@@ -93,7 +93,7 @@ fn bytes(rt: HostRuntime) -> Result<(), AllocError> {
 }
 
 #[test]
-fn no_text(rt: HostRuntime) -> Result<(), AllocError> {
+fn lines_that_are_no_utf_8_are_bad(rt: HostRuntime) -> Result<(), AllocError> {
     let lines: [&[u8]; 5] = [
         b"register s \xff",
         b"register \xff x",

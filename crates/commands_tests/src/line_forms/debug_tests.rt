@@ -3,7 +3,7 @@
 use event_lines::{DebugLine, read_debug_line};
 
 #[test]
-fn forms(rt: HostRuntime) {
+fn each_command_is_read(rt: HostRuntime) {
     let cases = [
         ("break 0", DebugLine::Break(0)),
         ("break 4294967295", DebugLine::Break(4294967295)),
@@ -22,7 +22,7 @@ fn forms(rt: HostRuntime) {
 }
 
 #[test]
-fn bad_lines(rt: HostRuntime) {
+fn lines_that_are_no_command_are_bad(rt: HostRuntime) {
     let lines = [
         "",
         "break",
@@ -51,6 +51,6 @@ fn bad_lines(rt: HostRuntime) {
 }
 
 #[test]
-fn no_text(rt: HostRuntime) {
+fn a_line_that_is_no_utf_8_is_bad(rt: HostRuntime) {
     assert!(rt; read_debug_line(b"show\xff").is_none());
 }

@@ -4,7 +4,7 @@ use crate::line_forms::telling::is_told;
 use std::alloc::AllocError;
 
 #[test]
-fn texts(rt: HostRuntime) -> Result<(), AllocError> {
+fn schemas_and_pieces_are_read(rt: HostRuntime) -> Result<(), AllocError> {
     let cases = [
         ("register s \"long\"", "Register <s> <\"long\">"),
         (
@@ -25,7 +25,7 @@ fn texts(rt: HostRuntime) -> Result<(), AllocError> {
 }
 
 #[test]
-fn levels(rt: HostRuntime) -> Result<(), AllocError> {
+fn levels_are_read(rt: HostRuntime) -> Result<(), AllocError> {
     let cases = [
         ("level * NONE", "Level <all> NONE"),
         ("level s BACKWARD", "Level <s> BACKWARD"),
@@ -48,7 +48,7 @@ fn levels(rt: HostRuntime) -> Result<(), AllocError> {
 }
 
 #[test]
-fn numbers(rt: HostRuntime) -> Result<(), AllocError> {
+fn numbers_are_read(rt: HostRuntime) -> Result<(), AllocError> {
     let cases = [
         ("publish 1 2", "Publish 1 2"),
         ("begin 2 1", "Begin 2 1"),
@@ -72,7 +72,7 @@ fn numbers(rt: HostRuntime) -> Result<(), AllocError> {
 }
 
 #[test]
-fn greatest_numbers(rt: HostRuntime) -> Result<(), AllocError> {
+fn the_greatest_numbers_are_read(rt: HostRuntime) -> Result<(), AllocError> {
     let cases = [
         (
             "publish 4294967295 4294967295",

@@ -13,4 +13,4 @@ returns-clause-early c =
 
 pub returns-clause-bound : goal.returns-clause-bound
 returns-clause-bound c =
-    within_bound c.args.w.now c.args.r.now c.args.self.now (subst IsKept c.self.view_is c.self.invariant) c.requires c.program_ends_with_the_outcome.ensures.simulated c.runs_alone_are_counted_and_stay.ensures.ends c.rows_stay_within_bounds.ensures.begins c.rows_stay_within_bounds.ensures.stays
+    within_bound c.args.w.now c.args.r.now c.args.self.now (subst IsKept c.self.view_is c.self.invariant) c.requires c.program_ends_with_the_outcome.ensures.simulated c.runs_alone_are_counted_and_stay.ensures.ends
