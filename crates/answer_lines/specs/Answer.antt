@@ -21,7 +21,8 @@ IsAnswer W R line answer = MatchOption (payload_of line) (answer ≡ codes "bad 
 unfoldable pub AreAnswers : (List ℕ → List ℕ → Type 0) → List (List ℕ) → List ℕ → Type 0
 AreAnswers IsAnswer [] output = output ≡ []
 AreAnswers IsAnswer (line ∷ later) output =
-    (answer : List ℕ) × (rest : List ℕ) × IsAnswer line answer × AreAnswers IsAnswer later rest × (output ≡ answer ++ 10 ∷ rest)
+    (answer : List ℕ) × (rest : List ℕ) × IsAnswer line answer × AreAnswers IsAnswer later rest
+    × (output ≡ answer ++ 10 ∷ rest)
 
 abbrev pub IsAnswers : List Node → List Node → List (List ℕ) → List ℕ → Type 0
 IsAnswers W R = AreAnswers (IsAnswer W R)

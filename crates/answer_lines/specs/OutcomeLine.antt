@@ -15,6 +15,7 @@ hex_of (byte ∷ rest) = encode_lower (byte ∷ rest)
 abbrev pub line_of : Outcome → List ℕ
 line_of (Done bytes) = codes "done " ++ hex_of bytes
 line_of (Mismatched m) =
-    codes "mismatch " ++ mismatch.name_of m.kind ++ codes " " ++ decimal m.writer_node ++ codes " " ++ decimal m.reader_node
+    codes "mismatch " ++ mismatch.name_of m.kind
+    ++ codes " " ++ decimal m.writer_node ++ codes " " ++ decimal m.reader_node
 line_of (Malformed kind at) = codes "malformed " ++ malformed.name_of kind ++ codes " at " ++ decimal at
 line_of OutputTooLarge = codes "output too large"

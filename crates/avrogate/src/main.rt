@@ -2,7 +2,7 @@
 #![tactic(auto)]
 
 ghost use Rattle.std.specs.Prelude.{◌≡◌, ◌≢◌, IfErr, IfOk};
-ghost use Rattle.commands.specs.Status.{code_of};
+ghost use Rattle.commands.specs.Status.{exit_code_of};
 ghost use Rattle.commands.specs.declared.status.Status.TheVariants.{BadTraffic, NoMemory};
 
 #[cfg(test)]
@@ -71,10 +71,10 @@ fn verb_of(matches: &ArgMatches<'_>) -> Option<Verb> {
 }
 
 /// The number that a run ends with.
-fn code_of(done: Result<u8, RunError>) -> u8
+fn exit_code_of(done: Result<u8, RunError>) -> u8
     ensures ended { IfOk done (λ code. result ≡ code) }
-    ensures memory { done ≡ Err RunError.NoMemory → result ≡ code_of NoMemory }
-    ensures traffic { IfErr done (λ e. e ≢ RunError.NoMemory → result ≡ code_of BadTraffic) }
+    ensures memory { done ≡ Err RunError.NoMemory → result ≡ exit_code_of NoMemory }
+    ensures traffic { IfErr done (λ e. e ≢ RunError.NoMemory → result ≡ exit_code_of BadTraffic) }
 {
     match done {
         Ok(code) => code,
@@ -87,7 +87,7 @@ fn code_of(done: Result<u8, RunError>) -> u8
 fn obey(rt: &(impl Input + Print + AllocGlobal), verb: &Verb) -> u8 {
     let mut reader = rt.reader();
     let mut writer = std::io::writer(rt);
-    code_of(run(rt.alloc(), verb, &mut reader, &mut writer))
+    exit_code_of(run(rt.alloc(), verb, &mut reader, &mut writer))
 }
 
 /// Tells what is wrong with the words, or the help that they ask for.

@@ -31,15 +31,18 @@ text_of_program image P = if image then encode_lower (image_of P) ++ 10 ∷ [] e
 -- the output of `transcode` for a pair of schemas and the lines after them
 abbrev pub IsTranscoded : List Node → List Node → List (List ℕ) → List ℕ → Status → Type 0
 IsTranscoded W R payloads output status =
-    MatchOption (code_of W R) (IsRefused ProgramTooLarge output status) (λ P. IsAnswers W R payloads output × (status ≡ Answered))
+    MatchOption (code_of W R) (IsRefused ProgramTooLarge output status)
+    (λ P. IsAnswers W R payloads output × (status ≡ Answered))
 
 -- that of `compile`, which ignores the lines after them
 abbrev pub IsCompiled : Bool → List Node → List Node → List (List ℕ) → List ℕ → Status → Type 0
 IsCompiled image W R later output status =
-    MatchOption (code_of W R) (IsRefused ProgramTooLarge output status) (λ P. (output ≡ text_of_program image P) × (status ≡ Answered))
+    MatchOption (code_of W R) (IsRefused ProgramTooLarge output status)
+    (λ P. (output ≡ text_of_program image P) × (status ≡ Answered))
 
 -- an output for the schemas in the first two lines and the lines after them
-abbrev pub IsForSchemas : (List Node → List Node → List (List ℕ) → List ℕ → Status → Type 0) → List ℕ → List ℕ → Status → Type 0
+abbrev pub IsForSchemas : (List Node → List Node → List (List ℕ) → List ℕ → Status → Type 0)
+    → List ℕ → List ℕ → Status → Type 0
 IsForSchemas IsOutputOf input output status =
     let inputs = lines input in
     MatchResult (schemas_of inputs)
@@ -87,7 +90,8 @@ IsSettled verb = ⊤
 
 -- where that is settled, each input has an output, and just one, with one status
 abbrev pub HasOutput : Type 0
-HasOutput = (verb : Verb) (input : List ℕ) → IsSettled verb → (output : List ℕ) × (status : Status) × IsOutput verb input output status
+HasOutput = (verb : Verb) (input : List ℕ) → IsSettled verb
+    → (output : List ℕ) × (status : Status) × IsOutput verb input output status
 
 abbrev pub HasOneOutput : Type 0
 HasOneOutput = (verb : Verb) (input one other : List ℕ) (status further : Status) → IsSettled verb →

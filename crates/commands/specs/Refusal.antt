@@ -14,6 +14,7 @@ text_of (refusals.BadListing fault) = codes "bad listing " ++ decimal fault.line
 text_of refusals.ProgramTooLarge = codes "program too large"
 text_of refusals.BadHex = codes "bad hex"
 text_of refusals.TooLarge = codes "too large"
+-- (no output is this line: want of memory ends the program with its own status and nothing written)
 text_of refusals.NoMemory = codes "out of memory"
 
 -- the output is the line of a refusal

@@ -3,9 +3,9 @@ use Rattle.std.specs.Prelude.{ℕ}
 use Rattle.commands.specs.declared.status.Status.{Status}
 use Rattle.commands.specs.declared.status.Status.TheVariants as statuses
 
-abbrev pub code_of : Status → ℕ
-code_of statuses.Answered = 0
-code_of statuses.Refused = 1
-code_of statuses.BadWords = 2
-code_of statuses.BadTraffic = 3
-code_of statuses.NoMemory = 4
+abbrev pub exit_code_of : Status → ℕ
+exit_code_of statuses.Answered = 0
+exit_code_of statuses.Refused = 1
+exit_code_of statuses.BadWords = 2
+exit_code_of statuses.BadTraffic = 3
+exit_code_of statuses.NoMemory = 4

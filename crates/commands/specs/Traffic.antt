@@ -3,16 +3,18 @@ use Rattle.std.specs.Prelude.{◌≡◌, ℕ, List, Option, IfSome}
 use Rattle.std.specs.Io.KnownBytes.{Appends}
 use Rattle.answer_lines.specs.Traffic.{Begins}
 use Rattle.commands.specs.Output.{IsOutput}
-use Rattle.commands.specs.Status.{code_of}
+use Rattle.commands.specs.Status.{exit_code_of}
 use Rattle.commands.specs.declared.status.Status.{Status}
 use Rattle.commands.specs.declared.command.Verb.{Verb}
 
 -- where the input was known, the writer's contents grew by an output for it whose status has this number
 abbrev pub Answers : Verb → Option (List ℕ) → Option (List ℕ) → Option (List ℕ) → ℕ → Type 0
 Answers verb remaining old new code =
-    IfSome remaining (λ input. (output : List ℕ) × (status : Status) × IsOutput verb input output status × (code ≡ code_of status) × Appends old new output)
+    IfSome remaining (λ input. (output : List ℕ) × (status : Status) × IsOutput verb input output status
+    × (code ≡ exit_code_of status) × Appends old new output)
 
 -- where the input was known, the writer's contents grew by a beginning of an output for it
 abbrev pub BeginsToAnswer : Verb → Option (List ℕ) → Option (List ℕ) → Option (List ℕ) → Type 0
 BeginsToAnswer verb remaining old new =
-    IfSome remaining (λ input. (output : List ℕ) × (status : Status) × IsOutput verb input output status × Begins old new output)
+    IfSome remaining (λ input. (output : List ℕ) × (status : Status) × IsOutput verb input output status
+    × Begins old new output)

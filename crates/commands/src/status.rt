@@ -1,5 +1,5 @@
 ghost use Rattle.std.specs.Prelude.{◌≡◌};
-ghost use Rattle.commands.specs.Status.{code_of};
+ghost use Rattle.commands.specs.Status.{exit_code_of};
 
 /// How the program ends.
 #[derive(Clone, Copy, Debug, PartialEq, Eq)]
@@ -18,7 +18,7 @@ pub enum Status {
 impl Status {
     /// Its number, as a program exits with it.
     pub fn code(self) -> u8
-        ensures { result ≡ code_of self }
+        ensures { result ≡ exit_code_of self }
     {
         match self {
             Status::Answered => 0,

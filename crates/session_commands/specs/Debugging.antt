@@ -29,7 +29,8 @@ Obeys (lines.Break a) answer old new =
     (done : Result (Unit {0}) SessionRefusal) × Maybe (break_refusal a old) (set_at a old) done old new
     × IfErr done (λ e. e ≡ NoMemory → has_break a old.breaks ≡ false) × (answer ≡ done_line done)
 Obeys (lines.Clear a) answer old new =
-    (done : Result (Unit {0}) SessionRefusal) × Surely (clear_refusal a old) (cleared_at a old) done old new × (answer ≡ done_line done)
+    (done : Result (Unit {0}) SessionRefusal) × Surely (clear_refusal a old) (cleared_at a old) done old new
+    × (answer ≡ done_line done)
 Obeys (lines.Step n) answer old new = (rows : ℕ) × TakesRows (walk_rows n old) old rows new × (answer ≡ [])
 Obeys (lines.Go n) answer old new = (rows : ℕ) × TakesRows (go_rows n old) old rows new × (answer ≡ [])
 Obeys lines.Show answer old new = Tells state_text old answer × (new ≡ old)
@@ -61,4 +62,5 @@ abbrev pub given : Program → List ℕ → Session
 given P payload = finished (with_piece payload (begun P))
 
 abbrev pub IsDebugged : Program → List ℕ → List (List ℕ) → List ℕ → Type 0
-IsDebugged P payload commands output = (after : Session) × AnswersAll AnswersCommand commands output (given P payload) after
+IsDebugged P payload commands output =
+    (after : Session) × AnswersAll AnswersCommand commands output (given P payload) after

@@ -1,4 +1,5 @@
--- What `replay` answers: lines change a world, one after another, from an empty one on. All of this is this project's own.
+-- What `replay` answers: lines change a world, one after another, from an empty one on.
+-- All of this is this project's own.
 use Rattle.std.specs.Prelude.{◌≡◌, ℕ, List, [], ◌∷◌, ◌++◌, codes, option_map, slice_get, Option, Some, None, MatchOption}
 use Rattle.std.specs.Fmt.{decimal}
 use Rattle.event_lines.specs.Reading.{replay_line}
@@ -33,7 +34,8 @@ TellsOf text (Some s) answer = Tells text s answer
 TellsOf text None answer = answer ≡ refused_line (refusal_name NoSession)
 
 abbrev pub AnswersRequest : Request → List ℕ → World → World → Type 0
-AnswersRequest (Happen event) answer old new = (reply : EventReply) × Happens event reply old new × (answer ≡ reply_line reply)
+AnswersRequest (Happen event) answer old new =
+    (reply : EventReply) × Happens event reply old new × (answer ≡ reply_line reply)
 AnswersRequest NoLevel answer old new = (answer ≡ refused_line (registry.refusal_name BadLevel)) × (new ≡ old)
 AnswersRequest (Show s) answer old new = TellsOf state_text (session_at s old) answer × (new ≡ old)
 AnswersRequest (ListCode s) answer old new = TellsOf code_text (session_at s old) answer × (new ≡ old)
@@ -41,7 +43,8 @@ AnswersRequest (TellEnd s) answer old new = TellsOf end_text (session_at s old) 
 
 abbrev pub AnswersLine : List ℕ → List ℕ → World → World → Type 0
 AnswersLine line answer old new =
-    MatchOption (replay_line line) ((answer ≡ bad_line) × (new ≡ old)) (λ said. AnswersRequest (asks said) answer old new)
+    MatchOption (replay_line line) ((answer ≡ bad_line) × (new ≡ old))
+    (λ said. AnswersRequest (asks said) answer old new)
 
 abbrev pub IsReplayed : List (List ℕ) → List ℕ → Type 0
 IsReplayed inputs output = (world : World) × AnswersAll AnswersLine inputs output no_world world

@@ -23,7 +23,8 @@ use Rattle.session_core.specs.World.{Held, World, program_at, schema_at}
 
 -- it accepts a command with this reply, or refuses it and nothing changes; memory is refused to those that take some
 abbrev pub Accepts : Command → replies.Reply → World → World → Type 0
-Accepts c reply old new = IsAnswer (answer_to (registry_after old.commands) c) (Ok reply) × (new ≡ record old { commands = old.commands ++ c ∷ [] })
+Accepts c reply old new = IsAnswer (answer_to (registry_after old.commands) c) (Ok reply)
+    × (new ≡ record old { commands = old.commands ++ c ∷ [] })
 
 abbrev pub Refuses : Command → EventReply → World → World → Type 0
 Refuses c (Refused (refusals.OfRegistry e)) old new =
@@ -47,14 +48,16 @@ level_reply (Err refusal) = Refused (refusals.OfRegistry refusal)
 abbrev pub PublishesNew : ℕ → ℕ → Declaration → Declaration → EventReply → World → World → Type 0
 PublishesNew w r written read Done old new = (P : Program) × (code_of written.nodes read.nodes ≡ Some P)
     × (new ≡ record old { published = old.published ++ record { writer = w; reader = r; program = P } ∷ [] })
-PublishesNew w r written read (Refused (refusals.OfPublication ProgramTooLarge)) old new = (code_of written.nodes read.nodes ≡ None) × (new ≡ old)
+PublishesNew w r written read (Refused (refusals.OfPublication ProgramTooLarge)) old new =
+    (code_of written.nodes read.nodes ≡ None) × (new ≡ old)
 PublishesNew w r written read (Refused (refusals.OfPublication Clash)) old new = new ≡ old
 PublishesNew w r written read (Refused (refusals.OfPublication NoMemory)) old new = new ≡ old
 PublishesNew w r written read reply old new = ⊥
 
 -- for a private clause: the pair is added with its program, unless memory is refused
 abbrev pub Adds : ℕ → ℕ → Program → EventReply → World → World → Type 0
-Adds w r P Done old new = new ≡ record old { published = old.published ++ record { writer = w; reader = r; program = P } ∷ [] }
+Adds w r P Done old new =
+    new ≡ record old { published = old.published ++ record { writer = w; reader = r; program = P } ∷ [] }
 Adds w r P (Refused (refusals.OfPublication NoMemory)) old new = new ≡ old
 Adds w r P reply old new = ⊥
 
@@ -64,7 +67,8 @@ PublishesPair (Some P) w r written read reply old new = (reply ≡ Done) × (new
 PublishesPair None w r written read reply old new = PublishesNew w r written read reply old new
 
 abbrev pub Publishes : Option Declaration → Option Declaration → ℕ → ℕ → EventReply → World → World → Type 0
-Publishes (Some written) (Some read) w r reply old new = PublishesPair (program_at w r old) w r written read reply old new
+Publishes (Some written) (Some read) w r reply old new =
+    PublishesPair (program_at w r old) w r written read reply old new
 Publishes written read w r reply old new = (reply ≡ Refused refusals.NoSchema) × (new ≡ old)
 
 -- ---- sessions
@@ -72,21 +76,25 @@ Publishes written read w r reply old new = (reply ≡ Refused refusals.NoSchema)
 -- a new session, which worker 0 holds
 abbrev pub Begins : Option Program → ℕ → ℕ → EventReply → World → World → Type 0
 Begins (Some P) w r (SessionIs s) old new = (s ≡ length old.sessions)
-    × (new ≡ record old { sessions = old.sessions ++ record { holder = 0; writer = w; reader = r; session = begun P } ∷ [] })
+    × (new ≡ record old {
+      sessions = old.sessions ++ record { holder = 0; writer = w; reader = r; session = begun P } ∷ [];
+    })
 Begins (Some P) w r (Refused refusals.NoMemory) old new = new ≡ old
 Begins (Some P) w r reply old new = ⊥
 Begins None w r reply old new = (reply ≡ Refused refusals.NotPublished) × (new ≡ old)
 
 -- what happens to one session changes no other
 abbrev pub ActsOn : Option Held → ℕ → Act → EventReply → World → World → Type 0
-ActsOn (Some held) s act reply old new = (after : Held) × Acts act reply held after × (new ≡ record old { sessions = slice_set old.sessions s after })
+ActsOn (Some held) s act reply old new = (after : Held) × Acts act reply held after
+    × (new ≡ record old { sessions = slice_set old.sessions s after })
 ActsOn None s act reply old new = (reply ≡ Refused refusals.NoSession) × (new ≡ old)
 
 -- ---- one event
 
 abbrev pub Happens : Event → EventReply → World → World → Type 0
 Happens (Register subject text) reply old new = Registers (RegisterCommand subject text) reply old new
-Happens (SetLevel subject level) Done old new = Accepts (SetLevelCommand subject level) (replies.LevelReply level) old new
+Happens (SetLevel subject level) Done old new =
+    Accepts (SetLevelCommand subject level) (replies.LevelReply level) old new
 Happens (SetLevel subject level) reply old new = Refuses (SetLevelCommand subject level) reply old new
 Happens (Publish w r) reply old new = Publishes (schema_at w old) (schema_at r old) w r reply old new
 Happens (Begin w r) reply old new = Begins (program_at w r old) w r reply old new

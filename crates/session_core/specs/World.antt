@@ -1,4 +1,5 @@
--- A world of sessions: what its registry accepted, which pairs are published, and its sessions. All of this is this project's own.
+-- A world of sessions: what its registry accepted, which pairs are published, and its sessions.
+-- All of this is this project's own.
 use Rattle.std.specs.Prelude.{◌≡◌, ℕ, ◌==◌, ◌&&◌, List, [], find, Bool, Option, Some, option_map}
 use Rattle.avro_schema.specs.Schema.{Declaration}
 use Rattle.isa.specs.Program.{Program}
@@ -43,7 +44,8 @@ is_of writer reader p = p.writer == writer && p.reader == reader
 
 -- the program of a published pair
 abbrev pub program_at : ℕ → ℕ → World → Option Program
-program_at writer reader world = option_map (λ (p : Publication). p.program) (find (is_of writer reader) world.published)
+program_at writer reader world =
+    option_map (λ (p : Publication). p.program) (find (is_of writer reader) world.published)
 
 -- ---- what holds of every world
 
