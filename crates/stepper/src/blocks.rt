@@ -1,6 +1,6 @@
 #![tactic(auto, using(crate::proofs::Appending::no_more, crate::proofs::Appending::same_arena))]
 
-ghost use Rattle.std.specs.Prelude.{◌≡◌, ◌≤◌, ◌<◌, length, None};
+ghost use Rattle.std.specs.Prelude.{◌≡◌, ◌≢◌, ◌≤◌, ◌<◌, length, None};
 ghost use Rattle.isa.specs.declared.instr.Instr.TheVariants as op;
 ghost use Rattle.isa.specs.declared.limits.TheConstants.{MOST_INSTRS};
 ghost use Rattle.isa.specs.Row.{row};
@@ -91,6 +91,7 @@ impl Machine {
         ensures appends { OnlyAppends self.old self.new }
         ensures within { self.new.state.pos ≤ length input.now }
         ensures whole { self.new.state.part ≡ None }
+        ensures memory { result ≢ Step.NoMemory }
     {
         let Some(mut walk) = self.skip_walk() else {
             return self.trap(Trap::NoFrame);

@@ -100,6 +100,7 @@ impl Machine {
         ensures appends { OnlyAppends self.old self.new }
         ensures pos { self.new.state.pos ≡ self.old.state.pos }
         ensures part { self.new.state.part ≡ self.old.state.part }
+        ensures memory { result ≢ Step.NoMemory }
     {
         self.store.select(slot);
         self.pc += 1;
