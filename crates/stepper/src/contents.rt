@@ -1,4 +1,4 @@
-#![tactic(auto, using(crate::proofs::Appending::same_arena))]
+#![tactic(auto, using(crate::proofs::Appending::goes_on, crate::proofs::Appending::same_arena))]
 
 ghost use Rattle.std.specs.Prelude.{◌≡◌, ◌≤◌, ◌<◌, ◌+◌, ◌-◌, length, min, pos, take, drop, [], option_map, OnOk, OnErr, Some, None, true, false};
 ghost use Rattle.avro_bytes.specs.declared.limits.TheConstants.{MOST_CONTENT};

@@ -1,4 +1,4 @@
-#![tactic(auto, using(crate::proofs::Appending::same_arena))]
+#![tactic(auto, using(crate::proofs::Appending::finishes, crate::proofs::Appending::same_arena))]
 
 ghost use Rattle.std.specs.Prelude.{◌≡◌, ◌≢◌, ◌≤◌, ◌<◌, length, Some, None};
 ghost use Rattle.isa.specs.declared.instr.Instr.TheVariants as op;

@@ -1,4 +1,4 @@
-#![tactic(auto, using(crate::proofs::Appending::same_arena))]
+#![tactic(auto, using(crate::proofs::Appending::goes_on, crate::proofs::Appending::same_arena))]
 
 ghost use Rattle.std.specs.Prelude.{◌≡◌, ◌≢◌, ◌≤◌, ◌<◌, ◌+◌, ℕ, [], ◌∷◌, ◌++◌, length, is_some, option_to_list, OnOk, OnErr, Some, None, false, true};
 ghost use Rattle.avro_bytes.specs.declared.fault.Fault.TheVariants.{NoMemory};
@@ -162,6 +162,7 @@ impl Machine {
         ensures part { self.new.state.part ≡ self.old.state.part }
         ensures check { self.new.check ≡ self.old.check }
         ensures memory { result ≢ Step.NoMemory }
+        ensures store { self.new.state.store ≡ self.old.state.store }
     {
         match fault {
             Fault::Malformed { kind, at } => self.stop(End::Out(Outcome::Malformed { kind, at })),
