@@ -1,4 +1,5 @@
 ghost use Rattle.std.specs.Prelude.{◌≡◌, ◌≢◌, ℕ, ◌+◌, ◌-◌, ◌^◌, ◌<◌, ◌≤◌, List, [], ◌∷◌, ◌++◌, length, map, slice_get, OnErr, OnOk, IfOk};
+ghost use Rattle.isa.specs.declared.limits.TheConstants.{MOST_SLOTS};
 ghost use Rattle.output_store.specs.declared.buffers.Buffer.TheVariants.{Empty};
 ghost use Rattle.output_store.specs.Buffers.{AreLaid, AreRopes, IsHeld, AllHeld, IsLater, IsPlace, buffer_at, segments_at, segments_of, with_added, with_closed, with_fewer, with_none, with_opened};
 ghost use Rattle.output_store.specs.Segments.{AreSegments, bytes_of, with_bytes, with_lists, with_segment, with_segments};
@@ -268,7 +269,7 @@ impl Buffers {
 
     /// Further slots, empty.
     pub fn open(&mut self, more: usize) -> Result<(), AllocError>
-        requires { more ≤ 65536 }
+        requires { more ≤ MOST_SLOTS }
         ensures opened { OnOk result (self.new ≡ with_opened more self.old) }
         ensures refused { OnErr result (self.new ≡ self.old) }
     {

@@ -7,6 +7,5 @@ pub mod Stepping
 pub mod Slicing
 pub mod Longer
 mod Bulk
-pub mod Spelled
 pub mod Foresight
 pub mod WholePayload

@@ -1,11 +1,10 @@
-#![tactic(auto, using(crate::proofs::Appending::no_more, crate::proofs::Appending::same_arena))]
+#![tactic(auto, using(crate::proofs::Appending::goes_on, crate::proofs::Appending::no_more, crate::proofs::Appending::stays_open, crate::proofs::Appending::same_arena))]
 
-ghost use Rattle.std.specs.Prelude.{◌≡◌, ◌≤◌, ◌<◌, length, None};
+ghost use Rattle.std.specs.Prelude.{◌≡◌, ◌≢◌, ◌≤◌, ◌<◌, length, None};
 ghost use Rattle.isa.specs.declared.instr.Instr.TheVariants as op;
 ghost use Rattle.isa.specs.declared.limits.TheConstants.{MOST_INSTRS};
 ghost use Rattle.isa.specs.Row.{row};
-ghost use Rattle.output_store.specs.Store.{around_items};
-ghost use Rattle.stepper.specs.Contract.{AppendsMost, OnlyAppends, Takes};
+ghost use Rattle.stepper.specs.Contract.{AppendsThese, OnlyAppends, Takes, closing_bytes};
 
 use crate::machine::Machine;
 use crate::step::Step;
@@ -60,7 +59,8 @@ impl Machine {
         ensures takes { Takes (row program.now input.now ended (op.Next after) self.old.state) result self.old
             self.new }
         ensures appends { OnlyAppends self.old self.new }
-        ensures joins { AppendsMost (around_items self.old.state.store.frames) self.old self.new }
+        ensures joins { AppendsThese (closing_bytes self.old.state.store.frames self.new.state.store.frames)
+            self.old self.new }
         ensures within { self.new.state.pos ≤ length input.now }
         ensures whole { self.new.state.part ≡ None }
     {
@@ -91,6 +91,7 @@ impl Machine {
         ensures appends { OnlyAppends self.old self.new }
         ensures within { self.new.state.pos ≤ length input.now }
         ensures whole { self.new.state.part ≡ None }
+        ensures memory { result ≢ Step.NoMemory }
     {
         let Some(mut walk) = self.skip_walk() else {
             return self.trap(Trap::NoFrame);

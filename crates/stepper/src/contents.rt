@@ -1,4 +1,4 @@
-#![tactic(auto, using(crate::proofs::Appending::same_arena))]
+#![tactic(auto, using(crate::proofs::Appending::goes_on, crate::proofs::Appending::same_arena))]
 
 ghost use Rattle.std.specs.Prelude.{◌≡◌, ◌≤◌, ◌<◌, ◌+◌, ◌-◌, length, min, pos, take, drop, [], option_map, OnOk, OnErr, Some, None, true, false};
 ghost use Rattle.avro_bytes.specs.declared.limits.TheConstants.{MOST_CONTENT};
@@ -6,6 +6,7 @@ ghost use Rattle.avro_bytes.specs.Shortest.{shortest};
 ghost use Rattle.isa.specs.declared.limits.TheConstants.{MOST_INSTRS, MOST_PIECE};
 ghost use Rattle.isa.specs.Table.{begun, content, ends_part, fixed, if_current, moved, moves, next};
 ghost use Rattle.stepper.specs.Contract.{AsksOf, HasRoom, asks, move_of, OnlyAppends, Stays, Takes};
+ghost use Rattle.stepper.specs.Memory.{MayAdd};
 ghost use Rattle.stepper.specs.Running.{HasMoved, IsCheck, IsOn, Unasked, check_of, is_asked, part_of};
 
 use crate::check::TextCheck;
@@ -51,6 +52,7 @@ impl Machine {
         ensures put { OnOk result (self.new.state ≡ (move_of moving).put bytes.now self.old.state) }
         ensures appends { OnlyAppends self.old self.new }
         ensures refused { OnErr result (self.new ≡ self.old) }
+        ensures memory { OnErr result (MayAdd moving) }
     {
         match moving {
             Moving::SkipBytes | Moving::SkipText => Ok(()),
@@ -65,6 +67,7 @@ impl Machine {
         ensures put { OnOk result (self.new.state ≡ (move_of moving).put (shortest (pos len)) self.old.state) }
         ensures appends { OnlyAppends self.old self.new }
         ensures refused { OnErr result (self.new ≡ self.old) }
+        ensures memory { OnErr result (MayAdd moving) }
     {
         match moving {
             Moving::SkipBytes | Moving::SkipText => Ok(()),
@@ -124,6 +127,7 @@ impl Machine {
         ensures appends { OnlyAppends self.old self.new }
         ensures on { IsOn input.now self.new }
         ensures stays { Stays moving self.old.state self.new }
+        ensures memory { result ≡ Step.NoMemory → MayAdd moving }
     {
         if self.put_length(moving, len).is_err() {
             return Step::NoMemory;
@@ -163,6 +167,7 @@ impl Machine {
         ensures appends { OnlyAppends self.old self.new }
         ensures on { IsOn input.now self.new }
         ensures stays { Stays moving self.old.state self.new }
+        ensures memory { result ≡ Step.NoMemory → MayAdd moving }
     {
         let pos = self.pos();
         let to = pos + MOST_PIECE;
@@ -199,6 +204,7 @@ impl Machine {
         ensures appends { OnlyAppends self.old self.new }
         ensures on { IsOn input.now self.new }
         ensures stays { Stays moving self.old.state self.new }
+        ensures memory { result ≡ Step.NoMemory → MayAdd moving }
     {
         let pos = self.pos();
         let to = pos + part.left;
@@ -255,6 +261,7 @@ impl Machine {
         ensures appends { OnlyAppends self.old self.new }
         ensures on { IsOn input.now self.new }
         ensures stays { Stays moving self.old.state self.new }
+        ensures memory { result ≡ Step.NoMemory → MayAdd moving }
     {
         let there = input.len() - self.pos();
         if there < part.left.min(MOST_PIECE) {
@@ -283,6 +290,7 @@ impl Machine {
         ensures appends { OnlyAppends self.old self.new }
         ensures on { IsOn input.now self.new }
         ensures stays { Stays moving self.old.state self.new }
+        ensures memory { result ≡ Step.NoMemory → MayAdd moving }
     {
         match self.part() {
             Some(part) => self.move_part(moving, part, self.check(), program, input, ended),
@@ -312,6 +320,7 @@ impl Machine {
         ensures appends { OnlyAppends self.old self.new }
         ensures on { IsOn input.now self.new }
         ensures stays { Stays moving self.old.state self.new }
+        ensures memory { result ≡ Step.NoMemory → MayAdd moving }
     {
         match self.part() {
             Some(part) => self.move_part(moving, part, self.check(), program, input, ended),

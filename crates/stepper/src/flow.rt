@@ -1,6 +1,6 @@
-#![tactic(auto, using(crate::proofs::Appending::same_arena))]
+#![tactic(auto, using(crate::proofs::Appending::finishes, crate::proofs::Appending::same_arena))]
 
-ghost use Rattle.std.specs.Prelude.{◌≡◌, ◌≤◌, ◌<◌, length, Some, None};
+ghost use Rattle.std.specs.Prelude.{◌≡◌, ◌≢◌, ◌≤◌, ◌<◌, length, Some, None};
 ghost use Rattle.isa.specs.declared.instr.Instr.TheVariants as op;
 ghost use Rattle.isa.specs.declared.limits.TheConstants.{MOST_INSTRS};
 ghost use Rattle.isa.specs.Row.{row};
@@ -64,6 +64,7 @@ impl Machine {
         ensures appends { OnlyAppends self.old self.new }
         ensures within { self.new.state.pos ≤ length input.now }
         ensures whole { self.new.state.part ≡ None }
+        ensures memory { result ≢ Step.NoMemory }
     {
         self.miss(miss);
         self.next(self.pos())
@@ -101,6 +102,7 @@ impl Machine {
         ensures appends { OnlyAppends self.old self.new }
         ensures within { self.new.state.pos ≤ length input.now }
         ensures whole { self.new.state.part ≡ None }
+        ensures memory { result ≢ Step.NoMemory }
     {
         match self.pop_call() {
             Some(address) => self.jump(address, self.pos()),
@@ -124,6 +126,7 @@ impl Machine {
         ensures appends { OnlyAppends self.old self.new }
         ensures within { self.new.state.pos ≤ length input.now }
         ensures whole { self.new.state.part ≡ None }
+        ensures memory { result ≢ Step.NoMemory }
     {
         self.jump(address as usize, self.pos())
     }

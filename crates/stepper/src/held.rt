@@ -1,12 +1,12 @@
-#![tactic(auto, using(crate::proofs::Appending::no_more, crate::proofs::Appending::same_arena))]
+#![tactic(auto, using(crate::proofs::Appending::goes_on, crate::proofs::Appending::no_more, crate::proofs::Appending::stays_open, crate::proofs::Appending::same_arena))]
 
 ghost use Rattle.std.specs.Prelude.{◌≡◌, ◌≢◌, ◌≤◌, ◌<◌, ◌+◌, ℕ, [], ◌∷◌, length, is_some, OnOk, OnErr, IfOk, Some, None, true};
 ghost use Rattle.avro_bytes.specs.declared.limits.TheConstants.{MOST_DEPTH};
 ghost use Rattle.isa.specs.declared.limits.TheConstants.{MOST_INSTRS};
 ghost use Rattle.isa.specs.Table.{missed, next, pushed, with_frames};
 ghost use Rattle.output_store.specs.Frames.{FewSlots, HasSlot, frame_of, has_current_below, is_skip, is_skipped, skip_walk_of, slots_of, walk_of};
-ghost use Rattle.output_store.specs.Store.{around_items, close_blocks, close_record, leave, next_item, next_skipped, select};
-ghost use Rattle.stepper.specs.Contract.{AppendsMost, OnlyAppends, Takes};
+ghost use Rattle.output_store.specs.Store.{close_blocks, close_record, leave, next_item, next_skipped, select};
+ghost use Rattle.stepper.specs.Contract.{AppendsThese, OnlyAppends, Takes, closing_bytes};
 
 use crate::machine::Machine;
 use crate::step::Step;
@@ -100,6 +100,7 @@ impl Machine {
         ensures appends { OnlyAppends self.old self.new }
         ensures pos { self.new.state.pos ≡ self.old.state.pos }
         ensures part { self.new.state.part ≡ self.old.state.part }
+        ensures memory { result ≢ Step.NoMemory }
     {
         self.store.select(slot);
         self.pc += 1;
@@ -114,7 +115,7 @@ impl Machine {
         ensures takes { Takes (Some (next self.old.state.pos (record self.old.state
             { store = close_record self.old.state.store.frames self.old.state.store }))) result self.old self.new }
         ensures appends { OnlyAppends self.old self.new }
-        ensures joins { AppendsMost [] self.old self.new }
+        ensures joins { AppendsThese [] self.old self.new }
         ensures pos { self.new.state.pos ≡ self.old.state.pos }
         ensures part { self.new.state.part ≡ self.old.state.part }
     {
@@ -135,6 +136,7 @@ impl Machine {
     }
 
     /// At the next item of the newest array or map, with the bytes up to a place read.
+    #[tactic(auto, using(crate::proofs::Appending::next_many, crate::proofs::Appending::same_arena))]
     pub(crate) fn gather(&mut self, walk: BlockWalk, to: usize, inside: Meter) -> Step
         requires pc { self.old.state.pc < MOST_INSTRS }
         requires blocks { is_some (walk_of self.old.state.store.frames) ≡ true }
@@ -144,6 +146,7 @@ impl Machine {
         ensures arena { self.new.layout.arena ≡ self.old.layout.arena }
         ensures gathered { self.new.state ≡ record (next to
             (with_frames (next_item walk self.old.state.store.frames) self.old.state)) { units = inside.units } }
+        ensures frames { length self.new.state.store.frames ≡ length self.old.state.store.frames }
     {
         self.store.next_item(walk, inside.units);
         self.pc += 1;
@@ -178,7 +181,8 @@ impl Machine {
               self.old.state.store.frames self.old.state.store;
         })) result self.old self.new }
         ensures appends { OnlyAppends self.old self.new }
-        ensures joins { AppendsMost (around_items self.old.state.store.frames) self.old self.new }
+        ensures joins { AppendsThese (closing_bytes self.old.state.store.frames self.new.state.store.frames)
+            self.old self.new }
         ensures part { self.new.state.part ≡ self.old.state.part }
     {
         if self

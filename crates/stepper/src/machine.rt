@@ -1,4 +1,4 @@
-#![tactic(auto, using(crate::proofs::Appending::same_arena))]
+#![tactic(auto, using(crate::proofs::Appending::goes_on, crate::proofs::Appending::same_arena))]
 
 ghost use Rattle.std.specs.Prelude.{◌≡◌, ◌≢◌, ◌≤◌, ◌<◌, ◌+◌, ℕ, [], ◌∷◌, ◌++◌, length, is_some, option_to_list, OnOk, OnErr, Some, None, false, true};
 ghost use Rattle.avro_bytes.specs.declared.fault.Fault.TheVariants.{NoMemory};
@@ -18,17 +18,7 @@ use outcome::Outcome;
 use output_store::Store;
 use std::alloc::{AllocError, Global};
 use std::marker::Model;
-use stretches::Found;
-
-/// Whether a spelling has one byte, or a last one that adds something.
-fn is_tight(spelling: &[u8]) -> bool
-    ensures { result ≡ true → IsTight spelling.now }
-{
-    match spelling.last() {
-        Some(last) => spelling.len() == 1 || *last > 0,
-        None => false,
-    }
-}
+use stretches::{Found, is_tight};
 
 /// A content of which bytes are still to move.
 #[derive(Clone, Copy, Debug)]
@@ -171,6 +161,8 @@ impl Machine {
         ensures pos { self.new.state.pos ≡ self.old.state.pos }
         ensures part { self.new.state.part ≡ self.old.state.part }
         ensures check { self.new.check ≡ self.old.check }
+        ensures memory { result ≢ Step.NoMemory }
+        ensures store { self.new.state.store ≡ self.old.state.store }
     {
         match fault {
             Fault::Malformed { kind, at } => self.stop(End::Out(Outcome::Malformed { kind, at })),

@@ -1,25 +1,16 @@
-#![tactic(auto, using(crate::proofs::Appending::same_arena))]
+#![tactic(auto, using(crate::proofs::Appending::goes_on, crate::proofs::Appending::same_arena))]
 
-ghost use Rattle.std.specs.Prelude.{◌≡◌, ◌≤◌, ◌<◌, length, None};
+ghost use Rattle.std.specs.Prelude.{◌≡◌, ◌≢◌, ◌≤◌, ◌<◌, length, None};
 ghost use Rattle.isa.specs.declared.instr.Instr.TheVariants as op;
 ghost use Rattle.isa.specs.declared.limits.TheConstants.{MOST_INSTRS};
 ghost use Rattle.isa.specs.Row.{row};
-ghost use Rattle.avro_bytes.specs.Shortest.{IsTight, shortest};
-ghost use Rattle.stepper.specs.Contract.{OnlyAppends, Takes, WasRead};
+ghost use Rattle.stepper.specs.Contract.{OnlyAppends, Takes};
 
 use crate::machine::Machine;
 use crate::step::Step;
 use avro_bytes::{read_boolean, read_int, read_long};
 use isa::{Program, Trap};
-
-/// The bytes of a number that was read between two places.
-fn spelling(input: &[u8], at: usize, to: usize, n: i64) -> &[u8]
-    requires read { WasRead input.now at to n }
-    requires within { to ≤ length input.now }
-    ensures { IsTight result.now → result.now ≡ shortest n }
-{
-    &input[at..to]
-}
+use stretches::spelling;
 
 impl Machine {
     /// A boolean moves.
@@ -105,6 +96,7 @@ impl Machine {
         ensures appends { OnlyAppends self.old self.new }
         ensures within { self.new.state.pos ≤ length input.now }
         ensures whole { self.new.state.part ≡ None }
+        ensures memory { result ≢ Step.NoMemory }
     {
         match read_boolean(input, self.pos(), self.meter()) {
             Ok((_, to, _)) => self.next(to),
@@ -121,6 +113,7 @@ impl Machine {
         ensures appends { OnlyAppends self.old self.new }
         ensures within { self.new.state.pos ≤ length input.now }
         ensures whole { self.new.state.part ≡ None }
+        ensures memory { result ≢ Step.NoMemory }
     {
         match read_int(input, self.pos(), self.meter()) {
             Ok((_, to, _)) => self.next(to),
@@ -137,6 +130,7 @@ impl Machine {
         ensures appends { OnlyAppends self.old self.new }
         ensures within { self.new.state.pos ≤ length input.now }
         ensures whole { self.new.state.part ≡ None }
+        ensures memory { result ≢ Step.NoMemory }
     {
         match read_long(input, self.pos(), self.meter()) {
             Ok((_, to, _)) => self.next(to),
