@@ -1,6 +1,7 @@
-ghost use Rattle.std.specs.Prelude.{◌≡◌, ◌≤◌, ◌<◌, ◌+◌, ◌++◌, length, OnOk, OnErr, option_map, Some, false, true};
+ghost use Rattle.std.specs.Prelude.{◌≡◌, ◌≤◌, ◌<◌, ◌+◌, ◌++◌, length, slice_get, OnOk, OnErr, option_map, Some, false, true};
 ghost use Rattle.program_code.specs.Code.{code_of};
 ghost use Rattle.simulation.specs.Alone.{run_alone};
+ghost use Rattle.stepper.specs.Memory.{MayGrow};
 ghost use Rattle.stepper.specs.Running.{end_of};
 ghost use Rattle.stepper.specs.Slice.{IsWhy, Rows};
 ghost use Rattle.machine.specs.Ending.{EarlyEndIsOutcome, EndIsOutcome, EndsWithinBound};
@@ -10,7 +11,7 @@ use isa::{End, Program};
 use simulation::{program_ends_with_the_outcome, runs_alone_are_counted_and_stay};
 use std::alloc::{AllocError, Global};
 use std::marker::Model;
-use stepper::{Machine, Slice, machines_go_on_with_more_input};
+use stepper::{Machine, Slice, Why, machines_go_on_with_more_input};
 
 /// A run of a program on bytes that come in pieces.
 ///
@@ -90,6 +91,8 @@ impl<'p> Run<'p> {
         ensures count { self.new.machine.state.count ≡ self.old.machine.state.count + result.rows }
         ensures why { IsWhy self.old.program self.old.input self.old.ended breaks.now result.why k result.rows
             self.new.machine.state }
+        ensures memory { result.why ≡ Why.NoMemory
+            → MayGrow (slice_get self.old.program.code self.new.machine.state.pc) }
         ensures kept { self.new ≡ record self.old { machine = self.new.machine } }
     {
         runs_alone_are_counted_and_stay();
