@@ -1,10 +1,8 @@
-ghost use Rattle.std.specs.Prelude.{◌≡◌, ◌-◌, length};
-ghost use Rattle.avro_loader.specs.Reading.{most_instrs, place};
+ghost use Rattle.std.specs.Prelude.{◌≡◌};
+ghost use Rattle.image_words.specs.Reading.{most_instrs, place};
 
+use crate::limits::MOST_INSTRS_OF_ONE;
 use isa::MOST_INSTRS;
-
-/// How many instructions an image of version 1 may have.
-pub const MOST_INSTRS_OF_ONE: usize = 65_536;
 
 /// The versions of images.
 #[derive(Clone, Copy, Debug, PartialEq, Eq)]
@@ -17,7 +15,7 @@ pub enum Version {
 
 impl Version {
     /// How many instructions an image may have.
-    pub(crate) fn most_instrs(self) -> usize
+    pub fn most_instrs(self) -> usize
         ensures { result ≡ most_instrs self }
     {
         match self {
@@ -36,7 +34,7 @@ pub struct Format {
 
 impl Format {
     /// The place of the first of the bytes that are left.
-    pub(crate) fn place(self, left: &[u8]) -> usize
+    pub fn place(self, left: &[u8]) -> usize
         ensures { result ≡ place self left.now }
     {
         self.len.saturating_sub(left.len())
