@@ -15,8 +15,8 @@ use Rattle.image_words.specs.Spelling.{address_width}
 
 -- ---- results
 
--- the next step, where the first did not fail
 infixl 10 ◌>>=◌
+-- the next step, where the first did not fail
 abbrev pub ◌>>=◌ : {A B : Type 0} → Result A ImageFault → (A → Result B ImageFault) → Result B ImageFault
 (Ok x) >>= f = f x
 (Err e) >>= f = Err e
@@ -36,14 +36,17 @@ place f left = f.len - length left
 
 -- ---- numbers
 
+-- a number with as many bytes as its width, the highest first
 abbrev pub number_at : Width → List ℕ → Read ℕ
 number_at w bytes =
     if nat_lt (length bytes) (byte_len w) then Err Truncated
     else Ok (from_be_bytes w (take (byte_len w) bytes), drop (byte_len w) bytes)
 
+-- an address, as the version has it
 abbrev pub address_at : Format → List ℕ → Read ℕ
 address_at f bytes = number_at (address_width f.version) bytes
 
+-- an operand, as its shape says
 abbrev pub operand_at : Format → Shape → List ℕ → Read ℕ
 operand_at f shapes.Nothing rest = Ok (0, rest)
 operand_at f shapes.Short rest = number_at w16 rest
@@ -52,6 +55,7 @@ operand_at f shapes.Address rest = address_at f rest
 
 -- ---- the head
 
+-- the version that a byte tells
 abbrev pub version_at : List ℕ → Read Version
 version_at [] = Err Truncated
 version_at (suc zero ∷ rest) = Ok (One, rest)

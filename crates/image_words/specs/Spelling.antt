@@ -8,9 +8,11 @@ use Rattle.image_words.specs.declared.version.Version.TheVariants.{One, Two}
 
 -- ---- numbers, with their highest byte first
 
+-- in 2 bytes
 abbrev pub short : ℕ → List ℕ
 short n = to_be_bytes w16 n
 
+-- in 4 bytes
 abbrev pub long : ℕ → List ℕ
 long n = to_be_bytes w32 n
 
@@ -19,19 +21,22 @@ abbrev pub address_width : Version → Width
 address_width One = w16
 address_width Two = w32
 
+-- an address, as the version has it
 abbrev pub address : Version → ℕ → List ℕ
 address v a = to_be_bytes (address_width v) a
 
--- ---- operands, which have the bytes that their shape says
+-- ---- operands
 
+-- an operand has the bytes that its shape says
 abbrev pub operand : Version → Shape → ℕ → List ℕ
 operand v shapes.Nothing n = []
 operand v shapes.Short n = short n
 operand v shapes.Long n = long n
 operand v shapes.Address n = address v n
 
--- ---- the head: the letters AVRP, and the byte of the version
+-- ---- the head
 
+-- the byte after the letters AVRP
 abbrev pub version_byte : Version → ℕ
 version_byte One = 1
 version_byte Two = 2

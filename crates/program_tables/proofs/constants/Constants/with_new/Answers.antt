@@ -1,9 +1,9 @@
 -- One more stands last, and the others where they stood.
 use Rattle.std.proofs.Common.{◌≡◌, ◌++◌, ◌∷◌, [], ◌∙◌, ap, sym, rules, length}
 use Rattle.std.specs.Str.{bytes_eq}
-use Rattle.program_compiler.specs.Tables.{found}
-use Rattle.program_compiler.proofs.Tables.{bytes_at, bytes_fresh, table_on}
-use Rattle.program_compiler.proofs.constants.Constants.with_new.Goals as goal
+use Rattle.program_tables.specs.Tables.{found}
+use Rattle.program_tables.proofs.Tables.{bytes_at, bytes_fresh, table_on}
+use Rattle.program_tables.proofs.constants.Constants.with_new.Goals as goal
 
 pub invariant_of-result : goal.invariant_of-result
 invariant_of-result c =

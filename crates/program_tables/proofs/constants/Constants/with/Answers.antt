@@ -3,8 +3,8 @@ use Rattle.std.proofs.Common.{◌≡◌, ◌∙◌, ap, sym, is_some, false}
 use Rattle.std.specs.Str.{bytes_eq}
 use Rattle.std.proofs.lemmas.Result.{IfOk-weaker}
 use Rattle.program_code.specs.Numbering.{has}
-use Rattle.program_compiler.proofs.Tables.{adding_new, adding_there, is_found}
-use Rattle.program_compiler.proofs.constants.Constants.with.Goals as goal
+use Rattle.program_tables.proofs.Tables.{adding_new, adding_there, is_found}
+use Rattle.program_tables.proofs.constants.Constants.with.Goals as goal
 
 pub returns-then-is_some : goal.returns-then-is_some
 returns-then-is_some c = adding_there bytes_eq c.args.bytes.items c.args.self (sym (is_found bytes_eq c.args.bytes.items c.args.self) ∙ ap is_some (sym c.get.ensures) ∙ sym c.is_some.ensures ∙ c.if-is_some.true)

@@ -2,10 +2,10 @@
 use Rattle.std.proofs.Common.{◌≡◌, ◌++◌, ◌∷◌, [], ◌∙◌, ap, sym, rules, length}
 use Rattle.program_code.specs.Numbering.{same_miss}
 use Rattle.std.specs.Ordering.{is_eq}
-use Rattle.program_compiler.specs.Tables.{found, key_cmp}
-use Rattle.program_compiler.specs.Tables.{key_of as key_of_miss}
-use Rattle.program_compiler.proofs.Tables.{miss_at, miss_fresh, table_on}
-use Rattle.program_compiler.proofs.misses.Misses.add_new.Goals as goal
+use Rattle.program_tables.specs.Tables.{found, key_cmp}
+use Rattle.program_tables.specs.Tables.{key_of as key_of_miss}
+use Rattle.program_tables.proofs.Tables.{miss_at, miss_fresh, table_on}
+use Rattle.program_tables.proofs.misses.Misses.add_new.Goals as goal
 
 pub invariant_of-self-2 : goal.invariant_of-self-2
 invariant_of-self-2 c =

@@ -6,8 +6,8 @@ use Rattle.outcome.specs.declared.mismatch.MismatchKind.TheVariants as kinds
 use Rattle.program_code.specs.Lines.{miss}
 use Rattle.program_code.specs.Numbering.{entry_of, same_miss}
 use Rattle.program_code.specs.Writing.{target}
-use Rattle.program_compiler.proofs.Tables.{map_twice, number_at_most}
-use Rattle.program_compiler.proofs.maps.entries.Goals as goal
+use Rattle.program_tables.proofs.Tables.{map_twice, number_at_most}
+use Rattle.program_tables.proofs.targets.entries.Goals as goal
 
 pub overflow_cast-lacking : goal.overflow_cast-lacking
 overflow_cast-lacking c =
@@ -17,7 +17,7 @@ overflow_cast-lacking c =
 
 pub returns : goal.returns
 returns c =
-    let texts = c.symbols-texts.result.now in
+    let texts = c.args.symbols.now in
     let G = entry_of c.args.misses.now in
     let F = target c.args.writer c.args.reader (slice_get c.args.r.now c.args.reader) in
     let old = c.loop-position.entries.items in
@@ -25,4 +25,4 @@ returns c =
     ∙ ap (λ l. old ++ map (λ t. G (F (string_bytes t))) l) (sym (drop_of_length-le texts c.loop-position-test.false))
     ∙ c.loop-position.invariant
     ∙ map_twice G (λ t. F (string_bytes t)) texts
-    ∙ ap (map G) (map_twice F string_bytes texts ∙ ap (map F) c.symbols-texts.ensures)
+    ∙ ap (map G) (map_twice F string_bytes texts)
