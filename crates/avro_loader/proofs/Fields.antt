@@ -1,115 +1,18 @@
 -- What is read from the front is the spelling that stood there, and what is spelled is read again.
-use Rattle.std.proofs.Common.{◌≡◌, ℕ, zero, suc, ◌+◌, ◌^◌, ◌<◌, ◌≤◌, Bool, true, false, cond, ltb, List, [], ◌∷◌, ◌++◌, length, get_or, take, drop, Result, Ok, Err, refl, sym, ap, subst, ◌∙◌, append_assoc, arith, inl, inr}
-use Rattle.std.specs.List.{flat_map, AllByRecursion}
-use Rattle.std.specs.Int.{Width, w16, w32, byte_len, from_be_bytes, to_be_bytes}
-use Rattle.std.proofs.lemmas.Bool.{cases_lt, ltb-false, le-ltb}
-use Rattle.std.proofs.lemmas.List.{take_at, drop_at, take-append-drop, length-append, length-take, get_or-drop, get_or-take, get_or_past}
+use Rattle.std.proofs.Common.{◌≡◌, ℕ, zero, suc, ◌^◌, ◌<◌, ◌≤◌, cond, ltb, List, [], ◌∷◌, ◌++◌, length, Ok, Err, refl, sym, ap, subst, ◌∙◌, append_assoc, arith}
+use Rattle.std.proofs.lemmas.Bool.{ltb-false, le-ltb}
 use Rattle.std.proofs.lemmas.List.Concat.{flat_map-cons}
-use Rattle.std.proofs.lemmas.Nat.{be_bytes_2, be_bytes_4, from_be_bytes-to_be_bytes_2, from_be_bytes-to_be_bytes_4}
-use Rattle.avro_loader.specs.declared.fault.ImageFault.{ImageFault}
-use Rattle.avro_loader.specs.declared.fault.ImageFault.TheVariants.{TooLarge, Truncated}
-use Rattle.avro_loader.specs.declared.version.Format.{Format}
-use Rattle.avro_loader.specs.Image.{section, long}
-use Rattle.avro_loader.specs.Reading.{◌>>=◌, Read, count_at, number_at, place, section_at, things_at}
-
--- ---- bytes
-
-abbrev pub IsBytes : List ℕ → Type 0
-IsBytes bytes = (i : ℕ) → get_or bytes i 0 < 256
-
-pub IsBytes-drop : (n : ℕ) (bytes : List ℕ) → IsBytes bytes → IsBytes (drop n bytes)
-IsBytes-drop n bytes h i = rw get_or-drop (h (n + i))
-
-IsBytes-take : (n : ℕ) (bytes : List ℕ) → IsBytes bytes → IsBytes (take n bytes)
-IsBytes-take n bytes h i =
-    elim (cases_lt i n) [
-      | inl lt ↦ rw (get_or-take n bytes i 0 lt) (h i)
-      | inr le ↦ rw (get_or_past (take n bytes) i 0 (omega (arith, length-take n bytes))) (omega arith)
-    ]
-
-pub IsBytes-rest : (b : ℕ) (bytes : List ℕ) → IsBytes (b ∷ bytes) → IsBytes bytes
-IsBytes-rest b bytes h i = h (suc i)
-
--- ---- steps that did not fail
-
-pub bind_ok : {A B : Type 0} (r : Result A ImageFault) (f : A → Result B ImageFault) (y : B) → (r >>= f) ≡ Ok y → (x : A) × (r ≡ Ok x) × (f x ≡ Ok y)
-bind_ok (Ok x) f y e = (x, refl, e)
-bind_ok (Err d) f y e = absurd cc
-
--- a test that did not fail
-pub unless : {A : Type 0} (b : Bool) (d : ImageFault) (r : Result A ImageFault) (y : A) → cond b (Err d) r ≡ Ok y → (b ≡ false) × (r ≡ Ok y)
-unless true d r y e = absurd cc
-unless false d r y e = (refl, e)
-
-pub where_true : {A : Type 0} (b : Bool) (r : Result A ImageFault) (d : ImageFault) (y : A) → cond b r (Err d) ≡ Ok y → (b ≡ true) × (r ≡ Ok y)
-where_true true r d y e = (refl, e)
-where_true false r d y e = absurd cc
-
-abbrev done : {A : Type 0} → A → Result A ImageFault
-done x = Ok x
-
-pub ok_is : {A : Type 0} (x y : A) → done x ≡ done y → x ≡ y
-ok_is x y e = cc
-
--- ---- readers and their spellings
-
--- what a reader took from the front
-pub record Takes (bytes text rest : List ℕ) : Type 0 where
-  pub parts : bytes ≡ text ++ rest
-  pub rest_fits : IsBytes rest
-
-pub Takes-then : (a x b y c : List ℕ) → Takes a x b → Takes b y c → Takes a (x ++ y) c
-Takes-then a x b y c p q = record { parts = p.parts ∙ ap (λ (t : List ℕ). x ++ t) q.parts ∙ sym (append_assoc x y c); rest_fits = q.rest_fits }
-
--- what a reader reads is spelled so, and what is spelled so, where it fits, is read
-pub record Reads {A : Type 0} (read : List ℕ → Read A) (spell : A → List ℕ) (Fits : A → Type 0) : Type 0 where
-  pub takes : (bytes : List ℕ) (x : A × List ℕ) → IsBytes bytes → read bytes ≡ Ok x → Takes bytes (spell x.0) x.1
-  pub again : (x : A) (rest : List ℕ) → Fits x → read (spell x ++ rest) ≡ Ok (x, rest)
-
--- ---- numbers
-
-pub record IsWide (w : Width) (limit : ℕ) : Type 0 where
-  pub len : (n : ℕ) → length (to_be_bytes w n) ≡ byte_len w
-  pub back : (bytes : List ℕ) → length bytes ≡ byte_len w → IsBytes bytes → to_be_bytes w (from_be_bytes w bytes) ≡ bytes
-  pub forth : (n : ℕ) → n < limit → from_be_bytes w (to_be_bytes w n) ≡ n
-
-pub wide16 : IsWide w16 (2 ^ 16)
-wide16 = record {
-  len = λ n. refl;
-  back = λ bytes len fits. be_bytes_2 bytes _ len fits refl;
-  forth = λ n lt. from_be_bytes-to_be_bytes_2 n lt;
-}
-
-pub wide32 : IsWide w32 (2 ^ 32)
-wide32 = record {
-  len = λ n. refl;
-  back = λ bytes len fits. be_bytes_4 bytes _ len fits refl;
-  forth = λ n lt. from_be_bytes-to_be_bytes_4 n lt;
-}
-
-number_takes : (w : Width) (limit : ℕ) (wide : IsWide w limit) (bytes : List ℕ) (x : ℕ × List ℕ) → IsBytes bytes → number_at w bytes ≡ Ok x → Takes bytes (to_be_bytes w x.0) x.1
-number_takes w limit wide bytes x fits e =
-    let g = unless (ltb (length bytes) (byte_len w)) Truncated (Ok (from_be_bytes w (take (byte_len w) bytes), drop (byte_len w) bytes)) x e in
-    let same = ok_is (from_be_bytes w (take (byte_len w) bytes), drop (byte_len w) bytes) x g.1 in
-    let long : byte_len w ≤ length bytes = ltb-false _ _ g.0 in
-    let front : to_be_bytes w (from_be_bytes w (take (byte_len w) bytes)) ≡ take (byte_len w) bytes = wide.back (take (byte_len w) bytes) (omega (arith, length-take (byte_len w) bytes)) (IsBytes-take (byte_len w) bytes fits) in
-    subst (λ (y : ℕ × List ℕ). Takes bytes (to_be_bytes w y.0) y.1) same
-    (record { parts = rw front (sym (take-append-drop (byte_len w) bytes)); rest_fits = IsBytes-drop (byte_len w) bytes fits })
-
-number_again : (w : Width) (limit : ℕ) (wide : IsWide w limit) (n : ℕ) (rest : List ℕ) → n < limit → number_at w (to_be_bytes w n ++ rest) ≡ Ok (n, rest)
-number_again w limit wide n rest lt =
-    let len = wide.len n in
-    let long : ltb (length (to_be_bytes w n ++ rest)) (byte_len w) ≡ false = le-ltb _ _ (omega (arith, length-append (to_be_bytes w n) rest)) in
-    rw (long, take_at (to_be_bytes w n) rest (byte_len w) len, drop_at (to_be_bytes w n) rest (byte_len w) len, wide.forth n lt) refl
-
-pub number_reads : (w : Width) (limit : ℕ) → IsWide w limit → Reads (number_at w) (to_be_bytes w) (λ n. n < limit)
-number_reads w limit wide = record { takes = number_takes w limit wide; again = number_again w limit wide }
-
-pub shorts : Reads (number_at w16) (to_be_bytes w16) (λ n. n < 2 ^ 16)
-shorts = number_reads w16 (2 ^ 16) wide16
-
-pub longs : Reads (number_at w32) (to_be_bytes w32) (λ n. n < 2 ^ 32)
-longs = number_reads w32 (2 ^ 32) wide32
+use Rattle.std.specs.List.{flat_map, AllByRecursion}
+use Rattle.std.specs.Int.{w32}
+use Rattle.image_words.specs.Reading.{◌>>=◌, Read, place, number_at}
+use Rattle.image_words.specs.Spelling.{long}
+use Rattle.image_words.specs.declared.fault.ImageFault.TheVariants.{TooLarge}
+use Rattle.image_words.specs.declared.version.Format.{Format}
+use Rattle.image_words.proofs.Spelled.{longs}
+use Rattle.image_words.proofs.Steps.{bind_ok, unless, ok_is}
+use Rattle.image_words.proofs.Taking.{IsBytes, Takes, Takes-then, Reads}
+use Rattle.avro_loader.specs.Image.{section}
+use Rattle.avro_loader.specs.Reading.{count_at, section_at, things_at}
 
 -- ---- so many things
 

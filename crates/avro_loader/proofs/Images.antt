@@ -1,10 +1,8 @@
 -- The whole image: what is loaded has the bytes as its image, and the image of a program is loaded.
-use Rattle.std.proofs.Common.{◌≡◌, ℕ, zero, suc, ◌^◌, ◌<◌, ◌≤◌, false, cond, eqb, List, [], ◌∷◌, ◌++◌, length, Some, None, Option, Result, Ok, Err, refl, sym, ap, subst, ◌∙◌, append_assoc, arith}
-use Rattle.std.specs.Prelude.{IfOk, codes}
+use Rattle.std.proofs.Common.{◌≡◌, ℕ, ◌^◌, ◌<◌, ◌≤◌, false, cond, List, [], ◌∷◌, ◌++◌, length, Result, Ok, Err, refl, sym, ap, subst, ◌∙◌, append_assoc, arith, eqb, Some, None, Option}
+use Rattle.std.proofs.lemmas.List.{append-nil}
+use Rattle.std.specs.Prelude.{IfOk, IsOk, codes}
 use Rattle.std.specs.List.{flat_map, AllByRecursion}
-use Rattle.std.specs.Int.{w32}
-use Rattle.std.proofs.lemmas.Bool.{eqb-true}
-use Rattle.std.proofs.lemmas.List.{append-nil, nil_from_length}
 use Rattle.outcome.specs.declared.mismatch.Mismatch.{Mismatch}
 use Rattle.isa.specs.declared.entry.Entry.{Entry}
 use Rattle.isa.specs.declared.entry.Entry.TheVariants as entries
@@ -18,18 +16,23 @@ use Rattle.isa.specs.Lists.{total_length}
 use Rattle.isa.specs.Program.{Program}
 use Rattle.isa.specs.Range.{EntryIsInRange, InstrIsInRange, IsAddress, IsProgram, MissIsInRange, sizes_of}
 use Rattle.isa.proofs.Judged.{complete}
-use Rattle.avro_loader.specs.declared.fault.ImageFault.{ImageFault}
-use Rattle.avro_loader.specs.declared.fault.ImageFault.TheVariants.{BadMagic, NoCode, OutOfRange, Trailing}
+use Rattle.image_words.specs.Reading.{◌>>=◌, Read, address_at, ended, most_instrs, opened, place}
+use Rattle.image_words.specs.Spelling.{long, address, version_byte}
+use Rattle.image_words.specs.declared.fault.ImageFault.{ImageFault}
+use Rattle.image_words.specs.declared.fault.ImageFault.TheVariants.{NoCode, OutOfRange}
+use Rattle.image_words.specs.declared.version.Format.{Format}
+use Rattle.image_words.specs.declared.version.Version.{Version}
+use Rattle.image_words.specs.declared.version.Version.TheVariants.{One, Two}
+use Rattle.image_words.proofs.Opened.{ended_ok, opened_again, opened_taken}
+use Rattle.image_words.proofs.Spelled.{address_limit, addresses}
+use Rattle.image_words.proofs.Steps.{bind_ok, ok_is, unless}
+use Rattle.image_words.proofs.Taking.{IsBytes, Takes, Takes-then, Reads}
+use Rattle.avro_loader.specs.Image.{section, First, IsImage, Second, constant, entry, image, instr, miss, sections}
+use Rattle.avro_loader.specs.Reading.{count_at, section_at, things_at, Gives, code_at, constants_at, constants_section_at, entry_at, instr_at, miss_at}
 use Rattle.avro_loader.specs.declared.fault.LoadError.{LoadError}
-use Rattle.avro_loader.specs.declared.loading.TheConstants.{MAGIC}
-use Rattle.avro_loader.specs.declared.version.Format.{Format}
-use Rattle.avro_loader.specs.declared.version.Version.{Version}
-use Rattle.avro_loader.specs.declared.version.Version.TheVariants.{One, Two}
-use Rattle.avro_loader.specs.Image.{First, IsImage, Second, address, constant, entry, image, instr, long, miss, section, sections, version_byte}
-use Rattle.avro_loader.specs.Reading.{◌>>=◌, Gives, Read, address_at, code_at, constants_at, constants_section_at, count_at, entry_at, instr_at, miss_at, most_instrs, number_at, place, section_at, things_at}
-use Rattle.avro_loader.specs.Loading.{Starts, from_wrong, in_range, jumps_at, loaded, loaded_as, maps_at, misses_at, opened, sections_at, sections_read, version_at}
-use Rattle.avro_loader.proofs.Fields.{FitSection, IsBytes, IsBytes-rest, Reads, Takes, Takes-then, bind_ok, count_again, count_takes, longs, ok_is, section_reads, things_again, things_take, unless, where_true}
-use Rattle.avro_loader.proofs.Things.{EntryFits, InstrFits, MissFits, address_limit, addresses, constants_again, constants_take, entries_read, instrs_read, misses_read}
+use Rattle.avro_loader.specs.Loading.{Starts, from_wrong, in_range, jumps_at, loaded, loaded_as, maps_at, misses_at, sections_at, sections_read}
+use Rattle.avro_loader.proofs.Fields.{FitSection, count_again, count_takes, section_reads, things_again, things_take}
+use Rattle.avro_loader.proofs.Things.{EntryFits, InstrFits, MissFits, constants_again, constants_take, entries_read, instrs_read, misses_read}
 
 -- ---- sections
 
@@ -162,37 +165,6 @@ module _ (f : Format) where
             ∙ ap (λ (r : Read (List Instr)). r >>= λ code. Ok (sections_read (P.constants, s2) (P.maps, s3) (P.jumps, s4) (P.misses, s5) code)) k,
       )
 
--- ---- the head
-
-version_taken : (bytes : List ℕ) (x : Version × List ℕ) → IsBytes bytes → version_at bytes ≡ Ok x → Takes bytes (version_byte x.0 ∷ []) x.1
-version_taken [] x fits e = absurd cc
-version_taken (zero ∷ bytes) x fits e = absurd cc
-version_taken (suc zero ∷ bytes) x fits e =
-    subst (λ (y : Version × List ℕ). Takes (1 ∷ bytes) (version_byte y.0 ∷ []) y.1) (ok_is (One, bytes) x e) (record { parts = refl; rest_fits = IsBytes-rest 1 bytes fits })
-version_taken (suc (suc zero) ∷ bytes) x fits e =
-    subst (λ (y : Version × List ℕ). Takes (2 ∷ bytes) (version_byte y.0 ∷ []) y.1) (ok_is (Two, bytes) x e) (record { parts = refl; rest_fits = IsBytes-rest 2 bytes fits })
-version_taken (suc (suc (suc b)) ∷ bytes) x fits e = absurd cc
-
-abbrev versioned : ℕ × List ℕ → Read Version
-versioned magic = cond (eqb magic.0 MAGIC) (version_at magic.1) (Err BadMagic)
-
-opened_taken : (bytes : List ℕ) (x : Version × List ℕ) → IsBytes bytes → opened bytes ≡ Ok x → Takes bytes (codes "AVRP" ++ (version_byte x.0 ∷ [])) x.1
-unfolding opened
-opened_taken bytes x fits e =
-    let n = bind_ok (number_at w32 bytes) versioned x e in
-    let w = where_true (eqb n.0.0 MAGIC) (version_at n.0.1) BadMagic x n.2 in
-    let first = longs.takes bytes n.0 fits n.1 in
-    let magic : Takes bytes (codes "AVRP") n.0.1 = subst (λ (m : ℕ). Takes bytes (long m) n.0.1) (eqb-true _ _ w.0) first in
-    Takes-then bytes (codes "AVRP") n.0.1 (version_byte x.0 ∷ []) x.1 magic (version_taken n.0.1 x first.rest_fits w.1)
-
-version_again : (v : Version) (rest : List ℕ) → version_at (version_byte v ∷ rest) ≡ Ok (v, rest)
-version_again One rest = refl
-version_again Two rest = refl
-
-opened_again : (v : Version) (rest : List ℕ) → opened (codes "AVRP" ++ (version_byte v ∷ rest)) ≡ Ok (v, rest)
-unfolding opened
-opened_again v rest = ap (λ (r : Read ℕ). r >>= versioned) (longs.again MAGIC (version_byte v ∷ rest) (omega arith)) ∙ version_again v rest
-
 -- ---- what is loaded
 
 abbrev judged_by : Program → Option ProgramError → Result Program ProgramError
@@ -206,7 +178,7 @@ in_range_ok f s Q P (Some wrong) e =
     absurd cc
 
 abbrev whole : Format → (Program × Starts) × List ℕ → Result Program ImageFault
-whole f found = cond (eqb (length found.1) 0) (in_range f found.0.1 (judged found.0.0)) (Err (Trailing (place f found.1)))
+whole f found = ended f found.1 >>= λ nothing. in_range f found.0.1 (judged found.0.0)
 
 pub record Loads (f : Format) (bytes : List ℕ) (P : Program) : Type 0 where
   pub bytes_are : bytes ≡ sections f.version P
@@ -216,10 +188,10 @@ loaded_as_taken : (f : Format) (bytes : List ℕ) (P : Program) → IsBytes byte
 unfolding loaded_as
 loaded_as_taken f bytes P fits e =
     let a = bind_ok (sections_at f bytes) (whole f) P e in
-    let w = where_true (eqb (length a.0.1) 0) (in_range f a.0.0.1 (judged a.0.0.0)) (Trailing (place f a.0.1)) P a.2 in
+    let w = bind_ok (ended f a.0.1) (λ nothing. in_range f a.0.0.1 (judged a.0.0.0)) P a.2 in
     let t = sections_taken f bytes a.0 fits a.1 in
-    let nothing : a.0.1 ≡ [] = nil_from_length a.0.1 (eqb-true _ _ w.0) in
-    let same : a.0.0.0 ≡ P = in_range_ok f a.0.0.1 a.0.0.0 P (first_error a.0.0.0) w.1 in
+    let nothing : a.0.1 ≡ [] = ended_ok f a.0.1 w.1 in
+    let same : a.0.0.0 ≡ P = in_range_ok f a.0.0.1 a.0.0.0 P (first_error a.0.0.0) w.2 in
     let found : Loads f bytes a.0.0.0 = record {
       bytes_are = t.0.parts ∙ ap (λ (r : List ℕ). sections f.version a.0.0.0 ++ r) nothing ∙ append-nil (sections f.version a.0.0.0);
       few = t.1;
@@ -329,3 +301,10 @@ is_only bytes r given P h is = subst (λ (read : Result Program ImageFault). Giv
 
 pub one_program : (P Q : Program) (bytes : List ℕ) → IsProgram P → IsProgram Q → IsImage P bytes → IsImage Q bytes → P ≡ Q
 one_program P Q bytes hP hQ iP iQ = ok_is P Q (sym (loaded_again P hP bytes iP) ∙ loaded_again Q hQ bytes iQ)
+
+-- what is loaded has a head
+pub head_of : (bytes : List ℕ) (P : Program) → loaded bytes ≡ Ok P → IsOk (opened bytes)
+unfolding loaded
+head_of bytes P e =
+    let a = bind_ok (opened bytes) (with_len (length bytes)) P e in
+    rw a.1 refl

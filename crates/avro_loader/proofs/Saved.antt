@@ -1,8 +1,8 @@
 -- One thing more is put after the others.
-use Rattle.std.proofs.Common.{◌≡◌, ℕ, zero, suc, ◌+◌, List, [], ◌∷◌, ◌++◌, take, Some, sym, ap, ◌∙◌, append_assoc, add-one, slice_get}
-use Rattle.std.specs.List.{flat_map}
+use Rattle.std.proofs.Common.{◌≡◌, ℕ, zero, suc, ◌+◌, List, [], ◌∷◌, ◌++◌, take, sym, ap, ◌∙◌, append_assoc, Some, add-one, slice_get}
 use Rattle.std.proofs.lemmas.List.{append-nil}
 use Rattle.std.proofs.lemmas.List.Concat.{flat_map-cons}
+use Rattle.std.specs.List.{flat_map}
 
 module _ {A : Type 0} (spell : A → List ℕ) where
   taken : (i : ℕ) (xs : List A) (x : A) → slice_get xs i ≡ Some x → flat_map spell (take (suc i) xs) ≡ flat_map spell (take i xs) ++ spell x

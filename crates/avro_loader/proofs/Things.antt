@@ -1,49 +1,36 @@
 -- Entries, addresses, misses, instructions and constants: what is read is spelled so, and what is spelled so is read.
-use Rattle.std.proofs.Common.{◌≡◌, ℕ, zero, suc, ◌-◌, ◌^◌, ◌<◌, ◌≤◌, false, cond, ltb, eqb, List, [], ◌∷◌, ◌++◌, length, take, drop, Option, Some, None, Result, Ok, Err, refl, sym, ap, subst, ◌∙◌, append_assoc, arith}
-use Rattle.std.specs.List.{flat_map, AllByRecursion}
-use Rattle.std.specs.Int.{w16, w32, to_be_bytes}
+use Rattle.std.proofs.Common.{◌≡◌, ℕ, zero, suc, ◌^◌, ◌<◌, ◌≤◌, false, cond, ltb, List, [], ◌∷◌, ◌++◌, length, take, drop, Result, Ok, Err, refl, sym, ap, subst, ◌∙◌, append_assoc, arith, eqb, Some, None, Option, ◌-◌}
 use Rattle.std.proofs.lemmas.Bool.{ltb-false, le-ltb}
 use Rattle.std.proofs.lemmas.List.{take_at, drop_at, take-append-drop, length-append, length-take}
 use Rattle.std.proofs.lemmas.List.Concat.{flat_map-cons}
+use Rattle.std.specs.List.{flat_map, AllByRecursion}
+use Rattle.std.specs.Int.{w16, w32}
 use Rattle.outcome.specs.declared.mismatch.Mismatch.{Mismatch}
 use Rattle.outcome.specs.declared.mismatch.MismatchKind.{MismatchKind}
 use Rattle.outcome.specs.declared.mismatch.MismatchKind.TheVariants as kinds
 use Rattle.isa.specs.declared.entry.Entry.{Entry}
 use Rattle.isa.specs.declared.entry.Entry.TheVariants as entries
 use Rattle.isa.specs.declared.instr.Instr.{Instr}
+use Rattle.isa.specs.Lists.{total_length}
 use Rattle.isa.specs.declared.operation.Operation.{Operation}
 use Rattle.isa.specs.declared.operation.Operation.TheVariants as op
-use Rattle.isa.specs.declared.operation.Shape.{Shape}
-use Rattle.isa.specs.declared.operation.Shape.TheVariants as shapes
-use Rattle.isa.specs.Lists.{total_length}
 use Rattle.isa.specs.Operation.{at_code, code_of, instr_of, operand_of, operation_of, shape_of}
 use Rattle.isa.proofs.Operations.{coded, found, same}
-use Rattle.avro_loader.specs.declared.fault.ImageFault.{ImageFault}
-use Rattle.avro_loader.specs.declared.fault.ImageFault.TheVariants.{BadByte, TooLarge, Truncated}
-use Rattle.avro_loader.specs.declared.version.Format.{Format}
-use Rattle.avro_loader.specs.declared.version.Version.{Version}
-use Rattle.avro_loader.specs.declared.version.Version.TheVariants.{One, Two}
-use Rattle.avro_loader.specs.Image.{address_width, constant, entry, instr, kind_code, long, miss, operand, short}
-use Rattle.avro_loader.specs.Reading.{◌>>=◌, Read, constant_at, constants_at, entry_at, instr_at, kind_at, known, miss_at, number_at, operand_at, place}
-use Rattle.avro_loader.proofs.Fields.{IsBytes, IsBytes-drop, IsBytes-rest, Reads, Takes, Takes-then, bind_ok, longs, ok_is, shorts, unless}
-
--- a byte before what is taken
-pub Takes-byte : (b : ℕ) (bytes text rest : List ℕ) → Takes bytes text rest → Takes (b ∷ bytes) (b ∷ text) rest
-Takes-byte b bytes text rest t = record { parts = ap (λ (x : List ℕ). b ∷ x) t.parts; rest_fits = t.rest_fits }
+use Rattle.image_words.specs.Reading.{◌>>=◌, Read, place, number_at, operand_at}
+use Rattle.image_words.specs.Spelling.{short, long, operand}
+use Rattle.image_words.specs.declared.fault.ImageFault.{ImageFault}
+use Rattle.image_words.specs.declared.fault.ImageFault.TheVariants.{Truncated, BadByte, TooLarge}
+use Rattle.image_words.specs.declared.version.Format.{Format}
+use Rattle.image_words.specs.declared.version.Version.{Version}
+use Rattle.image_words.proofs.Spelled.{shorts, longs, OperandFits, operand_takes, operand_again}
+use Rattle.image_words.proofs.Steps.{bind_ok, unless, ok_is}
+use Rattle.image_words.proofs.Taking.{IsBytes, IsBytes-drop, IsBytes-rest, Takes, Takes-then, Takes-byte, Reads}
+use Rattle.avro_loader.specs.Image.{constant, entry, instr, miss, kind_code}
+use Rattle.avro_loader.specs.Reading.{constants_at, entry_at, instr_at, miss_at, constant_at, kind_at, known}
 
 known_ok : {A : Type 0} (at : ℕ) (o : Option A) (x : A) → known at o ≡ Ok x → o ≡ Some x
 known_ok at (Some y) x e = ap Some (ok_is y x e)
 known_ok at None x e = absurd cc
-
--- ---- addresses
-
-abbrev pub address_limit : Version → ℕ
-address_limit One = 2 ^ 16
-address_limit Two = 2 ^ 32
-
-pub addresses : (v : Version) → Reads (number_at (address_width v)) (to_be_bytes (address_width v)) (λ a. a < address_limit v)
-addresses One = shorts
-addresses Two = longs
 
 -- ---- entries
 
@@ -124,12 +111,6 @@ module _ (f : Format) where
 
 -- ---- instructions
 
-abbrev pub OperandFits : Version → Shape → ℕ → Type 0
-OperandFits v shapes.Nothing n = n ≡ 0
-OperandFits v shapes.Short n = n < 2 ^ 16
-OperandFits v shapes.Long n = n < 2 ^ 32
-OperandFits v shapes.Address n = n < address_limit v
-
 abbrev pub InstrFits : Version → Instr → Type 0
 InstrFits v i = OperandFits v (shape_of (operation_of i)) (operand_of i)
 
@@ -138,18 +119,6 @@ spelled v op.Bool n = refl
 spelled v _ n = refl
 
 module _ (f : Format) where
-  operand_takes : (shape : Shape) (bytes : List ℕ) (x : ℕ × List ℕ) → IsBytes bytes → operand_at f shape bytes ≡ Ok x → Takes bytes (operand f.version shape x.0) x.1
-  operand_takes shapes.Nothing bytes x fits e = subst (λ (y : ℕ × List ℕ). Takes bytes [] y.1) (ok_is (0, bytes) x e) (record { parts = refl; rest_fits = fits })
-  operand_takes shapes.Short bytes x fits e = shorts.takes bytes x fits e
-  operand_takes shapes.Long bytes x fits e = longs.takes bytes x fits e
-  operand_takes shapes.Address bytes x fits e = let reads = addresses f.version in reads.takes bytes x fits e
-
-  operand_again : (shape : Shape) (n : ℕ) (rest : List ℕ) → OperandFits f.version shape n → operand_at f shape (operand f.version shape n ++ rest) ≡ Ok (n, rest)
-  operand_again shapes.Nothing n rest fits = ap (λ (m : ℕ). Ok (m, rest)) (sym fits)
-  operand_again shapes.Short n rest fits = shorts.again n rest fits
-  operand_again shapes.Long n rest fits = longs.again n rest fits
-  operand_again shapes.Address n rest fits = let reads = addresses f.version in reads.again n rest fits
-
   instr_takes : (bytes : List ℕ) (x : Instr × List ℕ) → IsBytes bytes → instr_at f bytes ≡ Ok x → Takes bytes (instr f.version x.0) x.1
   unfolding instr_at
   instr_takes [] x fits e = absurd cc
@@ -157,7 +126,7 @@ module _ (f : Format) where
       let k = bind_ok (known (place f (b ∷ bytes)) (at_code b)) (λ o. operand_at f (shape_of o) bytes >>= λ n. Ok (instr_of o n.0, n.1)) x e in
       let n = bind_ok (operand_at f (shape_of k.0) bytes) (λ n. Ok (instr_of k.0 n.0, n.1)) x k.2 in
       let text = operand f.version (shape_of k.0) n.0.0 in
-      let both = Takes-byte b bytes text n.0.1 (operand_takes (shape_of k.0) bytes n.0 (IsBytes-rest b bytes fits) n.1) in
+      let both = Takes-byte b bytes text n.0.1 (operand_takes f (shape_of k.0) bytes n.0 (IsBytes-rest b bytes fits) n.1) in
       let code : code_of k.0 ≡ b = coded b k.0 (known_ok (place f (b ∷ bytes)) (at_code b) k.0 k.1) in
       let is : b ∷ text ≡ instr f.version (instr_of k.0 n.0.0) = ap (λ (c : ℕ). c ∷ text) (sym code) ∙ sym (spelled f.version k.0 n.0.0) in
       subst (λ (y : Instr × List ℕ). Takes (b ∷ bytes) (instr f.version y.0) y.1) (ok_is (instr_of k.0 n.0.0, n.0.1) x n.2)
@@ -169,7 +138,7 @@ module _ (f : Format) where
       let o = operation_of i in
       let text = operand f.version (shape_of o) (operand_of i) ++ rest in
       ap (λ (k : Option Operation). known (place f (code_of o ∷ text)) k >>= λ o. operand_at f (shape_of o) text >>= λ n. Ok (instr_of o n.0, n.1)) (found o)
-      ∙ ap (λ (r : Read ℕ). r >>= λ n. Ok (instr_of o n.0, n.1)) (operand_again (shape_of o) (operand_of i) rest fits)
+      ∙ ap (λ (r : Read ℕ). r >>= λ n. Ok (instr_of o n.0, n.1)) (operand_again f (shape_of o) (operand_of i) rest fits)
       ∙ ap (λ (j : Instr). Ok (j, rest)) (same i)
 
   pub instrs_read : Reads (instr_at f) (instr f.version) (InstrFits f.version)

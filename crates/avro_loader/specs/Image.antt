@@ -1,36 +1,18 @@
 -- The images of a program: its bytes in a file, in version 1 and version 2. All of this is this project's own.
-use Rattle.std.specs.Prelude.{◌≤◌, ℕ, List, [], ◌∷◌, ◌++◌, length, codes}
+use Rattle.std.specs.Prelude.{ℕ, ◌≤◌, List, ◌∷◌, ◌++◌, length, codes}
 use Rattle.std.specs.List.{flat_map}
-use Rattle.std.specs.Int.{Width, w16, w32, to_be_bytes}
 use Rattle.outcome.specs.declared.mismatch.Mismatch.{Mismatch}
 use Rattle.outcome.specs.declared.mismatch.MismatchKind.{MismatchKind}
 use Rattle.outcome.specs.declared.mismatch.MismatchKind.TheVariants as kinds
 use Rattle.isa.specs.declared.entry.Entry.{Entry}
 use Rattle.isa.specs.declared.entry.Entry.TheVariants as entries
 use Rattle.isa.specs.declared.instr.Instr.{Instr}
-use Rattle.isa.specs.declared.operation.Shape.{Shape}
-use Rattle.isa.specs.declared.operation.Shape.TheVariants as shapes
-use Rattle.isa.specs.Operation.{code_of, operand_of, operation_of, shape_of}
 use Rattle.isa.specs.Program.{Program}
-use Rattle.avro_loader.specs.declared.version.TheConstants.{MOST_INSTRS_OF_ONE}
-use Rattle.avro_loader.specs.declared.version.Version.{Version}
-use Rattle.avro_loader.specs.declared.version.Version.TheVariants.{One, Two}
-
--- ---- numbers, with their highest byte first
-
-abbrev pub short : ℕ → List ℕ
-short n = to_be_bytes w16 n
-
-abbrev pub long : ℕ → List ℕ
-long n = to_be_bytes w32 n
-
--- an address has 2 bytes in version 1, and 4 in version 2
-abbrev pub address_width : Version → Width
-address_width One = w16
-address_width Two = w32
-
-abbrev pub address : Version → ℕ → List ℕ
-address v a = to_be_bytes (address_width v) a
+use Rattle.isa.specs.Operation.{code_of, operand_of, operation_of, shape_of}
+use Rattle.image_words.specs.Spelling.{short, long, address, operand, version_byte}
+use Rattle.image_words.specs.declared.limits.TheConstants.{MOST_INSTRS_OF_ONE}
+use Rattle.image_words.specs.declared.version.Version.{Version}
+use Rattle.image_words.specs.declared.version.Version.TheVariants.{One, Two}
 
 -- ---- things
 
@@ -54,12 +36,6 @@ kind_code kinds.BytesNotText = 5
 abbrev pub miss : Mismatch → List ℕ
 miss m = kind_code m.kind ∷ (short m.writer_node ++ short m.reader_node)
 
-abbrev pub operand : Version → Shape → ℕ → List ℕ
-operand v shapes.Nothing n = []
-operand v shapes.Short n = short n
-operand v shapes.Long n = long n
-operand v shapes.Address n = address v n
-
 -- its code, and its operand
 abbrev pub instr : Version → Instr → List ℕ
 instr v i = code_of (operation_of i) ∷ operand v (shape_of (operation_of i)) (operand_of i)
@@ -69,10 +45,6 @@ instr v i = code_of (operation_of i) ∷ operand v (shape_of (operation_of i)) (
 -- a count, and so many things
 abbrev pub section : {A : Type 0} → (A → List ℕ) → List A → List ℕ
 section spell things = long (length things) ++ flat_map spell things
-
-abbrev pub version_byte : Version → ℕ
-version_byte One = 1
-version_byte Two = 2
 
 -- the sections: constants, maps, jump tables, misses, code
 abbrev pub sections : Version → Program → List ℕ

@@ -1,5 +1,5 @@
 -- What loading an image answers: a program, or the first fault. All of this is this project's own.
-use Rattle.std.specs.Prelude.{ℕ, zero, suc, List, [], ◌∷◌, length, Result, Ok, Err, ◌==◌, if◌then◌else◌}
+use Rattle.std.specs.Prelude.{ℕ, List, [], length, Result, Ok, Err}
 use Rattle.std.specs.Int.{w32}
 use Rattle.outcome.specs.declared.mismatch.Mismatch.{Mismatch}
 use Rattle.isa.specs.declared.entry.Entry.{Entry}
@@ -9,29 +9,13 @@ use Rattle.isa.specs.declared.program.ProgramError.{ProgramError}
 use Rattle.isa.specs.declared.program.ProgramError.TheVariants as wrong
 use Rattle.isa.specs.Judging.{judged}
 use Rattle.isa.specs.Program.{Program}
-use Rattle.avro_loader.specs.declared.fault.ImageFault.{ImageFault}
-use Rattle.avro_loader.specs.declared.fault.ImageFault.TheVariants.{BadMagic, BadVersion, OutOfRange, Trailing, Truncated}
-use Rattle.avro_loader.specs.declared.loading.TheConstants.{MAGIC}
-use Rattle.avro_loader.specs.declared.places.Sections.{Sections}
-use Rattle.avro_loader.specs.declared.version.Format.{Format}
-use Rattle.avro_loader.specs.declared.version.Version.{Version}
-use Rattle.avro_loader.specs.declared.version.Version.TheVariants.{One, Two}
+use Rattle.image_words.specs.Reading.{◌>>=◌, Read, place, number_at, address_at, opened, ended}
+use Rattle.image_words.specs.declared.fault.ImageFault.{ImageFault}
+use Rattle.image_words.specs.declared.fault.ImageFault.TheVariants.{OutOfRange}
+use Rattle.image_words.specs.declared.version.Format.{Format}
 use Rattle.avro_loader.specs.Image.{image_of}
-use Rattle.avro_loader.specs.Reading.{◌>>=◌, Read, address_at, code_at, constants_section_at, entry_at, instr_at, miss_at, number_at, place, section_at, things_at}
-
--- ---- the head
-
-abbrev pub version_at : List ℕ → Read Version
-version_at [] = Err Truncated
-version_at (suc zero ∷ rest) = Ok (One, rest)
-version_at (suc (suc zero) ∷ rest) = Ok (Two, rest)
-version_at (b ∷ rest) = Err BadVersion
-
--- the version, after the number that every image begins with
-unfoldable pub opened : List ℕ → Read Version
-opened bytes = do
-  magic ← number_at w32 bytes
-  if magic.0 == MAGIC then version_at magic.1 else Err BadMagic
+use Rattle.avro_loader.specs.Reading.{section_at, things_at, code_at, constants_section_at, entry_at, instr_at, miss_at}
+use Rattle.avro_loader.specs.declared.places.Sections.{Sections}
 
 -- ---- the sections
 
@@ -105,7 +89,8 @@ in_range f s (Err e) = from_wrong f s e >>= λ left. Err (OutOfRange (place f le
 unfoldable pub loaded_as : Format → List ℕ → Result Program ImageFault
 loaded_as f bytes = do
   found ← sections_at f bytes
-  if length found.1 == 0 then in_range f found.0.1 (judged found.0.0) else Err (Trailing (place f found.1))
+  nothing ← ended f found.1
+  in_range f found.0.1 (judged found.0.0)
 
 unfoldable pub loaded : List ℕ → Result Program ImageFault
 loaded bytes = do

@@ -1,34 +1,20 @@
 -- Reading an image from its first byte on, with the first fault that is met. All of this is this project's own.
-use Rattle.std.specs.Prelude.{◌≡◌, ℕ, zero, suc, ◌-◌, List, [], ◌∷◌, length, take, drop, Option, Some, None, Result, Ok, Err, nat_lt, ◌==◌, if◌then◌else◌}
-use Rattle.std.specs.Int.{Width, w16, w32, byte_len, from_be_bytes}
+use Rattle.std.specs.Prelude.{◌≡◌, ℕ, zero, suc, List, [], ◌∷◌, length, take, drop, Result, Ok, Err, Some, None, Option, ◌-◌, ◌==◌, if◌then◌else◌, nat_lt}
+use Rattle.std.specs.Int.{w16, w32}
 use Rattle.outcome.specs.declared.mismatch.Mismatch.{Mismatch}
 use Rattle.outcome.specs.declared.mismatch.MismatchKind.{MismatchKind}
 use Rattle.outcome.specs.declared.mismatch.MismatchKind.TheVariants as kinds
 use Rattle.isa.specs.declared.entry.Entry.{Entry}
 use Rattle.isa.specs.declared.entry.Entry.TheVariants as entries
 use Rattle.isa.specs.declared.instr.Instr.{Instr}
-use Rattle.isa.specs.declared.limits.TheConstants.{MOST_CONSTANT_BYTES, MOST_INSTRS, MOST_TABLES}
-use Rattle.isa.specs.declared.operation.Shape.{Shape}
-use Rattle.isa.specs.declared.operation.Shape.TheVariants as shapes
+use Rattle.isa.specs.declared.limits.TheConstants.{MOST_CONSTANT_BYTES, MOST_TABLES}
 use Rattle.isa.specs.Operation.{at_code, instr_of, shape_of}
-use Rattle.avro_loader.specs.declared.fault.ImageFault.{ImageFault}
-use Rattle.avro_loader.specs.declared.fault.ImageFault.TheVariants.{BadByte, NoCode, TooLarge, Truncated}
+use Rattle.image_words.specs.Reading.{◌>>=◌, Read, place, number_at, operand_at, most_instrs}
+use Rattle.image_words.specs.declared.fault.ImageFault.{ImageFault}
+use Rattle.image_words.specs.declared.fault.ImageFault.TheVariants.{Truncated, BadByte, TooLarge, NoCode}
+use Rattle.image_words.specs.declared.version.Format.{Format}
 use Rattle.avro_loader.specs.declared.fault.LoadError.{LoadError}
 use Rattle.avro_loader.specs.declared.fault.LoadError.TheVariants as errors
-use Rattle.avro_loader.specs.declared.version.Format.{Format}
-use Rattle.avro_loader.specs.declared.version.TheConstants.{MOST_INSTRS_OF_ONE}
-use Rattle.avro_loader.specs.declared.version.Version.{Version}
-use Rattle.avro_loader.specs.declared.version.Version.TheVariants.{One, Two}
-use Rattle.avro_loader.specs.Image.{address_width}
-
-infixl 10 ◌>>=◌
-abbrev pub ◌>>=◌ : {A B : Type 0} → Result A ImageFault → (A → Result B ImageFault) → Result B ImageFault
-(Ok x) >>= f = f x
-(Err e) >>= f = Err e
-
--- what stands at the front of bytes, and the bytes after it
-abbrev pub Read : Type 0 → Type 0
-Read A = Result (A × List ℕ) ImageFault
 
 -- What a function returned, seen by a view, is what reading gives, unless memory ran out.
 abbrev pub Fails : {Y : Type 0} → LoadError → Result Y ImageFault → Type 0
@@ -38,20 +24,6 @@ Fails (errors.Fault f) read = read ≡ Err f
 abbrev pub Gives : {X Y : Type 0} → (X → Y) → Result X LoadError → Result Y ImageFault → Type 0
 Gives view (Ok x) read = read ≡ Ok (view x)
 Gives view (Err e) read = Fails e read
-
--- the place of the first of the bytes that are left
-abbrev pub place : Format → List ℕ → ℕ
-place f left = f.len - length left
-
--- ---- numbers
-
-abbrev pub number_at : Width → List ℕ → Read ℕ
-number_at w bytes =
-    if nat_lt (length bytes) (byte_len w) then Err Truncated
-    else Ok (from_be_bytes w (take (byte_len w) bytes), drop (byte_len w) bytes)
-
-abbrev pub address_at : Format → List ℕ → Read ℕ
-address_at f bytes = number_at (address_width f.version) bytes
 
 -- ---- things
 
@@ -85,12 +57,6 @@ miss_at f (b ∷ rest) = do
   writer ← number_at w16 rest
   reader ← number_at w16 writer.1
   Ok (record { kind = kind; writer_node = writer.0; reader_node = reader.0 }, reader.1)
-
-abbrev pub operand_at : Format → Shape → List ℕ → Read ℕ
-operand_at f shapes.Nothing rest = Ok (0, rest)
-operand_at f shapes.Short rest = number_at w16 rest
-operand_at f shapes.Long rest = number_at w32 rest
-operand_at f shapes.Address rest = address_at f rest
 
 unfoldable pub instr_at : Format → List ℕ → Read Instr
 instr_at f [] = Err Truncated
@@ -141,10 +107,6 @@ unfoldable pub constants_section_at : Format → List ℕ → Read (List (List �
 constants_section_at f bytes = do
   n ← count_at f MOST_TABLES bytes
   constants_at f MOST_CONSTANT_BYTES n.0 n.1
-
-abbrev pub most_instrs : Version → ℕ
-most_instrs One = MOST_INSTRS_OF_ONE
-most_instrs Two = MOST_INSTRS
 
 unfoldable pub code_at : Format → List ℕ → Read (List Instr)
 code_at f bytes = do

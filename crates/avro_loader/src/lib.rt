@@ -8,10 +8,9 @@ mod places;
 mod reading;
 mod saving;
 mod thing;
-mod version;
 
-pub use fault::{ImageFault, LoadError};
+pub use fault::LoadError;
+pub use image_words::{ImageFault, Version};
 pub use laws::image_is_of_one_program;
 pub use loading::{load, migrate};
 pub use saving::save;
-pub use version::Version;

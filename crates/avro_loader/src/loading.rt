@@ -1,47 +1,20 @@
-ghost use Rattle.std.specs.Prelude.{◌≡◌, ℕ, List, length, IfOk, Ok};
+ghost use Rattle.std.specs.Prelude.{◌≡◌, ℕ, List, length, IfOk, IsErrOf, IsOk, Ok};
 ghost use Rattle.isa.specs.Program.{Program as Parted, program_of};
 ghost use Rattle.isa.specs.Range.{IsProgram};
+ghost use Rattle.image_words.specs.Reading.{opened};
+ghost use Rattle.avro_loader.specs.declared.fault.LoadError.TheVariants.{NoMemory};
 ghost use Rattle.avro_loader.specs.Image.{IsImage, image_of};
-ghost use Rattle.avro_loader.specs.Loading.{in_range, loaded, loaded_as, migrated, opened, sections_at, starts_of, version_at};
+ghost use Rattle.avro_loader.specs.Loading.{in_range, loaded, loaded_as, migrated, sections_at, starts_of};
 ghost use Rattle.avro_loader.specs.Reading.{Gives};
 ghost use Rattle.isa.specs.Judging.{judged};
 
-use crate::fault::{ImageFault, LoadError};
+use crate::fault::LoadError;
 use crate::places::{Sections, from_wrong};
-use crate::reading::{
-    section_of, section_of_code, section_of_constants, section_of_tables, u32_at,
-};
+use crate::reading::{section_of, section_of_code, section_of_constants, section_of_tables};
 use crate::saving::save;
-use crate::version::{Format, Version};
+use image_words::{Format, ImageFault, ended, open};
 use isa::{MOST_TABLES, Parts, Program, ProgramError};
 use std::alloc::Global;
-
-/// The number that every image begins with: the letters AVRP.
-pub const MAGIC: u32 = 0x4156_5250;
-
-/// The version that a byte tells, and the bytes after it.
-fn version_of(bytes: &[u8]) -> Result<(Version, &[u8]), LoadError>
-    ensures { Gives (λ x. (x.0, x.1.now)) result (version_at bytes.now) }
-{
-    match bytes {
-        [] => Err(LoadError::Fault(ImageFault::Truncated)),
-        [1, rest @ ..] => Ok((Version::One, rest)),
-        [2, rest @ ..] => Ok((Version::Two, rest)),
-        [_, ..] => Err(LoadError::Fault(ImageFault::BadVersion)),
-    }
-}
-
-/// The version of an image, and the bytes after it.
-#[tactic(auto, unfolding(crate::specs::Loading::opened))]
-fn open(bytes: &[u8]) -> Result<(Version, &[u8]), LoadError>
-    ensures { Gives (λ x. (x.0, x.1.now)) result (opened bytes.now) }
-{
-    let (magic, rest) = u32_at(bytes)?;
-    if magic != MAGIC {
-        return Err(LoadError::Fault(ImageFault::BadMagic));
-    }
-    version_of(rest)
-}
 
 /// What the sections hold and where they begin, and the bytes after them.
 #[tactic(auto, unfolding(crate::specs::Loading::sections_at))]
@@ -97,16 +70,15 @@ fn load_as(alloc: Global, format: Format, bytes: &[u8]) -> Result<Program, LoadE
     ensures { Gives (λ x. x) result (loaded_as format bytes.now) }
 {
     let (parts, starts, rest) = sections_of(alloc, format, bytes)?;
-    if !rest.is_empty() {
-        return Err(LoadError::Fault(ImageFault::Trailing(format.place(rest))));
-    }
+    ended(format, rest)?;
     program_of_parts(alloc, format, starts, parts)
 }
 
 /// The program that an image of either version tells, or else the first fault.
 #[tactic(auto, unfolding(crate::specs::Loading::loaded))]
 fn load_whole(alloc: Global, bytes: &[u8]) -> Result<Program, LoadError>
-    ensures { Gives (λ x. x) result (loaded bytes.now) }
+    ensures exact { Gives (λ x. x) result (loaded bytes.now) }
+    ensures memory { IsErrOf result NoMemory → IsOk (opened bytes.now) }
 {
     let (version, rest) = open(bytes)?;
     let format = Format {
@@ -124,6 +96,8 @@ pub fn load(alloc: Global, bytes: &[u8]) -> Result<Program, LoadError>
     ensures only { (P : Parted) → IsProgram P → IsImage P bytes.now → Gives (λ x. x) result (Ok P) }
     // Which fault it is.
     ensures exact { Gives (λ x. x) result (loaded bytes.now) }
+    // No memory is taken before the head is read.
+    ensures memory { IsErrOf result NoMemory → IsOk (opened bytes.now) }
 {
     load_whole(alloc, bytes)
 }
@@ -132,6 +106,7 @@ pub fn load(alloc: Global, bytes: &[u8]) -> Result<Program, LoadError>
 pub fn migrate(alloc: Global, bytes: &[u8]) -> Result<Vec<u8>, LoadError>
     ensures found { IfOk result (λ made. (P : Parted) × IsImage P bytes.now × (made.items ≡ image_of P)) }
     ensures exact { Gives (λ made. made.items) result (migrated bytes.now) }
+    ensures memory { IsErrOf result NoMemory → IsOk (opened bytes.now) }
 {
     let program = load(alloc, bytes)?;
     Ok(save(alloc, &program)?)

@@ -4,9 +4,9 @@ ghost use Rattle.avro_loader.specs.Loading.{after, from_wrong, starts_of};
 ghost use Rattle.avro_loader.specs.Reading.{Gives, section_at};
 
 use crate::fault::LoadError;
-use crate::reading::{tables_of, things_of, u32_at};
+use crate::reading::{tables_of, things_of};
 use crate::thing::Thing;
-use crate::version::Format;
+use image_words::{Format, u32_at};
 use isa::{Entry, Instr, Lists, ProgramError};
 use outcome::Mismatch;
 use std::alloc::Global;

@@ -1,46 +1,11 @@
 ghost use Rattle.std.specs.Prelude.{◌≡◌, List, length, Ok};
-ghost use Rattle.std.specs.Int.{w16, w32};
-ghost use Rattle.avro_loader.specs.Reading.{Gives, number_at, address_at, count_at, things_at, section_at, constant_at, constants_at, constants_section_at, code_at};
+ghost use Rattle.avro_loader.specs.Reading.{Gives, count_at, things_at, section_at, constant_at, constants_at, constants_section_at, code_at};
 
-use crate::fault::{ImageFault, LoadError};
+use crate::fault::LoadError;
 use crate::thing::Thing;
-use crate::version::{Format, Version};
+use image_words::{Format, ImageFault, u32_at};
 use isa::{Instr, Lists, MOST_CONSTANT_BYTES, MOST_ENTRIES, MOST_TABLES};
 use std::alloc::Global;
-
-/// A number of 2 bytes, and the bytes after it.
-pub(crate) fn u16_at(bytes: &[u8]) -> Result<(u32, &[u8]), LoadError>
-    ensures { Gives (λ x. (x.0, x.1.now)) result (number_at w16 bytes.now) }
-{
-    if bytes.len() < 2 {
-        return Err(LoadError::Fault(ImageFault::Truncated));
-    }
-    let (front, rest) = bytes.split_at(2);
-    let number = u16::from_be_bytes([front[0], front[1]]);
-    Ok((number as u32, rest))
-}
-
-/// A number of 4 bytes, and the bytes after it.
-pub(crate) fn u32_at(bytes: &[u8]) -> Result<(u32, &[u8]), LoadError>
-    ensures { Gives (λ x. (x.0, x.1.now)) result (number_at w32 bytes.now) }
-{
-    if bytes.len() < 4 {
-        return Err(LoadError::Fault(ImageFault::Truncated));
-    }
-    let (front, rest) = bytes.split_at(4);
-    let number = u32::from_be_bytes([front[0], front[1], front[2], front[3]]);
-    Ok((number, rest))
-}
-
-/// An address, and the bytes after it.
-pub(crate) fn address_of(format: Format, bytes: &[u8]) -> Result<(u32, &[u8]), LoadError>
-    ensures { Gives (λ x. (x.0, x.1.now)) result (address_at format bytes.now) }
-{
-    match format.version {
-        Version::One => u16_at(bytes),
-        Version::Two => u32_at(bytes),
-    }
-}
 
 /// A count within its limit, and the bytes after it.
 #[tactic(auto, unfolding(crate::specs::Reading::count_at))]

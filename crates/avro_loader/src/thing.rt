@@ -1,13 +1,13 @@
 ghost use Rattle.std.specs.Prelude.{◌≡◌, ◌++◌, ℕ, List, OnOk, IfSome, Some, None};
-ghost use Rattle.std.specs.Int.{w16, w32};
-ghost use Rattle.avro_loader.specs.declared.version.Format.{Format};
-ghost use Rattle.avro_loader.specs.declared.version.Version.TheVariants.{Two};
-ghost use Rattle.avro_loader.specs.Image.{address, entry, miss, instr, kind_code, short, long, operand};
-ghost use Rattle.avro_loader.specs.Reading.{Gives, Read, address_at, entry_at, miss_at, instr_at, operand_at, kind_at};
+ghost use Rattle.image_words.specs.declared.version.Format.{Format};
+ghost use Rattle.image_words.specs.declared.version.Version.TheVariants.{Two};
+ghost use Rattle.image_words.specs.Spelling.{address};
+ghost use Rattle.image_words.specs.Reading.{Read, address_at};
+ghost use Rattle.avro_loader.specs.Image.{entry, miss, instr, kind_code};
+ghost use Rattle.avro_loader.specs.Reading.{Gives, entry_at, miss_at, instr_at, kind_at};
 
-use crate::fault::{ImageFault, LoadError};
-use crate::reading::{address_of, u16_at, u32_at};
-use crate::version::Format;
+use crate::fault::LoadError;
+use image_words::{Format, ImageFault, address_of, operand_of, put_long, put_short, u16_at};
 use isa::{Entry, Instr, Operation, Shape};
 use outcome::{Mismatch, MismatchKind};
 use std::alloc::AllocError;
@@ -27,29 +27,13 @@ pub(crate) trait Thing: Copy {
         ensures { OnOk result (out.new.items ≡ out.old.items ++ spelled self) };
 }
 
-/// A number in its lowest 2 bytes.
-fn put_short(out: &mut Vec<u8>, number: usize) -> Result<(), AllocError>
-    ensures { OnOk result (out.new.items ≡ out.old.items ++ short number) }
-{
-    let [_, _, _, _, _, _, high, low] = number.to_be_bytes();
-    out.extend_from_slice(&[high, low])
-}
-
-/// A number in its lowest 4 bytes.
-pub(crate) fn put_long(out: &mut Vec<u8>, number: usize) -> Result<(), AllocError>
-    ensures { OnOk result (out.new.items ≡ out.old.items ++ long number) }
-{
-    let [_, _, _, _, a, b, c, d] = number.to_be_bytes();
-    out.extend_from_slice(&[a, b, c, d])
-}
-
 impl Thing for u32 {
     ghost thing_at = { address_at };
 
     ghost spelled = { address Two };
 
     fn read<'a>(format: Format, bytes: &'a [u8]) -> Result<(u32, &'a [u8]), LoadError> {
-        address_of(format, bytes)
+        Ok(address_of(format, bytes)?)
     }
 
     fn put(self, out: &mut Vec<u8>) -> Result<(), AllocError> {
@@ -146,18 +130,6 @@ impl Thing for Mismatch {
         out.push(code_of_kind(self.kind))?;
         put_short(out, self.writer_node)?;
         put_short(out, self.reader_node)
-    }
-}
-
-/// The operand of an operation, and the bytes after it.
-fn operand_of(format: Format, shape: Shape, bytes: &[u8]) -> Result<(u32, &[u8]), LoadError>
-    ensures { Gives (λ x. (x.0, x.1.now)) result (operand_at format shape bytes.now) }
-{
-    match shape {
-        Shape::Nothing => Ok((0, bytes)),
-        Shape::Short => u16_at(bytes),
-        Shape::Long => u32_at(bytes),
-        Shape::Address => address_of(format, bytes),
     }
 }
 

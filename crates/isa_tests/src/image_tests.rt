@@ -209,6 +209,27 @@ fn every_front_is_truncated_and_nothing_follows(rt: HostRuntime) {
     }
 }
 
+/// The beginning of an image of version 1 that has no tables, up to the count of its instructions.
+const HEAD_1: &str = "4156525001 00000000 00000000 00000000 00000000";
+
+/// The image of version 1 of a code that counts so many instructions, which are not all there.
+fn cut_code_of(alloc: Global, count: u32) -> Result<Vec<u8>, AllocError> {
+    let mut image = bytes(alloc, HEAD_1)?;
+    image.extend_from_slice(&count.to_be_bytes())?;
+    image.push(0x1f)?;
+    Ok(image)
+}
+
+#[test]
+fn version_one_has_no_more_than_65536_instructions(rt: HostRuntime) -> Result<(), AllocError> {
+    let alloc = rt.alloc();
+    let most = cut_code_of(alloc, 65_536)?;
+    assert!(rt; fault_of(alloc, &most) == Some(ImageFault::Truncated));
+    let more = cut_code_of(alloc, 65_537)?;
+    assert!(rt; fault_of(alloc, &more) == Some(ImageFault::TooLarge(21)));
+    Ok(())
+}
+
 /// Whether a program of bytes is saved as they are, where these are in version 2, and they are migrated to the same.
 fn assert_program_of(rt: &(impl Abort + AllocGlobal), bytes: &[u8], program: &Program) {
     let saved = saved(rt.alloc(), program).expect(rt, "no memory");

@@ -10,9 +10,10 @@ use Rattle.program_code.proofs.Growing.{number_more}
 use Rattle.program_code.proofs.Numbers.{added, bytes_refl, has_more}
 use Rattle.program_lines.specs.declared.lines.Constant.TheVariants.{Default}
 use Rattle.program_lines.specs.Lines.{bytes_of}
-use Rattle.program_compiler.specs.Tables.{AreDefaults, found, pair_cmp}
+use Rattle.program_tables.specs.Tables.{found}
+use Rattle.program_compiler.specs.Tables.{AreDefaults, pair_cmp}
 use Rattle.program_compiler.proofs.Sharing.{number_is, pair_is}
-use Rattle.program_compiler.proofs.Tables.{adding_there, is_found}
+use Rattle.program_tables.proofs.Tables.{adding_there, is_found}
 
 -- what is found is there, and has that number
 there : (b : List ℕ) (xs : List (List ℕ)) (n : ℕ) → found bytes_eq b xs ≡ Some n → has bytes_eq b xs ≡ true

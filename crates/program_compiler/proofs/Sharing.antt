@@ -12,7 +12,7 @@ use Rattle.isa.specs.declared.entry.Entry.{Entry}
 use Rattle.program_code.specs.Numbering.{entry_of}
 use Rattle.program_lines.specs.Lines.{targets_of}
 use Rattle.program_compiler.specs.Tables.{AreShared, pair_cmp}
-use Rattle.program_compiler.proofs.Tables.{nat_at, then_at}
+use Rattle.program_tables.proofs.Tables.{nat_at, then_at}
 
 longer : (xs : List (List Entry)) (x a : List Entry) (n : ℕ) → slice_get xs n ≡ Some a → slice_get (xs ++ x ∷ []) n ≡ Some a
 longer xs x a n e =

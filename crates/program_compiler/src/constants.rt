@@ -1,12 +1,11 @@
-ghost use Rattle.std.specs.Prelude.{◌≡◌, ◌<◌, ◌++◌, ◌∷◌, [], List, None, length, slice_get, IfOk, IfSome, MatchOption};
-ghost use Rattle.std.specs.Str.{bytes_eq};
+ghost use Rattle.std.specs.Prelude.{◌≡◌, ◌<◌, ◌∷◌, [], List, None, length, slice_get, IfOk, IfSome, MatchOption};
 ghost use Rattle.avro_datum.specs.Writing.{written};
 ghost use Rattle.avro_types.specs.Datum.{datum_of};
 ghost use Rattle.avro_types.specs.Node.{Node};
 ghost use Rattle.outcome.specs.declared.limits.TheConstants.{MOST_OUTPUT};
-ghost use Rattle.program_code.specs.Numbering.{adding, constants_of, named_in, number};
+ghost use Rattle.program_code.specs.Numbering.{constants_of, named_in};
 ghost use Rattle.program_compiler.specs.Parts.{Notes};
-ghost use Rattle.program_compiler.specs.Tables.{AreDefaults, found};
+ghost use Rattle.program_compiler.specs.Tables.{AreDefaults};
 ghost use Rattle.program_lines.specs.declared.lines.Constant.TheVariants.{Default};
 ghost use Rattle.program_lines.specs.Lines.{default_of, fields_of_record, line_of, lines_in};
 ghost use Rattle.program_lines.specs.Lines.{bytes_of as bytes_of_constant};
@@ -14,95 +13,10 @@ ghost use Rattle.program_lines.specs.Lines.{bytes_of as bytes_of_constant};
 use avro_bytes::put_long;
 use avro_datum::{WriteError, write};
 use avro_types::{Datum, Kind, Nodes};
-use isa::Lists;
 use program_lines::{CompileError, Constant, Line};
+use program_tables::Constants;
 use std::alloc::{AllocError, Global};
 use std::collections::BTreeMap;
-use std::marker::Model;
-
-/// Constants in the order in which they are named first, each once. Callers see them as a list.
-#[derive(Drop)]
-pub(crate) struct Constants {
-    list: Lists<u8>,
-    numbers: BTreeMap<Vec<u8>, usize>,
-}
-
-impl Model for Constants {
-    ghost use Rattle.std.specs.Prelude.{ℕ, List};
-    ghost use Rattle.program_compiler.specs.Tables.{AreConstants};
-
-    ghost Value = { List (List ℕ) };
-
-    ghost view = { λ s. s.list };
-
-    ghost invariant = { AreConstants };
-}
-
-impl Constants {
-    /// No constant.
-    pub(crate) fn new(alloc: Global) -> Constants
-        ensures { result ≡ [] }
-    {
-        Constants {
-            list: Lists::new(alloc),
-            numbers: BTreeMap::new(alloc),
-        }
-    }
-
-    /// The number of a constant that is there.
-    fn get(&self, bytes: &Vec<u8>) -> Option<usize>
-        ensures { result ≡ found bytes_eq bytes.now.items self.now }
-    {
-        self.numbers.get(bytes).copied()
-    }
-
-    /// The number of a constant, or how many there are where it is none of them.
-    pub(crate) fn number_of(&self, bytes: &Vec<u8>) -> usize
-        ensures { result ≡ number bytes_eq bytes.now.items self.now }
-    {
-        self.get(bytes).unwrap_or(self.len())
-    }
-
-    /// These with a constant that is not there.
-    fn with_new(self, bytes: Vec<u8>) -> Result<Constants, AllocError>
-        requires { found bytes_eq bytes.items self ≡ None }
-        ensures { IfOk result (λ more. more ≡ self ++ bytes.items ∷ []) }
-    {
-        let Constants {
-            mut list,
-            mut numbers,
-        } = self;
-        let number = list.len();
-        list.push(bytes.as_slice())?;
-        numbers.insert(bytes, number)?;
-        Ok(Constants { list, numbers })
-    }
-
-    /// These with a constant, if it is not there.
-    pub(crate) fn with(self, bytes: Vec<u8>) -> Result<Constants, AllocError>
-        ensures { IfOk result (λ more. more ≡ adding bytes_eq self (bytes.items ∷ [])) }
-    {
-        if self.get(&bytes).is_some() {
-            return Ok(self);
-        }
-        self.with_new(bytes)
-    }
-
-    /// How many there are.
-    pub(crate) fn len(&self) -> usize
-        ensures { result ≡ length self.now }
-    {
-        self.list.len()
-    }
-
-    /// Their bytes.
-    pub(crate) fn into_list(self) -> Lists<u8>
-        ensures { result ≡ self }
-    {
-        let Constants { list, numbers: _ } = self;
-        list
-    }
-}
 
 /// The default of a field of a record, if it has one.
 fn default_at(nodes: &Nodes, reader: usize, field: usize) -> Option<&Datum>

@@ -13,11 +13,11 @@ ghost use Rattle.program_lines.specs.Lines.{bytes_of as bytes_of_constant};
 ghost use Rattle.program_lines.specs.Walking.{start_at};
 
 use crate::addresses::{ahead, operand};
-use crate::constants::{Constants, bytes_of};
-use crate::misses::Misses;
+use crate::constants::bytes_of;
 use avro_types::Nodes;
 use isa::{Instr, MOST_INSTRS};
 use program_lines::{CompileError, Constant, Go, Line, Listing};
+use program_tables::{Constants, Misses};
 use std::alloc::{AllocError, Global};
 use std::collections::BTreeMap;
 

@@ -2,14 +2,11 @@ ghost use Rattle.std.specs.Prelude.{◌≡◌, ◌≤◌, ◌++◌, ◌∷◌, [
 ghost use Rattle.program_code.specs.Numbering.{entry_of, maps_of, named_in};
 ghost use Rattle.program_lines.specs.Lines.{line_of, lines_in, symbols_of, targets_of};
 ghost use Rattle.program_compiler.specs.Tables.{AreShared};
-ghost use Rattle.resolver.specs.Resolution.{symbol_for as position_of_symbol};
 
-use crate::misses::Misses;
 use avro_types::{Kind, Nodes};
 use isa::{Entry, Lists, MOST_TABLES};
-use outcome::{Mismatch, MismatchKind};
 use program_lines::Line;
-use resolver::symbol_for;
+use program_tables::{Misses, entries};
 use std::alloc::{AllocError, Global};
 use std::collections::BTreeMap;
 
@@ -24,46 +21,6 @@ pub(crate) fn symbols(nodes: &Nodes, node: usize) -> &[String]
         Kind::Enum { symbols, .. } => symbols.as_slice(),
         _ => &[],
     }
-}
-
-/// The position of a writer's symbol with a reader's enum.
-pub(crate) fn position_for(nodes: &Nodes, node: usize, symbol: &str) -> Option<u32>
-    ensures { result ≡ position_of_symbol (slice_get nodes.now node) symbol.now }
-{
-    if node < nodes.len() {
-        symbol_for(nodes, node, symbol)
-    } else {
-        None
-    }
-}
-
-/// What each symbol of a writer's enum becomes.
-fn entries(
-    alloc: Global,
-    w: &Nodes,
-    r: &Nodes,
-    misses: &Misses,
-    writer: usize,
-    reader: usize,
-) -> Result<Vec<Entry>, AllocError>
-    requires { length misses.now ≤ MOST_TABLES }
-    ensures { IfOk result (λ v. v.items ≡ map (entry_of misses.now) (targets_of w.now r.now writer reader)) }
-{
-    let lacking = misses.number_of(Mismatch {
-        kind: MismatchKind::NoSymbol,
-        writer_node: writer,
-        reader_node: reader,
-    }) as u32;
-    let texts = symbols(w, writer);
-    let mut entries = Vec::new(alloc);
-    for position in 0..texts.len() {
-        let entry = match position_for(r, reader, texts[position].as_str()) {
-            Some(position) => Entry::Position(position),
-            None => Entry::Miss(lacking),
-        };
-        entries.push(entry)?;
-    }
-    Ok(entries)
 }
 
 /// Adds the map of a pair of enums. A pair that came before shares its entries.
@@ -87,7 +44,7 @@ fn push_entries(
         return maps.push_again(number);
     }
     let number = maps.len();
-    let entries = entries(alloc, w, r, misses, writer, reader)?;
+    let entries = entries(alloc, r, misses, writer, reader, symbols(w, writer))?;
     maps.push(entries.as_slice())?;
     numbers.insert((writer, reader), number)?;
     Ok(())

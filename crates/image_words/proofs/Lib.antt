@@ -1,0 +1,4 @@
+pub mod Steps
+pub mod Taking
+pub mod Spelled
+pub mod Opened

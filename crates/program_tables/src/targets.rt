@@ -1,0 +1,51 @@
+ghost use Rattle.std.specs.Prelude.{◌≡◌, ◌≤◌, length, map, slice_get, string_bytes, IfOk};
+ghost use Rattle.program_code.specs.Numbering.{entry_of};
+ghost use Rattle.program_code.specs.Writing.{target};
+ghost use Rattle.resolver.specs.Resolution.{symbol_for as position_of_symbol};
+
+use crate::misses::Misses;
+use avro_types::Nodes;
+use isa::{Entry, MOST_TABLES};
+use outcome::{Mismatch, MismatchKind};
+use resolver::symbol_for;
+use std::alloc::{AllocError, Global};
+
+/// The position of a writer's symbol with a reader's enum.
+pub fn position_for(nodes: &Nodes, node: usize, symbol: &str) -> Option<u32>
+    ensures { result ≡ position_of_symbol (slice_get nodes.now node) symbol.now }
+{
+    if node < nodes.len() {
+        symbol_for(nodes, node, symbol)
+    } else {
+        None
+    }
+}
+
+/// What each symbol of a writer's enum becomes with a reader's.
+pub fn entries(
+    alloc: Global,
+    r: &Nodes,
+    misses: &Misses,
+    writer: usize,
+    reader: usize,
+    symbols: &[String],
+) -> Result<Vec<Entry>, AllocError>
+    requires { length misses.now ≤ MOST_TABLES }
+    ensures { IfOk result (λ v. v.items ≡ map (entry_of misses.now)
+        (map (target writer reader (slice_get r.now reader)) (map string_bytes symbols.now))) }
+{
+    let lacking = misses.number_of(Mismatch {
+        kind: MismatchKind::NoSymbol,
+        writer_node: writer,
+        reader_node: reader,
+    }) as u32;
+    let mut entries = Vec::new(alloc);
+    for position in 0..symbols.len() {
+        let entry = match position_for(r, reader, symbols[position].as_str()) {
+            Some(position) => Entry::Position(position),
+            None => Entry::Miss(lacking),
+        };
+        entries.push(entry)?;
+    }
+    Ok(entries)
+}
