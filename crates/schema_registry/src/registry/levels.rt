@@ -3,8 +3,8 @@ ghost use Rattle.std.specs.BTreeMap.{IsOrdered, IsUnchanged, get_by_text};
 ghost use Rattle.std.specs.Str.{bytes_eq};
 ghost use Rattle.std.specs.String.{string_cmp};
 ghost use Rattle.schema_registry.specs.Accepting.{registry_after};
-ghost use Rattle.schema_registry.specs.Answers.{Gives, answer_to};
-ghost use Rattle.schema_registry.specs.Command.{Grows, SetLevelCommand};
+ghost use Rattle.schema_registry.specs.Answers.{Gives, Grows, answer_to};
+ghost use Rattle.schema_registry.specs.Command.{SetLevelCommand};
 ghost use Rattle.schema_registry.specs.Lists.{level_of};
 ghost use Rattle.schema_registry.specs.Tables.{lacks_room};
 
@@ -30,6 +30,8 @@ fn put_level(
     ensures full { MatchResult result (λ _. lacks_room levels.old (string_bytes subject) MOST_LEVELS ≡ false)
         (λ e. e ≢ Refusal.NoMemory → (e ≡ Refusal.Full)
         × (lacks_room levels.old (string_bytes subject) MOST_LEVELS ≡ true)) }
+    ensures memory { IfErr result (λ e. e ≡ Refusal.NoMemory
+        → lacks_room levels.old (string_bytes subject) MOST_LEVELS ≡ false) }
     ensures ordered { IsOrdered string_cmp levels.old }
     ensures err { OnErr result (IsUnchanged levels.old levels.new) }
 {
@@ -60,8 +62,8 @@ impl Registry {
             (SetLevelCommand (option_map string_bytes subject) level)) result }
         ensures ok { OnOk result (self.new ≡ history.commands) }
         ensures err { OnErr result (self.new ≡ self.old) }
-        ensures memory { IfErr result
-            (λ e. e ≡ Refusal.NoMemory → Grows (SetLevelCommand (option_map string_bytes subject) level)) }
+        ensures memory { IfErr result (λ e. e ≡ Refusal.NoMemory
+            → Grows (registry_after self.old) (SetLevelCommand (option_map string_bytes subject) level)) }
     {
         let Some(subject) = subject else {
             self.global = level;

@@ -3,7 +3,7 @@ use Rattle.std.proofs.lemmas.Result.{err_from_is_err_and}
 use Rattle.schema_registry.specs.declared.limits.TheConstants.{MOST_LEVELS}
 use Rattle.schema_registry.specs.declared.refusal.Refusal.TheVariants.{Full}
 use Rattle.schema_registry.specs.Accepting.{registry_after}
-use Rattle.schema_registry.specs.Answers.{IsAnswer}
+use Rattle.schema_registry.specs.Answers.{IsAnswer, IsReply}
 use Rattle.schema_registry.specs.Command.{SetLevelCommand}
 use Rattle.schema_registry.specs.Lists.{subjects_with_level}
 use Rattle.schema_registry.specs.Reply.{LevelReply}
@@ -32,6 +32,17 @@ returns-in_err-put_level-clause-answer c =
     rw (p.1, p.2) (λ known.
     let full = c.in_err-put_level.ensures.full known in
     rw (c.in-Some.is, full.0) (subst (λ a. IsAnswer a (Err Full)) (sym (level-is lists s c.args.level true named (sym room ∙ full.1))) refl))
+
+pub returns-in_err-put_level-clause-memory : goal.returns-in_err-put_level-clause-memory
+returns-in_err-put_level-clause-memory c =
+    let p = err_from_is_err_and c.from_residual.result c.from_residual.ensures.1 in
+    let lists = registry_after c.args.self.now in
+    let held = rw c.self.view_is at c.self.invariant.0 in
+    let s = string_bytes c.in-Some.subject in
+    let named : is_subject s ≡ true = search rules in
+    let room = room-named c.self.inside.levels (subjects_with_level lists.levels) c.in_err-put_level.ensures.ordered (level-there _ _ _ _ _ held) s MOST_LEVELS in
+    rw (p.1, p.2) (λ none.
+    rw c.in-Some.is (subst IsReply (sym (level-is lists s c.args.level false named (sym room ∙ c.in_err-put_level.ensures.memory none))) tt))
 
 pub invariant_of-self-2 : goal.invariant_of-self-2
 invariant_of-self-2 c =
