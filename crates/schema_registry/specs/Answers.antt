@@ -54,6 +54,11 @@ abbrev pub where_some : {A : Type 0} → Option A → Refusal → (A → Answer)
 where_some (Some a) refusal answer = answer a
 where_some None refusal answer = Told (Err refusal)
 
+-- it is refused, or else this is replied
+abbrev pub unless_refused : Option Refusal → Reply → Answer
+unless_refused None reply = Told (Ok reply)
+unless_refused (Some refusal) reply = Told (Err refusal)
+
 -- a subject has versions, or it is not there
 abbrev pub where_versions : List Entry → (List Entry → Answer) → Answer
 where_versions [] answer = Told (Err NoSubject)

@@ -10,8 +10,7 @@ use Rattle.schema_registry.proofs.shared.SharedRegistry.register.Goals as goal
 
 pub returns-then-not-is_subject-clause-answer : goal.returns-then-not-is_subject-clause-answer
 returns-then-not-is_subject-clause-answer g c =
-    let named : is_subject (string_bytes c.args.subject) ≡ false = search rules in
-    (
+    let named : is_subject (string_bytes c.args.subject) ≡ false = search rules in (
       λ none. absurd (let no : ⊥ = cc in no),
       λ _. inr (record { commands = []; accepted = no_command; answer = subject-refused no_lists (string_bytes c.args.subject) (string_bytes c.args.text) named }),
     )
