@@ -88,13 +88,6 @@ unfoldable pub kind_in : List (List ℕ) → Option Kind
 kind_in [] = None
 kind_in (word ∷ words) = kind_named word
 
--- reading a line of this kind may want memory: it holds a text or bytes
-abbrev pub WantsMemory : Option Kind → Type 0
-WantsMemory (Some kinds.Register) = Unit {0}
-WantsMemory (Some kinds.Level) = Unit {0}
-WantsMemory (Some kinds.Piece) = Unit {0}
-WantsMemory kind = ⊥
-
 unfoldable pub replay_line_in : List (List ℕ) → Option ReplayLine
 replay_line_in [] = None
 replay_line_in (word ∷ words) = do
@@ -103,6 +96,17 @@ replay_line_in (word ∷ words) = do
 
 unfoldable pub replay_line : List ℕ → Option ReplayLine
 replay_line line = replay_line_in (words_of_text line)
+
+-- what was read holds the name of a subject
+abbrev pub HasSubject : Option ReplayLine → Type 0
+HasSubject (Some (Register subject text)) = Unit {0}
+HasSubject (Some (SetLevel (Some subject) level)) = Unit {0}
+HasSubject line = ⊥
+
+-- where a line of this kind that says this may want memory: a name is kept, and bytes, before one may be malformed
+abbrev pub WantsMemory : Option Kind → Option ReplayLine → Type 0
+WantsMemory (Some kinds.Piece) line = Unit {0}
+WantsMemory kind line = HasSubject line
 
 -- ---- debug
 

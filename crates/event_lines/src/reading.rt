@@ -27,7 +27,7 @@ fn slice_of(left: Option<&str>) -> Option<Line>
 /// The line of a kind, by the words that are left.
 fn line_of_kind(alloc: Global, kind: Kind, left: Option<&str>) -> Result<Option<Line>, AllocError>
     ensures line { IfOk result (λ found. option_map replay_line_of found ≡ line_in kind (words_left left.entry)) }
-    ensures memory { IfErr result (λ e. WantsMemory (Some kind)) }
+    ensures memory { IfErr result (λ e. WantsMemory (Some kind) (line_in kind (words_left left.entry))) }
 {
     match kind {
         Kind::Register => register_of(alloc, left),
@@ -53,7 +53,7 @@ fn line_of_kind(alloc: Global, kind: Kind, left: Option<&str>) -> Result<Option<
 #[tactic(auto, unfolding(crate::specs::Reading::replay_line, crate::specs::Reading::replay_line_in, crate::specs::Reading::kind_in))]
 pub fn read_replay_line(alloc: Global, line: &[u8]) -> Result<Option<Line>, AllocError>
     ensures line { IfOk result (λ found. option_map replay_line_of found ≡ replay_line line.now) }
-    ensures memory { IfErr result (λ e. WantsMemory (kind_in (words_of_text line.now))) }
+    ensures memory { IfErr result (λ e. WantsMemory (kind_in (words_of_text line.now)) (replay_line line.now)) }
 {
     let Some((word, left)) = first_word(line) else {
         return Ok(None);

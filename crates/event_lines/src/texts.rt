@@ -1,6 +1,6 @@
-ghost use Rattle.std.specs.Prelude.{◌≡◌, IfOk, option_map, string_bytes};
+ghost use Rattle.std.specs.Prelude.{◌≡◌, IfErr, IfOk, IsSome, Some, option_map, string_bytes};
 ghost use Rattle.event_lines.specs.ReplayLine.{Register, replay_line_of};
-ghost use Rattle.event_lines.specs.Reading.{level_in, piece_in, register_in, set_level};
+ghost use Rattle.event_lines.specs.Reading.{HasSubject, level_in, piece_in, register_in, set_level};
 ghost use Rattle.event_lines.specs.Words.{last_bytes, level_named, subject_in, words_left};
 
 use crate::numbers::first_number;
@@ -25,7 +25,8 @@ pub(crate) fn register_of(
     alloc: Global,
     left: Option<&str>,
 ) -> Result<Option<ReplayLine>, AllocError>
-    ensures { IfOk result (λ found. option_map replay_line_of found ≡ register_in (words_left left.entry)) }
+    ensures line { IfOk result (λ found. option_map replay_line_of found ≡ register_in (words_left left.entry)) }
+    ensures memory { IfErr result (λ e. HasSubject (register_in (words_left left.entry))) }
 {
     let Some((subject, text)) = word_and_text(left) else {
         return Ok(None);
@@ -43,7 +44,8 @@ fn level_of(word: &str) -> Option<Level>
 
 /// The subject of a word, which is none for the global level.
 fn subject_of(alloc: Global, word: &str) -> Result<Option<String>, AllocError>
-    ensures { IfOk result (λ subject. option_map string_bytes subject ≡ subject_in word.now) }
+    ensures subject { IfOk result (λ subject. option_map string_bytes subject ≡ subject_in word.now) }
+    ensures memory { IfErr result (λ e. IsSome (subject_in word.now)) }
 {
     if word == "*" {
         return Ok(None);
@@ -54,8 +56,10 @@ fn subject_of(alloc: Global, word: &str) -> Result<Option<String>, AllocError>
 
 /// The line that sets a level.
 fn set_level(alloc: Global, subject: &str, level: &str) -> Result<ReplayLine, AllocError>
-    ensures { IfOk result
+    ensures line { IfOk result
         (λ line. replay_line_of line ≡ set_level (subject_in subject.now) (level_named level.now)) }
+    ensures memory { IfErr result
+        (λ e. HasSubject (Some (set_level (subject_in subject.now) (level_named level.now)))) }
 {
     let Some(level) = level_of(level) else {
         return Ok(ReplayLine::BadLevel);
@@ -70,7 +74,8 @@ pub(crate) fn level_line_of(
     alloc: Global,
     left: Option<&str>,
 ) -> Result<Option<ReplayLine>, AllocError>
-    ensures { IfOk result (λ found. option_map replay_line_of found ≡ level_in (words_left left.entry)) }
+    ensures line { IfOk result (λ found. option_map replay_line_of found ≡ level_in (words_left left.entry)) }
+    ensures memory { IfErr result (λ e. HasSubject (level_in (words_left left.entry))) }
 {
     let Some((subject, level)) = two_words(left) else {
         return Ok(None);

@@ -1,5 +1,5 @@
 -- The ids of a subject's versions, and under which number each stands.
-use Rattle.std.proofs.Common.{◌≡◌, ◌≤◌, ◌<◌, ◌^◌, ℕ, suc, ◌+◌, List, [], ◌∷◌, ◌++◌, length, Bool, true, false, cond, ◌||◌, Some, None, refl, sym, ap, subst, ◌∙◌, arith, eqb, ◌==◌}
+use Rattle.std.proofs.Common.{◌≡◌, ◌≤◌, ℕ, suc, ◌+◌, List, [], ◌∷◌, ◌++◌, length, Bool, true, false, cond, ◌||◌, Some, None, refl, sym, ap, subst, ◌∙◌, arith, eqb, ◌==◌}
 use Rattle.std.specs.Ordering.{nat_cmp}
 use Rattle.std.specs.BTreeMap.{BTreeMap, IsEmpty, Updates, get, is_at}
 use Rattle.std.specs.Cmp.{nat_eq_equiv, unsigned_tied}
@@ -8,6 +8,7 @@ use Rattle.std.specs.Map.{lookup}
 use Rattle.std.proofs.lemmas.Bool.{eqb-true, eq-eqb}
 use Rattle.std.proofs.lemmas.Map.Keys.{IsDistinct-push}
 use Rattle.std.proofs.lemmas.Map.Steps.{length-le_from_distinct_below}
+use Rattle.registry_tables.specs.declared.limits.TheConstants.{MOST_ID}
 use Rattle.registry_tables.specs.Maps.{AreNumbersOf, number_of}
 
 pub all-push : {A : Type 0} (P : A → Type 0) (xs : List A) (x : A) → AllByRecursion P xs → P x → AllByRecursion P (xs ++ x ∷ [])
@@ -62,13 +63,13 @@ module _ (old new : BTreeMap ℕ ℕ) (ids : List ℕ) (id : ℕ) (kept : AreNum
           rw (unsigned_tied id q, is) (ap Some more ∙ sym (last-found (λ i. i == q) 1 ids id none is))
       at false is = rw (unsigned_tied id q, is) (kept.found q ∙ sym (not-last (λ i. i == q) 1 ids id is))
 
-  pub one_number : (n : ℕ) → n ≡ length ids → id < 2 ^ 31 → Updates nat_cmp old new id (Some (n + 1)) → AreNumbersOf new (ids ++ id ∷ [])
+  pub one_number : (n : ℕ) → n ≡ length ids → id ≤ MOST_ID → Updates nat_cmp old new id (Some (n + 1)) → AreNumbersOf new (ids ++ id ∷ [])
   one_number n len few updates = record {
     found = found-more (subst (λ n. Updates nat_cmp old new id (Some (n + 1))) len updates);
     distinct = IsDistinct-push nat_eq_equiv ids id kept.distinct (unfound id 1 ids lacking);
-    known = all-push (λ i. i < 2 ^ 31) ids id kept.known few;
+    known = all-push (λ i. i ≤ MOST_ID) ids id kept.known few;
   }
 
-pub few_versions : (m : BTreeMap ℕ ℕ) (ids : List ℕ) → AreNumbersOf m ids → length ids ≤ 2 ^ 31
+pub few_versions : (m : BTreeMap ℕ ℕ) (ids : List ℕ) → AreNumbersOf m ids → length ids ≤ MOST_ID + 1
 few_versions m ids kept =
-    length-le_from_distinct_below ids (2 ^ 31) kept.distinct (λ q e. let h : q < 2 ^ 31 = all-any (λ i. i < 2 ^ 31) ids kept.known q e in omega (arith, h))
+    length-le_from_distinct_below ids (MOST_ID + 1) kept.distinct (λ q e. let h : q ≤ MOST_ID = all-any (λ i. i ≤ MOST_ID) ids kept.known q e in omega (arith, h))

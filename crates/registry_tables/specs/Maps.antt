@@ -1,11 +1,12 @@
 -- What stands in maps by their texts: ids, the versions of subjects, and what is set for a subject. This project's own.
-use Rattle.std.specs.Prelude.{◌≡◌, ◌<◌, ℕ, zero, suc, ◌+◌, ◌^◌, ◌==◌, List, [], Option, Some, None, String, nat_eq, slice_get, unwrap_or, if◌then◌else◌}
+use Rattle.std.specs.Prelude.{◌≡◌, ◌≤◌, ℕ, zero, suc, ◌+◌, ◌==◌, List, [], Option, Some, None, String, nat_eq, slice_get, unwrap_or, if◌then◌else◌}
 use Rattle.std.specs.BTreeMap.{BTreeMap, get, get_by_text}
 use Rattle.std.specs.Global.{Global}
 use Rattle.std.specs.List.{AllByRecursion, IsDistinct, position_from}
 use Rattle.std.specs.Option.{option_and_then}
 use Rattle.std.specs.Ordering.{nat_cmp}
 use Rattle.std.specs.Str.{bytes_eq}
+use Rattle.registry_tables.specs.declared.limits.TheConstants.{MOST_ID}
 
 -- what stands at a number that counts from 1
 abbrev pub numbered : {A : Type 0} → List A → ℕ → Option A
@@ -38,7 +39,7 @@ number_of id ids = position_from (λ i. i == id) 1 ids
 pub record AreNumbersOf (numbers : BTreeMap ℕ ℕ) (ids : List ℕ) : Type 0 where
   pub found : (id : ℕ) → get nat_cmp numbers id ≡ number_of id ids
   pub distinct : IsDistinct nat_eq ids
-  pub known : AllByRecursion (λ id. id < 2 ^ 31) ids
+  pub known : AllByRecursion (λ id. id ≤ MOST_ID) ids
 
 -- the ids under the name of a subject
 abbrev pub ids_in : Option (List ℕ) → List ℕ

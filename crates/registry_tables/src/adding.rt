@@ -1,7 +1,8 @@
 //! One more version of a subject, whose text has an id or gets the next one.
 
-ghost use Rattle.std.specs.Prelude.{◌≡◌, ◌<◌, ◌^◌, [], ◌∷◌, ◌++◌, None, IfOk, OnOk, OnErr, string_bytes};
+ghost use Rattle.std.specs.Prelude.{◌≡◌, ◌≤◌, [], ◌∷◌, ◌++◌, None, IfOk, OnOk, OnErr, string_bytes};
 ghost use Rattle.std.specs.BTreeMap.{get_by_text};
+ghost use Rattle.registry_tables.specs.declared.limits.TheConstants.{MOST_ID};
 ghost use Rattle.registry_tables.specs.Maps.{AreSame, Puts, id_for, ids_in, number_of};
 
 use crate::versions::Versions;
@@ -16,7 +17,7 @@ fn add_version(
     id: u32,
 ) -> Result<(), AllocError>
     requires new { number_of id (ids_in (get_by_text subjects.old (string_bytes subject))) ≡ None }
-    requires known { id < 2 ^ 31 }
+    requires known { id ≤ MOST_ID }
     ensures ok { OnOk result (Puts subjects.old subjects.new (string_bytes subject)
         (ids_in (get_by_text subjects.old (string_bytes subject)) ++ id ∷ [])) }
     ensures err { OnErr result (AreSame subjects.old subjects.new) }
@@ -40,8 +41,7 @@ pub fn add(
     subject: String,
     text: &str,
 ) -> Result<u32, AllocError>
-    requires room { count < 2 ^ 30 }
-    requires few { id_for ids.old text.now count < 2 ^ 31 }
+    requires few { id_for ids.old text.now count ≤ MOST_ID }
     requires new { number_of (id_for ids.old text.now count)
         (ids_in (get_by_text subjects.old (string_bytes subject))) ≡ None }
     ensures id { IfOk result (λ id. id ≡ id_for ids.old text.now count) }

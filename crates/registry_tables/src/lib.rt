@@ -3,10 +3,12 @@
 
 mod adding;
 mod comparing;
+mod limits;
 mod settings;
 mod versions;
 
 pub use adding::add;
 pub use comparing::{compared, newer_reads, older_reads};
+pub use limits::{MOST_ID, limits_are_these};
 pub use settings::set_for;
 pub use versions::Versions;

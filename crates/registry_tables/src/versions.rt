@@ -1,4 +1,5 @@
-ghost use Rattle.std.specs.Prelude.{◌≡◌, ◌<◌, ◌^◌, [], ◌∷◌, ◌++◌, length, None, IfOk, OnOk, OnErr};
+ghost use Rattle.std.specs.Prelude.{◌≡◌, ◌≤◌, ◌<◌, ◌^◌, [], ◌∷◌, ◌++◌, length, None, IfOk, OnOk, OnErr};
+ghost use Rattle.registry_tables.specs.declared.limits.TheConstants.{MOST_ID};
 ghost use Rattle.registry_tables.specs.Maps.{number_of, numbered};
 
 use std::alloc::{AllocError, Global};
@@ -27,7 +28,7 @@ impl Model for Versions {
 impl Versions {
     /// One version, with the schema of an id.
     pub(crate) fn one(alloc: Global, id: u32) -> Result<Versions, AllocError>
-        requires { id < 2 ^ 31 }
+        requires { id ≤ MOST_ID }
         ensures { IfOk result (λ versions. versions ≡ id ∷ []) }
     {
         let mut versions = Versions::new(alloc);
@@ -80,7 +81,7 @@ impl Versions {
     /// Makes the schema of an id the next version.
     pub(crate) fn add(&mut self, id: u32) -> Result<(), AllocError>
         requires new { number_of id self.old ≡ None }
-        requires known { id < 2 ^ 31 }
+        requires known { id ≤ MOST_ID }
         ensures ok { OnOk result (self.new ≡ self.old ++ id ∷ []) }
         ensures err { OnErr result (self.new ≡ self.old) }
     {

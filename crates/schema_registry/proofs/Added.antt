@@ -1,5 +1,5 @@
 -- One more version, whose schema the subject lacks.
-use Rattle.std.proofs.Common.{◌≡◌, ◌≢◌, ◌≤◌, ◌<◌, ◌^◌, ℕ, suc, ◌+◌, List, [], ◌∷◌, ◌++◌, length, Bool, true, false, cond, not, ◌&&◌, ◌||◌, ◌==◌, Option, Some, None, Result, Ok, Err, is_some, refl, sym, ap, subst, ◌∙◌, arith, inl, inr, String, Global, length-append}
+use Rattle.std.proofs.Common.{◌≡◌, ◌≢◌, ◌≤◌, ◌<◌, ℕ, suc, ◌+◌, List, [], ◌∷◌, ◌++◌, length, Bool, true, false, cond, not, ◌&&◌, ◌||◌, ◌==◌, Option, Some, None, Result, Ok, Err, is_some, refl, sym, ap, subst, ◌∙◌, arith, inl, inr, String, Global, length-append}
 use Rattle.std.specs.Prelude.{IfSome, nat_le, unwrap_or}
 use Rattle.std.specs.BTreeMap.{BTreeMap, get_by_text}
 use Rattle.std.specs.List.{AllByRecursion, position_from}
@@ -16,6 +16,7 @@ use Rattle.schema_registry.specs.Lists.{Entry, Lists, id_of, level_of, versions_
 use Rattle.schema_registry.specs.Reply.{IdReply}
 use Rattle.schema_names.specs.declared.error.SchemaError.{SchemaError}
 use Rattle.schema_registry.specs.declared.refusal.Refusal.TheVariants.{Full, Incompatible}
+use Rattle.registry_tables.specs.declared.limits.TheConstants.{MOST_ID}
 use Rattle.registry_tables.specs.Maps.{Puts, ids_in, number_of}
 use Rattle.schema_registry.specs.Tables.{Holds, IsId, entry_of, versions_from}
 use Rattle.schema_registry.proofs.Entries.{from-more, length-from, versions-more}
@@ -46,10 +47,10 @@ id-known schema schemas = at (id_of schema.text schemas) refl
     at None is = (omega arith, omega (arith, length-append schemas (schema ∷ [])))
     at (Some id) is = let h = id-within schema.text 1 schemas id is in (omega (arith, h.0), omega (arith, h.1))
 
-pub id-below : (schema : Declaration) (schemas : List Declaration) → length schemas ≤ MOST_SCHEMAS → id_for schema schemas < 2 ^ 31
+pub id-below : (schema : Declaration) (schemas : List Declaration) → length schemas ≤ MOST_SCHEMAS → id_for schema schemas ≤ MOST_ID
 id-below schema schemas few = at (id_of schema.text schemas) refl
   where
-    at : (o : Option ℕ) → id_of schema.text schemas ≡ o → unwrap_or o (length schemas + 1) < 2 ^ 31
+    at : (o : Option ℕ) → id_of schema.text schemas ≡ o → unwrap_or o (length schemas + 1) ≤ MOST_ID
     at None is = omega (arith, few)
     at (Some id) is = let h = id-within schema.text 1 schemas id is in omega (arith, h.1, few)
 

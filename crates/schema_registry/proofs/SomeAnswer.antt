@@ -1,16 +1,28 @@
 -- What a registry answers under its lock is an answer after some accepted commands.
-use Rattle.std.specs.Prelude.{◌≡◌, List, Result, Ok, Err, IfErr}
-use Rattle.std.proofs.Common.{inr}
+use Rattle.std.specs.Prelude.{◌≡◌, ℕ, List, [], Result, Ok, Err, IfErr, true}
+use Rattle.std.proofs.Common.{inr, refl, sym, subst}
 use Rattle.schema_registry.specs.declared.refusal.Refusal.{Refusal}
 use Rattle.schema_registry.specs.declared.refusal.Refusal.TheVariants.{NoMemory}
 use Rattle.schema_registry.specs.declared.reply.Reply.{Reply}
 use Rattle.schema_registry.specs.Accepting.{registry_after}
-use Rattle.schema_registry.specs.Answers.{AreAccepted, Gives, answer_to}
-use Rattle.schema_registry.specs.Command.{Command, Grows}
+use Rattle.schema_registry.specs.Answers.{AreAccepted, Gives, Grows, answer_to, no_command}
+use Rattle.schema_registry.specs.Command.{Command, RegisterCommand}
 use Rattle.schema_registry.specs.Reply.{answer_of}
-use Rattle.schema_registry.specs.Shared.{IsSomeAnswer}
+use Rattle.schema_registry.specs.Shared.{IsSomeAnswer, IsSomeRefusal, MayGrow}
+use Rattle.schema_registry.specs.Subject.{is_subject}
 
 pub some-answer : (commands : List Command) (c : Command) (result : Result Reply Refusal) → AreAccepted commands → Gives (answer_to (registry_after commands) c) result
-    → IfErr result (λ e. e ≡ NoMemory → Grows c) → IsSomeAnswer c (answer_of result)
+    → IfErr result (λ e. e ≡ NoMemory → Grows (registry_after commands) c) → IsSomeAnswer c (answer_of result)
 some-answer commands c (Ok reply) accepted gives memory = record { commands = commands; accepted = accepted; answer = gives }
-some-answer commands c (Err refusal) accepted gives memory = (memory, λ known. inr (record { commands = commands; accepted = accepted; answer = gives known }))
+some-answer commands c (Err refusal) accepted gives memory = (
+  λ none. record { commands = commands; accepted = accepted; grows = memory none },
+  λ known. inr (record { commands = commands; accepted = accepted; answer = gives known }),
+)
+
+-- a registration may want memory where its subject is named by the rule
+pub registration-grows : (c : Command) (subject text : List ℕ) → c ≡ RegisterCommand subject text → is_subject subject ≡ true → MayGrow c
+registration-grows c subject text is named = subst MayGrow (sym is) (record { commands = []; accepted = no_command; grows = named })
+
+-- memory is refused where it may be wanted
+pub memory-refused : (c : Command) → MayGrow c → IsSomeRefusal c NoMemory
+memory-refused c grows = (λ _. grows, λ other. absurd (other refl))

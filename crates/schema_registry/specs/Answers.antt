@@ -34,6 +34,11 @@ abbrev pub IsAnswer : Answer → Result Reply Refusal → Type 0
 IsAnswer (Told answer) result = result ≡ answer
 IsAnswer (WhereSafe pairs one other) result = (AreSafe pairs × (result ≡ one)) ⊎ (¬ (AreSafe pairs) × (result ≡ other))
 
+-- it is a reply, whatever schemas go together
+abbrev pub IsReply : Answer → Type 0
+IsReply (Told (Ok reply)) = Unit {0}
+IsReply answer = ⊥
+
 -- the answer of the code is this one, unless memory ran out
 abbrev pub Gives : Answer → Result rust.Reply Refusal → Type 0
 Gives answer (Ok reply) = IsAnswer answer (Ok (reply_of reply))
@@ -48,6 +53,11 @@ where_true false refusal answer = Told (Err refusal)
 abbrev pub where_some : {A : Type 0} → Option A → Refusal → (A → Answer) → Answer
 where_some (Some a) refusal answer = answer a
 where_some None refusal answer = Told (Err refusal)
+
+-- it is refused, or else this is replied
+abbrev pub unless_refused : Option Refusal → Reply → Answer
+unless_refused None reply = Told (Ok reply)
+unless_refused (Some refusal) reply = Told (Err refusal)
 
 -- a subject has versions, or it is not there
 abbrev pub where_versions : List Entry → (List Entry → Answer) → Answer
@@ -146,6 +156,15 @@ module _ (lists : Lists) where
   answer_to (SchemaCommand id) = where_some (numbered lists.schemas id) NoSchema (λ s. Told (Ok (TextReply s.text)))
   answer_to (LevelCommand subject) =
       where_true (is_subject_or_none subject) BadSubject (Told (Ok (LevelReply (level_of subject lists.levels))))
+
+  -- where a command may want memory: where it reads the text of a schema, and where it sets or tells what it was asked
+  abbrev pub Grows : Command → Type 0
+  Grows (RegisterCommand subject text) = is_subject subject ≡ true
+  Grows (LookupCommand subject text) = is_subject subject ≡ true
+  Grows (CheckCommand subject version text) = (is_subject subject ≡ true) × (is_version version ≡ true)
+  Grows (SetLevelCommand None level) = ⊥
+  Grows (LevelCommand subject) = ⊥
+  Grows c = IsReply (answer_to c)
 
 -- each of these commands was accepted after those before it
 pub data AreAccepted : List Command → Type 0 where

@@ -1,5 +1,5 @@
 -- What a registry is asked, wherever its texts lie in memory. This project's own.
-use Rattle.std.specs.Prelude.{ℕ, List, Option, None, option_map, string_bytes}
+use Rattle.std.specs.Prelude.{ℕ, List, Option, option_map, string_bytes}
 use Rattle.schema_registry.specs.declared.command.Version.{Version}
 use Rattle.schema_registry.specs.declared.level.Level.{Level}
 use Rattle.schema_registry.specs.declared.command.Command as rust
@@ -30,9 +30,3 @@ command_of (commands.Version subject version) = VersionCommand (string_bytes sub
 command_of commands.Subjects = SubjectsCommand
 command_of (commands.Schema id) = SchemaCommand id
 command_of (commands.Level subject) = LevelCommand (option_map string_bytes subject)
-
--- what may want memory: all but asking for a level and setting the global one
-abbrev pub Grows : Command → Type 0
-Grows (LevelCommand subject) = ⊥
-Grows (SetLevelCommand None level) = ⊥
-Grows c = Unit {0}

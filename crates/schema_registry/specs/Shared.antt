@@ -4,10 +4,10 @@ use Rattle.std.specs.List.{slice_get}
 use Rattle.avro_schema.specs.Schema.{Declaration}
 use Rattle.schema_registry.specs.declared.refusal.Refusal.{Refusal}
 use Rattle.schema_registry.specs.declared.refusal.Refusal.TheVariants.{Clash, NoMemory}
-use Rattle.schema_registry.specs.Command.{Command, RegisterCommand, Grows}
+use Rattle.schema_registry.specs.Command.{Command, RegisterCommand}
 use Rattle.schema_registry.specs.Reply.{Reply, IdReply}
 use Rattle.schema_registry.specs.Accepting.{registry_after}
-use Rattle.schema_registry.specs.Answers.{AreAccepted, IsAnswer, answer_to}
+use Rattle.schema_registry.specs.Answers.{AreAccepted, Grows, IsAnswer, answer_to}
 
 -- what a receipt stands for: an id, the name of its cell, and the schema that the cell shows, once it was seen
 pub record Shown : Type 0 where
@@ -34,9 +34,15 @@ abbrev pub IsClash : Command → Type 0
 IsClash (RegisterCommand subject text) = (id : ℕ) × IsAnswered (RegisterCommand subject text) (Ok (IdReply id))
 IsClash c = ⊥
 
+-- after some commands, each of which was accepted in its turn, a command may want memory
+pub record MayGrow (c : Command) : Type 0 where
+  pub commands : List Command
+  pub accepted : AreAccepted commands
+  pub grows : Grows (registry_after commands) c
+
 -- a refusal is such an answer or a clash, unless memory ran out where some may be wanted
 abbrev pub IsSomeRefusal : Command → Refusal → Type 0
-IsSomeRefusal c refusal = (refusal ≡ NoMemory → Grows c)
+IsSomeRefusal c refusal = (refusal ≡ NoMemory → MayGrow c)
     × (refusal ≢ NoMemory → ((refusal ≡ Clash) × IsClash c) ⊎ IsAnswered c (Err refusal))
 
 -- a reply is such an answer

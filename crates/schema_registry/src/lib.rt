@@ -23,3 +23,4 @@ pub use refusal::Refusal;
 pub use registry::Registry;
 pub use reply::Reply;
 pub use shared::{Receipt, SharedRegistry};
+pub use subject::is_subject;

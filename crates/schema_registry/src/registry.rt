@@ -1,7 +1,7 @@
 ghost use Rattle.std.specs.Prelude.{◌≡◌, [], ◌∷◌, ◌++◌, OnOk, OnErr, IfErr, option_map};
 ghost use Rattle.schema_registry.specs.Accepting.{registry_after};
-ghost use Rattle.schema_registry.specs.Answers.{AreAccepted, Gives, answer_to};
-ghost use Rattle.schema_registry.specs.Command.{Grows, command_of};
+ghost use Rattle.schema_registry.specs.Answers.{AreAccepted, Gives, Grows, answer_to};
+ghost use Rattle.schema_registry.specs.Command.{command_of};
 ghost use Rattle.schema_registry.specs.Lists.{numbered};
 
 mod asking;
@@ -68,7 +68,8 @@ impl Registry {
         ensures answer { Gives (answer_to (registry_after self.old) (command_of command)) result }
         ensures ok { OnOk result (self.new ≡ self.old ++ command_of command ∷ []) }
         ensures err { OnErr result (self.new ≡ self.old) }
-        ensures memory { IfErr result (λ e. e ≡ Refusal.NoMemory → Grows (command_of command)) }
+        ensures memory { IfErr result (λ e. e ≡ Refusal.NoMemory
+            → Grows (registry_after self.old) (command_of command)) }
     {
         let history = self.history.and(&command);
         let reply = match command {

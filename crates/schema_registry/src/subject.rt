@@ -22,7 +22,7 @@ fn are_subject_bytes(bytes: &[u8]) -> bool
 }
 
 /// Whether a text may be the name of a subject.
-pub(crate) fn is_subject(text: &str) -> bool
+pub fn is_subject(text: &str) -> bool
     ensures { result ≡ is_subject text.now }
 {
     let bytes = text.as_bytes();

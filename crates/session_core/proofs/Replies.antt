@@ -1,6 +1,6 @@
 -- What a registry replies to a command that it accepts.
-use Rattle.std.proofs.Common.{◌≡◌, ℕ, Bool, true, false, List, [], ◌∷◌, ◌++◌, Option, Some, None, inl, inr, ap, subst, ◌∙◌}
-use Rattle.std.specs.Prelude.{Result, Ok, Err, IfErr, OnOk, OnErr, if◌then◌else◌}
+use Rattle.std.proofs.Common.{◌≡◌, ℕ, Bool, true, false, List, [], ◌∷◌, ◌++◌, Option, Some, None, inl, inr, ap, subst, sym, ◌∙◌}
+use Rattle.std.specs.Prelude.{Result, Ok, Err, IfErr, IsSome, OnOk, OnErr, if◌then◌else◌}
 use Rattle.avro_schema.specs.Schema.{Declaration}
 use Rattle.schema_names.specs.declared.error.SchemaError.{SchemaError}
 use Rattle.schema_registry.specs.declared.level.Level.{Level}
@@ -8,8 +8,8 @@ use Rattle.schema_registry.specs.declared.refusal.Refusal.{Refusal}
 use Rattle.schema_registry.specs.declared.refusal.Refusal.TheVariants.{Full}
 use Rattle.schema_registry.specs.declared.refusal.Refusal.TheVariants as refusals
 use Rattle.schema_registry.specs.Accepting.{declaration_of, id_for, registry_after}
-use Rattle.schema_registry.specs.Answers.{Answer, Gives, IsAnswer, Told, answer_to, has_no_room, is_full, is_subject_or_none, register_answer, registration, set_level_answer, where_schema, where_true}
-use Rattle.schema_registry.specs.Command.{Command, Grows, RegisterCommand, SetLevelCommand}
+use Rattle.schema_registry.specs.Answers.{Answer, Gives, Grows, IsAnswer, IsReply, Told, answer_to, has_no_room, is_full, is_subject_or_none, register_answer, registration, set_level_answer, where_schema, where_true}
+use Rattle.schema_registry.specs.Command.{Command, RegisterCommand, SetLevelCommand}
 use Rattle.schema_registry.specs.Lists.{Entry, Lists, versions_of, with_text, subjects_with_level}
 use Rattle.schema_registry.specs.Reply.{IdReply, LevelReply, Reply, reply_of}
 use Rattle.schema_registry.specs.declared.reply.Reply as rust
@@ -69,9 +69,14 @@ pub set-level : (lists : Lists) (subject : Option (List ℕ)) (level : Level) (r
 set-level lists subject level reply a =
     level-of lists subject level reply (where-true-is (is_subject_or_none subject) refusals.BadSubject (set_level_answer lists subject level) reply a)
 
+-- setting it may want memory where it is set for a subject
+pub level-grows : (lists : Lists) (subject : Option (List ℕ)) (level : Level) → IsSome subject → answer_to lists (SetLevelCommand subject level) ≡ Told (Ok (LevelReply level)) → Grows lists (SetLevelCommand subject level)
+level-grows lists None level some is = absurd (let no : ⊥ = cc in no)
+level-grows lists (Some s) level some is = subst IsReply (sym is) tt
+
 -- ---- what happens where a level is set
 
-pub level-happens : (old new : World) (subject : Option (List ℕ)) (level : Level) (c : Command) (answer : Result rust.Reply Refusal) → c ≡ SetLevelCommand subject level → Gives (answer_to (registry_after old.commands) c) answer → OnOk answer (new.commands ≡ old.commands ++ c ∷ []) → OnErr answer (new.commands ≡ old.commands) → IfErr answer (λ e. e ≡ refusals.NoMemory → Grows c) → new ≡ record old { commands = new.commands }
+pub level-happens : (old new : World) (subject : Option (List ℕ)) (level : Level) (c : Command) (answer : Result rust.Reply Refusal) → c ≡ SetLevelCommand subject level → Gives (answer_to (registry_after old.commands) c) answer → OnOk answer (new.commands ≡ old.commands ++ c ∷ []) → OnErr answer (new.commands ≡ old.commands) → IfErr answer (λ e. e ≡ refusals.NoMemory → Grows (registry_after old.commands) c) → new ≡ record old { commands = new.commands }
     → Happens (SetLevel subject level) (level_reply answer) old new
 level-happens old new subject level c (Ok reply) is gives ok err memory rest =
     let told = subst (λ (x : Command). IsAnswer (answer_to (registry_after old.commands) x) (Ok (reply_of reply))) is gives in (
@@ -79,4 +84,4 @@ level-happens old new subject level c (Ok reply) is gives ok err memory rest =
       rest ∙ ap (λ (cs : List Command). record old { commands = cs }) (ok ∙ ap (λ (x : Command). old.commands ++ x ∷ []) is),
     )
 level-happens old new subject level c (Err e) is gives ok err memory rest =
-    ((λ n. subst Grows is (memory n), λ n. subst (λ (x : Command). IsAnswer (answer_to (registry_after old.commands) x) (Err e)) is (gives n)), rest ∙ ap (λ (cs : List Command). record old { commands = cs }) err)
+    ((λ n. subst (Grows (registry_after old.commands)) is (memory n), λ n. subst (λ (x : Command). IsAnswer (answer_to (registry_after old.commands) x) (Err e)) is (gives n)), rest ∙ ap (λ (cs : List Command). record old { commands = cs }) err)

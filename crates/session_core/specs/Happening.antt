@@ -7,8 +7,8 @@ use Rattle.schema_registry.specs.declared.refusal.Refusal.{Refusal}
 use Rattle.schema_registry.specs.declared.refusal.Refusal.TheVariants as registry
 use Rattle.schema_registry.specs.declared.reply.Reply as rust
 use Rattle.schema_registry.specs.Accepting.{registry_after}
-use Rattle.schema_registry.specs.Answers.{IsAnswer, answer_to}
-use Rattle.schema_registry.specs.Command.{Command, Grows, RegisterCommand, SetLevelCommand}
+use Rattle.schema_registry.specs.Answers.{Grows, IsAnswer, answer_to}
+use Rattle.schema_registry.specs.Command.{Command, RegisterCommand, SetLevelCommand}
 use Rattle.schema_registry.specs.Reply as replies
 use Rattle.session.specs.Session.{begun}
 use Rattle.session_core.specs.declared.publish_error.PublishError.TheVariants.{Clash, NoMemory, ProgramTooLarge}
@@ -21,14 +21,14 @@ use Rattle.session_core.specs.World.{Held, World, program_at, schema_at}
 
 -- ---- the registry
 
--- it accepts a command with this reply, or refuses it and nothing changes; memory is refused to those that take some
+-- it accepts a command with this reply, or refuses it and nothing changes; memory is refused where some may be wanted
 abbrev pub Accepts : Command → replies.Reply → World → World → Type 0
 Accepts c reply old new = IsAnswer (answer_to (registry_after old.commands) c) (Ok reply)
     × (new ≡ record old { commands = old.commands ++ c ∷ [] })
 
 abbrev pub Refuses : Command → EventReply → World → World → Type 0
 Refuses c (Refused (refusals.OfRegistry e)) old new =
-    ((e ≡ registry.NoMemory → Grows c)
+    ((e ≡ registry.NoMemory → Grows (registry_after old.commands) c)
     × (e ≢ registry.NoMemory → IsAnswer (answer_to (registry_after old.commands) c) (Err e)))
     × (new ≡ old)
 Refuses c reply old new = ⊥

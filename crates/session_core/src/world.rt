@@ -1,5 +1,8 @@
-ghost use Rattle.std.specs.Prelude.{◌≡◌, ℕ, IfOk, OnErr, option_map, slice_get, string_bytes};
-ghost use Rattle.schema_registry.specs.Command.{Grows, RegisterCommand, SetLevelCommand, command_of};
+ghost use Rattle.std.specs.Prelude.{◌≡◌, ◌≢◌, ℕ, IfOk, IfSome, IsSome, OnErr, option_map, slice_get, string_bytes};
+ghost use Rattle.schema_registry.specs.Accepting.{registry_after};
+ghost use Rattle.schema_registry.specs.Answers.{answer_to, unless_refused};
+ghost use Rattle.schema_registry.specs.Command.{RegisterCommand, SetLevelCommand, command_of};
+ghost use Rattle.schema_registry.specs.Reply.{LevelReply};
 ghost use Rattle.session_core.specs.Ending.{SessionEndsWithOutcome};
 ghost use Rattle.session_core.specs.Event.{Begin, On, Publish, Register, SetLevel, act_of, event_of};
 ghost use Rattle.session_core.specs.Happening.{Adds, Happens, level_reply};
@@ -14,7 +17,7 @@ use crate::published::Published;
 use crate::refusal::EventRefusal;
 use crate::reply::EventReply;
 use isa::Program;
-use schema_registry::{Command, Level, Refusal, Registry, Reply};
+use schema_registry::{Command, Level, Refusal, Registry, Reply, is_subject};
 use session::Session;
 use std::alloc::{AllocError, Global};
 use std::marker::Model;
@@ -53,7 +56,7 @@ fn registration(subject: &String, text: &String) -> Result<Command, AllocError>
 /// The command that sets a level.
 fn level_command(subject: &Option<String>, level: Level) -> Result<Command, AllocError>
     ensures command { IfOk result (λ c. command_of c ≡ SetLevelCommand (option_map string_bytes subject.now) level) }
-    ensures memory { OnErr result (Grows (SetLevelCommand (option_map string_bytes subject.now) level)) }
+    ensures memory { OnErr result (IsSome (option_map string_bytes subject.now)) }
 {
     let subject = match subject {
         Some(subject) => Some(subject.clone()?),
@@ -124,6 +127,9 @@ impl<'p> World<'p> {
     fn register(&mut self, subject: &String, text: &String) -> EventReply
         ensures { Happens (Register (string_bytes subject.now) (string_bytes text.now)) result self.old self.new }
     {
+        if !is_subject(subject) {
+            return EventReply::Refused(EventRefusal::OfRegistry(Refusal::BadSubject));
+        }
         let Ok(command) = registration(subject, text) else {
             return EventReply::Refused(EventRefusal::OfRegistry(Refusal::NoMemory));
         };
@@ -134,10 +140,22 @@ impl<'p> World<'p> {
         }
     }
 
+    /// Why no level is set for a subject, where there is memory. The global one is always set.
+    fn level_refusal(&self, subject: &Option<String>) -> Option<Refusal>
+        ensures answer { (level : Level) → answer_to (registry_after self.now.commands)
+            (SetLevelCommand (option_map string_bytes subject.now) level) ≡ unless_refused result (LevelReply level) }
+        ensures memory { IfSome result (λ e. e ≢ Refusal.NoMemory) }
+    {
+        self.registry.level_refusal(subject.as_deref()?)
+    }
+
     /// A level is set.
     fn set_level(&mut self, subject: &Option<String>, level: Level) -> EventReply
         ensures { Happens (SetLevel (option_map string_bytes subject.now) level) result self.old self.new }
     {
+        if let Some(refusal) = self.level_refusal(subject) {
+            return EventReply::Refused(EventRefusal::OfRegistry(refusal));
+        }
         let Ok(command) = level_command(subject, level) else {
             return EventReply::Refused(EventRefusal::OfRegistry(Refusal::NoMemory));
         };

@@ -1,6 +1,6 @@
 ghost use Rattle.std.specs.Prelude.{◌≡◌, ◌≢◌, ◌+◌, ◌≤◌, ◌<◌, ◌^◌, [], ◌∷◌, List, ℕ, Ok, Err, Some, None, true, false, IfErr, IfOk, MatchResult, length, map, option_map, string_bytes};
 ghost use Rattle.schema_registry.specs.Accepting.{registry_after};
-ghost use Rattle.schema_registry.specs.Answers.{Gives, answer_to, entry_answer, where_versions};
+ghost use Rattle.schema_registry.specs.Answers.{Gives, Grows, IsReply, answer_to, entry_answer, where_versions};
 ghost use Rattle.schema_registry.specs.Command.{LookupCommand, CheckCommand, VersionsCommand, VersionCommand, SubjectsCommand, SchemaCommand, LevelCommand};
 ghost use Rattle.schema_registry.specs.Lists.{version_at, versions_of};
 ghost use Rattle.schema_registry.specs.Subject.{is_version};
@@ -74,7 +74,10 @@ impl Registry {
 
     /// A version of a subject, with the text of its schema.
     fn entry(&self, subject: String, number: u32, id: u32) -> Result<Reply, Refusal>
-        ensures { Gives (entry_answer (registry_after self.now) (entry_of (string_bytes subject) number id)) result }
+        ensures answer { Gives (entry_answer (registry_after self.now)
+            (entry_of (string_bytes subject) number id)) result }
+        ensures memory { IfErr result (λ e. e ≡ Refusal.NoMemory
+            → IsReply (entry_answer (registry_after self.now) (entry_of (string_bytes subject) number id))) }
     {
         let Some(schema) = self.schemas.get(id) else {
             return Err(Refusal::NoSchema);
@@ -90,7 +93,10 @@ impl Registry {
 
     /// Which version of a subject the schema of a text is.
     pub(super) fn lookup(&self, subject: String, text: &str) -> Result<Reply, Refusal>
-        ensures { Gives (answer_to (registry_after self.now) (LookupCommand (string_bytes subject) text.now)) result }
+        ensures answer { Gives (answer_to (registry_after self.now)
+            (LookupCommand (string_bytes subject) text.now)) result }
+        ensures memory { IfErr result (λ e. e ≡ Refusal.NoMemory
+            → Grows (registry_after self.now) (LookupCommand (string_bytes subject) text.now)) }
     {
         if !is_subject(&subject) {
             return Err(Refusal::BadSubject);
@@ -110,7 +116,10 @@ impl Registry {
         version: Version,
         text: &str,
     ) -> Result<Reply, Refusal>
-        ensures { Gives (answer_to (registry_after self.now) (CheckCommand subject.now version text.now)) result }
+        ensures answer { Gives (answer_to (registry_after self.now)
+            (CheckCommand subject.now version text.now)) result }
+        ensures memory { IfErr result (λ e. e ≡ Refusal.NoMemory
+            → Grows (registry_after self.now) (CheckCommand subject.now version text.now)) }
     {
         if !is_subject(subject) {
             return Err(Refusal::BadSubject);
@@ -132,7 +141,9 @@ impl Registry {
 
     /// The numbers of a subject's versions.
     pub(super) fn versions(&self, subject: &str) -> Result<Reply, Refusal>
-        ensures { Gives (answer_to (registry_after self.now) (VersionsCommand subject.now)) result }
+        ensures answer { Gives (answer_to (registry_after self.now) (VersionsCommand subject.now)) result }
+        ensures memory { IfErr result (λ e. e ≡ Refusal.NoMemory
+            → Grows (registry_after self.now) (VersionsCommand subject.now)) }
     {
         if !is_subject(subject) {
             return Err(Refusal::BadSubject);
@@ -143,7 +154,10 @@ impl Registry {
 
     /// A version of a subject.
     pub(super) fn version(&self, subject: String, version: Version) -> Result<Reply, Refusal>
-        ensures { Gives (answer_to (registry_after self.now) (VersionCommand (string_bytes subject) version)) result }
+        ensures answer { Gives (answer_to (registry_after self.now)
+            (VersionCommand (string_bytes subject) version)) result }
+        ensures memory { IfErr result (λ e. e ≡ Refusal.NoMemory
+            → Grows (registry_after self.now) (VersionCommand (string_bytes subject) version)) }
     {
         if !is_subject(&subject) {
             return Err(Refusal::BadSubject);
@@ -171,7 +185,9 @@ impl Registry {
 
     /// The text of the schema of an id.
     pub(super) fn schema(&self, id: u32) -> Result<Reply, Refusal>
-        ensures { Gives (answer_to (registry_after self.now) (SchemaCommand id)) result }
+        ensures answer { Gives (answer_to (registry_after self.now) (SchemaCommand id)) result }
+        ensures memory { IfErr result (λ e. e ≡ Refusal.NoMemory
+            → Grows (registry_after self.now) (SchemaCommand id)) }
     {
         match self.schemas.get(id) {
             Some(schema) => Ok(Reply::Text(String::from_str(self.alloc, schema.text())?)),

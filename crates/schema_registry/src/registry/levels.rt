@@ -1,12 +1,11 @@
-ghost use Rattle.std.specs.Prelude.{◌≡◌, ◌≢◌, ◌∷◌, [], ◌++◌, Ok, Err, ℕ, List, Some, true, false, MatchResult, IfErr, OnOk, OnErr, if◌then◌else◌, option_map, string_bytes};
-ghost use Rattle.std.specs.BTreeMap.{IsOrdered, IsUnchanged, get_by_text};
+ghost use Rattle.std.specs.Prelude.{◌≡◌, ◌≢◌, ◌∷◌, [], ◌++◌, ℕ, List, Some, IfErr, IfSome, OnOk, OnErr, if◌then◌else◌, option_map, string_bytes};
+ghost use Rattle.std.specs.BTreeMap.{IsUnchanged, get_by_text};
 ghost use Rattle.std.specs.Str.{bytes_eq};
-ghost use Rattle.std.specs.String.{string_cmp};
 ghost use Rattle.schema_registry.specs.Accepting.{registry_after};
-ghost use Rattle.schema_registry.specs.Answers.{Gives, answer_to};
-ghost use Rattle.schema_registry.specs.Command.{Grows, SetLevelCommand};
+ghost use Rattle.schema_registry.specs.Answers.{Gives, Grows, answer_to, unless_refused};
+ghost use Rattle.schema_registry.specs.Command.{SetLevelCommand};
 ghost use Rattle.schema_registry.specs.Lists.{level_of};
-ghost use Rattle.schema_registry.specs.Tables.{lacks_room};
+ghost use Rattle.schema_registry.specs.Reply.{LevelReply};
 
 use super::Registry;
 use crate::history::History;
@@ -17,25 +16,19 @@ use crate::reply::Reply;
 use crate::room::lacks_room;
 use crate::subject::is_subject;
 use registry_tables::set_for;
+use std::alloc::AllocError;
 use std::collections::BTreeMap;
 
-/// Puts a level under a name, where there is room for it.
+/// Puts a level under a name.
 fn put_level(
     levels: &mut BTreeMap<String, Level>,
     subject: String,
     level: Level,
-) -> Result<(), Refusal>
+) -> Result<(), AllocError>
     ensures put { OnOk result ((s : List ℕ) → get_by_text levels.new s
         ≡ (if bytes_eq (string_bytes subject) s then Some level else get_by_text levels.old s)) }
-    ensures full { MatchResult result (λ _. lacks_room levels.old (string_bytes subject) MOST_LEVELS ≡ false)
-        (λ e. e ≢ Refusal.NoMemory → (e ≡ Refusal.Full)
-        × (lacks_room levels.old (string_bytes subject) MOST_LEVELS ≡ true)) }
-    ensures ordered { IsOrdered string_cmp levels.old }
     ensures err { OnErr result (IsUnchanged levels.old levels.new) }
 {
-    if lacks_room(levels, &subject, MOST_LEVELS) {
-        return Err(Refusal::Full);
-    }
     levels.insert(subject, level)?;
     Ok(())
 }
@@ -46,6 +39,22 @@ impl Registry {
         ensures { result ≡ level_of (option_map (λ s. s.now) subject.entry) (registry_after self.now).levels }
     {
         set_for(&self.levels, self.global, subject)
+    }
+
+    /// Why no level is set for a subject, where there is memory.
+    pub fn level_refusal(&self, subject: &str) -> Option<Refusal>
+        ensures answer { (level : Level)
+            → answer_to (registry_after self.now) (SetLevelCommand (Some subject.now) level)
+            ≡ unless_refused result (LevelReply level) }
+        ensures memory { IfSome result (λ e. e ≢ Refusal.NoMemory) }
+    {
+        if !is_subject(subject) {
+            return Some(Refusal::BadSubject);
+        }
+        if lacks_room(&self.levels, subject, MOST_LEVELS) {
+            return Some(Refusal::Full);
+        }
+        None
     }
 
     /// Sets the level of a subject, or the global one, and keeps the history.
@@ -60,16 +69,16 @@ impl Registry {
             (SetLevelCommand (option_map string_bytes subject) level)) result }
         ensures ok { OnOk result (self.new ≡ history.commands) }
         ensures err { OnErr result (self.new ≡ self.old) }
-        ensures memory { IfErr result
-            (λ e. e ≡ Refusal.NoMemory → Grows (SetLevelCommand (option_map string_bytes subject) level)) }
+        ensures memory { IfErr result (λ e. e ≡ Refusal.NoMemory
+            → Grows (registry_after self.old) (SetLevelCommand (option_map string_bytes subject) level)) }
     {
         let Some(subject) = subject else {
             self.global = level;
             self.history = history;
             return Ok(Reply::LevelIs(level));
         };
-        if !is_subject(&subject) {
-            return Err(Refusal::BadSubject);
+        if let Some(refusal) = self.level_refusal(&subject) {
+            return Err(refusal);
         }
         put_level(&mut self.levels, subject, level)?;
         self.history = history;

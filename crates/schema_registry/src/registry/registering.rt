@@ -1,10 +1,10 @@
-ghost use Rattle.std.specs.Prelude.{◌≡◌, ◌<◌, ◌≢◌, ◌↔◌, ◌≤◌, [], ◌∷◌, ◌++◌, ℕ, List, Ok, Err, Some, None, true, false, is_some, IfOk, IsTrue, MatchResult, OnOk, OnErr, if◌then◌else◌, option_map, string_bytes};
+ghost use Rattle.std.specs.Prelude.{◌≡◌, ◌<◌, ◌≢◌, ◌↔◌, ◌≤◌, [], ◌∷◌, ◌++◌, ℕ, List, Ok, Err, Some, None, true, false, is_some, IfErr, IfOk, IsTrue, MatchResult, OnOk, OnErr, if◌then◌else◌, option_map, string_bytes};
 ghost use Rattle.std.specs.BTreeMap.{IsUnchanged, get_by_text};
 ghost use Rattle.std.specs.Str.{bytes_eq};
 ghost use Rattle.schema_names.specs.declared.error.SchemaError.{SchemaError};
 ghost use Rattle.schema_registry.specs.declared.limits.TheConstants.{MOST_SCHEMAS};
 ghost use Rattle.schema_registry.specs.Accepting.{declaration_of, id_for, registry_after, with_schema};
-ghost use Rattle.schema_registry.specs.Answers.{AreAccepted, AreSafe, Gives, GivesId, answer_to, is_full, pairs_of};
+ghost use Rattle.schema_registry.specs.Answers.{AreAccepted, AreSafe, Gives, GivesId, Grows, answer_to, is_full, pairs_of};
 ghost use Rattle.schema_registry.specs.Command.{RegisterCommand, command_of};
 ghost use Rattle.schema_registry.specs.Lists.{level_of, versions_of, with_text};
 ghost use Rattle.schema_registry.specs.Subject.{is_subject};
@@ -146,6 +146,8 @@ impl Registry {
             (RegisterCommand (string_bytes subject) (string_bytes text))) result }
         ensures ok { OnOk result (self.new ≡ history.commands) }
         ensures err { OnErr result (self.new ≡ self.old) }
+        ensures memory { IfErr result (λ e. e ≡ Refusal.NoMemory
+            → Grows (registry_after self.old) (RegisterCommand (string_bytes subject) (string_bytes text))) }
     {
         if !is_subject(&subject) {
             return Err(Refusal::BadSubject);

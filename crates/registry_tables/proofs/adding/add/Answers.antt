@@ -6,10 +6,14 @@ use Rattle.registry_tables.proofs.Changes.{next-id, same-taken}
 use Rattle.registry_tables.proofs.adding.add.Goals as goal
 
 pub overflow_add-id : goal.overflow_add-id
-overflow_add-id c = omega (arith, c.requires.room)
+overflow_add-id c =
+    let lacking : get_by_text c.args.ids.now c.args.text.now ≡ None = search rules in
+    omega (arith, next-id c.args.ids.now c.args.text.now lacking c.args.count c.args.count refl, c.requires.few)
 
 pub add_version-requires-2-clause-known : goal.add_version-requires-2-clause-known
-add_version-requires-2-clause-known c = omega (arith, c.requires.room)
+add_version-requires-2-clause-known c =
+    let lacking : get_by_text c.args.ids.now c.args.text.now ≡ None = search rules in
+    omega (arith, next-id c.args.ids.now c.args.text.now lacking c.args.count c.args.count refl, c.requires.few)
 
 pub add_version-requires-2-clause-new : goal.add_version-requires-2-clause-new
 add_version-requires-2-clause-new c =

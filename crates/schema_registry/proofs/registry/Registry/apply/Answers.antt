@@ -11,19 +11,19 @@ invariant_of-self c =
     elim c.match-command.branch [
       | in-Lookup+in_ok-reply-in-Lookup w ↦
           let are = rw (w.in-Lookup.is, c.self.view_is) at c.and-history.ensures in
-          let answer = rw w.deref.ensures at w.in_ok-reply-in-Lookup.ensures in
+          let answer = rw w.deref.ensures at w.in_ok-reply-in-Lookup.ensures.answer in
           asked (LookupCommand (string_bytes w.in-Lookup.subject) (string_bytes w.in-Lookup.text)) (reply_of w.in_ok-reply-in-Lookup.reply) are refl answer
       | in-Check+in_ok-reply-in-Check w ↦
           let are = rw (w.in-Check.is, c.self.view_is) at c.and-history.ensures in
-          let answer = rw (w.deref-in-Check.ensures, w.deref-in-Check-2.ensures) at w.in_ok-reply-in-Check.ensures in
+          let answer = rw (w.deref-in-Check.ensures, w.deref-in-Check-2.ensures) at w.in_ok-reply-in-Check.ensures.answer in
           asked (CheckCommand (string_bytes w.in-Check.subject) w.in-Check.version (string_bytes w.in-Check.text)) (reply_of w.in_ok-reply-in-Check.reply) are refl answer
       | in-Versions+in_ok-reply-in-Versions w ↦
           let are = rw (w.in-Versions.is, c.self.view_is) at c.and-history.ensures in
-          let answer = rw w.deref-in-Versions.ensures at w.in_ok-reply-in-Versions.ensures in
+          let answer = rw w.deref-in-Versions.ensures at w.in_ok-reply-in-Versions.ensures.answer in
           asked (VersionsCommand (string_bytes w.in-Versions.subject)) (reply_of w.in_ok-reply-in-Versions.reply) are refl answer
       | in-Version+in_ok-reply-in-Version w ↦
           let are = rw (w.in-Version.is, c.self.view_is) at c.and-history.ensures in
-          let answer = w.in_ok-reply-in-Version.ensures in
+          let answer = w.in_ok-reply-in-Version.ensures.answer in
           asked (VersionCommand (string_bytes w.in-Version.subject) w.in-Version.version) (reply_of w.in_ok-reply-in-Version.reply) are refl answer
       | in-Subjects+in_ok-reply-in-Subjects w ↦
           let are = rw (w.in-Subjects.is, c.self.view_is) at c.and-history.ensures in
@@ -31,7 +31,7 @@ invariant_of-self c =
           asked (SubjectsCommand) (reply_of w.in_ok-reply-in-Subjects.reply) are refl answer
       | in-Schema+in_ok-reply-in-Schema w ↦
           let are = rw (w.in-Schema.is, c.self.view_is) at c.and-history.ensures in
-          let answer = w.in_ok-reply-in-Schema.ensures in
+          let answer = w.in_ok-reply-in-Schema.ensures.answer in
           asked (SchemaCommand w.in-Schema.id) (reply_of w.in_ok-reply-in-Schema.reply) are refl answer
       | in-Level+in_ok-reply-in-Level w ↦
           let are = rw (w.in-Level.is, c.self.view_is) at c.and-history.ensures in

@@ -6,8 +6,8 @@ use Rattle.schema_registry.specs.Subject.{is_subject, is_version}
 use Rattle.schema_registry.proofs.Told.{version-is}
 use Rattle.schema_registry.proofs.registry.Registry.version.Goals as goal
 
-pub returns-in_default : goal.returns-in_default
-returns-in_default c =
+pub returns-in_default-clause-answer : goal.returns-in_default-clause-answer
+returns-in_default-clause-answer c =
     let named : is_subject (string_bytes c.args.subject) ≡ true = search rules in
     let right : is_version c.args.version ≡ true = search rules in
     let at = rw c.deref-2.ensures at c.in_ok-versions.ensures in

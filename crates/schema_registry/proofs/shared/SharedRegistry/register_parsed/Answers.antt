@@ -1,15 +1,35 @@
 use Rattle.std.proofs.Common.{string_bytes, inr}
 use Rattle.std.proofs.lemmas.Result.{err_from_is_err_and}
 use Rattle.schema_registry.specs.Accepting.{registry_after}
+use Rattle.schema_registry.specs.Command.{command_of}
+use Rattle.schema_registry.proofs.SomeAnswer.{memory-refused, registration-grows}
 use Rattle.schema_registry.proofs.Told.{registered-refusal}
 use Rattle.schema_registry.proofs.shared.SharedRegistry.register_parsed.Goals as goal
+
+pub returns-in_err-kept-clause-answer : goal.returns-in_err-kept-clause-answer
+returns-in_err-kept-clause-answer g c =
+    let p = err_from_is_err_and c.from_residual.result c.from_residual.ensures.1 in
+    let asked = c.requires in
+    rw (p.1, p.2) (memory-refused (command_of c.args.command.now) (registration-grows _ (string_bytes c.args.subject) asked.text asked.command_is asked.subject_is))
+
+pub returns-in_err-copy-clause-answer : goal.returns-in_err-copy-clause-answer
+returns-in_err-copy-clause-answer g c =
+    let p = err_from_is_err_and c.from_residual-in_err-copy.result c.from_residual-in_err-copy.ensures.1 in
+    let asked = c.requires in
+    rw (p.1, p.2) (memory-refused (command_of c.args.command.now) (registration-grows _ (string_bytes c.args.subject) asked.text asked.command_is asked.subject_is))
+
+pub returns-in_err-shown-clause-answer : goal.returns-in_err-shown-clause-answer
+returns-in_err-shown-clause-answer g c =
+    let p = err_from_is_err_and c.from_residual-in_err-shown.result c.from_residual-in_err-shown.ensures.1 in
+    let asked = c.requires in
+    rw (p.1, p.2) (memory-refused (command_of c.args.command.now) (registration-grows _ (string_bytes c.args.subject) asked.text asked.command_is asked.subject_is))
 
 pub returns-in_err-id-clause-answer : goal.returns-in_err-id-clause-answer
 returns-in_err-id-clause-answer g c =
     let p = err_from_is_err_and c.from_residual-in_err-id.result c.from_residual-in_err-id.ensures.1 in
     let asked = c.requires in
     rw (p.1, p.2, asked.command_is) (
-      λ _. tt,
+      λ _. record { commands = c.deref_mut.result.now; accepted = c.in_err-id.ensures.accepted; grows = asked.subject_is },
       λ known. inr (record {
         commands = c.deref_mut.result.now;
         accepted = c.in_err-id.ensures.accepted;

@@ -1,13 +1,20 @@
 use Rattle.std.proofs.Common.{sym, subst, refl}
 use Rattle.std.specs.Prelude.{option_map, string_bytes}
+use Rattle.schema_registry.specs.Accepting.{registry_after}
 use Rattle.schema_registry.specs.Command.{command_of}
 use Rattle.session_core.specs.declared.reply.EventReply.{EventReply}
 use Rattle.session_core.specs.Event.{SetLevel}
 use Rattle.session_core.specs.Happening.{Happens}
 use Rattle.session_core.specs.World.{World}
-use Rattle.session_core.proofs.Replies.{level-happens}
+use Rattle.session_core.proofs.Replies.{level-grows, level-happens}
 use Rattle.session_core.proofs.Worlds.{kept-by-answer}
 use Rattle.session_core.proofs.world.World.set_level.Goals as goal
+
+pub returns-in_default-level_command : goal.returns-in_default-level_command
+returns-in_default-level_command c =
+    let grows = level-grows (registry_after c.args.self.now.commands) (option_map string_bytes c.args.subject.now) c.args.level c.in_default-level_command.ensures.memory
+    (c.in_default.ensures.answer c.args.level) in
+    ((λ _. grows, λ other. absurd (other refl)), refl)
 
 pub invariant_of-self : goal.invariant_of-self
 invariant_of-self c =
