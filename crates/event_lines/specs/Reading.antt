@@ -103,7 +103,7 @@ HasSubject (Some (Register subject text)) = Unit {0}
 HasSubject (Some (SetLevel (Some subject) level)) = Unit {0}
 HasSubject line = ⊥
 
--- where a line of this kind that says this may want memory: a name is kept, and bytes, before one may be malformed
+-- where reading a line of this kind may want memory: what it says has a name, or there are bytes, malformed or not
 abbrev pub WantsMemory : Option Kind → Option ReplayLine → Type 0
 WantsMemory (Some kinds.Piece) line = Unit {0}
 WantsMemory kind line = HasSubject line
