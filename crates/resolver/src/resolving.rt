@@ -278,7 +278,8 @@ fn resolve_field(
     }
 }
 
-/// What a reader's schema makes of a datum of a writer's (Avro 1.11, "Nodes Resolution").
+/// What a reader's schema makes of a datum of a writer's (Avro 1.11, "Schema Resolution"), or the first mismatch in the
+/// order of the datum, with the numbers of both nodes.
 pub fn resolve(alloc: Global, w: &Nodes, r: &Nodes, datum: Datum) -> Result<Datum, ResolveError>
     ensures { Resolves datum_of result (resolved w.now r.now 0 0 (datum_of datum)) }
 {

@@ -31,6 +31,7 @@ fn write_resolved(alloc: Global, resolved: &Datum) -> Result<Outcome, TranscodeE
 }
 
 /// The outcome of a payload: reads it by the writer's schema, resolves the datum, and writes it by the reader's.
+/// `TooLarge` where the payload passes `MOST_PAYLOAD`: then it is not read.
 pub fn transcode_tree(
     alloc: Global,
     w: &Nodes,
