@@ -69,7 +69,7 @@ impl SchemaPair<'_> {
         if field_lists(self.writer, wn, self.reader, rn).is_none() {
             return put(lines, Line::Lost);
         }
-        match known.lacking_node(self.alloc, self.writer, self.reader, wn, rn)? {
+        match known.lacking_node(self, wn, rn)? {
             Some(node) => {
                 put(lines, Line::Miss(miss(MismatchKind::NoDefault, wn, node)))?;
                 self.skip(wn, lines)
@@ -204,7 +204,7 @@ impl SchemaPair<'_> {
             (place self.now.writer.now self.now.reader.now wn rn)) }
         ensures known { AreKnown self.now.writer.now self.now.reader.now known.new }
     {
-        match known.place_of(self.alloc, self.writer, wn, self.reader, rn)? {
+        match known.place_of(self, wn, rn)? {
             Place::Straight => self.straight(known, wn, rn, steps, lines),
             Place::IntoMember { position, node } => {
                 put(lines, Line::Put(Constant::Position(position)))?;

@@ -90,4 +90,4 @@ skip_members-returns-clause-places t c =
     let W = c.args.self.now.writer.now in
     let R = c.args.self.now.reader.now in
     let at : c.len.result ≡ length c.args.code.now.items = search rules in
-    places_then (skip_within c.args.self.now.writer.now c.args.levels) c.in-Some.first.now c.in-Some.rest.now c.args.members.now c.in-Some.ensures.cases.0 (lines_in W R c.args.code.now.items) (lines_in W R c.skip_within.new.lines.items) (lines_in W R c.put.new.lines.items) Lost c.args.fars.now.items c.push.new.self.items c.skip_members.new.fars.items (length c.args.code.now.items) (length c.put.new.lines.items) (c.in_ok-push.ensures.items ∙ ap (λ k. c.args.fars.now.items ++ (k + 1) ∷ []) at) c.in_ok-skip_members.ensures.places c.in_ok-skip_within.ensures (c.in_ok-put.ensures W R) (sym (lines_length W R c.args.code.now.items)) (sym (lines_length W R c.put.new.lines.items))
+    places_then (skip_within c.args.self.now.writer.now c.args.levels) c.in-Some.first.now c.in-Some.rest.now c.args.members.now c.in-Some.ensures.cases.0 (lines_in W R c.args.code.now.items) (lines_in W R c.skip_within.new.lines.items) (lines_in W R c.put.new.lines.items) Lost c.args.fars.now.items c.push.new.self.items c.skip_members.new.fars.items (length c.args.code.now.items) (length c.put.new.lines.items) (◌∙◌ {b = c.args.fars.now.items ++ (c.len.result + 1) ∷ []} c.in_ok-push.ensures.items (ap (λ k. c.args.fars.now.items ++ (k + 1) ∷ []) at)) c.in_ok-skip_members.ensures.places c.in_ok-skip_within.ensures (c.in_ok-put.ensures W R) (sym (lines_length W R c.args.code.now.items)) (sym (lines_length W R c.put.new.lines.items))

@@ -119,4 +119,4 @@ write_members-returns-clause-places t c =
     let W = c.args.self.now.writer.now in
     let R = c.args.self.now.reader.now in
     let at : c.len.result ≡ length c.args.code.now.items = search rules in
-    places_then (λ m. write_within c.args.self.now.writer.now c.args.self.now.reader.now c.args.steps m c.args.rn) c.in-Some.first.now c.in-Some.rest.now c.args.members.now c.in-Some.ensures.cases.0 (lines_in W R c.args.code.now.items) (lines_in W R c.write_within.new.lines.items) (lines_in W R c.put.new.lines.items) Lost c.args.fars.now.items c.push.new.self.items c.write_members.new.fars.items (length c.args.code.now.items) (length c.put.new.lines.items) (c.in_ok-push.ensures.items ∙ ap (λ k. c.args.fars.now.items ++ (k + 1) ∷ []) at) c.in_ok-write_members.ensures.places c.in_ok-write_within.ensures.lines (c.in_ok-put.ensures W R) (sym (lines_length W R c.args.code.now.items)) (sym (lines_length W R c.put.new.lines.items))
+    places_then (λ m. write_within c.args.self.now.writer.now c.args.self.now.reader.now c.args.steps m c.args.rn) c.in-Some.first.now c.in-Some.rest.now c.args.members.now c.in-Some.ensures.cases.0 (lines_in W R c.args.code.now.items) (lines_in W R c.write_within.new.lines.items) (lines_in W R c.put.new.lines.items) Lost c.args.fars.now.items c.push.new.self.items c.write_members.new.fars.items (length c.args.code.now.items) (length c.put.new.lines.items) (◌∙◌ {b = c.args.fars.now.items ++ (c.len.result + 1) ∷ []} c.in_ok-push.ensures.items (ap (λ k. c.args.fars.now.items ++ (k + 1) ∷ []) at)) c.in_ok-write_members.ensures.places c.in_ok-write_within.ensures.lines (c.in_ok-put.ensures W R) (sym (lines_length W R c.args.code.now.items)) (sym (lines_length W R c.put.new.lines.items))
