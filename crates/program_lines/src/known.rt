@@ -4,7 +4,7 @@ ghost use Rattle.avro_types.specs.WellFormed.{full_name_of};
 ghost use Rattle.matching.specs.Matching.{IsNodeOf, place};
 ghost use Rattle.program_lines.specs.Known.{AreKnown, lacking_node};
 
-use crate::members::{find_member, name_of, positions_of};
+use crate::members::{name_of, positions_of};
 use crate::named_types::NamedTypes;
 use crate::schema_pair::SchemaPair;
 use avro_types::{Kind, Name, Nodes};
@@ -118,7 +118,7 @@ impl Known {
         pair.writer.is_well_formed();
         pair.reader.is_well_formed();
         matches_by_rule();
-        find_member(pair.writer, wn, pair.reader, members, positions, candidates)
+        pair.find_member(wn, members, positions, candidates)
     }
 
     /// Where a value of a writer's node goes with a reader's node.
