@@ -4,8 +4,9 @@ ghost use Rattle.avro_types.specs.WellFormed.{full_name_of};
 ghost use Rattle.matching.specs.Matching.{IsNodeOf, place};
 ghost use Rattle.program_lines.specs.Known.{AreKnown, lacking_node};
 
-use crate::members::{find_member, name_of, positions_of};
+use crate::members::{name_of, positions_of};
 use crate::named_types::NamedTypes;
+use crate::schema_pair::SchemaPair;
 use avro_types::{Kind, Name, Nodes};
 use matching::{Place, matches_by_rule, place_of, routes};
 use resolver::{field_lists, first_lacking};
@@ -41,22 +42,20 @@ impl Known {
     /// The node of the first of the reader's fields that has neither a partner nor a default.
     pub(crate) fn lacking_node(
         &mut self,
-        alloc: Global,
-        w: &Nodes,
-        r: &Nodes,
+        pair: &SchemaPair<'_>,
         wn: usize,
         rn: usize,
     ) -> Result<Option<usize>, AllocError>
-        requires writer { wn < length w.now }
-        requires reader { rn < length r.now }
-        requires known { AreKnown w.now r.now self.old }
-        ensures node { IfOk result (λ node. node ≡ lacking_node w.now r.now (wn, rn)) }
-        ensures known { AreKnown w.now r.now self.new }
+        requires writer { wn < length pair.now.writer.now }
+        requires reader { rn < length pair.now.reader.now }
+        requires known { AreKnown pair.now.writer.now pair.now.reader.now self.old }
+        ensures node { IfOk result (λ node. node ≡ lacking_node pair.now.writer.now pair.now.reader.now (wn, rn)) }
+        ensures known { AreKnown pair.now.writer.now pair.now.reader.now self.new }
     {
         if let Some(node) = self.lacking.get(&(wn, rn)).copied() {
             return Ok(node);
         }
-        let node = find_lacking(alloc, w, r, wn, rn)?;
+        let node = pair.find_lacking(wn, rn)?;
         self.lacking.insert((wn, rn), node)?;
         Ok(node)
     }
@@ -95,84 +94,77 @@ impl Known {
     /// have its unqualified name. Where too many nodes have it, each member is compared.
     fn place_by_name(
         &self,
-        w: &Nodes,
+        pair: &SchemaPair<'_>,
         wn: usize,
         name: &Name,
-        r: &Nodes,
         rn: usize,
         members: &[usize],
     ) -> Place
-        requires writer { wn < length w.now }
-        requires name { full_name_of (slice_get w.now wn) ≡ Some name.now }
-        requires reader { rn < length r.now }
-        requires union { slice_get r.now rn ≡ Some (UnionNode members.now) }
-        requires known { AreKnown w.now r.now self.now }
-        ensures place { result ≡ place w.now r.now wn rn }
-        ensures within { IsNodeOf (length r.now) result }
+        requires writer { wn < length pair.now.writer.now }
+        requires name { full_name_of (slice_get pair.now.writer.now wn) ≡ Some name.now }
+        requires reader { rn < length pair.now.reader.now }
+        requires union { slice_get pair.now.reader.now rn ≡ Some (UnionNode members.now) }
+        requires known { AreKnown pair.now.writer.now pair.now.reader.now self.now }
+        ensures place { result ≡ place pair.now.writer.now pair.now.reader.now wn rn }
+        ensures within { IsNodeOf (length pair.now.reader.now) result }
     {
         let (Some(types), Some(positions)) = (&self.types, self.positions.get(&rn)) else {
-            return place_of(w, wn, r, rn);
+            return place_of(pair.writer, wn, pair.reader, rn);
         };
         let candidates = types.of_name(name.last());
         if candidates.len() > FEW {
-            return place_of(w, wn, r, rn);
+            return place_of(pair.writer, wn, pair.reader, rn);
         }
-        w.is_well_formed();
-        r.is_well_formed();
+        pair.writer.is_well_formed();
+        pair.reader.is_well_formed();
         matches_by_rule();
-        find_member(w, wn, r, members, positions, candidates)
+        pair.find_member(wn, members, positions, candidates)
     }
 
     /// Where a value of a writer's node goes with a reader's node.
     pub(crate) fn place_of(
         &mut self,
-        alloc: Global,
-        w: &Nodes,
+        pair: &SchemaPair<'_>,
         wn: usize,
-        r: &Nodes,
         rn: usize,
     ) -> Result<Place, AllocError>
-        requires writer { wn < length w.now }
-        requires reader { rn < length r.now }
-        requires known { AreKnown w.now r.now self.old }
-        ensures place { IfOk result (λ found. found ≡ place w.now r.now wn rn) }
-        ensures within { IfOk result (IsNodeOf (length r.now)) }
-        ensures known { AreKnown w.now r.now self.new }
+        requires writer { wn < length pair.now.writer.now }
+        requires reader { rn < length pair.now.reader.now }
+        requires known { AreKnown pair.now.writer.now pair.now.reader.now self.old }
+        ensures place { IfOk result (λ found. found ≡ place pair.now.writer.now pair.now.reader.now wn rn) }
+        ensures within { IfOk result (IsNodeOf (length pair.now.reader.now)) }
+        ensures known { AreKnown pair.now.writer.now pair.now.reader.now self.new }
     {
-        let Kind::Union(members) = r.kind(rn) else {
-            return Ok(place_of(w, wn, r, rn));
+        let Kind::Union(members) = pair.reader.kind(rn) else {
+            return Ok(place_of(pair.writer, wn, pair.reader, rn));
         };
-        let Some(name) = name_of(w, wn) else {
-            return Ok(place_of(w, wn, r, rn));
+        let Some(name) = name_of(pair.writer, wn) else {
+            return Ok(place_of(pair.writer, wn, pair.reader, rn));
         };
         if members.len() <= FEW {
-            return Ok(place_of(w, wn, r, rn));
+            return Ok(place_of(pair.writer, wn, pair.reader, rn));
         }
-        self.note_types(alloc, r)?;
-        self.note_positions(alloc, r, rn, members)?;
-        Ok(self.place_by_name(w, wn, name, r, rn, members))
+        self.note_types(pair.alloc, pair.reader)?;
+        self.note_positions(pair.alloc, pair.reader, rn, members)?;
+        Ok(self.place_by_name(pair, wn, name, rn, members))
     }
 }
 
-/// The node of the first of the reader's fields that has neither a partner nor a default, found by all of both records'
-/// fields.
-fn find_lacking(
-    alloc: Global,
-    w: &Nodes,
-    r: &Nodes,
-    wn: usize,
-    rn: usize,
-) -> Result<Option<usize>, AllocError>
-    requires writer { wn < length w.now }
-    requires reader { rn < length r.now }
-    ensures { IfOk result (λ node. node ≡ lacking_node w.now r.now (wn, rn)) }
-{
-    let Some((ws, rs)) = field_lists(w, wn, r, rn) else {
-        return Ok(None);
-    };
-    let routes = routes(alloc, ws, rs)?;
-    match first_lacking(alloc, &routes, rs)? {
-        Some(field) => Ok(Some(field.node)),
-        None => Ok(None),
+impl SchemaPair<'_> {
+    /// The node of the first of the reader's fields that has neither a partner nor a default, found by all of both
+    /// records' fields.
+    fn find_lacking(&self, wn: usize, rn: usize) -> Result<Option<usize>, AllocError>
+        requires writer { wn < length self.now.writer.now }
+        requires reader { rn < length self.now.reader.now }
+        ensures { IfOk result (λ node. node ≡ lacking_node self.now.writer.now self.now.reader.now (wn, rn)) }
+    {
+        let Some((ws, rs)) = field_lists(self.writer, wn, self.reader, rn) else {
+            return Ok(None);
+        };
+        let routes = routes(self.alloc, ws, rs)?;
+        match first_lacking(self.alloc, &routes, rs)? {
+            Some(field) => Ok(Some(field.node)),
+            None => Ok(None),
+        }
     }
 }

@@ -9,6 +9,7 @@ mod lines;
 mod members;
 mod named_types;
 mod routines;
+mod schema_pair;
 mod sections;
 mod skipping;
 mod walking;

@@ -7,6 +7,7 @@ ghost use Rattle.matching.specs.Matching.{IsNodeOf, first_member, matches};
 ghost use Rattle.program_lines.specs.Members.{ArePositionsOf, least};
 ghost use Rattle.program_lines.specs.NamedTypes.{is_among};
 
+use crate::schema_pair::SchemaPair;
 use avro_types::{Kind, MOST_NODES, Name, Nodes};
 use matching::{Place, matches};
 use std::alloc::{AllocError, Global};
@@ -40,25 +41,6 @@ pub(crate) fn positions_of(
     Ok(positions)
 }
 
-/// The position of a node, where it is a member and matches.
-fn matching_position(
-    w: &Nodes,
-    wn: usize,
-    r: &Nodes,
-    positions: &BTreeMap<usize, u32>,
-    node: usize,
-) -> Option<u32>
-    requires writer { wn < length w.now }
-    requires reader { node < length r.now }
-    ensures { result ≡ if matches w.now r.now wn node then get nat_cmp positions.now node else None }
-{
-    if matches(w, wn, r, node) {
-        positions.get(&node).copied()
-    } else {
-        None
-    }
-}
-
 /// The lesser of two positions, or the one that there is.
 fn least(one: Option<u32>, other: Option<u32>) -> Option<u32>
     ensures { result ≡ least one other }
@@ -70,32 +52,52 @@ fn least(one: Option<u32>, other: Option<u32>) -> Option<u32>
     }
 }
 
-/// The first of a union's members that is a candidate and matches.
-pub(crate) fn find_member(
-    w: &Nodes,
-    wn: usize,
-    r: &Nodes,
-    members: &[usize],
-    positions: &BTreeMap<usize, u32>,
-    candidates: &[usize],
-) -> Place
-    requires writer { wn < length w.now }
-    requires members { AllByRecursion (λ m. m < length r.now) members.now }
-    requires positions { ArePositionsOf members.now positions.now }
-    requires candidates { AllByRecursion (λ m. m < length r.now) candidates.now }
-    ensures place { result
-        ≡ first_member (λ m. is_among m candidates.now && matches w.now r.now wn m) 0 members.now }
-    ensures within { IsNodeOf (length r.now) result }
-{
-    let mut first = None;
-    for candidate in candidates {
-        first = least(first, matching_position(w, wn, r, positions, *candidate));
+impl SchemaPair<'_> {
+    /// The position of a node, where it is a member and matches.
+    fn matching_position(
+        &self,
+        wn: usize,
+        positions: &BTreeMap<usize, u32>,
+        node: usize,
+    ) -> Option<u32>
+        requires writer { wn < length self.now.writer.now }
+        requires reader { node < length self.now.reader.now }
+        ensures { result
+            ≡ if matches self.now.writer.now self.now.reader.now wn node then get nat_cmp positions.now node else None }
+    {
+        if matches(self.writer, wn, self.reader, node) {
+            positions.get(&node).copied()
+        } else {
+            None
+        }
     }
-    match first {
-        Some(position) => Place::IntoMember {
-            position,
-            node: members[position as usize],
-        },
-        None => Place::Nowhere,
+
+    /// The first of a union's members that is a candidate and matches.
+    pub(crate) fn find_member(
+        &self,
+        wn: usize,
+        members: &[usize],
+        positions: &BTreeMap<usize, u32>,
+        candidates: &[usize],
+    ) -> Place
+        requires writer { wn < length self.now.writer.now }
+        requires members { AllByRecursion (λ m. m < length self.now.reader.now) members.now }
+        requires positions { ArePositionsOf members.now positions.now }
+        requires candidates { AllByRecursion (λ m. m < length self.now.reader.now) candidates.now }
+        ensures place { result ≡ first_member
+            (λ m. is_among m candidates.now && matches self.now.writer.now self.now.reader.now wn m) 0 members.now }
+        ensures within { IsNodeOf (length self.now.reader.now) result }
+    {
+        let mut first = None;
+        for candidate in candidates {
+            first = least(first, self.matching_position(wn, positions, *candidate));
+        }
+        match first {
+            Some(position) => Place::IntoMember {
+                position,
+                node: members[position as usize],
+            },
+            None => Place::Nowhere,
+        }
     }
 }

@@ -15,9 +15,8 @@ ghost use Rattle.program_lines.specs.Lines.{default_of, fields_of_record, lines_
 use crate::blank::is_blank;
 use crate::known::Known;
 use crate::lines::{Constant, Line, Section, put};
-use crate::skipping::skip;
-use crate::writing::write;
-use avro_types::{Field, Kind, MOST_FIELDS, Nodes};
+use crate::schema_pair::SchemaPair;
+use avro_types::{Field, Kind, MOST_FIELDS};
 use isa::Instr;
 use matching::{Route, routes};
 use resolver::field_lists;
@@ -73,194 +72,178 @@ fn put_default(
     )
 }
 
-/// Adds the lines of the reader's fields without a partner whose written defaults are not empty.
-fn put_defaults(
-    alloc: Global,
-    r: &Nodes,
-    reader: usize,
-    routes: &[Route],
-    rs: &[Field],
-    lines: &mut Vec<Line>,
-) -> Result<(), AllocError>
-    requires few { length rs.now ≤ MOST_FIELDS }
-    requires fields { fields_of_record (slice_get r.now reader) ≡ fields_of rs.now }
-    ensures { OnOk result ((W : List Node) → lines_in W r.now lines.new.items ≡ lines_in W r.now lines.old.items
-        ++ defaults_code routes.now 0 (fields_of rs.now)) }
-{
-    let marks = have_partners(alloc, routes, rs.len())?;
-    for position in 0..rs.len() {
-        put_default(reader, position, marks[position], &rs[position], lines)?;
-    }
-    Ok(())
-}
-
-/// Adds the lines of a writer's field.
-fn put_field(
-    alloc: Global,
-    w: &Nodes,
-    r: &Nodes,
-    known: &mut Known,
-    route: &Route,
-    lines: &mut Vec<Line>,
-) -> Result<(), AllocError>
-    requires route { IsRoute (length w.now) (length r.now) MOST_FIELDS route.now }
-    requires known { AreKnown w.now r.now known.old }
-    ensures lines { OnOk result (lines_in w.now r.now lines.new.items ≡ lines_in w.now r.now lines.old.items
-        ++ field_code w.now r.now route.now) }
-    ensures known { AreKnown w.now r.now known.new }
-{
-    match route.partner {
-        Some(partner) => {
-            put(lines, Line::Op(Instr::Slot(partner.position as u32)))?;
-            write(alloc, w, r, known, route.node, partner.node, lines)
+impl SchemaPair<'_> {
+    /// Adds the lines of the reader's fields without a partner whose written defaults are not empty.
+    fn put_defaults(
+        &self,
+        reader: usize,
+        routes: &[Route],
+        rs: &[Field],
+        lines: &mut Vec<Line>,
+    ) -> Result<(), AllocError>
+        requires few { length rs.now ≤ MOST_FIELDS }
+        requires fields { fields_of_record (slice_get self.now.reader.now reader) ≡ fields_of rs.now }
+        ensures { OnOk result ((W : List Node) → lines_in W self.now.reader.now lines.new.items
+            ≡ lines_in W self.now.reader.now lines.old.items
+            ++ defaults_code routes.now 0 (fields_of rs.now)) }
+    {
+        let marks = have_partners(self.alloc, routes, rs.len())?;
+        for position in 0..rs.len() {
+            put_default(reader, position, marks[position], &rs[position], lines)?;
         }
-        None => skip(alloc, w, r, route.node, lines),
+        Ok(())
     }
-}
 
-/// Adds the lines of the writer's fields.
-fn put_fields(
-    alloc: Global,
-    w: &Nodes,
-    r: &Nodes,
-    known: &mut Known,
-    routes: &[Route],
-    lines: &mut Vec<Line>,
-) -> Result<(), AllocError>
-    requires routes { AreRoutes (length w.now) (length r.now) MOST_FIELDS routes.now }
-    requires known { AreKnown w.now r.now known.old }
-    ensures lines { OnOk result (lines_in w.now r.now lines.new.items ≡ lines_in w.now r.now lines.old.items
-        ++ fields_code w.now r.now routes.now) }
-    ensures known { AreKnown w.now r.now known.new }
-{
-    for route in routes {
-        put_field(alloc, w, r, known, route, lines)?;
-    }
-    Ok(())
-}
-
-/// Adds the lines that skip a record's fields.
-fn skip_fields(
-    alloc: Global,
-    w: &Nodes,
-    r: &Nodes,
-    fields: &[Field],
-    lines: &mut Vec<Line>,
-) -> Result<(), AllocError>
-    requires { FieldsBelow (length w.now) (fields_of fields.now) }
-    ensures { OnOk result (lines_in w.now r.now lines.new.items ≡ lines_in w.now r.now lines.old.items
-        ++ skip_fields w.now (fields_of fields.now)) }
-{
-    for field in fields {
-        skip(alloc, w, r, field.node, lines)?;
-    }
-    Ok(())
-}
-
-/// Adds the lines of the routine of two records.
-fn put_routine(
-    alloc: Global,
-    w: &Nodes,
-    r: &Nodes,
-    known: &mut Known,
-    wn: usize,
-    rn: usize,
-    lines: &mut Vec<Line>,
-) -> Result<(), AllocError>
-    requires writer { wn < length w.now }
-    requires reader { rn < length r.now }
-    requires known { AreKnown w.now r.now known.old }
-    ensures lines { OnOk result (lines_in w.now r.now lines.new.items ≡ lines_in w.now r.now lines.old.items
-        ++ given (field_lists (slice_get w.now wn) (slice_get r.now rn)) (Lost ∷ [])
-        (λ p. write_routine w.now r.now p.0 p.1)) }
-    ensures known { AreKnown w.now r.now known.new }
-{
-    w.is_well_formed();
-    r.is_well_formed();
-    let Some((ws, rs)) = field_lists(w, wn, r, rn) else {
-        return put(lines, Line::Lost);
-    };
-    let routes = routes(alloc, ws, rs)?;
-    put(lines, Line::Op(Instr::Record(rs.len() as u32)))?;
-    put_fields(alloc, w, r, known, &routes, lines)?;
-    put_defaults(alloc, r, rn, &routes, rs, lines)?;
-    put(lines, Line::Op(Instr::EndRecord))?;
-    put(lines, Line::Op(Instr::Return))
-}
-
-/// Adds the lines of the routine that skips a record.
-fn put_skip_routine(
-    alloc: Global,
-    w: &Nodes,
-    r: &Nodes,
-    wn: usize,
-    lines: &mut Vec<Line>,
-) -> Result<(), AllocError>
-    requires { wn < length w.now }
-    ensures { OnOk result (lines_in w.now r.now lines.new.items ≡ lines_in w.now r.now lines.old.items
-        ++ skip_routine w.now (slice_get w.now wn)) }
-{
-    let Kind::Record { fields, .. } = w.kind(wn) else {
-        return put(lines, Line::Lost);
-    };
-    put(lines, Line::Op(Instr::Enter))?;
-    skip_fields(alloc, w, r, fields, lines)?;
-    put(lines, Line::Op(Instr::Leave))?;
-    put(lines, Line::Op(Instr::Return))
-}
-
-/// Adds the lines of a section.
-fn put_section(
-    alloc: Global,
-    w: &Nodes,
-    r: &Nodes,
-    known: &mut Known,
-    part: Section,
-    lines: &mut Vec<Line>,
-) -> Result<(), AllocError>
-    requires known { AreKnown w.now r.now known.old }
-    ensures lines { OnOk result (lines_in w.now r.now lines.new.items ≡ lines_in w.now r.now lines.old.items
-        ++ section w.now r.now (section_of part)) }
-    ensures known { AreKnown w.now r.now known.new }
-{
-    w.is_well_formed();
-    r.is_well_formed();
-    match part {
-        Section::Main => {
-            write(alloc, w, r, known, 0, 0, lines)?;
-            put(lines, Line::Op(Instr::Halt))
-        }
-        Section::Write(wn, rn) => {
-            if wn >= w.len() {
-                return put(lines, Line::Lost);
+    /// Adds the lines of a writer's field.
+    fn put_field(
+        &self,
+        known: &mut Known,
+        route: &Route,
+        lines: &mut Vec<Line>,
+    ) -> Result<(), AllocError>
+        requires route { IsRoute (length self.now.writer.now) (length self.now.reader.now) MOST_FIELDS route.now }
+        requires known { AreKnown self.now.writer.now self.now.reader.now known.old }
+        ensures lines { OnOk result (lines_in self.now.writer.now self.now.reader.now lines.new.items
+            ≡ lines_in self.now.writer.now self.now.reader.now lines.old.items
+            ++ field_code self.now.writer.now self.now.reader.now route.now) }
+        ensures known { AreKnown self.now.writer.now self.now.reader.now known.new }
+    {
+        match route.partner {
+            Some(partner) => {
+                put(lines, Line::Op(Instr::Slot(partner.position as u32)))?;
+                self.write(known, route.node, partner.node, lines)
             }
-            if rn >= r.len() {
-                return put(lines, Line::Lost);
-            }
-            put_routine(alloc, w, r, known, wn, rn, lines)
-        }
-        Section::Skip(wn) => {
-            if wn >= w.len() {
-                return put(lines, Line::Lost);
-            }
-            put_skip_routine(alloc, w, r, wn, lines)
+            None => self.skip(route.node, lines),
         }
     }
-}
 
-/// The lines of a section.
-pub(crate) fn section(
-    alloc: Global,
-    w: &Nodes,
-    r: &Nodes,
-    known: &mut Known,
-    part: Section,
-) -> Result<Vec<Line>, AllocError>
-    requires { AreKnown w.now r.now known.old }
-    ensures lines { IfOk result (λ v. lines_in w.now r.now v.items ≡ section w.now r.now (section_of part)) }
-    ensures known { AreKnown w.now r.now known.new }
-{
-    let mut lines = Vec::new(alloc);
-    put_section(alloc, w, r, known, part, &mut lines)?;
-    Ok(lines)
+    /// Adds the lines of the writer's fields.
+    fn put_fields(
+        &self,
+        known: &mut Known,
+        routes: &[Route],
+        lines: &mut Vec<Line>,
+    ) -> Result<(), AllocError>
+        requires routes { AreRoutes (length self.now.writer.now) (length self.now.reader.now) MOST_FIELDS routes.now }
+        requires known { AreKnown self.now.writer.now self.now.reader.now known.old }
+        ensures lines { OnOk result (lines_in self.now.writer.now self.now.reader.now lines.new.items
+            ≡ lines_in self.now.writer.now self.now.reader.now lines.old.items
+            ++ fields_code self.now.writer.now self.now.reader.now routes.now) }
+        ensures known { AreKnown self.now.writer.now self.now.reader.now known.new }
+    {
+        for route in routes {
+            self.put_field(known, route, lines)?;
+        }
+        Ok(())
+    }
+
+    /// Adds the lines that skip a record's fields.
+    fn skip_fields(&self, fields: &[Field], lines: &mut Vec<Line>) -> Result<(), AllocError>
+        requires { FieldsBelow (length self.now.writer.now) (fields_of fields.now) }
+        ensures { OnOk result (lines_in self.now.writer.now self.now.reader.now lines.new.items
+            ≡ lines_in self.now.writer.now self.now.reader.now lines.old.items
+            ++ skip_fields self.now.writer.now (fields_of fields.now)) }
+    {
+        for field in fields {
+            self.skip(field.node, lines)?;
+        }
+        Ok(())
+    }
+
+    /// Adds the lines of the routine of two records.
+    fn put_routine(
+        &self,
+        known: &mut Known,
+        wn: usize,
+        rn: usize,
+        lines: &mut Vec<Line>,
+    ) -> Result<(), AllocError>
+        requires writer { wn < length self.now.writer.now }
+        requires reader { rn < length self.now.reader.now }
+        requires known { AreKnown self.now.writer.now self.now.reader.now known.old }
+        ensures lines { OnOk result (lines_in self.now.writer.now self.now.reader.now lines.new.items
+            ≡ lines_in self.now.writer.now self.now.reader.now lines.old.items
+            ++ given (field_lists (slice_get self.now.writer.now wn) (slice_get self.now.reader.now rn)) (Lost ∷ [])
+            (λ p. write_routine self.now.writer.now self.now.reader.now p.0 p.1)) }
+        ensures known { AreKnown self.now.writer.now self.now.reader.now known.new }
+    {
+        self.writer.is_well_formed();
+        self.reader.is_well_formed();
+        let Some((ws, rs)) = field_lists(self.writer, wn, self.reader, rn) else {
+            return put(lines, Line::Lost);
+        };
+        let routes = routes(self.alloc, ws, rs)?;
+        put(lines, Line::Op(Instr::Record(rs.len() as u32)))?;
+        self.put_fields(known, &routes, lines)?;
+        self.put_defaults(rn, &routes, rs, lines)?;
+        put(lines, Line::Op(Instr::EndRecord))?;
+        put(lines, Line::Op(Instr::Return))
+    }
+
+    /// Adds the lines of the routine that skips a record.
+    fn put_skip_routine(&self, wn: usize, lines: &mut Vec<Line>) -> Result<(), AllocError>
+        requires { wn < length self.now.writer.now }
+        ensures { OnOk result (lines_in self.now.writer.now self.now.reader.now lines.new.items
+            ≡ lines_in self.now.writer.now self.now.reader.now lines.old.items
+            ++ skip_routine self.now.writer.now (slice_get self.now.writer.now wn)) }
+    {
+        let Kind::Record { fields, .. } = self.writer.kind(wn) else {
+            return put(lines, Line::Lost);
+        };
+        put(lines, Line::Op(Instr::Enter))?;
+        self.skip_fields(fields, lines)?;
+        put(lines, Line::Op(Instr::Leave))?;
+        put(lines, Line::Op(Instr::Return))
+    }
+
+    /// Adds the lines of a section.
+    fn put_section(
+        &self,
+        known: &mut Known,
+        part: Section,
+        lines: &mut Vec<Line>,
+    ) -> Result<(), AllocError>
+        requires known { AreKnown self.now.writer.now self.now.reader.now known.old }
+        ensures lines { OnOk result (lines_in self.now.writer.now self.now.reader.now lines.new.items
+            ≡ lines_in self.now.writer.now self.now.reader.now lines.old.items
+            ++ section self.now.writer.now self.now.reader.now (section_of part)) }
+        ensures known { AreKnown self.now.writer.now self.now.reader.now known.new }
+    {
+        self.writer.is_well_formed();
+        self.reader.is_well_formed();
+        match part {
+            Section::Main => {
+                self.write(known, 0, 0, lines)?;
+                put(lines, Line::Op(Instr::Halt))
+            }
+            Section::Write(wn, rn) => {
+                if wn >= self.writer.len() {
+                    return put(lines, Line::Lost);
+                }
+                if rn >= self.reader.len() {
+                    return put(lines, Line::Lost);
+                }
+                self.put_routine(known, wn, rn, lines)
+            }
+            Section::Skip(wn) => {
+                if wn >= self.writer.len() {
+                    return put(lines, Line::Lost);
+                }
+                self.put_skip_routine(wn, lines)
+            }
+        }
+    }
+
+    /// The lines of a section.
+    pub(crate) fn section(&self, known: &mut Known, part: Section) -> Result<Vec<Line>, AllocError>
+        requires { AreKnown self.now.writer.now self.now.reader.now known.old }
+        ensures lines { IfOk result
+            (λ v. lines_in self.now.writer.now self.now.reader.now v.items
+            ≡ section self.now.writer.now self.now.reader.now (section_of part)) }
+        ensures known { AreKnown self.now.writer.now self.now.reader.now known.new }
+    {
+        let mut lines = Vec::new(self.alloc);
+        self.put_section(known, part, &mut lines)?;
+        Ok(lines)
+    }
 }

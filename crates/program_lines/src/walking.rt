@@ -5,7 +5,7 @@ ghost use Rattle.program_lines.specs.Walking.{Walks, start_at};
 use crate::error::CompileError;
 use crate::known::Known;
 use crate::lines::{Line, Section, put_all};
-use crate::routines::section;
+use crate::schema_pair::SchemaPair;
 use crate::sections::{Sections, note_calls};
 use avro_types::Nodes;
 use isa::MOST_INSTRS;
@@ -52,6 +52,11 @@ impl Listing {
 pub fn walk(alloc: Global, w: &Nodes, r: &Nodes) -> Result<Listing, CompileError>
     ensures { Walks w.now r.now result }
 {
+    let pair = SchemaPair {
+        alloc,
+        writer: w,
+        reader: r,
+    };
     let mut sections = Sections::new(alloc)?;
     let mut starts = Vec::new(alloc);
     let mut lines = Vec::new(alloc);
@@ -61,7 +66,7 @@ pub fn walk(alloc: Global, w: &Nodes, r: &Nodes) -> Result<Listing, CompileError
             return Err(CompileError::ProgramTooLarge);
         }
         starts.push(lines.len())?;
-        let code = section(alloc, w, r, &mut known, next)?;
+        let code = pair.section(&mut known, next)?;
         note_calls(&mut sections, &code)?;
         put_all(&mut lines, code)?;
     }

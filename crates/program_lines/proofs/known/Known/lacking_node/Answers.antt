@@ -8,7 +8,7 @@ returns-in-Some-clause-node c = c.requires.known.lacking (c.args.wn, c.args.rn) 
 
 pub returns-clause-known : goal.returns-clause-known
 returns-clause-known c = record {
-  lacking = lacking_on c.args.w.now c.args.r.now c.args.self.now.lacking c.insert.new.self (c.args.wn, c.args.rn) c.in_ok-node.node c.requires.known.lacking c.in_ok-node.ensures c.in_ok-insert.ensures.updates.0;
+  lacking = lacking_on c.args.pair.now.writer.now c.args.pair.now.reader.now c.args.self.now.lacking c.insert.new.self (c.args.wn, c.args.rn) c.in_ok-node.node c.requires.known.lacking c.in_ok-node.ensures c.in_ok-insert.ensures.updates.0;
   types = c.requires.known.types;
   positions = c.requires.known.positions;
 }

@@ -20,19 +20,19 @@ named R known types candidates last full are is under own m =
     ap (is_among m) (under ∙ ap (nodes_under types.nodes) own) ∙ each (unqualified full) m
 
 pub find_member-requires-clause-members : goal.find_member-requires-clause-members
-find_member-requires-clause-members c = members_below c.args.r.now c.args.rn c.args.members.now (c.is_well_formed-2.ensures.each c.args.rn (UnionNode c.args.members.now) c.requires.union).0
+find_member-requires-clause-members c = members_below c.args.pair.now.reader.now c.args.rn c.args.members.now (c.is_well_formed-2.ensures.each c.args.rn (UnionNode c.args.members.now) c.requires.union).0
 
 pub find_member-requires-clause-candidates : goal.find_member-requires-clause-candidates
 find_member-requires-clause-candidates c =
-    let R = c.args.r.now in
+    let R = c.args.pair.now.reader.now in
     let candidates = c.of_name-candidates.result.now in
     candidates_below R (unqualified c.args.name.now) candidates
     (named R c.args.self.now.types c.in-Some-Some.types candidates c.last.result.now c.args.name.now c.requires.known.types c.in-Some-Some.is-0 c.of_name-candidates.ensures c.last.ensures)
 
 pub returns-clause-place : goal.returns-clause-place
 returns-clause-place c =
-    let W = c.args.w.now in
-    let R = c.args.r.now in
+    let W = c.args.pair.now.writer.now in
+    let R = c.args.pair.now.reader.now in
     let w = c.args.wn in
     let members = c.args.members.now in
     let candidates = c.of_name-candidates.result.now in

@@ -1,6 +1,6 @@
 -- Each level takes one of the levels that are left, and each member one of the members.
 use Rattle.std.proofs.Common.{length, ◌+◌, ◌*◌}
-use Rattle.program_lines.proofs.writing.+write.Given as goal
+use Rattle.program_lines.proofs.schema_pair.SchemaPair.+write.Given as goal
 
 abbrev pub decreases-write_within : goal.decreases-write_within
 decreases-write_within l = 2048 * l.levels

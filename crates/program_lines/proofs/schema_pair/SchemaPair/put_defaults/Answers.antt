@@ -8,7 +8,7 @@ use Rattle.matching.specs.Partners.{has_partner}
 use Rattle.program_code.specs.Writing.{defaults_code}
 use Rattle.program_lines.specs.Lines.{lines_in}
 use Rattle.program_lines.proofs.RoutineSteps.{default_on, field_at}
-use Rattle.program_lines.proofs.routines.put_defaults.Goals as goal
+use Rattle.program_lines.proofs.schema_pair.SchemaPair.put_defaults.Goals as goal
 
 pub loop-position-preserved : goal.loop-position-preserved
 loop-position-preserved c = λ W.
@@ -20,10 +20,10 @@ loop-position-preserved c = λ W.
     let mark = c.in_ok-marks.ensures.mark i lt in
     let has : c.index.result.now ≡ has_partner i c.args.routes.now = grind (arith, common_steps, mark, c.index.ensures, c.in_ok-marks.ensures.each) in
     let at = ap (λ gs. slice_get gs i) c.requires.fields ∙ field_at rs i f lt is in
-    default_on c.args.routes.now rs i f (lines_in W c.args.r.now c.loop-position.lines.items) _ _ lt is (c.in_ok-put_default.ensures W c.args.r.now c.args.routes.now has at) (c.loop-position.invariant W)
+    default_on c.args.routes.now rs i f (lines_in W c.args.self.now.reader.now c.loop-position.lines.items) _ _ lt is (c.in_ok-put_default.ensures W c.args.self.now.reader.now c.args.routes.now has at) (c.loop-position.invariant W)
 
 pub returns : goal.returns
 returns c = λ W.
     let i = c.loop-position.position in
-    let lines = lines_in W c.args.r.now c.loop-position.lines.items in
+    let lines = lines_in W c.args.self.now.reader.now c.loop-position.lines.items in
     sym (append-nil lines) ∙ ap (λ rs. lines ++ defaults_code c.args.routes.now i (fields_of rs)) (sym (drop_of_length-le c.args.rs.now c.loop-position-test.false)) ∙ c.loop-position.invariant W

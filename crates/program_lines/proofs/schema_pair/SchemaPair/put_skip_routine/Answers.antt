@@ -6,15 +6,15 @@ use Rattle.program_code.specs.Skipping.{skip_fields, skip_routine}
 use Rattle.program_lines.specs.Lines.{lines_in}
 use Rattle.program_lines.proofs.RoutineSteps.{no_record}
 use Rattle.program_lines.proofs.Steps.{two}
-use Rattle.program_lines.proofs.routines.put_skip_routine.Goals as goal
+use Rattle.program_lines.proofs.schema_pair.SchemaPair.put_skip_routine.Goals as goal
 
 pub returns-in_default : goal.returns-in_default
-returns-in_default c = on_ok_weaker c.put.result (λ h. no_record c.args.w.now c.kind.result.now _ (lines_in c.args.w.now c.args.r.now c.args.lines.now.items) _ c.kind.ensures.kind c.in_default.not-Record (h c.args.w.now c.args.r.now)) c.put.ensures
+returns-in_default c = on_ok_weaker c.put.result (λ h. no_record c.args.self.now.writer.now c.kind.result.now _ (lines_in c.args.self.now.writer.now c.args.self.now.reader.now c.args.lines.now.items) _ c.kind.ensures.kind c.in_default.not-Record (h c.args.self.now.writer.now c.args.self.now.reader.now)) c.put.ensures
 
 pub returns : goal.returns
 returns c =
-    let W = c.args.w.now in
-    let R = c.args.r.now in
+    let W = c.args.self.now.writer.now in
+    let R = c.args.self.now.reader.now in
     let old = lines_in W R c.args.lines.now.items in
     let at = c.kind.ensures.kind ∙ ap (λ k. Some (node_of k)) c.in-Record.is in
     let fields = c.in_ok-skip_fields.ensures ∙ ap (λ fs. lines_in W R c.put-2.new.lines.items ++ skip_fields W (fields_of fs)) c.deref.ensures.value in

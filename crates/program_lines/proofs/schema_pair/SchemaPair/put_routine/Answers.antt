@@ -16,35 +16,35 @@ use Rattle.program_lines.specs.Lines.{lines_in}
 use Rattle.program_lines.proofs.RoutineSteps.{few_fields, routes_within, same_fields}
 use Rattle.program_lines.proofs.Steps.{two}
 use Rattle.program_lines.proofs.WriteSteps.{parts_none, parts_some}
-use Rattle.program_lines.proofs.routines.put_routine.Goals as goal
+use Rattle.program_lines.proofs.schema_pair.SchemaPair.put_routine.Goals as goal
 
 pub returns-in_default-clause-lines : goal.returns-in_default-clause-lines
-returns-in_default-clause-lines c = on_ok_weaker c.put.result (λ h. parts_none _ _ _ _ (sym c.field_lists.ensures.lists ∙ ap (option_map both_lists) c.in_default.is) (h c.args.w.now c.args.r.now)) c.put.ensures
+returns-in_default-clause-lines c = on_ok_weaker c.put.result (λ h. parts_none _ _ _ _ (sym c.field_lists.ensures.lists ∙ ap (option_map both_lists) c.in_default.is) (h c.args.self.now.writer.now c.args.self.now.reader.now)) c.put.ensures
 
 pub put_defaults-requires-clause-few : goal.put_defaults-requires-clause-few
 put_defaults-requires-clause-few c =
     let rs = c.in-Some.rs.now in
-    let few = few_fields c.args.r.now (slice_get c.args.w.now c.args.wn) c.args.rn _ _ c.is_well_formed-2.ensures (sym c.field_lists.ensures.lists ∙ ap (option_map both_lists) c.in-Some.is) in
+    let few = few_fields c.args.self.now.reader.now (slice_get c.args.self.now.writer.now c.args.wn) c.args.rn _ _ c.is_well_formed-2.ensures (sym c.field_lists.ensures.lists ∙ ap (option_map both_lists) c.in-Some.is) in
     omega (arith, few, length-map rs field_of)
 
 pub put_defaults-requires-clause-fields : goal.put_defaults-requires-clause-fields
-put_defaults-requires-clause-fields c = same_fields c.args.r.now (slice_get c.args.w.now c.args.wn) c.args.rn _ _ (sym c.field_lists.ensures.lists ∙ ap (option_map both_lists) c.in-Some.is)
+put_defaults-requires-clause-fields c = same_fields c.args.self.now.reader.now (slice_get c.args.self.now.writer.now c.args.wn) c.args.rn _ _ (sym c.field_lists.ensures.lists ∙ ap (option_map both_lists) c.in-Some.is)
 
 pub overflow_cast-rs : goal.overflow_cast-rs
 overflow_cast-rs c =
     let rs = c.in-Some.rs.now in
-    let few = few_fields c.args.r.now (slice_get c.args.w.now c.args.wn) c.args.rn _ _ c.is_well_formed-2.ensures (sym c.field_lists.ensures.lists ∙ ap (option_map both_lists) c.in-Some.is) in
+    let few = few_fields c.args.self.now.reader.now (slice_get c.args.self.now.writer.now c.args.wn) c.args.rn _ _ c.is_well_formed-2.ensures (sym c.field_lists.ensures.lists ∙ ap (option_map both_lists) c.in-Some.is) in
     omega (arith, few, length-map rs field_of)
 
 pub put_fields-requires-clause-routes : goal.put_fields-requires-clause-routes
 put_fields-requires-clause-routes c =
-    let few = few_fields c.args.r.now (slice_get c.args.w.now c.args.wn) c.args.rn _ _ c.is_well_formed-2.ensures (sym c.field_lists.ensures.lists ∙ ap (option_map both_lists) c.in-Some.is) in
-    subst (λ (rs : List Route). AreRoutes (length c.args.w.now) (length c.args.r.now) MOST_FIELDS rs) (sym (c.deref.ensures.value ∙ c.in_ok-routes.ensures)) (routes_within (length c.args.w.now) (length c.args.r.now) MOST_FIELDS _ _ c.in-Some.ensures.writer.below c.in-Some.ensures.reader.below few)
+    let few = few_fields c.args.self.now.reader.now (slice_get c.args.self.now.writer.now c.args.wn) c.args.rn _ _ c.is_well_formed-2.ensures (sym c.field_lists.ensures.lists ∙ ap (option_map both_lists) c.in-Some.is) in
+    subst (λ (rs : List Route). AreRoutes (length c.args.self.now.writer.now) (length c.args.self.now.reader.now) MOST_FIELDS rs) (sym (c.deref.ensures.value ∙ c.in_ok-routes.ensures)) (routes_within (length c.args.self.now.writer.now) (length c.args.self.now.reader.now) MOST_FIELDS _ _ c.in-Some.ensures.writer.below c.in-Some.ensures.reader.below few)
 
 pub returns-clause-lines : goal.returns-clause-lines
 returns-clause-lines c =
-    let W = c.args.w.now in
-    let R = c.args.r.now in
+    let W = c.args.self.now.writer.now in
+    let R = c.args.self.now.reader.now in
     let old = lines_in W R c.args.lines.now.items in
     let fs = fields_of c.in-Some.ws.now in
     let gs = fields_of c.in-Some.rs.now in

@@ -4,10 +4,10 @@ use Rattle.avro_types.specs.Node.{fields_of}
 use Rattle.avro_types.specs.WellFormed.{FieldsBelow}
 use Rattle.program_code.specs.Skipping.{skip_fields}
 use Rattle.program_lines.specs.Lines.{lines_in}
-use Rattle.program_lines.proofs.routines.skip_fields.Given as goal
+use Rattle.program_lines.proofs.schema_pair.SchemaPair.skip_fields.Given as goal
 
 abbrev pub invariant-loop-field : goal.invariant-loop-field
 invariant-loop-field l = record {
-  so_far : lines_in l.w l.r l.lines.items ++ skip_fields l.w (fields_of (drop l.field-index l.fields)) ≡ lines_in l.w l.r l.fn.lines.items ++ skip_fields l.w (fields_of l.fields);
-  left : FieldsBelow (length l.w) (fields_of (drop l.field-index l.fields));
+  so_far : lines_in l.self.writer.now l.self.reader.now l.lines.items ++ skip_fields l.self.writer.now (fields_of (drop l.field-index l.fields)) ≡ lines_in l.self.writer.now l.self.reader.now l.fn.lines.items ++ skip_fields l.self.writer.now (fields_of l.fields);
+  left : FieldsBelow (length l.self.writer.now) (fields_of (drop l.field-index l.fields));
 }

@@ -6,14 +6,14 @@ use Rattle.avro_types.specs.Node.{node_of}
 use Rattle.program_code.specs.Lines.{BytesText}
 use Rattle.program_code.specs.Writing.{is_text}
 use Rattle.program_lines.specs.Lines.{lines_in}
-use Rattle.program_lines.proofs.writing.put_bytes.Goals as goal
+use Rattle.program_lines.proofs.schema_pair.SchemaPair.put_bytes.Goals as goal
 
 pub returns-in-Text : goal.returns-in-Text
 returns-in-Text c =
-    let text : is_text (slice_get c.args.r.now c.args.rn) ≡ true = ap is_text (c.kind.ensures.kind ∙ ap (λ k. Some (node_of k)) c.in-Text.is) in
+    let text : is_text (slice_get c.args.self.now.reader.now c.args.rn) ≡ true = ap is_text (c.kind.ensures.kind ∙ ap (λ k. Some (node_of k)) c.in-Text.is) in
     on_ok_weaker c.put.result (λ h W R. rw text (h W R ∙ ap (λ m. lines_in W R c.args.lines.now.items ++ BytesText m ∷ []) c.miss.ensures)) c.put.ensures
 
 pub returns-in_default : goal.returns-in_default
 returns-in_default c =
-    let text : is_text (slice_get c.args.r.now c.args.rn) ≡ false = search rules in
+    let text : is_text (slice_get c.args.self.now.reader.now c.args.rn) ≡ false = search rules in
     on_ok_weaker c.put-in_default.result (λ h W R. rw text (h W R)) c.put-in_default.ensures

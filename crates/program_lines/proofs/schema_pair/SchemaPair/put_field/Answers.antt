@@ -8,12 +8,12 @@ use Rattle.program_code.specs.Skipping.{K}
 use Rattle.program_code.specs.Writing.{X}
 use Rattle.program_lines.specs.Lines.{lines_in}
 use Rattle.program_lines.proofs.Steps.{two}
-use Rattle.program_lines.proofs.routines.put_field.Goals as goal
+use Rattle.program_lines.proofs.schema_pair.SchemaPair.put_field.Goals as goal
 
 pub returns-in_ok-put-in-Some-clause-lines : goal.returns-in_ok-put-in-Some-clause-lines
 returns-in_ok-put-in-Some-clause-lines c =
-    let W = c.args.w.now in
-    let R = c.args.r.now in
+    let W = c.args.self.now.writer.now in
+    let R = c.args.self.now.reader.now in
     let old = lines_in W R c.args.lines.now.items in
     let route = c.args.route.now in
     on_ok_weaker c.write.result (λ h. two old _ _ _ _ (c.in_ok-put-in-Some.ensures W R) h ∙ ap (λ o. old ++ given o (K W route.node) (λ p. Op (op.Slot p.position) ∷ X W R route.node p.node)) (sym c.in-Some.is)) c.write.ensures.lines

@@ -1,0 +1,122 @@
+-- The lines of each kind of node, in each place.
+use Rattle.std.proofs.Common.{rules, ◌-◌, ◌≡◌, ◌≤◌, ◌++◌, [], ◌∷◌, length, ap, ◌∙◌, refl, arith, map, ◌+◌, sym}
+use Rattle.std.specs.Prelude.{slice_get, Some}
+use Rattle.std.proofs.lemmas.Result.{on_ok_weaker}
+use Rattle.avro_types.specs.declared.limits.TheConstants.{MOST_NODES}
+use Rattle.avro_types.specs.Node.{UnionNode, node_of}
+use Rattle.program_code.specs.Lines.{Enum, Miss, Lost}
+use Rattle.program_code.specs.Writing.{target, write_within}
+use Rattle.program_lines.specs.Lines.{lines_in, symbols_of}
+use Rattle.matching.proofs.Members.{members_below}
+use Rattle.program_lines.proofs.Steps.{body_is, key_then, looped_after, two, write_more, write_none}
+use Rattle.program_lines.proofs.Unions.{first_then, hole_below, lines_length, places_then, write_union}
+use Rattle.program_lines.proofs.WriteSteps.{no_union, parts_none, parts_some, placed_more, straight_more}
+use Rattle.program_lines.proofs.schema_pair.SchemaPair.+write.Goals as goal
+
+pub straight-returns-in-Boolean-clause-lines : goal.straight-returns-in-Boolean-clause-lines
+straight-returns-in-Boolean-clause-lines t c = on_ok_weaker c.put.result (λ h. straight_more c.args.self.now.writer.now c.args.self.now.reader.now (write_within c.args.self.now.writer.now c.args.self.now.reader.now c.args.steps) c.args.wn c.args.rn (slice_get c.args.self.now.reader.now c.args.rn) _ (lines_in c.args.self.now.writer.now c.args.self.now.reader.now c.args.lines.now.items) _ _ (c.kind.ensures.kind ∙ ap (λ k. Some (node_of k)) c.in-Boolean.is) refl (h c.args.self.now.writer.now c.args.self.now.reader.now)) c.put.ensures
+
+pub straight-returns-in-Int-clause-lines : goal.straight-returns-in-Int-clause-lines
+straight-returns-in-Int-clause-lines t c = on_ok_weaker c.put-in-Int.result (λ h. straight_more c.args.self.now.writer.now c.args.self.now.reader.now (write_within c.args.self.now.writer.now c.args.self.now.reader.now c.args.steps) c.args.wn c.args.rn (slice_get c.args.self.now.reader.now c.args.rn) _ (lines_in c.args.self.now.writer.now c.args.self.now.reader.now c.args.lines.now.items) _ _ (c.kind.ensures.kind ∙ ap (λ k. Some (node_of k)) c.in-Int.is) refl (h c.args.self.now.writer.now c.args.self.now.reader.now)) c.put-in-Int.ensures
+
+pub straight-returns-in-Long-clause-lines : goal.straight-returns-in-Long-clause-lines
+straight-returns-in-Long-clause-lines t c = on_ok_weaker c.put-in-Long.result (λ h. straight_more c.args.self.now.writer.now c.args.self.now.reader.now (write_within c.args.self.now.writer.now c.args.self.now.reader.now c.args.steps) c.args.wn c.args.rn (slice_get c.args.self.now.reader.now c.args.rn) _ (lines_in c.args.self.now.writer.now c.args.self.now.reader.now c.args.lines.now.items) _ _ (c.kind.ensures.kind ∙ ap (λ k. Some (node_of k)) c.in-Long.is) refl (h c.args.self.now.writer.now c.args.self.now.reader.now)) c.put-in-Long.ensures
+
+pub straight-returns-in-Text-clause-lines : goal.straight-returns-in-Text-clause-lines
+straight-returns-in-Text-clause-lines t c = on_ok_weaker c.put-in-Text.result (λ h. straight_more c.args.self.now.writer.now c.args.self.now.reader.now (write_within c.args.self.now.writer.now c.args.self.now.reader.now c.args.steps) c.args.wn c.args.rn (slice_get c.args.self.now.reader.now c.args.rn) _ (lines_in c.args.self.now.writer.now c.args.self.now.reader.now c.args.lines.now.items) _ _ (c.kind.ensures.kind ∙ ap (λ k. Some (node_of k)) c.in-Text.is) refl (h c.args.self.now.writer.now c.args.self.now.reader.now)) c.put-in-Text.ensures
+
+pub straight-returns-in-Fixed-clause-lines : goal.straight-returns-in-Fixed-clause-lines
+straight-returns-in-Fixed-clause-lines t c = on_ok_weaker c.put-in-Fixed.result (λ h. straight_more c.args.self.now.writer.now c.args.self.now.reader.now (write_within c.args.self.now.writer.now c.args.self.now.reader.now c.args.steps) c.args.wn c.args.rn (slice_get c.args.self.now.reader.now c.args.rn) _ (lines_in c.args.self.now.writer.now c.args.self.now.reader.now c.args.lines.now.items) _ _ (c.kind.ensures.kind ∙ ap (λ k. Some (node_of k)) c.in-Fixed.is) refl (h c.args.self.now.writer.now c.args.self.now.reader.now)) c.put-in-Fixed.ensures
+
+pub straight-returns-in-Enum-clause-lines : goal.straight-returns-in-Enum-clause-lines
+straight-returns-in-Enum-clause-lines t c =
+    let at = c.kind.ensures.kind ∙ ap (λ k. Some (node_of k)) c.in-Enum.is in
+    let old = lines_in c.args.self.now.writer.now c.args.self.now.reader.now c.args.lines.now.items in
+    on_ok_weaker c.put-in-Enum.result (λ h. straight_more c.args.self.now.writer.now c.args.self.now.reader.now (write_within c.args.self.now.writer.now c.args.self.now.reader.now c.args.steps) c.args.wn c.args.rn (slice_get c.args.self.now.reader.now c.args.rn) _ old _ _ at refl (h c.args.self.now.writer.now c.args.self.now.reader.now ∙ ap (λ x. old ++ Enum (map (target c.args.wn c.args.rn (slice_get c.args.self.now.reader.now c.args.rn)) (symbols_of x)) ∷ []) at)) c.put-in-Enum.ensures
+
+pub straight-returns-in-Union-clause-lines : goal.straight-returns-in-Union-clause-lines
+straight-returns-in-Union-clause-lines t c = on_ok_weaker c.put-in-Union.result (λ h. straight_more c.args.self.now.writer.now c.args.self.now.reader.now (write_within c.args.self.now.writer.now c.args.self.now.reader.now c.args.steps) c.args.wn c.args.rn (slice_get c.args.self.now.reader.now c.args.rn) _ (lines_in c.args.self.now.writer.now c.args.self.now.reader.now c.args.lines.now.items) _ _ (c.kind.ensures.kind ∙ ap (λ k. Some (node_of k)) c.in-Union.is) refl (h c.args.self.now.writer.now c.args.self.now.reader.now)) c.put-in-Union.ensures
+
+pub straight-returns-in-Bytes-clause-lines : goal.straight-returns-in-Bytes-clause-lines
+straight-returns-in-Bytes-clause-lines t c = on_ok_weaker c.put_bytes.result (λ h. straight_more c.args.self.now.writer.now c.args.self.now.reader.now (write_within c.args.self.now.writer.now c.args.self.now.reader.now c.args.steps) c.args.wn c.args.rn (slice_get c.args.self.now.reader.now c.args.rn) _ (lines_in c.args.self.now.writer.now c.args.self.now.reader.now c.args.lines.now.items) _ _ (c.kind.ensures.kind ∙ ap (λ k. Some (node_of k)) c.in-Bytes.is) refl (h c.args.self.now.writer.now c.args.self.now.reader.now)) c.put_bytes.ensures
+
+pub items-returns-in_default-clause-lines : goal.items-returns-in_default-clause-lines
+items-returns-in_default-clause-lines t c = on_ok_weaker c.put.result (λ h. parts_none _ _ _ _ c.in_default.is (h c.args.self.now.writer.now c.args.self.now.reader.now)) c.put.ensures
+
+pub values-returns-in_default-clause-lines : goal.values-returns-in_default-clause-lines
+values-returns-in_default-clause-lines t c = on_ok_weaker c.put.result (λ h. parts_none _ _ _ _ c.in_default.is (h c.args.self.now.writer.now c.args.self.now.reader.now)) c.put.ensures
+
+pub items-returns-clause-lines : goal.items-returns-clause-lines
+items-returns-clause-lines t c =
+    let W = c.args.self.now.writer.now in
+    let R = c.args.self.now.reader.now in
+    on_ok_weaker c.put_loop.result (λ h. parts_some _ _ _ _ _ _ c.in-Some.is refl (looped_after _ _ _ _ _ _ _ (c.in_ok-put.ensures W R) (body_is W R c.new-body.result.items _ _ c.new-body.ensures.items c.in_ok-write_within.ensures.lines) (h W R))) c.put_loop.ensures
+
+pub values-returns-clause-lines : goal.values-returns-clause-lines
+values-returns-clause-lines t c =
+    let W = c.args.self.now.writer.now in
+    let R = c.args.self.now.reader.now in
+    on_ok_weaker c.put_loop.result (λ h. parts_some _ _ _ _ _ _ c.in-Some.is refl (looped_after _ _ _ _ _ _ _ (c.in_ok-put-2.ensures W R) (key_then W R c.new-body.result.items _ _ _ _ c.new-body.ensures.items (c.in_ok-put.ensures W R) c.in_ok-write_within.ensures.lines) (h W R))) c.put_loop.ensures
+
+pub placed-returns-in_ok-put-in-IntoMember-clause-lines : goal.placed-returns-in_ok-put-in-IntoMember-clause-lines
+placed-returns-in_ok-put-in-IntoMember-clause-lines t c =
+    let W = c.args.self.now.writer.now in
+    let R = c.args.self.now.reader.now in
+    on_ok_weaker c.straight-in-IntoMember.result (λ h. placed_more c.args.self.now.writer.now c.args.self.now.reader.now (write_within c.args.self.now.writer.now c.args.self.now.reader.now c.args.steps) c.args.wn c.args.rn _ _ (lines_in c.args.self.now.writer.now c.args.self.now.reader.now c.args.lines.now.items) _ _ c.in_ok-place_of.ensures.place c.in-IntoMember.is refl (two (lines_in c.args.self.now.writer.now c.args.self.now.reader.now c.args.lines.now.items) _ _ _ _ (c.in_ok-put-in-IntoMember.ensures W R) h)) c.straight-in-IntoMember.ensures.lines
+
+pub placed-returns-in_ok-put-in-Nowhere-clause-lines : goal.placed-returns-in_ok-put-in-Nowhere-clause-lines
+placed-returns-in_ok-put-in-Nowhere-clause-lines t c =
+    let W = c.args.self.now.writer.now in
+    let R = c.args.self.now.reader.now in
+    on_ok_weaker c.skip.result (λ h. placed_more c.args.self.now.writer.now c.args.self.now.reader.now (write_within c.args.self.now.writer.now c.args.self.now.reader.now c.args.steps) c.args.wn c.args.rn _ _ (lines_in c.args.self.now.writer.now c.args.self.now.reader.now c.args.lines.now.items) _ _ c.in_ok-place_of.ensures.place c.in-Nowhere.is refl (two (lines_in c.args.self.now.writer.now c.args.self.now.reader.now c.args.lines.now.items) _ _ _ _ (c.in_ok-put-in-Nowhere.ensures W R ∙ ap (λ m. lines_in W R c.args.lines.now.items ++ Miss m ∷ []) c.miss.ensures) h)) c.skip.ensures
+
+pub placed-returns-in_ok-put-in-Unmatched-clause-lines : goal.placed-returns-in_ok-put-in-Unmatched-clause-lines
+placed-returns-in_ok-put-in-Unmatched-clause-lines t c =
+    let W = c.args.self.now.writer.now in
+    let R = c.args.self.now.reader.now in
+    on_ok_weaker c.skip-in-Unmatched.result (λ h. placed_more c.args.self.now.writer.now c.args.self.now.reader.now (write_within c.args.self.now.writer.now c.args.self.now.reader.now c.args.steps) c.args.wn c.args.rn _ _ (lines_in c.args.self.now.writer.now c.args.self.now.reader.now c.args.lines.now.items) _ _ c.in_ok-place_of.ensures.place c.in-Unmatched.is refl (two (lines_in c.args.self.now.writer.now c.args.self.now.reader.now c.args.lines.now.items) _ _ _ _ (c.in_ok-put-in-Unmatched.ensures W R ∙ ap (λ m. lines_in W R c.args.lines.now.items ++ Miss m ∷ []) c.miss-in-Unmatched.ensures) h)) c.skip-in-Unmatched.ensures
+
+pub write_within-returns-then-levels-eq0-clause-lines : goal.write_within-returns-then-levels-eq0-clause-lines
+write_within-returns-then-levels-eq0-clause-lines t c = on_ok_weaker c.put.result (λ h. write_none _ _ _ _ _ _ _ c.if-levels-eq0.true (h c.args.self.now.writer.now c.args.self.now.reader.now)) c.put.ensures
+
+pub write_within-write_members-requires : goal.write_within-write_members-requires
+write_within-write_members-requires t c =
+    let formed = rw c.in-Union.is at c.kind.ensures.well_formed in
+    let few : length c.deref.result.now ≤ MOST_NODES = rw c.deref.ensures.value formed.1 in
+    let some : c.args.levels ≡ 0 → ⊥ = c.if-levels-eq0.false in
+    (omega (arith, few, some), (rw c.deref.ensures.value (members_below c.args.self.now.writer.now c.args.wn c.in-Union.members.items formed.0), (few, (c.requires.reader, c.requires.known))))
+
+pub write_within-returns-in_ok-put-in-Union-clause-lines : goal.write_within-returns-in_ok-put-in-Union-clause-lines
+write_within-returns-in_ok-put-in-Union-clause-lines t c =
+    let at : slice_get c.args.self.now.writer.now c.args.wn ≡ Some (UnionNode c.in-Union.members.items) = c.kind.ensures.kind ∙ ap (λ k. Some (node_of k)) c.in-Union.is in
+    let places = rw (c.new-fars.ensures.items, c.new-code.ensures.items, c.deref.ensures.value) at c.in_ok-write_members-in-Union.ensures.places in
+    let code = rw (c.new-code.ensures.items, c.deref.ensures.value) at c.in_ok-write_members-in-Union.ensures.lines in
+    on_ok_weaker c.put_all.result (λ h. h c.args.self.now.writer.now c.args.self.now.reader.now ∙ write_union c.args.self.now.writer.now c.args.self.now.reader.now c.args.levels c.args.wn c.args.rn c.in-Union.members.items _ _ _ _ c.if-levels-eq0.false at places code (c.in_ok-put-in-Union.ensures c.args.self.now.writer.now c.args.self.now.reader.now)) c.put_all.ensures
+
+pub write_within-returns-in_default-clause-lines : goal.write_within-returns-in_default-clause-lines
+write_within-returns-in_default-clause-lines t c =
+    on_ok_weaker c.placed.result (λ h. write_more c.args.self.now.writer.now c.args.self.now.reader.now c.args.levels c.args.wn c.args.rn _ (lines_in c.args.self.now.writer.now c.args.self.now.reader.now c.args.lines.now.items) _ _ c.if-levels-eq0.false c.kind.ensures.kind (no_union c.args.self.now.writer.now c.args.self.now.reader.now (write_within c.args.self.now.writer.now c.args.self.now.reader.now (c.args.levels - 1)) c.args.wn c.args.rn c.kind.result.now c.in_default.not-Union) h) c.placed.ensures.lines
+
+pub write_members-set_jump-requires : goal.write_members-set_jump-requires
+write_members-set_jump-requires t c =
+    let W = c.args.self.now.writer.now in
+    let R = c.args.self.now.reader.now in
+    let end : c.len-end.result ≡ length c.write_within.new.lines.items = search rules in
+    let place : c.len-end.result ≡ length (lines_in W R c.write_within.new.lines.items) = end ∙ sym (lines_length W R c.write_within.new.lines.items) in
+    let below = hole_below (lines_in W R c.write_within.new.lines.items) _ _ _ _ (c.in_ok-put.ensures W R) c.in_ok-write_members.ensures.lines in
+    omega (arith, place, below, lines_length W R c.write_members.new.code.items)
+
+pub write_members-returns-clause-lines : goal.write_members-returns-clause-lines
+write_members-returns-clause-lines t c =
+    let W = c.args.self.now.writer.now in
+    let R = c.args.self.now.reader.now in
+    let some : length c.in-Some.rest.now ≡ 0 → ⊥ = λ e. search rules in
+    let end : c.len-end.result ≡ length c.write_within.new.lines.items = search rules in
+    c.set_jump.ensures W R ∙ first_then (λ m. write_within c.args.self.now.writer.now c.args.self.now.reader.now c.args.steps m c.args.rn) c.in-Some.first.now c.in-Some.rest.now c.args.members.now c.in-Some.ensures.cases.0 (lines_in W R c.args.code.now.items) (lines_in W R c.write_within.new.lines.items) (lines_in W R c.put.new.lines.items) (lines_in W R c.write_members.new.code.items) Lost c.len-end.result (length c.write_members.new.code.items) some c.in_ok-write_within.ensures.lines (c.in_ok-put.ensures W R) c.in_ok-write_members.ensures.lines (end ∙ sym (lines_length W R c.write_within.new.lines.items)) (sym (lines_length W R c.write_members.new.code.items))
+
+pub write_members-returns-clause-places : goal.write_members-returns-clause-places
+write_members-returns-clause-places t c =
+    let W = c.args.self.now.writer.now in
+    let R = c.args.self.now.reader.now in
+    let at : c.len.result ≡ length c.args.code.now.items = search rules in
+    places_then (λ m. write_within c.args.self.now.writer.now c.args.self.now.reader.now c.args.steps m c.args.rn) c.in-Some.first.now c.in-Some.rest.now c.args.members.now c.in-Some.ensures.cases.0 (lines_in W R c.args.code.now.items) (lines_in W R c.write_within.new.lines.items) (lines_in W R c.put.new.lines.items) Lost c.args.fars.now.items c.push.new.self.items c.write_members.new.fars.items (length c.args.code.now.items) (length c.put.new.lines.items) (◌∙◌ {b = c.args.fars.now.items ++ (c.len.result + 1) ∷ []} c.in_ok-push.ensures.items (ap (λ k. c.args.fars.now.items ++ (k + 1) ∷ []) at)) c.in_ok-write_members.ensures.places c.in_ok-write_within.ensures.lines (c.in_ok-put.ensures W R) (sym (lines_length W R c.args.code.now.items)) (sym (lines_length W R c.put.new.lines.items))
