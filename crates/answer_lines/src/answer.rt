@@ -26,7 +26,7 @@ fn push_payload_answer(
     }
 }
 
-/// Appends the answer to a line, without its LF.
+/// Appends the answer to a line, without its LF. What an `Err` leaves of the text is not said.
 pub fn push_answer(
     alloc: Global,
     transcoder: &mut Transcoder,

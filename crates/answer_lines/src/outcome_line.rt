@@ -17,7 +17,7 @@ fn push_hex(alloc: Global, output: &mut String, bytes: &[u8]) -> Result<(), Allo
     output.push_str(&text)
 }
 
-/// Appends the line of an outcome, without its LF.
+/// Appends the line of an outcome, without its LF. What an `Err` leaves of the text is not said.
 pub fn push_outcome(alloc: Global, output: &mut String, outcome: &Outcome) -> Result<(), AllocError>
     ensures { OnOk result (string_bytes output.new ≡ string_bytes output.old ++ line_of (outcome_of outcome.now)) }
 {

@@ -36,7 +36,7 @@ fn push_end(alloc: Global, output: &mut String, machine: &Machine) -> Result<(),
     }
 }
 
-/// Appends the line of a run, without its LF.
+/// Appends the line of a run, without its LF. What an `Err` leaves of the text is not said.
 pub fn push_run(alloc: Global, output: &mut String, machine: &Machine) -> Result<(), AllocError>
     ensures { OnOk result (string_bytes output.new ≡ string_bytes output.old ++ line_of_run machine.now.state) }
 {

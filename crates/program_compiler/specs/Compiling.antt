@@ -1,4 +1,4 @@
--- What compiling a pair of schemas answers.
+-- What compiling a pair of schemas answers. This project's own.
 use Rattle.std.specs.Prelude.{◌≡◌, List, Some, None, Result, Ok, Err}
 use Rattle.avro_types.specs.Node.{Node}
 use Rattle.isa.specs.Program.{Program}

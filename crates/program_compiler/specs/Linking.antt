@@ -1,4 +1,4 @@
--- Instructions with a number, by what they are.
+-- Instructions with a number, by what they are. This project's own.
 use Rattle.std.specs.Prelude.{ℕ}
 use Rattle.isa.specs.declared.instr.Instr.{Instr}
 use Rattle.isa.specs.declared.instr.Instr.TheVariants as op

@@ -1,4 +1,4 @@
--- What is kept of pairs of enums and of defaults that came before.
+-- What is kept of pairs of enums and of defaults that came before. This project's own.
 use Rattle.std.specs.Prelude.{◌≡◌, ℕ, true, List, map, slice_get, Some}
 use Rattle.std.specs.declared.cmp.Ordering.{Ordering}
 use Rattle.std.specs.Ordering.{nat_cmp, ordering_then}

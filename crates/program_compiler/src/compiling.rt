@@ -8,7 +8,8 @@ use program_code::program_is_in_range;
 use program_lines::{CompileError, walk};
 use std::alloc::Global;
 
-/// The program that reads what the writer's schema wrote and writes what the reader's makes of it.
+/// The program that reads what the writer's schema wrote and writes what the reader's makes of it. `ProgramTooLarge`
+/// where it would pass a limit of programs: it is not made whole then.
 pub fn compile(alloc: Global, w: &Nodes, r: &Nodes) -> Result<Program, CompileError>
     ensures { Compiles w.now r.now result }
 {

@@ -1,4 +1,4 @@
--- Lines as the program's definition has them.
+-- Lines as the program's definition has them. This project's own.
 use Rattle.std.specs.Prelude.{ℕ, pos, List, [], map, Option, Some, slice_get}
 use Rattle.avro_bytes.specs.Shortest.{shortest}
 use Rattle.avro_types.specs.Node.{Node, FieldNode, EnumNode, RecordNode}

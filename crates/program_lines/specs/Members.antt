@@ -1,4 +1,4 @@
--- The members of a reader's union, found by their nodes.
+-- The members of a reader's union, found by their nodes. This project's own.
 use Rattle.std.specs.Prelude.{◌≡◌, ℕ, ◌==◌, List, Option, Some, None, min}
 use Rattle.std.specs.BTreeMap.{BTreeMap, get}
 use Rattle.std.specs.List.{position_from}

@@ -48,7 +48,8 @@ impl Listing {
     }
 }
 
-/// The sections of a pair of schemas, in the order of their first calls.
+/// The sections of a pair of schemas, in the order of their first calls. `ProgramTooLarge` where they have more lines
+/// than a program may have instructions.
 pub fn walk(alloc: Global, w: &Nodes, r: &Nodes) -> Result<Listing, CompileError>
     ensures { Walks w.now r.now result }
 {
