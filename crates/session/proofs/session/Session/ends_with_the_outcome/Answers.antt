@@ -13,5 +13,5 @@ pub returns-clause-bound : goal.returns-clause-bound
 returns-clause-bound c =
     subst (EndsWithinBound c.args.w.now c.args.r.now) c.self.view_is
     (λ closed.
-      let whole = c.ends_with_the_outcome.ensures.bound closed c.self.invariant.0 in
-      (whole.0, λ e. whole.1 (sym (ap (λ (o : Option State). option_and_then (λ (t : State). t.end) o) c.is_alone.ensures) ∙ e)))
+    let whole = c.ends_with_the_outcome.ensures.bound closed c.self.invariant.0 in
+    (whole.0, λ e. whole.1 (sym (ap (λ (o : Option State). option_and_then (λ (t : State). t.end) o) c.is_alone.ensures) ∙ e)))
