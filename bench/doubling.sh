@@ -1,25 +1,21 @@
 #!/usr/bin/env bash
-# Whether time is linear: the program on payloads of nested arrays of records, and on schemas of many symbols, of many long names that
-# differ at their ends, of many defaults, members, aliases that are one, or are met often, a record that is met often, and names in one long namespace, each of one size and of twice that size, in one
-# run. And whether a datum costs the same with a schema of twice the size: records of many fields, unions of many members, enums of many
-# symbols, long names, lists of many levels. Not part of the gate. Usage: bench/doubling.sh PROGRAM [WORD [instructions]], which takes the rows alone whose names have
-# that word, and counts instructions (by valgrind) in place of time.
+# Whether time is linear: the program on payloads of nested arrays of records, and on schemas of many symbols, of many
+# long names that differ at their ends, of many defaults, members, aliases that are one or are met often, a record that
+# is met often, and names in one long namespace, each of one size and of twice that size, in one run. And whether a datum
+# costs the same with a schema of twice the size: records of many fields, unions of many members, enums of many symbols,
+# long names, lists of many levels. Not part of the gate.
+# Usage: bench/doubling.sh PROGRAM [WORD [instructions]], which takes the rows alone whose names have that word, and
+# counts instructions (by valgrind) in place of time.
 set -euo pipefail
+export PYTHONDONTWRITEBYTECODE=1 PYTHONPATH=$(dirname "$(realpath "$0")")
 program=$(realpath "$1")
 exec python3 - "$program" "${2:-}" "${3:-}" <<'PYTHON'
 import random, re, subprocess, sys, time
+from avro_encoding import number
 
 program, word, mode = sys.argv[1:]
 counting = mode == "instructions"
 
-def number(n):
-    n = n * 2 if n >= 0 else -2 * n - 1
-    out = bytearray()
-    while n > 127:
-        out.append(n & 127 | 128)
-        n >>= 7
-    out.append(n)
-    return bytes(out)
 
 POINTS = ('{"type":"array","items":{"type":"array","items":{"type":"record","name":"Point","fields":'
           '[{"name":"x","type":"long"},{"name":"label","type":"string"}]}}}')
@@ -96,10 +92,10 @@ def aliases_met(size):
     """A fixed of many aliases, all of them the writer's last part in another long namespace, which is met in many fields."""
     space, many = "n" * (size // 4), size // 50
     fields = ",".join('{"name":"f%04d","type":"w"}' % i for i in range(1, many))
-    def whole(last, name, more):
+    def schema(last, name, more):
         return ('{"type":"record","name":"W","namespace":"%s.%s","fields":[{"name":"f","type":{"type":"fixed","name":"%s","size":1%s}},%s]}\n'
                 % (space, last, name, more, fields.replace('"w"', '"%s"' % name)))
-    return whole("a", "w", "") + whole("b", "R", ',"aliases":[%s]' % ",".join(['"w"'] * (size // 16)))
+    return schema("a", "w", "") + schema("b", "R", ',"aliases":[%s]' % ",".join(['"w"'] * (size // 16)))
 
 def met_often(size):
     """A record of many fields that is met in as many places."""

@@ -7,12 +7,14 @@
 # and how much longer the evolved reader takes than the flat one.
 # Usage: bench/lines.sh PROGRAM   (PROGRAM is the built avrogate: crates/avrogate/out/avrogate after `rt run`)
 set -euo pipefail
+export PYTHONDONTWRITEBYTECODE=1 PYTHONPATH=$(dirname "$(realpath "$0")")
 program=$(realpath "$1")
 folder=$(mktemp -d)
 trap 'rm -rf "$folder"' EXIT
 export program folder
 exec /usr/bin/python3 - <<'PYTHON'
 import io, os, random, resource, subprocess, sys, time
+from avro_encoding import number, text
 
 try:
     import avro.io, avro.schema
@@ -36,20 +38,6 @@ readers = {
     "flat": record(ID, field("count", "long"), ITEM, NOTE),
     "evolved": record(field("count", "long"), ID, ITEM, field("currency", "string", ',"default":"EUR"')),
 }
-
-
-def number(n):
-    n = (n << 1) ^ (n >> 63)
-    out = bytearray()
-    while n > 127:
-        out.append(n & 127 | 128)
-        n >>= 7
-    return bytes(out) + bytes([n])
-
-
-def text(s):
-    b = s.encode()
-    return number(len(b)) + b
 
 
 def payload(rng):

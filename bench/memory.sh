@@ -4,20 +4,16 @@
 # the slot of the default is filled after another, so that slots are put in order.
 # Not part of the gate. Usage: bench/memory.sh PROGRAM
 set -euo pipefail
+export PYTHONDONTWRITEBYTECODE=1 PYTHONPATH=$(dirname "$(realpath "$0")")
 exec python3 - "$(realpath "$1")" <<'PYTHON'
 import os, subprocess, sys, tempfile
+from avro_encoding import number
 
 LETTERS, LIMIT = 200_000, 67_108_864
 
 def record(fields):
     return '{"type":"array","items":{"type":"record","name":"Q","fields":[%s]}}' % fields
 
-def number(n):
-    n, out = n * 2, bytearray()
-    while n > 127:
-        out.append(n & 127 | 128)
-        n >>= 7
-    return bytes(out) + bytes([n])
 
 def payload(items, item):
     return (number(items) + item * items + b"\0").hex() if items else "00"

@@ -4,8 +4,10 @@
 # answers have to be the same. Not part of the gate.
 # Usage: bench/transcoding.sh BENCH_TRANSCODING   (crates/bench_transcoding/out/bench_transcoding after `rt run`)
 set -euo pipefail
+export PYTHONDONTWRITEBYTECODE=1 PYTHONPATH=$(dirname "$(realpath "$0")")
 exec /usr/bin/python3 - "$(realpath "$1")" <<'PYTHON'
 import io, json, random, re, resource, struct, subprocess, sys, time
+from avro_encoding import number, text
 
 try:
     import avro.io, avro.schema
@@ -15,19 +17,6 @@ except ImportError:
 program = sys.argv[1]
 rng = random.Random(7)
 sys.setrecursionlimit(20_000)
-
-
-def number(n):
-    n = (n << 1) ^ (n >> 63)
-    out = bytearray()
-    while n > 127:
-        out.append(n & 127 | 128)
-        n >>= 7
-    return bytes(out) + bytes([n])
-
-
-def text(s):
-    return number(len(s.encode())) + s.encode()
 
 
 def record(name, *fields):
