@@ -72,7 +72,7 @@ ask_again() {
     for ((n = 1; ; n++)); do
       refused $n "$tests" "$test" || break
       runs=$((runs + 1))
-      if [ $status = 0 ] || grep -qE 'error: .*(AllocError|AllocFailed|NoMemory|OutOfMemory)|no memory: (AllocError|AllocFailed|NoMemory)|left: Err\(Write\)' "$folder/out" "$folder/err"; then
+      if [ $status = 0 ] || grep -qE '[Ee]rror: .*(AllocError|AllocFailed|NoMemory|OutOfMemory)|no memory: (AllocError|AllocFailed|NoMemory)|left: Err\(Write\)' "$folder/out" "$folder/err"; then
         count ok
       else
         count bad "$tests $test, allocation $n: $(cat "$folder/err" "$folder/out" | head -c 300)"
@@ -94,10 +94,10 @@ ask_again isa_tests program_tests::{keeps_lists_and_shares_them,a_program_shows_
 ask_again isa_tests assembling_tests::{listings_come_back,lines_of_no_form,numbers_and_operands} listing_tests::the_listing_of_a_map_and_a_miss
 ask_again isa_tests image_tests::{both_versions_are_loaded_and_saved_as_the_second,things_of_each_kind_are_loaded_and_saved,faults_of_tables_are_told_at_their_places}
 ask_again stepper_tests row_tests::{worked_rows_come_out,slices_change_nothing,traps_are_told} text_tests::{texts_take_a_row_for_64_bytes,bytes_that_are_no_text_are_a_miss}
-ask_again stepper_tests show_tests::{records_are_shown_slot_by_slot,arrays_are_shown_with_their_blocks,programs_are_listed}
+ask_again stepper_tests show_tests::programs_are_listed
 ask_again machine_tests program_tests::{list_of_longs_to_itself,record_to_itself_and_by_aliases}
 ask_again machine_tests run_tests::cuts_and_slices_change_nothing pair_tests::{outcomes_of_pairs,payloads_follow_one_another}
-ask_again commands_tests line_forms::replay_tests::{schemas_and_pieces_are_read,levels_are_read} line_forms::bad_line_tests::lines_that_are_no_utf_8_are_bad
+ask_again commands_tests line_forms::replay_tests::{schemas_and_pieces_are_read,levels_are_read}
 ask_again commands_tests compile_tests::{writes_listings,writes_images,tells_bad_schemas}
 ask_again commands_tests run_tests::{answers_schemas,answers_lines_that_are_no_payloads,answers_what_is_no_text,answers_worked_rows}
 echo "$passed passed, $failed failed"
