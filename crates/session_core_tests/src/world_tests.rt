@@ -4,29 +4,62 @@ use crate::again::{row_for, session_ends};
 use crate::lines::{answer_to, event_of, reply_line};
 use crate::rows::{BREAKS, REFUSALS, REFUSED, REPLAY};
 use crate::same::same;
-use session_core::{Event, PairRow, World, run_events};
+use session_core::{Event, EventReply, PairRow, World, run_events};
 use std::alloc::{AllocError, Global};
 use std::process::Abort;
 use std::test::Fail;
 
-/// Rows with the answers that a new world gives to their events.
-fn answered_by(alloc: Global, programs: &PairRow, rows: &str) -> Result<String, AllocError> {
-    let mut world = World::new(alloc);
+/// An event and the answer that a world gives to it, a line each.
+fn row_of<'p>(
+    alloc: Global,
+    world: &mut World<'p>,
+    programs: &'p PairRow,
+    line: &str,
+) -> Result<String, AllocError> {
+    let answer = answer_to(alloc, world, programs, line)?;
+    format!(in alloc; "{line}\n{answer}\n")
+}
+
+/// Rows with the answers that a world gives to their events.
+fn rows_of<'p>(
+    alloc: Global,
+    world: &mut World<'p>,
+    programs: &'p PairRow,
+    rows: &str,
+) -> Result<String, AllocError> {
     let mut answered = String::new(alloc);
     for (place, line) in rows.lines().enumerate() {
         if place % 2 == 0 {
-            let answer = answer_to(alloc, &mut world, programs, line)?;
-            let row = format!(in alloc; "{line}\n{answer}\n")?;
+            let row = row_of(alloc, world, programs, line)?;
             answered.push_str(&row)?;
         }
     }
     Ok(answered)
 }
 
+/// Rows with the answers that a new world gives to their events.
+fn answered_by(alloc: Global, programs: &PairRow, rows: &str) -> Result<String, AllocError> {
+    let mut world = World::new(alloc);
+    rows_of(alloc, &mut world, programs, rows)
+}
+
 /// The same, with cells for so many pairs.
 fn answered(alloc: Global, pairs: usize, rows: &str) -> Result<String, AllocError> {
     let programs = row_for(alloc, pairs)?;
     answered_by(alloc, &programs, rows)
+}
+
+/// What a world answers to an event of a session.
+fn told<'p>(
+    alloc: Global,
+    world: &mut World<'p>,
+    programs: &'p PairRow,
+    verb: &str,
+    number: &str,
+    rest: &str,
+) -> Result<String, AllocError> {
+    let line = format!(in alloc; "{verb} {number}{rest}")?;
+    answer_to(alloc, world, programs, &line)
 }
 
 /// How a new session of two schemas ends on a payload, whole.
@@ -46,11 +79,9 @@ fn attempt<'p>(
         ("go", " 1"),
         ("walk", " 99"),
     ] {
-        let line = format!(in alloc; "{verb} {number}{rest}")?;
-        answer_to(alloc, world, programs, &line)?;
+        told(alloc, world, programs, verb, number, rest)?;
     }
-    let line = format!(in alloc; "result {number}")?;
-    answer_to(alloc, world, programs, &line)
+    told(alloc, world, programs, "result", number, "")
 }
 
 /// The same, in another session where memory ended the first.
@@ -106,22 +137,41 @@ fn events_and_replies(alloc: Global, rows: &str) -> Result<(Vec<Event>, String),
     Ok((events, replies))
 }
 
-/// What a new world replies to events in one call, a line each, and how its first two sessions have ended then.
-fn replied(alloc: Global, programs: &PairRow, events: &[Event]) -> Result<String, AllocError> {
-    let (world, replies) = run_events(alloc, programs, events)?;
+/// Replies, a line each.
+fn reply_lines(alloc: Global, replies: &[EventReply]) -> Result<String, AllocError> {
     let mut lines = String::new(alloc);
-    for reply in &replies {
+    for reply in replies {
         let line = reply_line(alloc, *reply)?;
         let row = format!(in alloc; "{line}\n")?;
         lines.push_str(&row)?;
     }
-    let (one, two) = (
-        session_ends(alloc, &world, 0)?,
-        session_ends(alloc, &world, 1)?,
-    );
-    let ends = format!(in alloc; "{one}, {two}")?;
-    lines.push_str(&ends)?;
     Ok(lines)
+}
+
+/// How the first two sessions of a world have ended.
+fn first_ends(alloc: Global, world: &World) -> Result<String, AllocError> {
+    let (one, two) = (
+        session_ends(alloc, world, 0)?,
+        session_ends(alloc, world, 1)?,
+    );
+    format!(in alloc; "{one}, {two}")
+}
+
+/// Replies, a line each, and how the first two sessions of a world have ended.
+fn replies_and_ends(
+    alloc: Global,
+    world: &World,
+    replies: &[EventReply],
+) -> Result<String, AllocError> {
+    let lines = reply_lines(alloc, replies)?;
+    let ends = first_ends(alloc, world)?;
+    format!(in alloc; "{lines}{ends}")
+}
+
+/// What a new world replies to events in one call, a line each, and how its first two sessions have ended then.
+fn replied(alloc: Global, programs: &PairRow, events: &[Event]) -> Result<String, AllocError> {
+    let (world, replies) = run_events(alloc, programs, events)?;
+    replies_and_ends(alloc, &world, &replies)
 }
 
 /// Whether a new world answers each event as its row has it.
