@@ -1,5 +1,5 @@
 -- The index of full names, when one more is defined.
-use Rattle.std.proofs.Common.{◌≡◌, ◌<◌, ◌≤◌, ℕ, zero, suc, ◌+◌, List, [], ◌∷◌, ◌++◌, length, length-append, Bool, true, false, not, cond, eqb, ltb, Some, None, refl, sym, ap, subst, ◌∙◌, arith, String, string_bytes, set, slice_get}
+use Rattle.std.proofs.Common.{◌≡◌, ◌<◌, ◌≤◌, ℕ, zero, suc, ◌+◌, List, [], ◌∷◌, ◌++◌, length, length-append, Bool, true, false, cond, eqb, ltb, Some, None, refl, sym, ap, subst, ◌∙◌, arith, String, string_bytes, set, slice_get}
 use Rattle.std.specs.BTreeMap.{BTreeMap, UpdatesBy, get_by_text}
 use Rattle.std.specs.Ordering.{nat_cmp}
 use Rattle.std.specs.Cmp.Lexicographic.{slice_cmp}
@@ -177,37 +177,9 @@ module _ (namespace last : List ℕ) (none : has_dot last ≡ false) (ruled : is
         begins_none = begins-now known.begins_none;
       }
 
--- ---- a scope that finds the same
-
-module _ {A : Type 0} (numbers : BTreeMap (String A) ℕ) (scopes : List (BTreeMap (String A) ℕ)) (ks : List Draft) (known : IsIndexOf numbers scopes ks) (number : ℕ) (old new : BTreeMap (String A) ℕ)
-    (was : slice_get scopes number ≡ Some old) (same : (s : List ℕ) → get_by_text new s ≡ get_by_text old s) where
-  found-put : (n : ℕ) (s other : List ℕ) (scope : BTreeMap (String A) ℕ) → slice_get (namespaces_of (heads_of ks)) n ≡ Some s → slice_get (set scopes number new) n ≡ Some scope → has_dot other ≡ false
-      → (b : Bool) → eqb n number ≡ b → get_by_text scope other ≡ defined_at (inside s other) (heads_of ks)
-  found-put n s other scope here has also true t =
-      let one : n ≡ number = eqb-true n number t in
-      let it : new ≡ scope = set-same scopes number new scope (ap (slice_get (set scopes number new)) (sym one) ∙ has) in
-      rw (← it) (same other ∙ known.found n s other old here (ap (slice_get scopes) one ∙ was) also)
-  found-put n s other scope here has also false t =
-      known.found n s other scope here (sym (set-other scopes number n new (λ e. no_true (eqb n number) (same_number n number e) t)) ∙ has) also
-
-  pub index-put : IsIndexOf numbers (set scopes number new) ks
-  index-put = record {
-    numbered = known.numbered;
-    each_has_one = length-set scopes number new ∙ known.each_has_one;
-    found = λ n s other scope here has also. found-put n s other scope here has also (eqb n number) refl;
-    once = known.once;
-    begins_none = known.begins_none;
-  }
-
 -- a name in a namespace that is not there is not there
 pub fresh-first : (namespace last : List ℕ) → has_dot last ≡ false → (hs : List Head) → place_of namespace (namespaces_of hs) ≡ None → defined_at (inside namespace last) hs ≡ None
 fresh-first namespace last none hs new = spaceless (inside namespace last) hs (ap (λ s. is_used s (namespaces_of hs)) (namespace-inside namespace last none) ∙ none-used namespace (namespaces_of hs) new)
-
--- ---- what a push that did not fail leaves
-
-pub pushed-all : {X : Type 0} (pushed failed : Bool) (xs ys zs : List X) → xs ≡ cond pushed ys zs → pushed ≡ not failed → failed ≡ false → xs ≡ ys
-pushed-all true failed xs ys zs e n f = e
-pushed-all false failed xs ys zs e n f = absurd (let no : ⊥ = let t = n ∙ ap not f in cc in no)
 
 -- the number of the next namespace
 pub first-number : (hs : List Head) (full : List ℕ) → place_of (namespace_of full) (namespaces_of hs) ≡ None → slice_get (namespaces_of (hs ++ Named full ∷ [])) (length (namespaces_of hs)) ≡ Some (namespace_of full)

@@ -56,6 +56,11 @@ abbrev pub HasOnly : {A : Type 0} → List ℕ → ℕ → BTreeMap (String A) �
 HasOnly {A = A} text n map = (empty : BTreeMap (String A) ℕ) × ((other : List ℕ) → get_by_text empty other ≡ None)
     × UpdatesBy string_cmp (λ key. slice_cmp nat_cmp text (string_bytes key)) empty map (Some n)
 
+-- one map more, which has a number under one text alone
+abbrev pub HasOnlyScope : {A : Type 0} → List ℕ → ℕ → List (BTreeMap (String A) ℕ) → List (BTreeMap (String A) ℕ)
+    → Type 0
+HasOnlyScope {A = A} text n before after = (map : BTreeMap (String A) ℕ) × HasOnly text n map × (after ≡ before ++ map ∷ [])
+
 -- Under each namespace stands its number, and under that, by the last part of a full name, the node that defines it.
 pub record IsIndexOf {A : Type 0} (numbers : BTreeMap (String A) ℕ) (scopes : List (BTreeMap (String A) ℕ))
     (ds : List Draft) : Type 0 where

@@ -4,9 +4,10 @@ ghost use Rattle.avro_types.specs.Node.{node_of};
 ghost use Rattle.avro_types.specs.Symbols.{is_used, place_of};
 ghost use Rattle.schema_drafts.specs.Draft.{Whole, draft_field_of, draft_of, drafts_of, field_names};
 ghost use Rattle.schema_drafts.specs.Head.{IsUnnamed, Named, defined_at, head_of, head_of_node, heads_of};
-ghost use Rattle.schema_drafts.specs.Index.{AreOnce, BeginWithNoDot, HasOnly, IsNamespaceOf, IsNumbered, namespaces_of, text_of_namespace};
+ghost use Rattle.schema_drafts.specs.Index.{AreOnce, BeginWithNoDot, IsNamespaceOf, IsNumbered, namespaces_of, text_of_namespace};
 
 use crate::draft::{Draft, DraftField};
+use crate::named::{add_first_named, add_named, put};
 use crate::namespace::Namespace;
 use avro_types::{Kind, Name};
 use std::alloc::{AllocError, Global};
@@ -167,16 +168,9 @@ impl<'v> Drafts<'v> {
         ensures refused { OnErr result (self.new ≡ self.old) }
     {
         name.has_two_parts();
-        let node = self.nodes.len();
-        let last = String::from_str(alloc, name.last())?;
-        self.nodes.push(draft)?;
-        match self.scopes[number].insert(last, node) {
-            Ok(_) => Ok(()),
-            Err(_) => {
-                self.nodes.truncate(node);
-                Err(AllocError)
-            }
-        }
+        let scope = &mut self.scopes[number];
+        add_named(alloc, &mut self.nodes, scope, name.last(), draft)?;
+        Ok(())
     }
 
     /// Adds the node that defines the first name of a namespace.
@@ -191,42 +185,11 @@ impl<'v> Drafts<'v> {
         ensures nodes { OnOk result (self.new ≡ self.old ++ draft_of draft.entry ∷ []) }
         ensures refused { OnErr result (self.new ≡ self.old) }
     {
-        let node = self.nodes.len();
-        let scope = first_scope(alloc, name.last(), node)?;
-        let namespace = String::from_str(alloc, name.namespace())?;
-        self.push_first(name, namespace, scope, draft)
-    }
-
-    /// Adds the node that defines the first name of a namespace, whose scope is made.
-    fn push_first(
-        &mut self,
-        name: &Name,
-        namespace: String,
-        scope: BTreeMap<String, usize>,
-        draft: Draft<'v>,
-    ) -> Result<(), AllocError>
-        requires named { head_of (draft_of draft) ≡ Named name.now }
-        requires first { place_of (namespace_of name.now) (namespaces_of (heads_of self.old)) ≡ None }
-        requires text { string_bytes namespace ≡ namespace_of name.now }
-        requires scope { HasOnly (unqualified name.now) (length self.old) scope }
-        ensures nodes { OnOk result (self.new ≡ self.old ++ draft_of draft.entry ∷ []) }
-        ensures refused { OnErr result (self.new ≡ self.old) }
-    {
         name.has_two_parts();
-        let number = self.scopes.len();
-        self.scopes.push(scope)?;
-        if self.nodes.push(draft).is_err() {
-            self.scopes.pop();
-            return Err(AllocError);
-        }
-        match self.numbers.insert(namespace, number) {
-            Ok(_) => Ok(()),
-            Err(_) => {
-                self.nodes.pop();
-                self.scopes.pop();
-                Err(AllocError)
-            }
-        }
+        let (space, last) = (name.namespace(), name.last());
+        let (nodes, numbers, scopes) = (&mut self.nodes, &mut self.numbers, &mut self.scopes);
+        add_first_named(alloc, nodes, numbers, scopes, space, last, draft)?;
+        Ok(())
     }
 
     /// Puts a node in the place of one with the same head.
@@ -234,21 +197,8 @@ impl<'v> Drafts<'v> {
         requires { slice_get (heads_of self.old) node ≡ Some (head_of (draft_of draft)) }
         ensures { self.new ≡ set self.old node (draft_of draft.entry) }
     {
-        self.nodes[node] = draft;
+        put(&mut self.nodes, node, draft);
     }
-}
-
-/// A namespace's nodes by the last parts of their names, with one name alone.
-fn first_scope(
-    alloc: Global,
-    last: &str,
-    node: usize,
-) -> Result<BTreeMap<String, usize>, AllocError>
-    ensures { IfOk result (HasOnly last.now node) }
-{
-    let mut scope = BTreeMap::new(alloc);
-    scope.insert(String::from_str(alloc, last)?, node)?;
-    Ok(scope)
 }
 
 /// The fields of a record so far, and their names. Callers see them as a list of `DraftField`s.

@@ -4,6 +4,7 @@
 
 mod draft;
 mod drafts;
+mod named;
 mod namespace;
 
 pub use draft::{Draft, DraftField};
