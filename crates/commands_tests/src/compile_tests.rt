@@ -127,4 +127,9 @@ fn many_records(alloc: Global, records: usize) -> Result<String, AllocError> {
 fn tells_programs_that_are_too_large(rt: HostRuntime) {
     let input = many_records(rt.alloc(), 648).expect(&rt, "no memory");
     assert_refuses(&rt, &input, "program too large\n");
+    // It is told before a payload that is no hexadecimal.
+    let lines = [input.as_str(), "0g\n"];
+    for verb in [Verb::Transcode, Verb::Debug] {
+        assert_joined(&rt, &verb, &lines, &["program too large\n"], 1);
+    }
 }

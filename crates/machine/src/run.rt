@@ -1,13 +1,15 @@
 ghost use Rattle.std.specs.Prelude.{◌≡◌, ◌≤◌, ◌<◌, ◌+◌, ◌++◌, length, slice_get, OnOk, OnErr, option_map, Some, false, true};
+ghost use Rattle.isa.specs.Row.{row_of};
 ghost use Rattle.program_code.specs.Code.{code_of};
 ghost use Rattle.simulation.specs.Alone.{run_alone};
+ghost use Rattle.stepper.specs.Contract.{GoesOn, OnlyAppends};
 ghost use Rattle.stepper.specs.Memory.{MayGrow};
 ghost use Rattle.stepper.specs.Running.{end_of};
 ghost use Rattle.stepper.specs.Slice.{IsWhy, Rows};
-ghost use Rattle.machine.specs.Ending.{EarlyEndIsOutcome, EndIsOutcome, EndsWithinBound};
+ghost use Rattle.machine.specs.Ending.{EarlyEndIsOutcome, EndIsOutcome, EndsInOneSlice, EndsWithinBound, HasEndedWithinBound};
 
 use avro_types::Nodes;
-use isa::{End, Program};
+use isa::{End, Program, row_or_end_is_there};
 use simulation::{program_ends_with_the_outcome, runs_alone_are_counted_and_stay};
 use std::alloc::{AllocError, Global};
 use std::marker::Model;
@@ -91,8 +93,11 @@ impl<'p> Run<'p> {
         ensures count { self.new.machine.state.count ≡ self.old.machine.state.count + result.rows }
         ensures why { IsWhy self.old.program self.old.input self.old.ended breaks.now result.why k result.rows
             self.new.machine.state }
+        ensures appends { OnlyAppends self.old.machine self.new.machine }
         ensures memory { result.why ≡ Why.NoMemory
             → MayGrow (slice_get self.old.program.code self.new.machine.state.pc) }
+        ensures goes_on { result.why ≡ Why.NoMemory → GoesOn self.new.machine.state
+            (row_of self.old.program self.old.input self.old.ended self.new.machine.state) }
         ensures kept { self.new ≡ record self.old { machine = self.new.machine } }
     {
         runs_alone_are_counted_and_stay();
@@ -109,18 +114,21 @@ impl<'p> Run<'p> {
     }
 
     /// The law that where its program is that of a pair of schemas, it ends with the outcome of the bytes that came,
-    /// and within the row bound where they are all: as many rows as the program has instructions for each unit that is
-    /// counted at the end and for the whole, and one for each byte. So a slice of that many rows with no breakpoint
-    /// ends it, unless memory runs out.
+    /// and within the row bound where they are all, of 16,777,216 bytes at most: as many rows as the program has
+    /// instructions for each unit that is counted at the end and for the whole, and one for each byte. There one slice
+    /// of that many rows with no breakpoint ends it, unless memory runs out.
     pub fn ends_with_the_outcome(&self, w: &Nodes, r: &Nodes)
         requires { code_of w.now r.now ≡ Some self.now.program }
         ensures end { EndIsOutcome w.now r.now self.now }
         ensures early { EarlyEndIsOutcome w.now r.now self.now }
         ensures bound { EndsWithinBound w.now r.now self.now }
+        ensures count { HasEndedWithinBound self.now }
+        ensures slice { EndsInOneSlice w.now r.now self.now }
     {
         let _opened = &self.machine;
         program_ends_with_the_outcome(w, r);
         runs_alone_are_counted_and_stay();
+        row_or_end_is_there();
     }
 
     /// The program that is run.

@@ -39,6 +39,8 @@ fn payloads_too_large(rt: HostRuntime) {
     let long = vec![in rt.alloc(); 0u8; MOST_PAYLOAD + 1].expect(&rt, "no memory");
     let pair = pair_of(rt.alloc(), "\"int\"", "\"int\"").expect(&rt, "schemas");
     assert_refuses(&rt, &pair, &long);
+    let told = pair_words(rt.alloc(), &pair, &long).expect(&rt, "no memory");
+    assert!(rt; told.as_str() == "payload too large");
 }
 
 /// An array of records Q, whose fields are these.

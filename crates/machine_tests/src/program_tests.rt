@@ -1,3 +1,5 @@
+//! The programs of worked pairs: their code and their tables.
+
 use crate::again::program_of;
 use isa::{Entry, Instr, Lists, Program};
 use outcome::{Mismatch, MismatchKind};

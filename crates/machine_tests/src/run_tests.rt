@@ -1,6 +1,6 @@
 //! Runs in pieces and slices: neither changes the end or the count.
 
-use crate::again::{compiled, pair_of, pushed};
+use crate::again::{program_of, pushed};
 use crate::rows::{BOTH, COUNTS, SWAPPED};
 use crate::words::end_words;
 use isa::Program;
@@ -21,8 +21,19 @@ fn advance(run: &mut Run<'_>, k: u64) {
     }
 }
 
+/// Whether a run has taken no more rows than as many as its program has instructions for each unit and for the whole,
+/// and one for each byte.
+fn is_within_bound(run: &Run<'_>) -> bool {
+    let parts = run.machine().units() as u64 + 1;
+    let most = parts.saturating_mul(run.program().len() as u64);
+    run.machine().count() <= most.saturating_add(run.input().len() as u64)
+}
+
 /// What a run shows, in words.
 fn words(alloc: Global, run: &Run<'_>) -> Result<String, AllocError> {
+    if !is_within_bound(run) {
+        return String::from_str(alloc, "past the row bound");
+    }
     let end = end_words(alloc, run.machine().end())?;
     format!(in alloc; "{end} count {}", run.machine().count())
 }
@@ -40,7 +51,7 @@ fn drive(run: &mut Run<'_>, payload: &[u8], size: usize, k: u64) -> Result<(), A
 }
 
 /// What a run shows on a payload in pieces and slices of so many.
-fn cut_run(
+pub(crate) fn cut_run(
     alloc: Global,
     program: &Program,
     payload: &[u8],
@@ -83,12 +94,6 @@ fn is_answer(
 fn is_hex_answer(alloc: Global, program: &Program, hex: &str, answer: &str) -> Result<bool, Fail> {
     let payload = hex::decode(alloc, hex)?;
     Ok(is_answer(alloc, program, &payload, answer)?)
-}
-
-/// The program of a pair of schemas.
-fn program_of(rt: &(impl Abort + AllocGlobal), writer: &str, reader: &str) -> Program {
-    let pair = pair_of(rt.alloc(), writer, reader).expect(rt, "schemas");
-    compiled(rt.alloc(), &pair).expect(rt, "a program")
 }
 
 /// Whether each way to cut a payload of a pair comes to that answer.
@@ -156,11 +161,11 @@ fn a_run_waits_for_bytes(rt: HostRuntime) {
     assert_run_waits(&rt, &program);
 }
 
-/// A breakpoint where no instruction stands. Where there is one, rows are taken one by one, and nothing is looked for
-/// ahead.
+/// A breakpoint where no instruction stands. Where there is one, nothing is looked for ahead, and contents lie in the
+/// arena in the order in which they were read.
 const NOWHERE: u32 = u32::MAX;
 
-/// Whether the arena of a run on a payload is the payload, after so many rows, one by one.
+/// Whether the arena of a run on a payload is the payload, after so many rows, with nothing looked for ahead.
 fn has_arena(run: &mut Run<'_>, payload: &[u8], k: u64) -> Result<bool, AllocError> {
     pushed(run, payload)?;
     run.close();

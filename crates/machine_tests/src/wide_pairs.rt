@@ -1,5 +1,5 @@
-//! Pairs whose programs grow with their writers' members: each is a record R without fields, and the reader's R has 200,
-//! all by default.
+//! Pairs whose programs grow with their writers' members: each is a record R without fields, and the reader's R has
+//! 200, all by default.
 
 use crate::again::{Pair, pair_of};
 use avro_schema::SchemaError;

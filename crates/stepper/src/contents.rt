@@ -1,6 +1,6 @@
 #![tactic(auto, using(crate::proofs::Appending::goes_on, crate::proofs::Appending::same_arena))]
 
-ghost use Rattle.std.specs.Prelude.{◌≡◌, ◌≤◌, ◌<◌, ◌+◌, ◌-◌, length, min, pos, take, drop, [], option_map, OnOk, OnErr, Some, None, true, false};
+ghost use Rattle.std.specs.Prelude.{◌≡◌, ◌≤◌, ◌<◌, ◌+◌, ◌-◌, length, min, pos, take, drop, [], OnOk, OnErr, Some, None, true, false};
 ghost use Rattle.avro_bytes.specs.declared.limits.TheConstants.{MOST_CONTENT};
 ghost use Rattle.avro_bytes.specs.Shortest.{shortest};
 ghost use Rattle.isa.specs.declared.limits.TheConstants.{MOST_INSTRS, MOST_PIECE};
@@ -73,13 +73,6 @@ impl Machine {
             Moving::SkipBytes | Moving::SkipText => Ok(()),
             _ => self.add_long(len as i64),
         }
-    }
-
-    /// The content that moves.
-    fn part(&self) -> Option<Part>
-        ensures { option_map part_of result ≡ self.now.state.part }
-    {
-        self.part
     }
 
     /// What is known of it.
@@ -292,7 +285,7 @@ impl Machine {
         ensures stays { Stays moving self.old.state self.new }
         ensures memory { result ≡ Step.NoMemory → MayAdd moving }
     {
-        match self.part() {
+        match self.moving() {
             Some(part) => self.move_part(moving, part, self.check(), program, input, ended),
             None => match read_length(input, self.pos(), self.meter()) {
                 Ok((len, to, _)) => self.begin(moving, len, to, input),
@@ -322,7 +315,7 @@ impl Machine {
         ensures stays { Stays moving self.old.state self.new }
         ensures memory { result ≡ Step.NoMemory → MayAdd moving }
     {
-        match self.part() {
+        match self.moving() {
             Some(part) => self.move_part(moving, part, self.check(), program, input, ended),
             None if size == 0 => self.next(self.pos()),
             None => {

@@ -1,4 +1,4 @@
-ghost use Rattle.std.specs.Prelude.{◌≡◌, ◌++◌, length, reverse, slice_get, option_map, is_some, true, None, Some, OnErr, OnOk};
+ghost use Rattle.std.specs.Prelude.{◌≡◌, ◌++◌, length, reverse, slice_get, option_map, is_some, false, true, None, Some, OnErr, OnOk};
 ghost use Rattle.output_store.specs.Segments.{AreSegments, bytes_of};
 ghost use Rattle.output_store.specs.Viewing.{buffer_of, place_and_length, segments_of_buffer, view_of};
 ghost use Rattle.stepper.specs.Running.{carried, end_of, part_of};
@@ -114,9 +114,13 @@ impl Machine {
     /// The place in the arena and the length of a segment of a buffer, by its number, where there are so many. It takes
     /// no memory.
     pub fn segment(&self, at: BufferAt, number: usize) -> Option<(usize, usize)>
-        requires { is_some (buffer_of at self.now.state.store) ≡ true }
-        ensures { result ≡ option_map place_and_length (slice_get (segments_of_buffer at self.now.layout) number) }
+        ensures there { is_some (buffer_of at self.now.state.store) ≡ true
+            → result ≡ option_map place_and_length (slice_get (segments_of_buffer at self.now.layout) number) }
+        ensures none { is_some (buffer_of at self.now.state.store) ≡ false → result ≡ None }
     {
+        if !self.has_buffer(at) {
+            return None;
+        }
         match self.store.segment(at, number) {
             Some(segment) => Some((segment.place, segment.end.saturating_sub(segment.place))),
             None => None,

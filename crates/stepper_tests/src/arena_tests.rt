@@ -1,25 +1,28 @@
 //! Where the bytes of a run lie.
 
+ghost use Rattle.stepper.specs.Running.{IsOn, IsUnder};
+
 use crate::programs::{bytes, program};
 use crate::same::same;
+use debugger::show;
 use isa::Program;
 use std::alloc::{AllocError, Global};
 use std::fmt::Write;
 use std::test::Fail;
-use stepper::{BufferAt, Machine};
+use stepper::{BufferAt, Machine, Step};
 
 const ARRAY: &str = "0 BLOCKS,1 NEXT 4,2 LONG,3 JUMP 1,4 HALT";
 
 /// More segments than any buffer of these tests has.
 const SEGMENTS: usize = 4;
 
-/// A breakpoint where no instruction stands. Where there is one, rows are taken one by one, and nothing is looked for
-/// ahead.
+/// A breakpoint where no instruction stands. Where there is one, nothing is looked for ahead, and contents lie in the
+/// arena in the order in which they were read.
 const NOWHERE: u32 = u32::MAX;
 
 const SWAPPED: &str = "0 CALL 2,1 HALT,2 RECORD 2,3 SLOT 1,4 LONG,5 SLOT 0,6 TEXT,7 ENDREC,8 RET";
 
-/// The arena of a machine after so many rows, one by one.
+/// The arena of a machine after so many rows, with nothing looked for ahead.
 fn arena_after(
     alloc: Global,
     program: &Program,
@@ -76,9 +79,6 @@ fn a_cut_character_is_carried(rt: HostRuntime) -> Result<(), Fail> {
 /// The place and the length of each segment of a buffer.
 fn segment_words(alloc: Global, machine: &Machine, at: BufferAt) -> Result<String, AllocError> {
     let mut words = String::new(alloc);
-    if !machine.has_buffer(at) {
-        return Ok(words);
-    }
     for number in 0..SEGMENTS {
         if let Some((place, len)) = machine.segment(at, number) {
             write!(words, "({place}, {len})")?;
@@ -106,7 +106,7 @@ fn buffer_words(alloc: Global, machine: &Machine, at: BufferAt) -> Result<String
     Ok(words)
 }
 
-/// The same after so many rows, one by one.
+/// The same after so many rows, with nothing looked for ahead.
 fn words_after(
     alloc: Global,
     program: &Program,
@@ -172,5 +172,96 @@ fn gathered_items_are_read(rt: HostRuntime) -> Result<(), Fail> {
     assert!(rt; has(rt.alloc(), ARRAY, &ITEMS, 3, gathered, "(0, 1) ff06")?);
     assert!(rt; has(rt.alloc(), ARRAY, &ITEMS, 3, slot, " ")?);
     assert!(rt; has(rt.alloc(), ARRAY, &ITEMS, 3, BufferAt::Out, " ff")?);
+    Ok(())
+}
+
+/// What a machine shows, and its arena.
+fn shown(alloc: Global, machine: &Machine) -> Result<String, AllocError> {
+    let mut text = show(alloc, machine, false)?;
+    let arena = hex::encode(alloc, machine.arena())?;
+    text.push_str(arena.as_str())?;
+    Ok(text)
+}
+
+/// A row, where it can be counted.
+fn step(machine: &mut Machine, program: &Program, input: &[u8]) -> Step
+    requires under { IsUnder program.now machine.old }
+    requires on { IsOn input.now machine.old }
+    ensures under { IsUnder program.now machine.new }
+    ensures on { IsOn input.now machine.new }
+{
+    if machine.count() == u64::MAX {
+        return Step::Ended;
+    }
+    machine.step(program, input, true)
+}
+
+/// Whether a row is taken, asked again where memory ran out the first time: the machine shows then what it showed
+/// before.
+fn takes_row(
+    alloc: Global,
+    machine: &mut Machine,
+    program: &Program,
+    input: &[u8],
+) -> Result<bool, AllocError>
+    requires under { IsUnder program.now machine.old }
+    requires on { IsOn input.now machine.old }
+    ensures under { IsUnder program.now machine.new }
+    ensures on { IsOn input.now machine.new }
+{
+    let before = shown(alloc, machine)?;
+    let first = step(machine, program, input);
+    if first != Step::NoMemory {
+        return Ok(first == Step::Moved);
+    }
+    let after = shown(alloc, machine)?;
+    Ok(before.as_str() == after.as_str() && step(machine, program, input) == Step::Moved)
+}
+
+/// Whether so many rows are taken so.
+fn takes_rows(
+    alloc: Global,
+    machine: &mut Machine,
+    program: &Program,
+    input: &[u8],
+    k: usize,
+) -> Result<bool, AllocError>
+    requires under { IsUnder program.now machine.old }
+    requires on { IsOn input.now machine.old }
+{
+    'rows: for _row in 0..k {
+        if !takes_row(alloc, machine, program, input)? {
+            return Ok(false);
+        }
+    }
+    Ok(true)
+}
+
+/// The arena and the segments of the output after so many rows that are taken one by one.
+fn stepped_words(
+    alloc: Global,
+    program: &Program,
+    input: &[u8],
+    k: usize,
+) -> Result<String, AllocError> {
+    let mut machine = Machine::new(alloc);
+    if !takes_rows(alloc, &mut machine, program, input, k)? {
+        return String::from_str(alloc, "no such row");
+    }
+    let arena = hex::encode(alloc, machine.arena())?;
+    let segments = segment_words(alloc, &machine, BufferAt::Out)?;
+    format!(in alloc; "{arena} {segments}")
+}
+
+/// The same for the program of these lines.
+fn stepped(alloc: Global, lines: &str, input: &[u8], k: usize) -> Result<String, Fail> {
+    let program = program(alloc, lines)?;
+    Ok(stepped_words(alloc, &program, input, k)?)
+}
+
+#[test]
+fn rows_are_taken_one_by_one(rt: HostRuntime) -> Result<(), Fail> {
+    let words = stepped(rt.alloc(), SWAPPED, &INPUT, 8)?;
+    same(&rt, words.as_str(), "3606666f6f (1, 4)(0, 1)");
     Ok(())
 }

@@ -17,14 +17,25 @@ const TURNS: usize = 20_000;
 /// More rows than any test takes.
 pub(crate) const ALL: u64 = 1_000_000_000;
 
-/// The program of these lines under the header, where a comma stands for each LF but the last. It is assembled again
-/// where memory ran out the first time.
-pub(crate) fn program(alloc: Global, lines: &str) -> Result<Program, AsmError> {
-    let mut text = Vec::from_slice(alloc, b"avro program 1\n")?;
+/// Appends these lines, where a comma stands for each LF but the last.
+pub(crate) fn push_lines(text: &mut Vec<u8>, lines: &str) -> Result<(), AllocError> {
     for byte in lines.as_bytes() {
         text.push(if *byte == b',' { b'\n' } else { *byte })?;
     }
     text.push(b'\n')?;
+    Ok(())
+}
+
+/// The listing of these lines: the header, and then they.
+pub(crate) fn listing(alloc: Global, lines: &str) -> Result<Vec<u8>, AllocError> {
+    let mut text = Vec::from_slice(alloc, b"avro program 1\n")?;
+    push_lines(&mut text, lines)?;
+    Ok(text)
+}
+
+/// The program of these lines under the header. It is assembled again where memory ran out the first time.
+pub(crate) fn program(alloc: Global, lines: &str) -> Result<Program, AsmError> {
+    let text = listing(alloc, lines)?;
     match assemble(alloc, text.as_slice()) {
         Err(AsmError::NoMemory) => assemble(alloc, text.as_slice()),
         answer => answer,

@@ -1,40 +1,20 @@
 //! The texts of states, each after so many rows of a program on an input. A comma stands for each LF but the last.
 
+use crate::programs::{bytes, listing, program, push_lines};
 use crate::same::{holds, same};
-use assembler::{AsmError, assemble};
 use debugger::{list, show};
 use isa::Program;
 use std::alloc::{AllocError, Global};
 use std::test::Fail;
 use stepper::{Machine, Why};
 
-const RECORD: &str =
-    "avro program 1,0 CALL 2,1 HALT,2 RECORD 2,3 SLOT 0,4 LONG,5 SLOT 1,6 TEXT,7 ENDREC,8 RET";
+const RECORD: &str = "0 CALL 2,1 HALT,2 RECORD 2,3 SLOT 0,4 LONG,5 SLOT 1,6 TEXT,7 ENDREC,8 RET";
 
-const ARRAY: &str = "avro program 1,0 BLOCKS,1 NEXT 4,2 LONG,3 JUMP 1,4 HALT";
+const ARRAY: &str = "0 BLOCKS,1 NEXT 4,2 LONG,3 JUMP 1,4 HALT";
 
-const SKIPPED: &str = "avro program 1,0 SBLOCKS,1 SNEXT 5,2 ENTER,3 LEAVE,4 JUMP 1,5 HALT";
+const SKIPPED: &str = "0 SBLOCKS,1 SNEXT 5,2 ENTER,3 LEAVE,4 JUMP 1,5 HALT";
 
-const MISSED: &str = "avro program 1,miss 0 NoSymbol 3 4,0 MISS 0,1 HALT";
-
-/// These lines, each ended by an LF.
-fn lines(alloc: Global, text: &str) -> Result<Vec<u8>, AllocError> {
-    let mut lines = Vec::new(alloc);
-    for byte in text.as_bytes() {
-        lines.push(if *byte == b',' { b'\n' } else { *byte })?;
-    }
-    lines.push(b'\n')?;
-    Ok(lines)
-}
-
-/// The program of a listing. It is assembled again where memory ran out the first time.
-fn program(alloc: Global, listing: &str) -> Result<Program, AsmError> {
-    let text = lines(alloc, listing)?;
-    match assemble(alloc, text.as_slice()) {
-        Err(AsmError::NoMemory) => assemble(alloc, text.as_slice()),
-        answer => answer,
-    }
-}
+const MISSED: &str = "miss 0 NoSymbol 3 4,0 MISS 0,1 HALT";
 
 /// The text of a machine after so many rows of a program on an input.
 fn text_after(
@@ -49,12 +29,13 @@ fn text_after(
 }
 
 /// Whether a program shows these lines after so many rows on an input.
-fn is_shown(alloc: Global, listing: &str, hex: &str, k: u64, want: &str) -> Result<bool, Fail> {
-    let program = program(alloc, listing)?;
-    let input = hex::decode(alloc, hex)?;
+fn is_shown(alloc: Global, code: &str, hex: &str, k: u64, want: &str) -> Result<bool, Fail> {
+    let program = program(alloc, code)?;
+    let input = bytes(alloc, hex)?;
     let text = text_after(alloc, &program, &input, k)?;
-    let want = lines(alloc, want)?;
-    Ok(text.as_bytes() == want.as_slice())
+    let mut wanted = Vec::new(alloc);
+    push_lines(&mut wanted, want)?;
+    Ok(text.as_bytes() == wanted.as_slice())
 }
 
 #[test]
@@ -119,15 +100,11 @@ fn ends_are_shown(rt: HostRuntime) -> Result<(), Fail> {
     let malformed = "count 1 pc 0 pos 0 units 0 part - mark - over 0 state malformed,out -";
     holds(
         &rt,
-        is_shown(rt.alloc(), "avro program 1,0 BOOL", "02", 99, malformed)?,
+        is_shown(rt.alloc(), "0 BOOL", "02", 99, malformed)?,
         "bad bytes",
     );
     let trap = "count 1 pc 0 pos 0 units 0 part - mark - over 0 state trap,out -";
-    holds(
-        &rt,
-        is_shown(rt.alloc(), "avro program 1,0 RET", "", 99, trap)?,
-        "a trap",
-    );
+    holds(&rt, is_shown(rt.alloc(), "0 RET", "", 99, trap)?, "a trap");
     Ok(())
 }
 
@@ -141,10 +118,10 @@ fn want_of_memory_is_shown(rt: HostRuntime) -> Result<(), Fail> {
 }
 
 /// Whether the listing of a program is the one that it was made from.
-fn is_listed(alloc: Global, listing: &str) -> Result<bool, Fail> {
-    let program = program(alloc, listing)?;
+fn is_listed(alloc: Global, code: &str) -> Result<bool, Fail> {
+    let program = program(alloc, code)?;
     let text = list(alloc, &program)?;
-    let want = lines(alloc, listing)?;
+    let want = listing(alloc, code)?;
     Ok(text.as_bytes() == want.as_slice())
 }
 
