@@ -95,7 +95,7 @@ ask_again isa_tests assembling_tests::{listings_come_back,lines_of_no_form,numbe
 ask_again isa_tests image_tests::{both_versions_are_loaded_and_saved_as_the_second,things_of_each_kind_are_loaded_and_saved,faults_of_tables_are_told_at_their_places}
 ask_again stepper_tests row_tests::{worked_rows_come_out,slices_change_nothing,traps_are_told} text_tests::{texts_take_a_row_for_64_bytes,bytes_that_are_no_text_are_a_miss}
 ask_again stepper_tests show_tests::programs_are_listed arena_tests::rows_are_taken_one_by_one
-ask_again machine_tests program_tests::{list_of_longs_to_itself,record_to_itself_and_by_aliases}
+ask_again machine_tests program_tests::{list_of_longs_to_itself,record_to_itself_and_by_aliases,evolved_record}
 ask_again machine_tests run_tests::cuts_and_slices_change_nothing pair_tests::{outcomes_of_pairs,payloads_follow_one_another}
 ask_again commands_tests line_forms::replay_tests::{schemas_and_pieces_are_read,levels_are_read}
 ask_again commands_tests compile_tests::{writes_listings,writes_images,tells_bad_schemas}

@@ -1,4 +1,4 @@
--- What is read of a listing so far: a program that is not judged yet.
+-- What is read of a listing so far: a program that is not judged yet. All of this is this project's own.
 use Rattle.std.specs.Prelude.{◌≡◌, ℕ, ◌+◌, ◌≤◌, length}
 use Rattle.isa.specs.declared.limits.TheConstants.{MOST_CONSTANT_BYTES, MOST_INSTRS, MOST_TABLES}
 use Rattle.isa.specs.Lists.{total_length}

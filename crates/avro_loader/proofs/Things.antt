@@ -5,6 +5,7 @@ use Rattle.std.proofs.lemmas.List.{take_at, drop_at, take-append-drop, length-ap
 use Rattle.std.proofs.lemmas.List.Concat.{flat_map-cons}
 use Rattle.std.specs.List.{flat_map, AllByRecursion}
 use Rattle.std.specs.Int.{w16, w32}
+use Rattle.outcome.specs.MismatchKind.{code_of as code_of_kind}
 use Rattle.outcome.specs.declared.mismatch.Mismatch.{Mismatch}
 use Rattle.outcome.specs.declared.mismatch.MismatchKind.{MismatchKind}
 use Rattle.outcome.specs.declared.mismatch.MismatchKind.TheVariants as kinds
@@ -25,7 +26,7 @@ use Rattle.image_words.specs.declared.version.Version.{Version}
 use Rattle.image_words.proofs.Spelled.{shorts, longs, OperandFits, operand_takes, operand_again}
 use Rattle.image_words.proofs.Steps.{bind_ok, unless, ok_is}
 use Rattle.image_words.proofs.Taking.{IsBytes, IsBytes-drop, IsBytes-rest, Takes, Takes-then, Takes-byte, Reads}
-use Rattle.avro_loader.specs.Image.{constant, entry, instr, miss, kind_code}
+use Rattle.avro_loader.specs.Image.{constant, entry, instr, miss}
 use Rattle.avro_loader.specs.Reading.{constants_at, entry_at, instr_at, miss_at, constant_at, kind_at, known}
 
 known_ok : {A : Type 0} (at : ℕ) (o : Option A) (x : A) → known at o ≡ Ok x → o ≡ Some x
@@ -62,16 +63,16 @@ module _ (f : Format) where
 
 -- ---- misses
 
-kind_back : (b : ℕ) (k : MismatchKind) → kind_at b ≡ Some k → kind_code k ≡ b
+kind_back : (b : ℕ) (k : MismatchKind) → kind_at b ≡ Some k → code_of_kind k ≡ b
 kind_back zero k e = absurd cc
-kind_back (suc zero) k e = let is : kinds.NoMatch ≡ k = cc in ap kind_code (sym is)
-kind_back (suc (suc zero)) k e = let is : kinds.NoBranch ≡ k = cc in ap kind_code (sym is)
-kind_back (suc (suc (suc zero))) k e = let is : kinds.NoSymbol ≡ k = cc in ap kind_code (sym is)
-kind_back (suc (suc (suc (suc zero)))) k e = let is : kinds.NoDefault ≡ k = cc in ap kind_code (sym is)
-kind_back (suc (suc (suc (suc (suc zero))))) k e = let is : kinds.BytesNotText ≡ k = cc in ap kind_code (sym is)
+kind_back (suc zero) k e = let is : kinds.NoMatch ≡ k = cc in ap code_of_kind (sym is)
+kind_back (suc (suc zero)) k e = let is : kinds.NoBranch ≡ k = cc in ap code_of_kind (sym is)
+kind_back (suc (suc (suc zero))) k e = let is : kinds.NoSymbol ≡ k = cc in ap code_of_kind (sym is)
+kind_back (suc (suc (suc (suc zero)))) k e = let is : kinds.NoDefault ≡ k = cc in ap code_of_kind (sym is)
+kind_back (suc (suc (suc (suc (suc zero))))) k e = let is : kinds.BytesNotText ≡ k = cc in ap code_of_kind (sym is)
 kind_back (suc (suc (suc (suc (suc (suc b)))))) k e = absurd cc
 
-kind_forth : (k : MismatchKind) → kind_at (kind_code k) ≡ Some k
+kind_forth : (k : MismatchKind) → kind_at (code_of_kind k) ≡ Some k
 kind_forth kinds.NoMatch = refl
 kind_forth _ = refl
 
@@ -93,7 +94,7 @@ module _ (f : Format) where
       let first = shorts.takes bytes w.0 (IsBytes-rest b bytes fits) w.1 in
       let second = shorts.takes w.0.1 r.0 first.rest_fits r.1 in
       let both = Takes-byte b bytes (short w.0.0 ++ short r.0.0) r.0.1 (Takes-then bytes (short w.0.0) w.0.1 (short r.0.0) r.0.1 first second) in
-      let coded : kind_code k.0 ≡ b = kind_back b k.0 (known_ok (place f (b ∷ bytes)) (kind_at b) k.0 k.1) in
+      let coded : code_of_kind k.0 ≡ b = kind_back b k.0 (known_ok (place f (b ∷ bytes)) (kind_at b) k.0 k.1) in
       let made : Mismatch × List ℕ = (record { kind = k.0; writer_node = w.0.0; reader_node = r.0.0 }, r.0.1) in
       subst (λ (y : Mismatch × List ℕ). Takes (b ∷ bytes) (miss y.0) y.1) (ok_is made x r.2)
       (subst (λ (c : ℕ). Takes (b ∷ bytes) (c ∷ (short w.0.0 ++ short r.0.0)) r.0.1) (sym coded) both)
@@ -101,7 +102,7 @@ module _ (f : Format) where
   miss_again : (m : Mismatch) (rest : List ℕ) → MissFits m → miss_at f (miss m ++ rest) ≡ Ok (m, rest)
   unfolding miss_at
   miss_again m rest fits =
-      let kind : known (place f (miss m ++ rest)) (kind_at (kind_code m.kind)) ≡ Ok m.kind = ap (known (place f (miss m ++ rest))) (kind_forth m.kind) in
+      let kind : known (place f (miss m ++ rest)) (kind_at (code_of_kind m.kind)) ≡ Ok m.kind = ap (known (place f (miss m ++ rest))) (kind_forth m.kind) in
       ap (λ (k : Result MismatchKind ImageFault). k >>= λ kind. nodes_at kind (short m.writer_node ++ (short m.reader_node ++ rest))) kind
       ∙ ap (λ (r : Read ℕ). r >>= λ writer. number_at w16 writer.1 >>= λ reader. Ok (record { kind = m.kind; writer_node = writer.0; reader_node = reader.0 }, reader.1)) (shorts.again m.writer_node (short m.reader_node ++ rest) fits.writer)
       ∙ ap (λ (r : Read ℕ). r >>= λ reader. Ok (record { kind = m.kind; writer_node = m.writer_node; reader_node = reader.0 }, reader.1)) (shorts.again m.reader_node rest fits.reader)

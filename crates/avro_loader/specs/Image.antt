@@ -2,8 +2,7 @@
 use Rattle.std.specs.Prelude.{ℕ, ◌≤◌, List, ◌∷◌, ◌++◌, length, codes}
 use Rattle.std.specs.List.{flat_map}
 use Rattle.outcome.specs.declared.mismatch.Mismatch.{Mismatch}
-use Rattle.outcome.specs.declared.mismatch.MismatchKind.{MismatchKind}
-use Rattle.outcome.specs.declared.mismatch.MismatchKind.TheVariants as kinds
+use Rattle.outcome.specs.MismatchKind.{code_of as code_of_kind}
 use Rattle.isa.specs.declared.entry.Entry.{Entry}
 use Rattle.isa.specs.declared.entry.Entry.TheVariants as entries
 use Rattle.isa.specs.declared.instr.Instr.{Instr}
@@ -25,16 +24,9 @@ abbrev pub entry : Entry → List ℕ
 entry (entries.Position i) = 0 ∷ short i
 entry (entries.Miss m) = 1 ∷ short m
 
-abbrev pub kind_code : MismatchKind → ℕ
-kind_code kinds.NoMatch = 1
-kind_code kinds.NoBranch = 2
-kind_code kinds.NoSymbol = 3
-kind_code kinds.NoDefault = 4
-kind_code kinds.BytesNotText = 5
-
 -- its kind, the writer's node, the reader's node
 abbrev pub miss : Mismatch → List ℕ
-miss m = kind_code m.kind ∷ (short m.writer_node ++ short m.reader_node)
+miss m = code_of_kind m.kind ∷ (short m.writer_node ++ short m.reader_node)
 
 -- its code, and its operand
 abbrev pub instr : Version → Instr → List ℕ

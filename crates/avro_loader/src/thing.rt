@@ -3,7 +3,7 @@ ghost use Rattle.image_words.specs.declared.version.Format.{Format};
 ghost use Rattle.image_words.specs.declared.version.Version.TheVariants.{Two};
 ghost use Rattle.image_words.specs.Spelling.{address};
 ghost use Rattle.image_words.specs.Reading.{Read, address_at};
-ghost use Rattle.avro_loader.specs.Image.{entry, miss, instr, kind_code};
+ghost use Rattle.avro_loader.specs.Image.{entry, miss, instr};
 ghost use Rattle.avro_loader.specs.Reading.{Gives, entry_at, miss_at, instr_at, kind_at};
 
 use crate::fault::LoadError;
@@ -90,19 +90,6 @@ fn kind_of(byte: u8) -> Option<MismatchKind>
     }
 }
 
-/// The byte that tells a kind of a miss.
-fn code_of_kind(kind: MismatchKind) -> u8
-    ensures { result ≡ kind_code kind }
-{
-    match kind {
-        MismatchKind::NoMatch => 1,
-        MismatchKind::NoBranch => 2,
-        MismatchKind::NoSymbol => 3,
-        MismatchKind::NoDefault => 4,
-        MismatchKind::BytesNotText => 5,
-    }
-}
-
 impl Thing for Mismatch {
     ghost thing_at = { miss_at };
 
@@ -127,7 +114,7 @@ impl Thing for Mismatch {
     }
 
     fn put(self, out: &mut Vec<u8>) -> Result<(), AllocError> {
-        out.push(code_of_kind(self.kind))?;
+        out.push(self.kind.code())?;
         put_short(out, self.writer_node)?;
         put_short(out, self.reader_node)
     }

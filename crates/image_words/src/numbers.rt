@@ -1,4 +1,4 @@
-ghost use Rattle.std.specs.Prelude.{◌≡◌, ◌++◌, OnOk};
+ghost use Rattle.std.specs.Prelude.{◌≡◌, ◌++◌, OnErr, OnOk};
 ghost use Rattle.std.specs.Int.{w16, w32};
 ghost use Rattle.image_words.specs.Spelling.{long, short};
 ghost use Rattle.image_words.specs.Reading.{Tells, address_at, number_at, operand_at};
@@ -56,7 +56,8 @@ pub fn operand_of(format: Format, shape: Shape, bytes: &[u8]) -> Result<(u32, &[
 
 /// A number in its lowest 2 bytes.
 pub fn put_short(out: &mut Vec<u8>, number: usize) -> Result<(), AllocError>
-    ensures { OnOk result (out.new.items ≡ out.old.items ++ short number) }
+    ensures put { OnOk result (out.new.items ≡ out.old.items ++ short number) }
+    ensures refused { OnErr result (out.new.items ≡ out.old.items) }
 {
     let [_, _, _, _, _, _, high, low] = number.to_be_bytes();
     out.extend_from_slice(&[high, low])
@@ -64,7 +65,8 @@ pub fn put_short(out: &mut Vec<u8>, number: usize) -> Result<(), AllocError>
 
 /// A number in its lowest 4 bytes.
 pub fn put_long(out: &mut Vec<u8>, number: usize) -> Result<(), AllocError>
-    ensures { OnOk result (out.new.items ≡ out.old.items ++ long number) }
+    ensures put { OnOk result (out.new.items ≡ out.old.items ++ long number) }
+    ensures refused { OnErr result (out.new.items ≡ out.old.items) }
 {
     let [_, _, _, _, a, b, c, d] = number.to_be_bytes();
     out.extend_from_slice(&[a, b, c, d])

@@ -74,7 +74,8 @@ name_of op.Return = codes "RET"
 name_of op.Jump = codes "JUMP"
 name_of op.Halt = codes "HALT"
 
--- which operand it has: the number of an entry or of a table, a number of bytes or of symbols, or an address
+-- which operand it has: the number of a constant, a table or a miss, how many slots a record has, or one of them;
+-- a number of bytes or of symbols; or an address
 abbrev pub shape_of : Operation → Shape
 shape_of op.BytesText = Short
 shape_of op.Fixed = Long

@@ -43,7 +43,7 @@ pub enum Operation {
 #[derive(Clone, Copy, Debug, PartialEq, Eq)]
 pub enum Shape {
     Nothing,
-    /// A number of the tables, or of an entry.
+    /// The number of a constant, a table or a miss, how many slots a record has, or one of them.
     Short,
     /// A number of bytes or of symbols.
     Long,

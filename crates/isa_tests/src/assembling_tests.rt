@@ -172,6 +172,34 @@ fn maps_have_a_limit_of_entries(rt: HostRuntime) {
     assert!(rt; found == fault(2, AsmErrorKind::TooLarge));
 }
 
+/// The error of a map of more entries than there may be, whose number is not the next one.
+fn error_of_another_map(alloc: Global) -> Result<Option<AsmError>, AllocError> {
+    let entries = " 1".repeat(alloc, 4097)?;
+    let lines = format!(in alloc; "map 1{entries}\n")?;
+    error_of(alloc, &lines)
+}
+
+#[test]
+fn a_wrong_number_is_told_before_a_limit(rt: HostRuntime) {
+    let found = error_of_another_map(rt.alloc()).expect(&rt, "no memory");
+    assert!(rt; found == fault(2, AsmErrorKind::BadIndex));
+}
+
+/// The error of a constant of so many bytes, before any instruction.
+fn error_of_constant(alloc: Global, len: usize) -> Result<Option<AsmError>, AllocError> {
+    let bytes = "07".repeat(alloc, len)?;
+    let lines = format!(in alloc; "const 0 {bytes}\n")?;
+    error_of(alloc, &lines)
+}
+
+#[test]
+fn constants_have_a_limit_of_bytes(rt: HostRuntime) {
+    let most = error_of_constant(rt.alloc(), 1_048_576).expect(&rt, "no memory");
+    assert!(rt; most == fault(3, AsmErrorKind::NoCode));
+    let more = error_of_constant(rt.alloc(), 1_048_577).expect(&rt, "no memory");
+    assert!(rt; more == fault(2, AsmErrorKind::TooLarge));
+}
+
 /// Appends a listing of so many jumps.
 fn push_jumps(text: &mut String, many: usize) -> Result<(), AllocError> {
     text.push_str("avro program 1\n")?;
@@ -188,10 +216,19 @@ fn jumps_come_back(alloc: Global, many: usize) -> Result<bool, AllocError> {
     comes_back(alloc, &text)
 }
 
+/// The error of such a listing.
+fn error_of_jumps(alloc: Global, many: usize) -> Result<Option<AsmError>, AllocError> {
+    let mut text = String::new(alloc);
+    push_jumps(&mut text, many)?;
+    Ok(assembled(alloc, text.as_bytes()).err())
+}
+
 #[test]
-fn many_instructions_come_back(rt: HostRuntime) {
-    let same = jumps_come_back(rt.alloc(), 3000).expect(&rt, "no memory");
+fn instructions_have_a_limit(rt: HostRuntime) {
+    let same = jumps_come_back(rt.alloc(), 262_144).expect(&rt, "no memory");
     assert!(rt; same);
+    let found = error_of_jumps(rt.alloc(), 262_145).expect(&rt, "no memory");
+    assert!(rt; found == fault(262_146, AsmErrorKind::TooLarge));
 }
 
 #[test]

@@ -59,7 +59,7 @@ fn fault_of(alloc: Global, bytes: &[u8]) -> Option<ImageFault> {
     }
 }
 
-/// The first fault of the image of version 1, with another byte at a place.
+/// The first fault of an image, with another byte at a place.
 fn fault_with(
     alloc: Global,
     image: &str,
@@ -209,32 +209,98 @@ fn every_front_is_truncated_and_nothing_follows(rt: HostRuntime) {
     }
 }
 
-/// The beginning of an image of version 1 that has no tables, up to the count of its instructions.
-const HEAD_1: &str = "4156525001 00000000 00000000 00000000 00000000";
-
-/// The image of version 1 of a code that counts so many instructions, which are not all there.
-fn cut_code_of(alloc: Global, count: u32) -> Result<Vec<u8>, AllocError> {
-    let mut image = bytes(alloc, HEAD_1)?;
-    image.extend_from_slice(&count.to_be_bytes())?;
-    image.push(0x1f)?;
-    Ok(image)
+/// What the image that has a fault in its second instruction is told with one byte more.
+fn fault_with_one_more(alloc: Global) -> Result<Option<ImageFault>, AllocError> {
+    let mut image = bytes(alloc, IMAGE_1)?;
+    if 27 < image.len() {
+        image[27] = 9;
+    }
+    image.push(0)?;
+    Ok(fault_of(alloc, &image))
 }
 
 #[test]
-fn version_one_has_no_more_than_65536_instructions(rt: HostRuntime) -> Result<(), AllocError> {
-    let alloc = rt.alloc();
-    let most = cut_code_of(alloc, 65_536)?;
-    assert!(rt; fault_of(alloc, &most) == Some(ImageFault::Truncated));
-    let more = cut_code_of(alloc, 65_537)?;
-    assert!(rt; fault_of(alloc, &more) == Some(ImageFault::TooLarge(21)));
+fn a_byte_after_the_image_is_told_before_what_is_out_of_range(rt: HostRuntime) {
+    let found = fault_with_one_more(rt.alloc()).expect(&rt, "no memory");
+    assert!(rt; found == Some(ImageFault::Trailing(42)));
+}
+
+/// The beginnings of images of both versions that have no tables, up to the count of their instructions.
+const HEAD_1: &str = "4156525001 00000000 00000000 00000000 00000000";
+
+const HEAD_2: &str = "4156525002 00000000 00000000 00000000 00000000";
+
+/// The fault of an image of that beginning whose code counts so many instructions, which are not all there.
+fn fault_of_cut_code(
+    alloc: Global,
+    head: &str,
+    count: u32,
+) -> Result<Option<ImageFault>, AllocError> {
+    let mut image = bytes(alloc, head)?;
+    image.extend_from_slice(&count.to_be_bytes())?;
+    image.push(0x1f)?;
+    Ok(fault_of(alloc, &image))
+}
+
+#[test]
+fn each_version_has_its_limit_of_instructions(rt: HostRuntime) {
+    let cases = [
+        (HEAD_1, 65_536, ImageFault::Truncated),
+        (HEAD_1, 65_537, ImageFault::TooLarge(21)),
+        (HEAD_2, 262_144, ImageFault::Truncated),
+        (HEAD_2, 262_145, ImageFault::TooLarge(21)),
+    ];
+    for (head, count, fault) in cases {
+        let found = fault_of_cut_code(rt.alloc(), head, count).expect(&rt, "no memory");
+        assert!(rt; found == Some(fault));
+    }
+}
+
+/// How many bytes the operand of a code has in version 1, and whether it is an address.
+fn operand_of(code: u8) -> (usize, bool) {
+    match code {
+        0x17 | 0x19 | 0x1c | 0x1e => (2, true),
+        0x06 | 0x08 | 0x10 | 0x11 | 0x12 | 0x1a | 0x1b => (2, false),
+        0x07 | 0x0e | 0x0f => (4, false),
+        _ => (0, false),
+    }
+}
+
+/// Appends a code of version 1 as it is in version 2: its addresses have two bytes more.
+fn push_code(second: &mut Vec<u8>, code: &[u8]) -> Result<(), AllocError> {
+    let mut left = 0;
+    for byte in code {
+        second.push(*byte)?;
+        if left > 0 {
+            left -= 1;
+        } else {
+            let (len, is_address) = operand_of(*byte);
+            if is_address {
+                second.extend_from_slice(&[0, 0])?;
+            }
+            left = len;
+        }
+    }
     Ok(())
 }
 
-/// Whether a program of bytes is saved as they are, where these are in version 2, and they are migrated to the same.
+/// The bytes of an image in version 2, where one of version 1 has no tables: its code begins at 25.
+fn in_version_two(alloc: Global, image: &[u8]) -> Result<Vec<u8>, AllocError> {
+    if image.len() < 25 || !image.starts_with(b"AVRP\x01") {
+        return Vec::from_slice(alloc, image);
+    }
+    let mut second = Vec::from_slice(alloc, b"AVRP\x02")?;
+    second.extend_from_slice(&image[5..25])?;
+    push_code(&mut second, &image[25..])?;
+    Ok(second)
+}
+
+/// Whether a program of bytes is saved as these bytes in version 2, and they are migrated to the same.
 fn assert_program_of(rt: &(impl Abort + AllocGlobal), bytes: &[u8], program: &Program) {
+    let second = in_version_two(rt.alloc(), bytes).expect(rt, "no memory");
     let saved = saved(rt.alloc(), program).expect(rt, "no memory");
-    assert!(rt; bytes.starts_with(b"AVRP\x01") || saved.as_slice() == bytes);
-    assert_migrated(rt, bytes, &saved);
+    assert!(rt; saved.as_slice() == second.as_slice());
+    assert_migrated(rt, bytes, &second);
 }
 
 /// Whether bytes are no image, or their program is saved so.

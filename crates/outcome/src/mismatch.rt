@@ -15,7 +15,20 @@ pub enum MismatchKind {
 
 impl MismatchKind {
     ghost use Rattle.std.specs.Prelude.{◌≡◌};
-    ghost use Rattle.outcome.specs.MismatchKind.{name_of};
+    ghost use Rattle.outcome.specs.MismatchKind.{code_of, name_of};
+
+    /// The number by which images tell it, and by which it is looked up.
+    pub fn code(self) -> u8
+        ensures { result ≡ code_of self }
+    {
+        match self {
+            MismatchKind::NoMatch => 1,
+            MismatchKind::NoBranch => 2,
+            MismatchKind::NoSymbol => 3,
+            MismatchKind::NoDefault => 4,
+            MismatchKind::BytesNotText => 5,
+        }
+    }
 
     /// Its name, as programs print it.
     pub fn name(self) -> &'static str

@@ -6,7 +6,7 @@ use Rattle.matching.specs.Options.{given}
 use Rattle.isa.specs.declared.limits.TheConstants.{MOST_INSTRS}
 use Rattle.isa.specs.Judging.{is_within_limits}
 use Rattle.isa.specs.Program.{Program}
-use Rattle.program_code.specs.Code.{are_whole, assembled, code_of, lines_of, reached, start_in}
+use Rattle.program_code.specs.Code.{are_whole, assembled, checked, code_of, lines_of, reached, start_in}
 use Rattle.program_code.specs.Limits.{whole_program}
 use Rattle.program_code.specs.Lines.{Section, Main, Line}
 use Rattle.program_code.specs.Numbering.{adding, calls_of, named_in, numbered, same_section}
@@ -15,10 +15,6 @@ use Rattle.program_code.proofs.Limits.{passes_limit}
 use Rattle.program_code.proofs.Numbers.{Extends, added, section_refl}
 use Rattle.program_code.proofs.Ranges.{code_length}
 use Rattle.program_code.proofs.Whole.{sections_long, some_lines}
-
--- the program, unless a line is lost or a limit passed
-abbrev pub checked : List Line → Program → Option Program
-checked ls P = if are_whole ls && is_within_limits P then Some P else None
 
 module _ (section : Section → List Line) where
   abbrev pub next : List Section → Section → List Section

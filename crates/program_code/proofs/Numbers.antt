@@ -5,10 +5,11 @@ use Rattle.std.specs.List.{AllByRecursion}
 use Rattle.std.specs.Str.{bytes_eq}
 use Rattle.std.proofs.lemmas.Slice.Eq.{bytes_eq-Decides}
 use Rattle.outcome.specs.declared.mismatch.Mismatch.{Mismatch}
+use Rattle.outcome.specs.MismatchKind.{code_of as code_of_kind}
 use Rattle.outcome.specs.declared.mismatch.MismatchKind.{MismatchKind}
 use Rattle.outcome.specs.declared.mismatch.MismatchKind.TheVariants as kinds
 use Rattle.program_code.specs.Lines.{Section, Main, Write, Skip}
-use Rattle.program_code.specs.Numbering.{adding, has, kind_number, number, same_miss, same_section}
+use Rattle.program_code.specs.Numbering.{adding, has, number, same_miss, same_section}
 
 module _ {A : Type 0} (same : A → A → Bool) (decides : (a b : A) → same a b ≡ true → a ≡ b) where
   pub number_at : (a : A) (xs : List A) → has same a xs ≡ true → slice_get xs (number same a xs) ≡ Some a
@@ -73,11 +74,11 @@ bytes_refl b = (bytes_eq-Decides b b).1 refl
 pub bytes_is : (a b : List ℕ) → bytes_eq a b ≡ true → a ≡ b
 bytes_is a b h = (bytes_eq-Decides a b).0 h
 
-kind_of_number : ℕ → MismatchKind
-kind_of_number n = if n == 1 then kinds.NoMatch else if n == 2 then kinds.NoBranch else if n == 3 then kinds.NoSymbol else if n == 4 then kinds.NoDefault else kinds.BytesNotText
+kind_of_code : ℕ → MismatchKind
+kind_of_code n = if n == 1 then kinds.NoMatch else if n == 2 then kinds.NoBranch else if n == 3 then kinds.NoSymbol else if n == 4 then kinds.NoDefault else kinds.BytesNotText
 
-kind_again : (k : MismatchKind) → kind_of_number (kind_number k) ≡ k
-unfolding kind_of_number
+kind_again : (k : MismatchKind) → kind_of_code (code_of_kind k) ≡ k
+unfolding kind_of_code
 kind_again kinds.NoMatch = refl
 kind_again kinds.NoBranch = refl
 kind_again kinds.NoSymbol = refl
@@ -85,13 +86,13 @@ kind_again kinds.NoDefault = refl
 kind_again kinds.BytesNotText = refl
 
 pub miss_refl : (m : Mismatch) → same_miss m m ≡ true
-miss_refl m = rw (eq_refl (kind_number m.kind), eq_refl m.writer_node, eq_refl m.reader_node) refl
+miss_refl m = rw (eq_refl (code_of_kind m.kind), eq_refl m.writer_node, eq_refl m.reader_node) refl
 
 pub miss_is : (a b : Mismatch) → same_miss a b ≡ true → a ≡ b
 miss_is a b h =
-    let x = and_is (kind_number a.kind == kind_number b.kind && a.writer_node == b.writer_node) (a.reader_node == b.reader_node) h in
-    let y = and_is (kind_number a.kind == kind_number b.kind) (a.writer_node == b.writer_node) x.0 in
-    let k : a.kind ≡ b.kind = sym (kind_again a.kind) ∙ ap kind_of_number (eq_is (kind_number a.kind) (kind_number b.kind) y.0) ∙ kind_again b.kind in
+    let x = and_is (code_of_kind a.kind == code_of_kind b.kind && a.writer_node == b.writer_node) (a.reader_node == b.reader_node) h in
+    let y = and_is (code_of_kind a.kind == code_of_kind b.kind) (a.writer_node == b.writer_node) x.0 in
+    let k : a.kind ≡ b.kind = sym (kind_again a.kind) ∙ ap kind_of_code (eq_is (code_of_kind a.kind) (code_of_kind b.kind) y.0) ∙ kind_again b.kind in
     let w = eq_is a.writer_node b.writer_node y.1 in
     let r = eq_is a.reader_node b.reader_node x.1 in
     ap (λ k. record { kind = k; writer_node = a.writer_node; reader_node = a.reader_node }) k ∙ ap (λ w. record { kind = b.kind; writer_node = w; reader_node = a.reader_node }) w ∙ ap (λ r. record { kind = b.kind; writer_node = b.writer_node; reader_node = r }) r

@@ -17,6 +17,10 @@ abbrev pub are_whole : List Line → Bool
 are_whole [] = true
 are_whole (line ∷ lines) = if is_lost line then false else are_whole lines
 
+-- the program of these lines, unless one is lost or a limit is passed
+abbrev pub checked : List Line → Program → Option Program
+checked lines P = if are_whole lines && is_within_limits P then Some P else None
+
 module _ (section : Section → List Line) where
   -- the sections that are called for, from section i on; none where so many rounds do not find all
   abbrev pub reached : ℕ → ℕ → List Section → Option (List Section)
@@ -34,10 +38,7 @@ module _ (section : Section → List Line) where
 
   -- the program of these sections, unless it passes a limit
   abbrev pub of_sections : List Section → Option Program
-  of_sections sections = checked (numbered (start_in 0 sections) (lines_of sections))
-    where
-      checked : Program → Option Program
-      checked P = if are_whole (lines_of sections) && is_within_limits P then Some P else None
+  of_sections sections = checked (lines_of sections) (numbered (start_in 0 sections) (lines_of sections))
 
   abbrev pub assembled : Option (List Section) → Option Program
   assembled None = None

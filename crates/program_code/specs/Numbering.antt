@@ -2,8 +2,7 @@
 use Rattle.std.specs.Prelude.{ℕ, suc, ◌+◌, ◌-◌, ◌==◌, Bool, true, false, ◌&&◌, List, [], ◌∷◌, ◌++◌, length, map, if◌then◌else◌}
 use Rattle.std.specs.Str.{bytes_eq}
 use Rattle.outcome.specs.declared.mismatch.Mismatch.{Mismatch}
-use Rattle.outcome.specs.declared.mismatch.MismatchKind.{MismatchKind}
-use Rattle.outcome.specs.declared.mismatch.MismatchKind.TheVariants as kinds
+use Rattle.outcome.specs.MismatchKind.{code_of as code_of_kind}
 use Rattle.isa.specs.declared.entry.Entry.{Entry}
 use Rattle.isa.specs.declared.entry.Entry.TheVariants as entries
 use Rattle.isa.specs.declared.instr.Instr.{Instr}
@@ -71,15 +70,8 @@ same_section (Write w r) (Write v s) = w == v && r == s
 same_section (Skip w) (Skip v) = w == v
 same_section _ _ = false
 
-abbrev pub kind_number : MismatchKind → ℕ
-kind_number kinds.NoMatch = 1
-kind_number kinds.NoBranch = 2
-kind_number kinds.NoSymbol = 3
-kind_number kinds.NoDefault = 4
-kind_number kinds.BytesNotText = 5
-
 abbrev pub same_miss : Mismatch → Mismatch → Bool
-same_miss a b = kind_number a.kind == kind_number b.kind && a.writer_node == b.writer_node && a.reader_node == b.reader_node
+same_miss a b = code_of_kind a.kind == code_of_kind b.kind && a.writer_node == b.writer_node && a.reader_node == b.reader_node
 
 -- ---- lines become instructions
 

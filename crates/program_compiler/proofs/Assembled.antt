@@ -94,7 +94,7 @@ five {code} {other_code} {cs} {other_cs} {maps} {other_maps} {jumps} {other_jump
 different : false ≡ true → ⊥
 different h = let wrong : ⊥ = cc in wrong
 
--- ---- of the lines that were gone over, which are all of the listing
+-- ---- of the lines that were gone over, which are all lines of the sections
 
 module _ (starts : Section → ℕ) (W R : List Node) (lines all : List rust.Line) (same : lines ≡ all) where
   pub whole_of : (b : Bool) → b ≡ are_whole (lines_in W R lines) → b ≡ true → are_whole (lines_in W R all) ≡ true

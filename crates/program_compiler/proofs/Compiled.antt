@@ -10,7 +10,7 @@ use Rattle.isa.specs.declared.program.ProgramError.TheVariants.{NoCode, TooLarge
 use Rattle.isa.specs.Judging.{first_error, is_within_limits, judged}
 use Rattle.isa.specs.Program.{Program, program_of}
 use Rattle.isa.specs.Range.{IsProgram}
-use Rattle.program_code.specs.Code.{are_whole, code_of, start_in}
+use Rattle.program_code.specs.Code.{are_whole, checked, code_of, start_in}
 use Rattle.program_code.specs.Lines.{Line, Section, Op, Put, Miss, BytesText, Enum, Call, Ahead, Back, Branch, Lost}
 use Rattle.program_code.specs.Linking.{ProgramIsInRange}
 use Rattle.program_code.specs.Numbering.{code_from, constants_in, entry_of, jumps_from, jumps_of, linked, maps_of, misses_in, named_in, numbered}
@@ -18,7 +18,7 @@ use Rattle.program_code.specs.Writing.{section}
 use Rattle.program_lines.specs.Lines.{lines_in}
 use Rattle.program_lines.specs.declared.error.CompileError.{CompileError}
 use Rattle.program_lines.specs.declared.error.CompileError.TheVariants as CompileErrors
-use Rattle.program_lines.specs.Walking.{IsListing, Listed, Walks, checked, start_at}
+use Rattle.program_lines.specs.Walking.{AreSectionLines, SectionLines, Walks, start_at}
 use Rattle.program_compiler.specs.Compiling.{Compiles}
 use Rattle.program_compiler.specs.Parts.{Assembles}
 
@@ -77,15 +77,15 @@ judged_ok P Q h = go (first_error P) refl h
     go (Some e) is h = absurd (let no : ⊥ = cc in no)
     go None is h = (let same : P ≡ Q = cc in same, within_of P is)
 
-module _ (W R : List Node) (l : Listed) (listing : IsListing W R l) where
+module _ (W R : List Node) (l : SectionLines) (section_lines : AreSectionLines W R l) where
   same_program : numbered (start_at l) (lines_in W R l.lines) ≡ numbered (start_in (section W R) 0 l.sections) (lines_in W R l.lines)
-  same_program = numbered_same (start_at l) (start_in (section W R) 0 l.sections) listing.starts (lines_in W R l.lines)
+  same_program = numbered_same (start_at l) (start_in (section W R) 0 l.sections) section_lines.starts (lines_in W R l.lines)
 
   pub compiled : (P Q : Program) → are_whole (lines_in W R l.lines) ≡ true → P ≡ numbered (start_at l) (lines_in W R l.lines) → Ok Q ≡ judged P → code_of W R ≡ Some Q
   compiled P Q whole is taken =
       let ok = judged_ok P Q taken in
       let same = sym ok.0 ∙ is ∙ same_program in
-      listing.code ∙ ap (checked (lines_in W R l.lines)) (sym same) ∙ checked_is (lines_in W R l.lines) Q whole (ap is_within_limits (sym ok.0) ∙ ok.1)
+      section_lines.code ∙ ap (checked (lines_in W R l.lines)) (sym same) ∙ checked_is (lines_in W R l.lines) Q whole (ap is_within_limits (sym ok.0) ∙ ok.1)
 
   pub none_compiled : ProgramIsInRange W R → (are_whole (lines_in W R l.lines) ≡ true → IsProgram (numbered (start_at l) (lines_in W R l.lines)) → ⊥) → code_of W R ≡ None
   none_compiled in_range nowhere = go (code_of W R) refl
@@ -93,15 +93,15 @@ module _ (W R : List Node) (l : Listed) (listing : IsListing W R l) where
       go : (o : Option Program) → code_of W R ≡ o → code_of W R ≡ None
       go None e = e
       go (Some P) e =
-          let there = checked_some (lines_in W R l.lines) (numbered (start_in (section W R) 0 l.sections) (lines_in W R l.lines)) P (sym listing.code ∙ e) in
+          let there = checked_some (lines_in W R l.lines) (numbered (start_in (section W R) 0 l.sections) (lines_in W R l.lines)) P (sym section_lines.code ∙ e) in
           absurd (nowhere there.0 (subst IsProgram (sym (same_program ∙ there.1)) (in_range P e)))
 
 -- ---- what the calls answered
 
-pub walked : (W R : List Node) (l : Listed) (result : Result Listed CompileError) → result ≡ Ok l → Walks W R result → IsListing W R l
+pub walked : (W R : List Node) (l : SectionLines) (result : Result SectionLines CompileError) → result ≡ Ok l → Walks W R result → AreSectionLines W R l
 walked W R l result is h = subst (Walks W R) is h
 
-pub taken_parts : (W R : List Node) (l : Listed) (parts : Parts) (result : Result Parts CompileError) → result ≡ Ok parts → Assembles (lines_in W R l.lines) (numbered (start_at l) (lines_in W R l.lines)) result
+pub taken_parts : (W R : List Node) (l : SectionLines) (parts : Parts) (result : Result Parts CompileError) → result ≡ Ok parts → Assembles (lines_in W R l.lines) (numbered (start_at l) (lines_in W R l.lines)) result
     → (are_whole (lines_in W R l.lines) ≡ true) × (program_of parts ≡ numbered (start_at l) (lines_in W R l.lines))
 taken_parts W R l parts result is h = subst (Assembles (lines_in W R l.lines) (numbered (start_at l) (lines_in W R l.lines))) is h
 
@@ -114,6 +114,6 @@ different h = let wrong : ⊥ = cc in wrong
 pub refused : (e : ProgramError) (result : Result Program ProgramError) → result ≡ Err e → is_ok result ≡ true → ⊥
 refused e result is h = different (sym (err_is_not_ok e result is) ∙ h)
 
-pub none_of_parts : (W R : List Node) (l : Listed) → IsListing W R l → ProgramIsInRange W R → (e : CompileError) (result : Result Parts CompileError) → result ≡ Err e → Assembles (lines_in W R l.lines) (numbered (start_at l) (lines_in W R l.lines)) result → Compiles W R (Err e)
-none_of_parts W R l listing in_range CompileErrors.ProgramTooLarge result is h = none_compiled W R l listing in_range (subst (Assembles (lines_in W R l.lines) (numbered (start_at l) (lines_in W R l.lines))) is h)
-none_of_parts W R l listing in_range CompileErrors.NoMemory result is h = tt
+pub none_of_parts : (W R : List Node) (l : SectionLines) → AreSectionLines W R l → ProgramIsInRange W R → (e : CompileError) (result : Result Parts CompileError) → result ≡ Err e → Assembles (lines_in W R l.lines) (numbered (start_at l) (lines_in W R l.lines)) result → Compiles W R (Err e)
+none_of_parts W R l section_lines in_range CompileErrors.ProgramTooLarge result is h = none_compiled W R l section_lines in_range (subst (Assembles (lines_in W R l.lines) (numbered (start_at l) (lines_in W R l.lines))) is h)
+none_of_parts W R l section_lines in_range CompileErrors.NoMemory result is h = tt

@@ -9,7 +9,8 @@ use Rattle.avro_types.specs.Node.{Node}
 use Rattle.program_code.specs.Numbering.{adding, has, lacked, same_miss}
 use Rattle.program_code.proofs.Numbers.{added, all_more, miss_refl}
 use Rattle.program_lines.specs.Lines.{targets_of}
-use Rattle.program_compiler.specs.Tables.{AreNoted, pair_cmp}
+use Rattle.program_lines.specs.Sections.{pair_cmp}
+use Rattle.program_compiler.specs.Tables.{AreNoted}
 use Rattle.program_compiler.proofs.Sharing.{pair_is}
 
 pub was_there : (added had : Bool) → added ≡ not had → added ≡ false → had ≡ true

@@ -11,7 +11,8 @@ use Rattle.outcome.specs.declared.mismatch.Mismatch.{Mismatch}
 use Rattle.isa.specs.declared.entry.Entry.{Entry}
 use Rattle.program_code.specs.Numbering.{entry_of}
 use Rattle.program_lines.specs.Lines.{targets_of}
-use Rattle.program_compiler.specs.Tables.{AreShared, pair_cmp}
+use Rattle.program_lines.specs.Sections.{pair_cmp}
+use Rattle.program_compiler.specs.Tables.{AreShared}
 use Rattle.program_tables.proofs.Tables.{nat_at, then_at}
 
 longer : (xs : List (List Entry)) (x a : List Entry) (n : ℕ) → slice_get xs n ≡ Some a → slice_get (xs ++ x ∷ []) n ≡ Some a

@@ -1,7 +1,5 @@
 -- What is kept of pairs of enums and of defaults that came before. This project's own.
 use Rattle.std.specs.Prelude.{◌≡◌, ℕ, true, List, map, slice_get, Some}
-use Rattle.std.specs.declared.cmp.Ordering.{Ordering}
-use Rattle.std.specs.Ordering.{nat_cmp, ordering_then}
 use Rattle.std.specs.BTreeMap.{BTreeMap, get}
 use Rattle.std.specs.BTreeSet.{BTreeSet, contains}
 use Rattle.std.specs.List.{AllByRecursion}
@@ -13,10 +11,7 @@ use Rattle.program_code.specs.Numbering.{entry_of, has, lacked, same_miss}
 use Rattle.program_tables.specs.Tables.{found}
 use Rattle.program_lines.specs.declared.lines.Constant.TheVariants.{Default}
 use Rattle.program_lines.specs.Lines.{bytes_of, targets_of}
-
--- the order of pairs
-abbrev pub pair_cmp : ℕ × ℕ → ℕ × ℕ → Ordering
-pair_cmp p q = ordering_then (nat_cmp p.0 q.0) (nat_cmp p.1 q.1)
+use Rattle.program_lines.specs.Sections.{pair_cmp}
 
 -- under a pair of enums stands the number of a map that has its entries
 abbrev pub AreShared : List Node → List Node → List Mismatch → BTreeMap (ℕ × ℕ) ℕ → List (List Entry) → Type 0

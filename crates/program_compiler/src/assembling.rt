@@ -14,7 +14,7 @@ use crate::maps::gather_maps;
 use crate::misses::gather_misses;
 use avro_types::Nodes;
 use isa::{MOST_INSTRS, MOST_TABLES, Parts};
-use program_lines::{CompileError, Line, Listing};
+use program_lines::{CompileError, Line, SectionLines};
 use std::alloc::Global;
 use std::collections::BTreeMap;
 
@@ -41,16 +41,16 @@ fn are_whole(lines: &[Line]) -> bool
 }
 
 /// The parts of the program of all sections.
-pub(crate) fn assemble(
+pub(crate) fn parts_of_lines(
     alloc: Global,
     w: &Nodes,
     r: &Nodes,
-    listing: &Listing,
+    section_lines: &SectionLines,
 ) -> Result<Parts, CompileError>
-    ensures { Assembles (lines_in w.now r.now listing.now.lines)
-        (numbered (start_at listing.now) (lines_in w.now r.now listing.now.lines)) result }
+    ensures { Assembles (lines_in w.now r.now section_lines.now.lines)
+        (numbered (start_at section_lines.now) (lines_in w.now r.now section_lines.now.lines)) result }
 {
-    let lines = listing.lines();
+    let lines = section_lines.lines();
     if lines.len() > MOST_INSTRS {
         return Err(CompileError::ProgramTooLarge);
     }
@@ -70,7 +70,7 @@ pub(crate) fn assemble(
         return Err(CompileError::ProgramTooLarge);
     };
     let tables = Tables {
-        listing,
+        section_lines,
         constants: &constants,
         defaults: &defaults,
         misses: &misses,

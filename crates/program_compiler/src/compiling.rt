@@ -1,7 +1,7 @@
 ghost use Rattle.std.specs.Prelude.{◌≡◌};
 ghost use Rattle.program_compiler.specs.Compiling.{Compiles};
 
-use crate::assembling::assemble;
+use crate::assembling::parts_of_lines;
 use avro_types::Nodes;
 use isa::Program;
 use program_code::program_is_in_range;
@@ -9,16 +9,17 @@ use program_lines::{CompileError, walk};
 use std::alloc::Global;
 
 /// The program that reads what the writer's schema wrote and writes what the reader's makes of it. `ProgramTooLarge`
-/// where it would pass a limit of programs: it is not made whole then.
+/// where it would pass a limit of programs; where that is the limit of instructions or of misses, no instruction is
+/// made.
 pub fn compile(alloc: Global, w: &Nodes, r: &Nodes) -> Result<Program, CompileError>
     ensures { Compiles w.now r.now result }
 {
     program_is_in_range(w, r);
-    let listing = match walk(alloc, w, r) {
-        Ok(listing) => listing,
+    let section_lines = match walk(alloc, w, r) {
+        Ok(section_lines) => section_lines,
         Err(error) => return Err(error),
     };
-    match assemble(alloc, w, r, &listing) {
+    match parts_of_lines(alloc, w, r, &section_lines) {
         Ok(parts) => match Program::new(parts) {
             Ok(program) => Ok(program),
             Err(_) => Err(CompileError::ProgramTooLarge),

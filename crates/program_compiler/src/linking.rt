@@ -16,7 +16,7 @@ use crate::addresses::{ahead, operand};
 use crate::constants::bytes_of;
 use avro_types::Nodes;
 use isa::{Instr, MOST_INSTRS};
-use program_lines::{CompileError, Constant, Go, Line, Listing};
+use program_lines::{CompileError, Constant, Go, Line, SectionLines};
 use program_tables::{Constants, Misses};
 use std::alloc::{AllocError, Global};
 use std::collections::BTreeMap;
@@ -31,7 +31,7 @@ struct Counts {
 /// What the lines name.
 #[derive(Clone, Copy)]
 pub(crate) struct Tables<'t> {
-    pub(crate) listing: &'t Listing,
+    pub(crate) section_lines: &'t SectionLines,
     pub(crate) constants: &'t Constants,
     pub(crate) defaults: &'t BTreeMap<(usize, usize), usize>,
     pub(crate) misses: &'t Misses,
@@ -127,7 +127,7 @@ fn linked(
     line: &Line,
 ) -> Result<Instr, CompileError>
     requires { AreDefaults r.now tables.now.defaults.now tables.now.constants.now }
-    ensures { (W : List Node) → Links (line_of W r.now line.now) (instr_of (start_at tables.now.listing.now)
+    ensures { (W : List Node) → Links (line_of W r.now line.now) (instr_of (start_at tables.now.section_lines.now)
         tables.now.constants.now tables.now.misses.now pc counts.maps counts.jumps (line_of W r.now line.now)) result }
 {
     match line {
@@ -139,7 +139,10 @@ fn linked(
         }
         Line::Enum { .. } => of_number(Numbered::Enum, operand(counts.maps)),
         Line::Call(section) => {
-            of_number(Numbered::Call, operand(tables.listing.start_of(*section)))
+            of_number(
+                Numbered::Call,
+                operand(tables.section_lines.start_of(*section)),
+            )
         }
         Line::Ahead(go, far) => of_number(Numbered::Go(*go), ahead(pc, *far)),
         Line::Back(far) => of_number(Numbered::Go(Go::Jump), operand(pc.saturating_sub(*far))),
@@ -172,14 +175,14 @@ fn counted(counts: Counts, line: &Line) -> Counts
 
 /// The code of all lines.
 pub(crate) fn link(alloc: Global, r: &Nodes, tables: &Tables) -> Result<Vec<Instr>, CompileError>
-    requires few { length tables.now.listing.now.lines ≤ MOST_INSTRS }
+    requires few { length tables.now.section_lines.now.lines ≤ MOST_INSTRS }
     requires defaults { AreDefaults r.now tables.now.defaults.now tables.now.constants.now }
     ensures { (W : List Node)
-        → LinksAll (lines_in W r.now tables.now.listing.now.lines)
-        (code_from (start_at tables.now.listing.now) tables.now.constants.now tables.now.misses.now 0 0 0
-        (lines_in W r.now tables.now.listing.now.lines)) result }
+        → LinksAll (lines_in W r.now tables.now.section_lines.now.lines)
+        (code_from (start_at tables.now.section_lines.now) tables.now.constants.now tables.now.misses.now 0 0 0
+        (lines_in W r.now tables.now.section_lines.now.lines)) result }
 {
-    let lines = tables.listing.lines();
+    let lines = tables.section_lines.lines();
     let mut code = Vec::new(alloc);
     let mut counts = Counts { maps: 0, jumps: 0 };
     for pc in 0..lines.len() {

@@ -11,7 +11,7 @@ use Rattle.program_code.specs.Writing.{section}
 use Rattle.program_code.proofs.Going.{Going, done, going_init, going_on, no_room, rounds_left}
 use Rattle.program_lines.specs.declared.lines.Line as rust
 use Rattle.program_lines.specs.Lines.{lines_in}
-use Rattle.program_lines.specs.Walking.{IsListing, start_at}
+use Rattle.program_lines.specs.Walking.{AreSectionLines, start_at}
 use Rattle.program_lines.proofs.Starts.{place_start, starts_next, starts_of}
 use Rattle.program_lines.proofs.Unions.{lines_length}
 
@@ -47,7 +47,7 @@ module _ (W R : List Node) where
   too_many starts i at ss lines s w count here long le =
       no_room W R (length starts) ss (lines_in W R lines) s w.0 (ap (slice_get ss) (sym count) ∙ sym here) (omega (arith, le, long, lines_length W R lines))
 
-  pub all_walked : (starts : List ℕ) (i : ℕ) (ss : List Section) (lines : List rust.Line) → Walked starts ss (lines_in W R lines) → i ≡ length starts → None ≡ slice_get ss i → IsListing W R (record { sections = ss; starts = starts; lines = lines })
+  pub all_walked : (starts : List ℕ) (i : ℕ) (ss : List Section) (lines : List rust.Line) → Walked starts ss (lines_in W R lines) → i ≡ length starts → None ≡ slice_get ss i → AreSectionLines W R (record { sections = ss; starts = starts; lines = lines })
   all_walked starts i ss lines w count none_left =
       let over : slice_get ss (length starts) ≡ None = ap (slice_get ss) (sym count) ∙ sym none_left in
       let le : length ss ≤ length starts = past ss (length starts) over in

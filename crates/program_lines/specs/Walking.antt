@@ -1,11 +1,9 @@
 -- What the walk over the sections of a pair of schemas leaves. All of this is this project's own.
-use Rattle.std.specs.Prelude.{◌≡◌, ℕ, ◌&&◌, List, length, Option, Some, None, Result, Ok, Err, if◌then◌else◌, slice_index_or}
+use Rattle.std.specs.Prelude.{◌≡◌, ℕ, List, length, None, Result, Ok, Err, slice_index_or}
 use Rattle.avro_types.specs.Node.{Node}
 use Rattle.matching.specs.Options.{given}
-use Rattle.isa.specs.Judging.{is_within_limits}
-use Rattle.isa.specs.Program.{Program}
-use Rattle.program_code.specs.Code.{are_whole, code_of, start_in}
-use Rattle.program_code.specs.Lines.{Line, Section}
+use Rattle.program_code.specs.Code.{checked, code_of, start_in}
+use Rattle.program_code.specs.Lines.{Section}
 use Rattle.program_code.specs.Numbering.{numbered}
 use Rattle.program_code.specs.Writing.{section}
 use Rattle.program_lines.specs.declared.error.CompileError.{CompileError}
@@ -15,25 +13,21 @@ use Rattle.program_lines.specs.Lines.{lines_in}
 use Rattle.program_lines.specs.Sections.{place}
 
 -- the sections in the order of their first calls, where each begins, and all lines
-pub record Listed : Type 0 where
+pub record SectionLines : Type 0 where
   pub sections : List Section
   pub starts : List ℕ
   pub lines : List rust.Line
 
 -- where a section begins, or how many lines there are where it is not called for
-abbrev pub start_at : Listed → Section → ℕ
+abbrev pub start_at : SectionLines → Section → ℕ
 start_at l s = given (place s l.sections) (length l.lines) (λ n. slice_index_or l.starts n (length l.lines))
 
--- the program of all lines, unless one is lost or a limit is passed
-abbrev pub checked : List Line → Program → Option Program
-checked lines P = if are_whole lines && is_within_limits P then Some P else None
-
-pub record IsListing (W R : List Node) (l : Listed) : Type 0 where
+pub record AreSectionLines (W R : List Node) (l : SectionLines) : Type 0 where
   pub starts : (s : Section) → start_at l s ≡ start_in (section W R) 0 l.sections s
   pub code : code_of W R ≡ checked (lines_in W R l.lines) (numbered (start_in (section W R) 0 l.sections) (lines_in W R l.lines))
 
 -- the walk's answer: an error only where there is no program, or memory ran out
-abbrev pub Walks : List Node → List Node → Result Listed CompileError → Type 0
-Walks W R (Ok l) = IsListing W R l
+abbrev pub Walks : List Node → List Node → Result SectionLines CompileError → Type 0
+Walks W R (Ok l) = AreSectionLines W R l
 Walks W R (Err ProgramTooLarge) = code_of W R ≡ None
 Walks W R (Err NoMemory) = Unit {0}

@@ -17,4 +17,4 @@ mod writing;
 
 pub use error::CompileError;
 pub use lines::{Constant, Go, Line, Section};
-pub use walking::{Listing, walk};
+pub use walking::{SectionLines, walk};

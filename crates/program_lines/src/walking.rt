@@ -14,21 +14,21 @@ use std::marker::Model;
 
 /// All sections that are called for, where each begins, and their lines. Callers see it as these.
 #[derive(Drop)]
-pub struct Listing {
+pub struct SectionLines {
     sections: Sections,
     starts: Vec<usize>,
     lines: Vec<Line>,
 }
 
-impl Model for Listing {
-    ghost use Rattle.program_lines.specs.Walking.{Listed};
+impl Model for SectionLines {
+    ghost use Rattle.program_lines.specs.Walking.{SectionLines};
 
-    ghost Value = { Listed };
+    ghost Value = { SectionLines };
 
     ghost view = { λ l. record { sections = l.sections; starts = l.starts.items; lines = l.lines.items } };
 }
 
-impl Listing {
+impl SectionLines {
     /// The lines of all sections, one after the other.
     pub fn lines(&self) -> &[Line]
         ensures { result.now ≡ self.now.lines }
@@ -50,7 +50,7 @@ impl Listing {
 
 /// The sections of a pair of schemas, in the order of their first calls. `ProgramTooLarge` where they have more lines
 /// than a program may have instructions.
-pub fn walk(alloc: Global, w: &Nodes, r: &Nodes) -> Result<Listing, CompileError>
+pub fn walk(alloc: Global, w: &Nodes, r: &Nodes) -> Result<SectionLines, CompileError>
     ensures { Walks w.now r.now result }
 {
     let pair = SchemaPair {
@@ -71,7 +71,7 @@ pub fn walk(alloc: Global, w: &Nodes, r: &Nodes) -> Result<Listing, CompileError
         note_calls(&mut sections, &code)?;
         put_all(&mut lines, code)?;
     }
-    Ok(Listing {
+    Ok(SectionLines {
         sections,
         starts,
         lines,

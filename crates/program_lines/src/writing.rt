@@ -21,7 +21,7 @@ use outcome::{Mismatch, MismatchKind};
 use resolver::field_lists;
 use std::alloc::AllocError;
 
-/// The line that tells a miss.
+/// A mismatch of that kind, with both nodes.
 fn miss(kind: MismatchKind, writer_node: usize, reader_node: usize) -> Mismatch
     ensures { result ≡ miss kind writer_node reader_node }
 {

@@ -9,8 +9,9 @@ use Rattle.std.specs.Ordering.{is_eq, nat_cmp, ordering_then}
 use Rattle.std.specs.Str.{bytes_eq}
 use Rattle.std.proofs.lemmas.Map.Text.{is_eq-slice_cmp}
 use Rattle.matching.specs.Options.{or_else}
+use Rattle.outcome.specs.MismatchKind.{code_of as code_of_kind}
 use Rattle.outcome.specs.declared.mismatch.Mismatch.{Mismatch}
-use Rattle.program_code.specs.Numbering.{adding, has, kind_number, number, same_miss}
+use Rattle.program_code.specs.Numbering.{adding, has, number, same_miss}
 use Rattle.program_code.proofs.Numbers.{bytes_is, bytes_refl, miss_is}
 use Rattle.program_tables.specs.Tables.{bytes_cmp, found, key_cmp, key_of}
 
@@ -104,11 +105,11 @@ then_at Greater b = refl
 
 pub miss_at : (a b : Mismatch) → is_eq (key_cmp (key_of a) (key_of b)) ≡ same_miss b a
 miss_at a b =
-    then_at (ordering_then (nat_cmp (kind_number a.kind) (kind_number b.kind)) (nat_cmp a.writer_node b.writer_node)) (nat_cmp a.reader_node b.reader_node)
-    ∙ ap (λ x. x && is_eq (nat_cmp a.reader_node b.reader_node)) (then_at (nat_cmp (kind_number a.kind) (kind_number b.kind)) (nat_cmp a.writer_node b.writer_node))
-    ∙ ap (λ x. x && is_eq (nat_cmp a.writer_node b.writer_node) && is_eq (nat_cmp a.reader_node b.reader_node)) (nat_at (kind_number a.kind) (kind_number b.kind))
-    ∙ ap (λ x. kind_number b.kind == kind_number a.kind && x && is_eq (nat_cmp a.reader_node b.reader_node)) (nat_at a.writer_node b.writer_node)
-    ∙ ap (λ x. kind_number b.kind == kind_number a.kind && b.writer_node == a.writer_node && x) (nat_at a.reader_node b.reader_node)
+    then_at (ordering_then (nat_cmp (code_of_kind a.kind) (code_of_kind b.kind)) (nat_cmp a.writer_node b.writer_node)) (nat_cmp a.reader_node b.reader_node)
+    ∙ ap (λ x. x && is_eq (nat_cmp a.reader_node b.reader_node)) (then_at (nat_cmp (code_of_kind a.kind) (code_of_kind b.kind)) (nat_cmp a.writer_node b.writer_node))
+    ∙ ap (λ x. x && is_eq (nat_cmp a.writer_node b.writer_node) && is_eq (nat_cmp a.reader_node b.reader_node)) (nat_at (code_of_kind a.kind) (code_of_kind b.kind))
+    ∙ ap (λ x. code_of_kind b.kind == code_of_kind a.kind && x && is_eq (nat_cmp a.reader_node b.reader_node)) (nat_at a.writer_node b.writer_node)
+    ∙ ap (λ x. code_of_kind b.kind == code_of_kind a.kind && b.writer_node == a.writer_node && x) (nat_at a.reader_node b.reader_node)
 
 -- a miss that is looked up as another is that one
 pub miss_fresh : (a b : Mismatch) (xs : List Mismatch) → found same_miss a xs ≡ None → is_eq (key_cmp (key_of a) (key_of b)) ≡ true → found same_miss b xs ≡ None

@@ -6,8 +6,9 @@ use Rattle.std.specs.Cmp.Lexicographic.{slice_cmp}
 use Rattle.std.specs.BTreeMap.{get}
 use Rattle.std.specs.Global.{Vec}
 use Rattle.std.specs.Str.{bytes_eq}
+use Rattle.outcome.specs.MismatchKind.{code_of as code_of_kind}
 use Rattle.outcome.specs.declared.mismatch.Mismatch.{Mismatch}
-use Rattle.program_code.specs.Numbering.{has, kind_number, number, same_miss}
+use Rattle.program_code.specs.Numbering.{has, number, same_miss}
 use Rattle.program_tables.specs.declared.constants.Constants.TheInside as constants
 use Rattle.program_tables.specs.declared.misses.Misses.TheInside as misses
 
@@ -17,7 +18,7 @@ found same a xs = if has same a xs then Some (number same a xs) else None
 
 -- how a miss is looked up, and the order of such keys
 abbrev pub key_of : Mismatch → ℕ × ℕ × ℕ
-key_of m = (kind_number m.kind, m.writer_node, m.reader_node)
+key_of m = (code_of_kind m.kind, m.writer_node, m.reader_node)
 
 abbrev pub key_cmp : ℕ × ℕ × ℕ → ℕ × ℕ × ℕ → Ordering
 key_cmp p q = ordering_then (ordering_then (nat_cmp p.0 q.0) (nat_cmp p.1 q.1)) (nat_cmp p.2 q.2)

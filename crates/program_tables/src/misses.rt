@@ -1,39 +1,25 @@
-ghost use Rattle.std.specs.Prelude.{◌≡◌, ◌++◌, ◌∷◌, [], None, length, OnOk};
+ghost use Rattle.std.specs.Prelude.{◌≡◌, ◌++◌, ◌∷◌, [], None, length, OnErr, OnOk};
 ghost use Rattle.program_code.specs.Numbering.{adding, number, same_miss};
-ghost use Rattle.program_code.specs.Numbering.{kind_number as number_of_kind};
 ghost use Rattle.program_tables.specs.Tables.{found};
 ghost use Rattle.program_tables.specs.Tables.{key_of as key_of_miss};
 
-use outcome::{Mismatch, MismatchKind};
+use outcome::Mismatch;
 use std::alloc::{AllocError, Global};
 use std::collections::BTreeMap;
 use std::marker::Model;
 
-/// A number for each kind.
-fn kind_number(kind: MismatchKind) -> u32
-    ensures { result ≡ number_of_kind kind }
-{
-    match kind {
-        MismatchKind::NoMatch => 1,
-        MismatchKind::NoBranch => 2,
-        MismatchKind::NoSymbol => 3,
-        MismatchKind::NoDefault => 4,
-        MismatchKind::BytesNotText => 5,
-    }
-}
-
 /// How a miss is looked up.
-fn key_of(miss: Mismatch) -> (u32, usize, usize)
+fn key_of(miss: Mismatch) -> (u8, usize, usize)
     ensures { result ≡ key_of_miss miss }
 {
-    (kind_number(miss.kind), miss.writer_node, miss.reader_node)
+    (miss.kind.code(), miss.writer_node, miss.reader_node)
 }
 
 /// Misses in the order in which they are named first, each once. Callers see them as a list.
 #[derive(Drop)]
 pub struct Misses {
     list: Vec<Mismatch>,
-    numbers: BTreeMap<(u32, usize, usize), usize>,
+    numbers: BTreeMap<(u8, usize, usize), usize>,
 }
 
 impl Model for Misses {
@@ -76,7 +62,8 @@ impl Misses {
     /// Adds a miss that is not there.
     fn add_new(&mut self, miss: Mismatch) -> Result<(), AllocError>
         requires { found same_miss miss self.old ≡ None }
-        ensures { OnOk result (self.new ≡ self.old ++ miss ∷ []) }
+        ensures added { OnOk result (self.new ≡ self.old ++ miss ∷ []) }
+        ensures refused { OnErr result (self.new ≡ self.old) }
     {
         let number = self.list.len();
         self.list.try_reserve(1)?;
@@ -87,7 +74,8 @@ impl Misses {
 
     /// Adds a miss, if it is not there.
     pub fn add(&mut self, miss: Mismatch) -> Result<(), AllocError>
-        ensures { OnOk result (self.new ≡ adding same_miss self.old (miss ∷ [])) }
+        ensures added { OnOk result (self.new ≡ adding same_miss self.old (miss ∷ [])) }
+        ensures refused { OnErr result (self.new ≡ self.old) }
     {
         if self.get(miss).is_some() {
             return Ok(());

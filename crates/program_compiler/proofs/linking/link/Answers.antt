@@ -12,7 +12,7 @@ use Rattle.program_compiler.proofs.linking.link.Goals as goal
 pub returns : goal.returns
 returns c = λ W.
     let R = c.args.r.now in
-    let starts = start_at c.args.tables.now.listing.now in
+    let starts = start_at c.args.tables.now.section_lines.now in
     let cs = c.args.tables.now.constants.now in
     let ms = c.args.tables.now.misses.now in
     let code = c.loop-pc.code.items in
@@ -25,7 +25,7 @@ returns c = λ W.
 pub returns-in-Err : goal.returns-in-Err
 returns-in-Err c = λ W.
     let R = c.args.r.now in
-    let starts = start_at c.args.tables.now.listing.now in
+    let starts = start_at c.args.tables.now.section_lines.now in
     let cs = c.args.tables.now.constants.now in
     let ms = c.args.tables.now.misses.now in
     let lines = c.lines-lines.result.now in
@@ -39,7 +39,7 @@ returns-in-Err c = λ W.
 pub loop-pc-preserved : goal.loop-pc-preserved
 loop-pc-preserved c =
     let R = c.args.r.now in
-    let starts = start_at c.args.tables.now.listing.now in
+    let starts = start_at c.args.tables.now.section_lines.now in
     let cs = c.args.tables.now.constants.now in
     let ms = c.args.tables.now.misses.now in
     let lines = c.lines-lines.result.now in

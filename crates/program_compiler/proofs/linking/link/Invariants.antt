@@ -8,7 +8,7 @@ use Rattle.program_compiler.proofs.linking.link.Given as goal
 
 abbrev pub invariant-loop-pc : goal.invariant-loop-pc
 invariant-loop-pc l = record {
-  code : (W : List Node) → l.code.items ++ code_from (start_at l.tables.listing.now) l.tables.constants.now l.tables.misses.now l.pc l.counts.maps l.counts.jumps (lines_in W l.r (drop l.pc l.lines)) ≡ code_from (start_at l.tables.listing.now) l.tables.constants.now l.tables.misses.now 0 0 0 (lines_in W l.r l.lines);
+  code : (W : List Node) → l.code.items ++ code_from (start_at l.tables.section_lines.now) l.tables.constants.now l.tables.misses.now l.pc l.counts.maps l.counts.jumps (lines_in W l.r (drop l.pc l.lines)) ≡ code_from (start_at l.tables.section_lines.now) l.tables.constants.now l.tables.misses.now 0 0 0 (lines_in W l.r l.lines);
   maps : l.counts.maps ≤ l.pc;
   jumps : l.counts.jumps ≤ l.pc;
 }

@@ -4,7 +4,7 @@ use Rattle.std.specs.BTreeMap.{get}
 use Rattle.std.specs.Str.{bytes_eq}
 use Rattle.program_code.specs.Numbering.{number}
 use Rattle.program_lines.specs.Lines.{bytes_of}
-use Rattle.program_compiler.specs.Tables.{pair_cmp}
+use Rattle.program_lines.specs.Sections.{pair_cmp}
 use Rattle.program_compiler.proofs.Defaults.{its_number}
 use Rattle.program_compiler.proofs.linking.number_of.Goals as goal
 
