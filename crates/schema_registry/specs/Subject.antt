@@ -1,4 +1,5 @@
--- What may be the name of a subject, and the number of a version. Both rules are this project's own.
+-- What may be the name of a subject, and the number of a version (Confluent Schema Registry API, "Subjects"). The rule of
+-- names is this project's own.
 use Rattle.std.specs.Prelude.{ℕ, ◌==◌, ◌&&◌, ◌||◌, nat_le, List, length, Bool, true}
 use Rattle.std.specs.Char.{is_ascii_alphanumeric}
 use Rattle.std.specs.List.{list_all}
@@ -13,6 +14,7 @@ is_subject_byte b = is_ascii_alphanumeric b || (b == 46) || (b == 95) || (b == 4
 abbrev pub is_subject : List ℕ → Bool
 is_subject text = nat_le 1 (length text) && nat_le (length text) LONGEST_SUBJECT && list_all is_subject_byte text
 
+-- the latest one, or a number from 1 to 2^31 - 1 (the rule of the API)
 abbrev pub is_version : Version → Bool
 is_version Latest = true
 is_version (Number n) = nat_le 1 n && nat_le n MOST_VERSION
