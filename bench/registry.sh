@@ -1,6 +1,7 @@
 #!/usr/bin/env bash
-# Whether a registry's time is linear: registering 2,048 and 4,096 schemas under one subject, registering them again, registering them under 16
-# other subjects in turn, and 10,000 times finding one of 2,048 and of 4,096 ids (by the clock). Not part of the gate.
+# Whether a registry's time is linear: registering 2,048 and 4,096 schemas under one subject, registering them again,
+# registering them under 16 other subjects in turn, and 10,000 times finding one of 2,048 and of 4,096 ids (by the
+# clock). Not part of the gate.
 # Usage: bench/registry.sh BENCH_REGISTRY
 set -euo pipefail
 exec python3 - "$(realpath "$1")" <<'PYTHON'

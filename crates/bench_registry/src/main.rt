@@ -1,6 +1,7 @@
 //! Registers schemas in a shared registry, as `bench/registry.sh` measures it: so many as the first word says under one
-//! subject, then the same once more, then under 16 others in turn; and finds so many ids as the second word says. Prints
-//! the last id of each round and how many ids showed a schema, and to the standard error the microseconds of each.
+//! subject, then the same once more, then under 16 others in turn; and finds so many ids as the second word says.
+//! Prints the last id of each round and how many ids showed a schema, and to the standard error the microseconds of
+//! each.
 #![tactic(auto)]
 
 use schema_registry::{Refusal, SharedRegistry};

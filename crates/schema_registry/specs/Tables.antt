@@ -53,7 +53,8 @@ pub record AsksToRegister (c : Command) (subject : List ℕ) (schema : Declarati
   pub subject_is : is_subject subject ≡ true
 
 -- these commands are the old ones, and then one that registers the schema under the subject
-pub record AddsRegistration (old : List Command) (subject : List ℕ) (schema : Declaration) (commands : List Command) : Type 0 where
+pub record AddsRegistration (old : List Command) (subject : List ℕ) (schema : Declaration) (commands : List Command)
+    : Type 0 where
   pub command : Command
   pub asks : AsksToRegister command subject schema
   pub commands_are : commands ≡ old ++ command ∷ []

@@ -172,8 +172,8 @@ impl SharedRegistry {
         self.register_parsed(rt, &Command::Register { subject, text }, name, schema)
     }
 
-    /// Does what a command asks that registers a schema, which was parsed from its text, and shows the schema in the cell
-    /// of its id; where the cell shows a schema of another text, it tells the receipt of that one.
+    /// Does what a command asks that registers a schema, which was parsed from its text, and shows the schema in the
+    /// cell of its id; where the cell shows a schema of another text, it tells the receipt of that one.
     fn register_parsed<R: Wait>(
         &self,
         rt: &R,
