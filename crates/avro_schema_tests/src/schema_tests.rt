@@ -131,6 +131,22 @@ fn reads_a_record(rt: HostRuntime) {
     assert_two_fields(&rt, &schema);
 }
 
+/// A copy of the schema of a text, which is left when the schema itself is let go.
+fn copied(alloc: Global, text: &str) -> Result<Schema, SchemaError> {
+    let schema = parsed(alloc, text)?;
+    Ok(schema.copy()?)
+}
+
+#[test]
+fn a_copy_has_the_text_and_the_nodes(rt: HostRuntime) {
+    let text =
+        r#"{ "type": "record", "name": "T", "fields": [ {"name": "a", "type": ["null", "T"]} ] }"#;
+    let compact = r#"{"fields":[{"name":"a","type":["null","T"]}],"name":"T","type":"record"}"#;
+    let copy = copied(rt.alloc(), text).expect(&rt, "a copy");
+    assert!(rt; copy.len() == 3);
+    assert!(rt; is_schema(&copy, "T union null", compact));
+}
+
 #[test]
 fn keeps_the_last_of_a_repeated_key(rt: HostRuntime) {
     let text = r#"{"type":"int","name":"1","type":"record","name":"_1","fields":[]}"#;

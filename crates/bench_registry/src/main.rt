@@ -1,6 +1,7 @@
-//! Registers schemas in a shared registry, as `bench/registry.sh` measures it: so many as the first word says, then the
-//! same once more, and finds so many ids as the second word says. Prints the last id of each round and how many ids
-//! showed a schema, and to the standard error the microseconds of each.
+//! Registers schemas in a shared registry, as `bench/registry.sh` measures it: so many as the first word says under one
+//! subject, then the same once more, then under 16 others in turn; and finds so many ids as the second word says.
+//! Prints the last id of each round and how many ids showed a schema, and to the standard error the microseconds of
+//! each.
 #![tactic(auto)]
 
 use schema_registry::{Refusal, SharedRegistry};
@@ -18,16 +19,23 @@ fn text_of(alloc: Global, number: u32) -> Result<String, AllocError> {
     )
 }
 
-/// Registers so many schemas as versions of one subject, and tells the id of the last.
+/// One of so many subjects, by a number that goes round.
+fn subject_of(alloc: Global, subjects: u32, number: u32) -> Result<String, AllocError> {
+    let place = number % subjects.max(1);
+    format!(in alloc; "s{subjects}.{place}")
+}
+
+/// Registers so many schemas as versions of so many subjects in turn, and tells the id of the last.
 fn register_all<R: Wait>(
     rt: &R,
     alloc: Global,
     shared: &SharedRegistry,
     count: u32,
+    subjects: u32,
 ) -> Result<u32, Refusal> {
     let mut last = 0;
     for number in 0..count {
-        let subject = String::from_str(alloc, "s")?;
+        let subject = subject_of(alloc, subjects, number)?;
         let (id, _) = shared.register(rt, subject, text_of(alloc, number)?)?;
         last = id;
     }
@@ -61,16 +69,16 @@ fn tell(
     eprintln!(rt; "{part} {micros}")
 }
 
-/// Registers, registers again, and finds.
+/// Registers, registers again, registers under other subjects, and finds.
 fn measure<R: Wait + Print + Eprint + Clock + AllocGlobal>(
     rt: &R,
     count: u32,
     finds: u32,
 ) -> Option<()> {
     let shared = SharedRegistry::new(rt.alloc()).ok()?;
-    for part in ["register", "again"] {
+    for (part, subjects) in [("register", 1), ("again", 1), ("others", 16)] {
         let start = Instant::now(rt).ok()?;
-        let last = register_all(rt, rt.alloc(), &shared, count).ok()?;
+        let last = register_all(rt, rt.alloc(), &shared, count, subjects).ok()?;
         tell(rt, part, last as usize, &start).ok()?;
     }
     let start = Instant::now(rt).ok()?;

@@ -6,8 +6,7 @@ use Rattle.std.specs.Str.Parse.{digits_value}
 use Rattle.assembler.specs.Things.{◌>>=◌, at_end, bytes_in}
 use Rattle.listing_words.specs.Words.{is_numeral, words}
 use Rattle.schema_registry.specs.declared.level.Level.{Level}
-use Rattle.schema_registry.specs.declared.level.Level.TheVariants as levels
-use Rattle.schema_registry.specs.Level.{level_name}
+use Rattle.schema_registry.specs.Level.{all_levels, level_name}
 
 -- the words of a line, which has none where it is no text
 unfoldable pub words_of_text : List ℕ → List (List ℕ)
@@ -102,11 +101,6 @@ last_bytes words = do
   bytes_in word
 
 -- ---- levels
-
-abbrev pub all_levels : List Level
-all_levels =
-    levels.Backward ∷ levels.BackwardTransitive ∷ levels.Forward ∷ levels.ForwardTransitive
-    ∷ levels.Full ∷ levels.FullTransitive ∷ levels.None ∷ []
 
 unfoldable pub level_named : List ℕ → Option Level
 level_named word = find (λ level. bytes_eq word (level_name level)) all_levels

@@ -3,7 +3,7 @@ use Rattle.std.proofs.Common.{◌≡◌, ℕ, ◌+◌, List, [], ◌∷◌, ◌+
 use Rattle.std.specs.BTreeMap.{BTreeMap, get_by_text}
 use Rattle.std.specs.Str.{bytes_eq}
 use Rattle.std.proofs.lemmas.Slice.Eq.{bytes_eq-Decides}
-use Rattle.registry_tables.specs.Maps.{AreSame, Puts, id_for, ids_in}
+use Rattle.registry_tables.specs.Maps.{AreSame, Puts, id_or_next, ids_in}
 
 module _ {X : Type 0} (m n : BTreeMap (String Global) X) (text : List ℕ) where
   -- what stands under the text and under each other one
@@ -39,5 +39,5 @@ versions-put m n subject o id ids is are put = subst (Puts m n subject) (are ∙
 -- ---- a text that is new
 
 module _ (ids : BTreeMap (String Global) ℕ) (text : List ℕ) (lacking : get_by_text ids text ≡ None) where
-  pub next-id : (count n : ℕ) → n ≡ count → n + 1 ≡ id_for ids text count
+  pub next-id : (count n : ℕ) → n ≡ count → n + 1 ≡ id_or_next ids text count
   next-id count n same = rw (lacking, same) refl

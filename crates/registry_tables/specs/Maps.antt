@@ -26,8 +26,8 @@ AreSame old new = (t : List ℕ) → get_by_text new t ≡ get_by_text old t
 -- ---- ids
 
 -- the id under a text, or the next one after so many
-abbrev pub id_for : BTreeMap (String Global) ℕ → List ℕ → ℕ → ℕ
-id_for ids text count = unwrap_or (get_by_text ids text) (count + 1)
+abbrev pub id_or_next : BTreeMap (String Global) ℕ → List ℕ → ℕ → ℕ
+id_or_next ids text count = unwrap_or (get_by_text ids text) (count + 1)
 
 -- ---- the versions of a subject
 

@@ -3,7 +3,7 @@
 ghost use Rattle.std.specs.Prelude.{◌≡◌, ◌≤◌, [], ◌∷◌, ◌++◌, None, IfOk, OnOk, OnErr, string_bytes};
 ghost use Rattle.std.specs.BTreeMap.{get_by_text};
 ghost use Rattle.registry_tables.specs.declared.limits.TheConstants.{MOST_ID};
-ghost use Rattle.registry_tables.specs.Maps.{AreSame, Puts, id_for, ids_in, number_of};
+ghost use Rattle.registry_tables.specs.Maps.{AreSame, Puts, id_or_next, ids_in, number_of};
 
 use crate::versions::Versions;
 use std::alloc::{AllocError, Global};
@@ -41,13 +41,13 @@ pub fn add(
     subject: String,
     text: &str,
 ) -> Result<u32, AllocError>
-    requires few { id_for ids.old text.now count ≤ MOST_ID }
-    requires new { number_of (id_for ids.old text.now count)
+    requires few { id_or_next ids.old text.now count ≤ MOST_ID }
+    requires new { number_of (id_or_next ids.old text.now count)
         (ids_in (get_by_text subjects.old (string_bytes subject))) ≡ None }
-    ensures id { IfOk result (λ id. id ≡ id_for ids.old text.now count) }
-    ensures ids { OnOk result (Puts ids.old ids.new text.now (id_for ids.old text.now count)) }
+    ensures id { IfOk result (λ id. id ≡ id_or_next ids.old text.now count) }
+    ensures ids { OnOk result (Puts ids.old ids.new text.now (id_or_next ids.old text.now count)) }
     ensures versions { OnOk result (Puts subjects.old subjects.new (string_bytes subject)
-        (ids_in (get_by_text subjects.old (string_bytes subject)) ++ id_for ids.old text.now count ∷ [])) }
+        (ids_in (get_by_text subjects.old (string_bytes subject)) ++ id_or_next ids.old text.now count ∷ [])) }
     ensures err { OnErr result (AreSame ids.old ids.new × AreSame subjects.old subjects.new) }
 {
     if let Some(id) = ids.get(text).copied() {

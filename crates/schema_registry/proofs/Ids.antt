@@ -24,7 +24,7 @@ id-behind text schemas s = position-behind (λ s. bytes_eq s.text text) 1 schema
 
 -- where a schema has its id, its text is found under it, and each other text where it was
 module _ (old new : BTreeMap (String Global) ℕ) (schemas : List Declaration) (s : Declaration) (kept : AreIdsOf old schemas) where
-  pub same-id : maps.id_for old s.text (length schemas) ≡ id_for s schemas
+  pub same-id : maps.id_or_next old s.text (length schemas) ≡ id_for s schemas
   same-id = ap (λ o. unwrap_or o (length schemas + 1)) (kept s.text)
 
   pub ids-added : Puts old new s.text (id_for s schemas) → AreIdsOf new (with_schema s schemas)

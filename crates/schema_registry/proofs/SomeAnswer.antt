@@ -8,7 +8,7 @@ use Rattle.schema_registry.specs.Accepting.{registry_after}
 use Rattle.schema_registry.specs.Answers.{AreAccepted, Gives, Grows, answer_to, no_command}
 use Rattle.schema_registry.specs.Command.{Command, RegisterCommand}
 use Rattle.schema_registry.specs.Reply.{answer_of}
-use Rattle.schema_registry.specs.Shared.{IsSomeAnswer, IsSomeRefusal, MayGrow}
+use Rattle.schema_registry.specs.Shared.{IsSomeAnswer, IsSomeShownOf, MayGrow}
 use Rattle.schema_registry.specs.Subject.{is_subject}
 
 pub some-answer : (commands : List Command) (c : Command) (result : Result Reply Refusal) → AreAccepted commands → Gives (answer_to (registry_after commands) c) result
@@ -24,5 +24,5 @@ pub registration-grows : (c : Command) (subject text : List ℕ) → c ≡ Regis
 registration-grows c subject text is named = subst MayGrow (sym is) (record { commands = []; accepted = no_command; grows = named })
 
 -- memory is refused where it may be wanted
-pub memory-refused : (c : Command) → MayGrow c → IsSomeRefusal c NoMemory
+pub memory-refused : (c : Command) → MayGrow c → IsSomeShownOf c (Err NoMemory)
 memory-refused c grows = (λ _. grows, λ other. absurd (other refl))

@@ -9,7 +9,7 @@ use Rattle.avro_schema.specs.Schema.{Declaration, schema_of}
 use Rattle.schema_registry.specs.Command.{Command, RegisterCommand, SetLevelCommand, LookupCommand, CheckCommand, VersionsCommand, VersionCommand, SubjectsCommand, SchemaCommand, LevelCommand}
 use Rattle.schema_registry.specs.Lists.{Entry, Lists, id_of, no_lists, versions_of, with_text}
 
--- the compact text of a JSON text
+-- the compact text of a JSON text: it is what answers show (our own rule)
 abbrev pub compacted : List ℕ → List ℕ
 compacted text = option_map_or compact_text (read text) []
 

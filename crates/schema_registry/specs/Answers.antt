@@ -80,13 +80,19 @@ abbrev pub pairs_with : Level → Declaration → Declaration → List Pair
 pairs_with level new old =
     (if new_reads_old level then (old, new) ∷ [] else []) ++ (if old_reads_new level then (new, old) ∷ [] else [])
 
+-- ---- limits, and that `Full` is told of them (our own rule)
+
+-- it is not there, and as many are as may be
+abbrev pub is_one_too_many : Bool → ℕ → ℕ → Bool
+is_one_too_many is_there count most = not is_there && nat_le most count
+
 -- there is no room for one more name, and this would be one
 abbrev pub has_no_room : Names → List ℕ → ℕ → Bool
-has_no_room names name most = not (finite.contains_key names name) && nat_le most (finite.len names)
+has_no_room names name most = is_one_too_many (finite.contains_key names name) (finite.len names) most
 
 -- there is no room for one more schema, and this would be one
 abbrev pub has_no_id : List Declaration → List ℕ → Bool
-has_no_id schemas text = not (is_some (id_of text schemas)) && nat_le MOST_SCHEMAS (length schemas)
+has_no_id schemas text = is_one_too_many (is_some (id_of text schemas)) (length schemas) MOST_SCHEMAS
 
 module _ (lists : Lists) where
   abbrev pub schemas_of : List Entry → List Declaration
@@ -101,6 +107,7 @@ module _ (lists : Lists) where
   abbrev pub is_full : Declaration → List ℕ → Bool
   is_full schema subject = has_no_id lists.schemas schema.text || has_no_room (subjects_of lists.entries) subject MOST_SUBJECTS
 
+  -- that there is no such schema is never told, since the id of each version is a schema's (`Holds.ids_known`)
   abbrev pub entry_answer : Entry → Answer
   entry_answer e = where_some (numbered lists.schemas e.id) NoSchema (λ s. Told (Ok (EntryReply e.subject e.version e.id s.text)))
 
@@ -131,6 +138,7 @@ module _ (lists : Lists) where
   set_level_answer (Some subject) level =
       if has_no_room (subjects_with_level lists.levels) subject MOST_LEVELS then Told (Err Full) else Told (Ok (LevelReply level))
 
+  -- of a version to check, too, it is never told that there is no such schema
   abbrev pub answer_to : Command → Answer
   answer_to (RegisterCommand subject text) =
       where_true (is_subject subject) BadSubject (where_schema (declaration_of text)

@@ -1,7 +1,12 @@
 -- The levels of compatibility (Confluent Schema Registry, "Compatibility types").
-use Rattle.std.specs.Prelude.{ℕ, List, Bool, true, false, codes}
+use Rattle.std.specs.Prelude.{ℕ, List, [], ◌∷◌, Bool, true, false, codes}
 use Rattle.schema_registry.specs.declared.level.Level.{Level}
 use Rattle.schema_registry.specs.declared.level.Level.TheVariants as levels
+
+abbrev pub all_levels : List Level
+all_levels =
+    levels.Backward ∷ levels.BackwardTransitive ∷ levels.Forward ∷ levels.ForwardTransitive
+    ∷ levels.Full ∷ levels.FullTransitive ∷ levels.None ∷ []
 
 abbrev pub level_name : Level → List ℕ
 level_name levels.Backward = codes "BACKWARD"

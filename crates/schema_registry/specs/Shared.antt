@@ -57,3 +57,12 @@ IsSomeIdOf c (Err refusal) = IsSomeRefusal c refusal
 
 abbrev pub IsSomeId : List ℕ → List ℕ → Result (ℕ × Shown) Refusal → Type 0
 IsSomeId subject text result = IsSomeIdOf (RegisterCommand subject text) result
+
+-- the same where a clash is no refusal, but the receipt of another schema in the cell of the id
+abbrev pub IsSomeShownOf : Command → Result (Result Shown Shown) Refusal → Type 0
+IsSomeShownOf c (Ok (Ok r)) = IsAnswered c (Ok (IdReply r.id))
+IsSomeShownOf c (Ok (Err r)) = IsAnswered c (Ok (IdReply r.id))
+IsSomeShownOf c (Err refusal) = (refusal ≡ NoMemory → MayGrow c) × (refusal ≢ NoMemory → IsAnswered c (Err refusal))
+
+abbrev pub IsSomeShown : List ℕ → List ℕ → Result (Result Shown Shown) Refusal → Type 0
+IsSomeShown subject text result = IsSomeShownOf (RegisterCommand subject text) result

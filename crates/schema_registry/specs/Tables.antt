@@ -1,6 +1,6 @@
 -- How a registry's maps go together with its lists. This project's own.
-use Rattle.std.specs.Prelude.{◌≡◌, ◌≢◌, ℕ, zero, suc, ◌+◌, ◌++◌, ◌≤◌, ◌<◌, ◌&&◌, List, [], ◌∷◌, length, Bool, not, true, is_some, nat_le, Some, IfSome, Ok, String}
-use Rattle.std.specs.BTreeMap.{BTreeMap, btree_map_len, get_by_text}
+use Rattle.std.specs.Prelude.{◌≡◌, ◌≢◌, ℕ, zero, suc, ◌+◌, ◌++◌, ◌≤◌, ◌<◌, List, [], ◌∷◌, length, true, Some, IfSome, Ok, String}
+use Rattle.std.specs.BTreeMap.{BTreeMap, get_by_text}
 use Rattle.std.specs.List.{AllByRecursion}
 use Rattle.std.specs.Global.{Global}
 use Rattle.avro_schema.specs.Schema.{Declaration}
@@ -52,18 +52,14 @@ pub record AsksToRegister (c : Command) (subject : List ℕ) (schema : Declarati
   pub declares : declaration_of text ≡ Ok schema
   pub subject_is : is_subject subject ≡ true
 
--- these commands are the old ones, and then the registration of the schema
-pub record Registers (old : List Command) (subject : List ℕ) (schema : Declaration) (commands : List Command) : Type 0 where
-  pub text : List ℕ
-  pub declares : declaration_of text ≡ Ok schema
-  pub subject_is : is_subject subject ≡ true
-  pub commands_are : commands ≡ old ++ RegisterCommand subject text ∷ []
+-- these commands are the old ones, and then one that registers the schema under the subject
+pub record AddsRegistration (old : List Command) (subject : List ℕ) (schema : Declaration) (commands : List Command)
+    : Type 0 where
+  pub command : Command
+  pub asks : AsksToRegister command subject schema
+  pub commands_are : commands ≡ old ++ command ∷ []
 
 -- so many numbers from one on
 abbrev pub numbers_from : ℕ → ℕ → List ℕ
 numbers_from n zero = []
 numbers_from n (suc k) = n ∷ numbers_from (n + 1) k
-
--- there is no room for one more name, and this would be one
-abbrev pub lacks_room : {X : Type 0} → BTreeMap (String Global) X → List ℕ → ℕ → Bool
-lacks_room m name most = not (is_some (get_by_text m name)) && nat_le most (btree_map_len m)

@@ -1,8 +1,9 @@
-ghost use Rattle.std.specs.Prelude.{◌≡◌, [], ◌∷◌, ◌++◌, OnOk, OnErr, IfErr, option_map};
+ghost use Rattle.std.specs.Prelude.{◌≡◌, ℕ, List, [], ◌∷◌, ◌++◌, length, map, OnOk, OnErr, IfErr, option_map};
 ghost use Rattle.schema_registry.specs.Accepting.{registry_after};
 ghost use Rattle.schema_registry.specs.Answers.{AreAccepted, Gives, Grows, answer_to};
 ghost use Rattle.schema_registry.specs.Command.{command_of};
-ghost use Rattle.schema_registry.specs.Lists.{numbered};
+ghost use Rattle.schema_registry.specs.Lists.{numbered, versions_of};
+ghost use Rattle.schema_registry.specs.Tables.{numbers_from};
 
 mod asking;
 mod levels;
@@ -103,6 +104,14 @@ impl Registry {
     /// The law that each of its commands was accepted after those before it.
     pub fn is_accepted(&self)
         ensures { AreAccepted self.now }
+    {
+        let _opened = &self.global;
+    }
+
+    /// The law that the versions of each subject are 1, 2, 3 .. without gaps.
+    pub fn versions_have_no_gaps(&self)
+        ensures { (subject : List ℕ) → map (λ e. e.version) (versions_of subject (registry_after self.now).entries)
+            ≡ numbers_from 1 (length (versions_of subject (registry_after self.now).entries)) }
     {
         let _opened = &self.global;
     }

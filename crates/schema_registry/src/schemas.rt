@@ -77,7 +77,7 @@ impl SchemaTable {
     }
 
     /// Whether there is no room for the schema of a compact text.
-    pub(crate) fn is_full_for(&self, text: &str) -> bool
+    pub(crate) fn has_no_id(&self, text: &str) -> bool
         ensures { result ≡ has_no_id self.now text.now }
     {
         self.id_of(text).is_none() && self.schemas.len() >= MOST_SCHEMAS

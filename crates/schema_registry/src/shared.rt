@@ -3,7 +3,7 @@ ghost use Rattle.once_cell.specs.Once.{cell_name};
 ghost use Rattle.schema_registry.specs.Accepting.{compacted};
 ghost use Rattle.schema_registry.specs.Command.{command_of};
 ghost use Rattle.schema_registry.specs.Reply.{answer_of};
-ghost use Rattle.schema_registry.specs.Shared.{IsReceiptOf, IsSomeAnswer, IsSomeId, IsSomeIdOf};
+ghost use Rattle.schema_registry.specs.Shared.{IsReceiptOf, IsSomeAnswer, IsSomeId, IsSomeShown, IsSomeShownOf};
 ghost use Rattle.schema_registry.specs.Tables.{AsksToRegister};
 
 use crate::command::Command;
@@ -132,7 +132,8 @@ impl SharedRegistry {
         one.note.compare(two.note.again());
     }
 
-    /// Registers the schema of a text, and sets the cell of its id before the lock is given up.
+    /// Registers the schema of a text, and sets the cell of its id before the lock is given up. `Clash` is told where
+    /// `register_shown` tells the receipt of another schema.
     pub fn register<R: Wait>(
         &self,
         rt: &R,
@@ -143,6 +144,26 @@ impl SharedRegistry {
             × IfSome r.1.schema (λ s. s.text ≡ compacted (string_bytes text))) }
         ensures answer { IsSomeId (string_bytes subject) (string_bytes text) result }
     {
+        match self.register_shown(rt, subject, text)? {
+            Ok(receipt) => Ok((receipt.id(), receipt)),
+            Err(_another) => Err(Refusal::Clash),
+        }
+    }
+
+    /// The same, with the schema's receipt, or with the receipt of the schema of another text that the cell of the id
+    /// shows.
+    pub fn register_shown<R: Wait>(
+        &self,
+        rt: &R,
+        subject: String,
+        text: String,
+    ) -> Result<Result<Receipt, Receipt>, Refusal>
+        ensures receipt { IfOk result (λ shown. IfOk shown (λ r. IsReceiptOf self.now r
+            × IfSome r.schema (λ s. s.text ≡ compacted (string_bytes text)))) }
+        ensures clash { IfOk result (λ shown. IfErr shown (λ r. IsReceiptOf self.now r
+            × IfSome r.schema (λ s. s.text ≢ compacted (string_bytes text)))) }
+        ensures answer { IsSomeShown (string_bytes subject) (string_bytes text) result }
+    {
         if !is_subject(&subject) {
             return Err(Refusal::BadSubject);
         }
@@ -151,27 +172,27 @@ impl SharedRegistry {
         self.register_parsed(rt, &Command::Register { subject, text }, name, schema)
     }
 
-    /// Does what a command asks that registers a schema, which was parsed from its text, and shows the schema.
+    /// Does what a command asks that registers a schema, which was parsed from its text, and shows the schema in the
+    /// cell of its id; where the cell shows a schema of another text, it tells the receipt of that one.
     fn register_parsed<R: Wait>(
         &self,
         rt: &R,
         command: &Command,
         subject: String,
         schema: Schema,
-    ) -> Result<(u32, Receipt), Refusal>
+    ) -> Result<Result<Receipt, Receipt>, Refusal>
         requires { AsksToRegister (command_of command.now) (string_bytes subject) schema }
-        ensures receipt { IfOk result (λ r. IsReceiptOf self.now r.1 × (r.1.id ≡ r.0)
-            × IfSome r.1.schema (λ s. s.text ≡ schema.text)) }
-        ensures answer { IsSomeIdOf (command_of command.now) result }
+        ensures receipt { IfOk result (λ shown. IfOk shown (λ r. IsReceiptOf self.now r
+            × IfSome r.schema (λ s. s.text ≡ schema.text))) }
+        ensures clash { IfOk result (λ shown. IfErr shown (λ r. IsReceiptOf self.now r
+            × IfSome r.schema (λ s. s.text ≢ schema.text))) }
+        ensures answer { IsSomeShownOf (command_of command.now) result }
     {
         let kept = schema.copy()?;
         let shown = Box::new(self.alloc, schema.copy()?)?;
         let mut registry = self.registry.lock(rt);
         let id = registry.register_parsed(command, subject, schema)?;
-        match self.show(id, shown, &kept) {
-            Ok(receipt) => Ok((id, receipt)),
-            Err(_another) => Err(Refusal::Clash),
-        }
+        Ok(self.show(id, shown, &kept))
     }
 
     /// Shows a schema in the cell of its id; where the cell shows a schema of another text, the error is its receipt.

@@ -13,7 +13,7 @@ use crate::level::Level;
 use crate::limits::MOST_LEVELS;
 use crate::refusal::Refusal;
 use crate::reply::Reply;
-use crate::room::lacks_room;
+use crate::room::has_no_room;
 use crate::subject::is_subject;
 use registry_tables::set_for;
 use std::alloc::AllocError;
@@ -51,7 +51,7 @@ impl Registry {
         if !is_subject(subject) {
             return Some(Refusal::BadSubject);
         }
-        if lacks_room(&self.levels, subject, MOST_LEVELS) {
+        if has_no_room(&self.levels, subject, MOST_LEVELS) {
             return Some(Refusal::Full);
         }
         None

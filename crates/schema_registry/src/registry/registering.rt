@@ -8,7 +8,7 @@ ghost use Rattle.schema_registry.specs.Answers.{AreAccepted, AreSafe, Gives, Giv
 ghost use Rattle.schema_registry.specs.Command.{RegisterCommand, command_of};
 ghost use Rattle.schema_registry.specs.Lists.{level_of, versions_of, with_text};
 ghost use Rattle.schema_registry.specs.Subject.{is_subject};
-ghost use Rattle.schema_registry.specs.Tables.{AsksToRegister, Registers, entry_of};
+ghost use Rattle.schema_registry.specs.Tables.{AddsRegistration, AsksToRegister, entry_of};
 
 use super::Registry;
 use crate::command::Command;
@@ -17,7 +17,7 @@ use crate::history::History;
 use crate::limits::MOST_SUBJECTS;
 use crate::refusal::Refusal;
 use crate::reply::Reply;
-use crate::room::lacks_room;
+use crate::room::has_no_room;
 use crate::subject::is_subject;
 use avro_schema::{Schema, SchemaError};
 use registry_tables::compared;
@@ -66,13 +66,12 @@ impl Registry {
     fn is_full(&self, subject: &str, schema: &Schema) -> bool
         ensures { result ≡ is_full (registry_after self.now) schema.now subject.now }
     {
-        self.schemas.is_full_for(schema.text())
-            || lacks_room(&self.subjects, subject, MOST_SUBJECTS)
+        self.schemas.has_no_id(schema.text()) || has_no_room(&self.subjects, subject, MOST_SUBJECTS)
     }
 
     /// Adds a version that the subject lacks, and keeps the history.
     fn add(&mut self, subject: String, schema: Schema, history: History) -> Result<u32, AllocError>
-        requires command { Registers self.old (string_bytes subject) schema history.commands }
+        requires command { AddsRegistration self.old (string_bytes subject) schema history.commands }
         requires lacking { with_text schema.text (registry_after self.old).schemas
             (versions_of (string_bytes subject) (registry_after self.old).entries) ≡ None }
         requires compatible { AreSafe (pairs_of (registry_after self.old)
@@ -97,7 +96,7 @@ impl Registry {
         schema: Schema,
         history: History,
     ) -> Result<u32, Refusal>
-        requires { Registers self.old (string_bytes subject) schema history.commands }
+        requires { AddsRegistration self.old (string_bytes subject) schema history.commands }
         ensures answer { GivesId (registry_after self.old) (string_bytes subject) schema result }
         ensures ok { OnOk result (self.new ≡ history.commands) }
         ensures err { OnErr result (self.new ≡ self.old) }
@@ -134,7 +133,7 @@ impl Registry {
         self.register(subject, schema, history)
     }
 
-    /// Registers the schema of a text.
+    /// AddsRegistration the schema of a text.
     pub(super) fn register_text(
         &mut self,
         subject: String,

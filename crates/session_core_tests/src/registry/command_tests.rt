@@ -1,11 +1,15 @@
 //! What a registry answers to commands in a row.
 
-use crate::registry::answers::answered_after;
+use crate::registry::answers::{answered_after, push_row};
+use crate::registry::lines::{answer_to, command_of};
 use crate::registry::rows::{
     EACH_ID, EACH_LEVEL, EACH_SUBJECT, FORWARD, FULL, LATEST, LEVELS, MANY, NO_IDS, NO_LEVELS,
     NO_SUBJECTS, NUMBERED, OWN, REFUSALS, SUBJECTS, TRANSITIVE, VERSIONS,
 };
-use schema_registry::{LONGEST_SUBJECT, MOST_LEVELS, MOST_SCHEMAS, MOST_SUBJECTS};
+use schema_registry::{
+    LONGEST_SUBJECT, MOST_LEVELS, MOST_SCHEMAS, MOST_SUBJECTS, Refusal, Registry,
+};
+use std::alloc::{AllocError, Global};
 use std::process::Abort;
 use std::test::Fail;
 
@@ -55,6 +59,87 @@ fn registries_are_full_at_their_limits(rt: HostRuntime) -> Result<(), Fail> {
     assert_after(&rt, EACH_ID, MOST_SCHEMAS, NO_IDS)?;
     assert_after(&rt, EACH_SUBJECT, MOST_SUBJECTS, NO_SUBJECTS)?;
     assert_after(&rt, EACH_LEVEL, MOST_LEVELS, NO_LEVELS)
+}
+
+/// Commands that let a registry grow.
+const GROWING: &str = r#"register s "int"
+register s "long"
+register u "int"
+set s NONE
+register s "string"
+set u FULL
+"#;
+
+/// Questions of each kind.
+const QUESTIONS: &str = "subjects
+versions s
+versions u
+version s latest
+level s
+level u
+schema 1
+schema 2
+schema 3
+";
+
+/// What is answered to them once all of these were accepted.
+const GROWN: &str = r#"subjects
+names ["s", "u"]
+versions s
+numbers [1, 2, 3]
+versions u
+numbers [1]
+version s latest
+entry s 3 3 "string"
+level s
+NONE
+level u
+FULL
+schema 1
+text "int"
+schema 2
+text "long"
+schema 3
+text "string"
+"#;
+
+/// What a registry answers to the questions.
+fn asked(alloc: Global, registry: &mut Registry) -> Result<String, AllocError> {
+    let mut answered = String::new(alloc);
+    for line in QUESTIONS.lines() {
+        let answer = answer_to(alloc, registry, line)?;
+        push_row(&mut answered, line, &answer)?;
+    }
+    Ok(answered)
+}
+
+/// Whether a registry that has no memory for the command of a line answers the questions as before.
+fn is_kept(alloc: Global, registry: &mut Registry, line: &str) -> Result<bool, Refusal> {
+    let before = asked(alloc, registry)?;
+    let command = command_of(alloc, line)?;
+    match registry.apply(command) {
+        Err(Refusal::NoMemory) => Ok(asked(alloc, registry)? == before),
+        _ => Ok(true),
+    }
+}
+
+/// Whether each growth that is refused is kept out, and is made where it is asked for again.
+fn all_are_kept(alloc: Global) -> Result<bool, Refusal> {
+    let mut registry = Registry::new(alloc);
+    for line in GROWING.lines() {
+        if !is_kept(alloc, &mut registry, line)? {
+            return Ok(false);
+        }
+        answer_to(alloc, &mut registry, line)?;
+    }
+    Ok(asked(alloc, &mut registry)?.as_str() == GROWN)
+}
+
+#[test]
+fn a_growth_without_memory_changes_nothing(rt: HostRuntime) -> Result<(), Fail> {
+    let kept = all_are_kept(rt.alloc())?;
+    assert!(rt; kept);
+    Ok(())
 }
 
 #[test]

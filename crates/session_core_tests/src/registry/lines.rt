@@ -104,6 +104,17 @@ fn reply_to(alloc: Global, registry: &mut Registry, line: &str) -> Result<String
     Ok(reply_line(alloc, &reply)?)
 }
 
+/// The answer of a registry that is asked once more, where memory ran out the first time.
+pub(crate) fn second_answer(
+    alloc: Global,
+    answer: Result<String, AllocError>,
+) -> Result<String, AllocError> {
+    match answer {
+        Err(_) => String::from_str(alloc, "no memory twice"),
+        answer => answer,
+    }
+}
+
 /// What a registry answers to the command of a line, as a line. Where it has no memory it is asked once more.
 pub(crate) fn answer_to(
     alloc: Global,
@@ -111,7 +122,7 @@ pub(crate) fn answer_to(
     line: &str,
 ) -> Result<String, AllocError> {
     match answer_line(alloc, reply_to(alloc, registry, line)) {
-        Err(_) => answer_line(alloc, reply_to(alloc, registry, line)),
+        Err(_) => second_answer(alloc, answer_line(alloc, reply_to(alloc, registry, line))),
         answer => answer,
     }
 }

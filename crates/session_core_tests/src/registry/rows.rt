@@ -1,6 +1,7 @@
 //! Worked rows: lines of a command, each with the line of its answer behind it.
 
-/// Under BACKWARD: the record T, again, with a field more, and with a default for it; and then all questions.
+/// Under BACKWARD: the record T, again, with a field more, and with a default for it; then all questions; and at last T
+/// again, which the subject has, though its level would refuse it beside the latest version.
 pub(crate) const VERSIONS: &str = r#"level s
 BACKWARD
 subjects
@@ -47,6 +48,14 @@ check s 1 "int"
 compatible true
 register s "int"
 id 3
+register s {"type":"record","name":"T","fields":[{"name":"a","type":"long"},{"name":"b","type":"string"}]}
+id 1
+versions s
+numbers [1, 2, 3]
+set s BACKWARD
+BACKWARD
+check s latest {"type":"record","name":"T","fields":[{"name":"a","type":"long"},{"name":"b","type":"string"}]}
+compatible false
 register s {"type":"record","name":"T","fields":[{"name":"a","type":"long"},{"name":"b","type":"string"}]}
 id 1
 versions s
@@ -314,7 +323,7 @@ register s {"type":"fixed","name":"F","size":#}
 id #
 "#;
 
-/// What is answered once each id has a schema.
+/// What is answered once each id has a schema; one that the level refuses is told as that.
 pub(crate) const NO_IDS: &str = r#"register s {"type":"fixed","name":"F","size":0}
 refused Full
 register u {"type":"fixed","name":"F","size":0}
@@ -325,6 +334,10 @@ register u {"type":"fixed","name":"F","size":4096}
 id 4096
 subjects
 names ["s", "u"]
+set s BACKWARD
+BACKWARD
+register s "int"
+refused Incompatible
 "#;
 
 /// A version for each subject.

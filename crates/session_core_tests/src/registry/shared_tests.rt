@@ -4,7 +4,7 @@ ghost use Rattle.std.specs.Prelude.{◌≡◌, IfOk};
 ghost use Rattle.schema_registry.specs.Shared.{IsReceiptOf};
 
 use crate::registry::answers::push_row;
-use crate::registry::lines::{answer_line, command_of, reply_line};
+use crate::registry::lines::{answer_line, command_of, reply_line, second_answer};
 use schema_registry::{Receipt, Refusal, SharedRegistry};
 use std::alloc::{AllocError, Global};
 use std::process::Abort;
@@ -23,15 +23,15 @@ const TEXTS: &str = r#""null"
 {"type":"array","items":"int"}
 {"type":"fixed","name":"F","size":2}"#;
 
-/// What is shown once the eight were registered in this order, by however many threads.
-const SHOWN: &str = r#"1 "null"
-2 "boolean"
-3 "int"
-4 "long"
-5 "bytes"
-6 "string"
-7 {"items":"int","type":"array"}
-8 {"name":"F","size":2,"type":"fixed"}
+/// Their compact texts.
+const SHOWN: &str = r#""null"
+"boolean"
+"int"
+"long"
+"bytes"
+"string"
+{"items":"int","type":"array"}
+{"name":"F","size":2,"type":"fixed"}
 "#;
 
 /// Commands with their answers, look-ups of ids with the texts that they show, and registrations with their receipts.
@@ -118,14 +118,15 @@ fn registered<R: Wait>(
     Ok(format!(in alloc; "{id} {text}")?)
 }
 
-/// Registers the eight texts, and tells what the receipt of each shows.
+/// Registers the eight texts, from one of them on and then those before it, and tells what the receipt of each shows.
 fn registered_all<R: Wait>(
     rt: &R,
     alloc: Global,
     shared: &SharedRegistry,
+    first: usize,
 ) -> Result<String, Refusal> {
     let mut lines = String::new(alloc);
-    for text in TEXTS.lines() {
+    for text in TEXTS.lines().skip(first).chain(TEXTS.lines().take(first)) {
         let line = registered(rt, alloc, shared, text)?;
         lines.push_str(&line)?;
         lines.push_str("\n")?;
@@ -133,13 +134,27 @@ fn registered_all<R: Wait>(
     Ok(lines)
 }
 
-/// What is found under the ids from 1 to 8.
-fn found_all(alloc: Global, shared: &SharedRegistry) -> Result<String, AllocError> {
+/// Whether a line tells an id, and the text that is found under it.
+fn is_found(shared: &SharedRegistry, line: &str) -> bool {
+    match line.split_once(' ') {
+        Some((id, text)) => found(shared, id.parse::<u32>().unwrap_or(0)) == text,
+        None => false,
+    }
+}
+
+/// Whether these are eight lines, each of which tells what is found.
+fn are_found(shared: &SharedRegistry, lines: &str) -> bool {
+    lines.lines().count() == 8 && lines.lines().all(|line| is_found(shared, line))
+}
+
+/// Those of some texts that are found under the ids from 1 to 8, each as often as it is found.
+fn found_of(alloc: Global, shared: &SharedRegistry, texts: &str) -> Result<String, AllocError> {
     let mut lines = String::new(alloc);
-    for id in 1..=8_u32 {
-        let text = found(shared, id);
-        let line = format!(in alloc; "{id} {text}\n")?;
-        lines.push_str(&line)?;
+    for text in texts.lines() {
+        for _ in (1..=8_u32).filter(|id| found(shared, *id) == text) {
+            lines.push_str(text)?;
+            lines.push_str("\n")?;
+        }
     }
     Ok(lines)
 }
@@ -171,7 +186,7 @@ fn answer_to<R: Wait>(
     line: &str,
 ) -> Result<String, AllocError> {
     match answer_line(alloc, reply_to(rt, alloc, shared, line)) {
-        Err(_) => answer_line(alloc, reply_to(rt, alloc, shared, line)),
+        Err(_) => second_answer(alloc, answer_line(alloc, reply_to(rt, alloc, shared, line))),
         answer => answer,
     }
 }
@@ -204,19 +219,24 @@ fn answers_as_a_registry_does(rt: HostRuntime) -> Result<(), Fail> {
     Ok(())
 }
 
-/// What is found once four threads have registered the eight texts, or what another one was shown.
+/// Which of the compact texts are found once four threads have registered the eight texts, each from another one on; or
+/// what a thread was shown that is not found.
 fn shown_to_threads<R: Threads + Wait + Sync>(rt: &R, alloc: Global) -> Result<String, Refusal> {
     let shared = SharedRegistry::new(alloc)?;
     answer_to(rt, alloc, &shared, "set * NONE")?;
-    let all = thread::map_indices(rt, alloc, 4, &|_| registered_all(rt, alloc, &shared))?;
-    let found = found_all(alloc, &shared)?;
+    let all = thread::map_indices(
+        rt,
+        alloc,
+        4,
+        &|first| registered_all(rt, alloc, &shared, first),
+    )?;
     for shown in all {
         let shown = shown?;
-        if shown != found {
+        if !are_found(&shared, &shown) {
             return Ok(shown);
         }
     }
-    Ok(found)
+    Ok(found_of(alloc, &shared, SHOWN)?)
 }
 
 #[test]

@@ -16,12 +16,14 @@ invariant_of-self c =
     let s = string_bytes c.args.subject in
     let schema = c.args.schema in
     let command = rw (← c.self.view_is) at c.requires in
+    let asked = command.asks in
+    let are = rw asked.command_is at command.commands_are in
     let e = entry_of s c.in-Some.field-0-0 c.in-Some.id in
     let there : found lists s schema ≡ Some e = sym (rw (← c.self.view_is, c.deref.ensures) at c.in-Some.ensures) in (
-      held-after _ _ _ _ old c.args.history.commands (RegisterCommand s command.text) command.commands_are
-          (known-held _ _ _ _ lists c.self.invariant.0 s schema e there (declaration_of command.text) command.declares),
-      accepted-more old c.args.history.commands (RegisterCommand s command.text) (IdReply c.in-Some.id) command.commands_are c.self.invariant.1
-          (registered-answer lists s command.text schema command.subject_is command.declares (IdReply c.in-Some.id) (known-answer lists s schema e there)),
+      held-after _ _ _ _ old c.args.history.commands (RegisterCommand s asked.text) are
+          (known-held _ _ _ _ lists c.self.invariant.0 s schema e there (declaration_of asked.text) asked.declares),
+      accepted-more old c.args.history.commands (RegisterCommand s asked.text) (IdReply c.in-Some.id) are c.self.invariant.1
+          (registered-answer lists s asked.text schema asked.subject_is asked.declares (IdReply c.in-Some.id) (known-answer lists s schema e there)),
     )
 
 pub returns-then-not-branch-clause-answer : goal.returns-then-not-branch-clause-answer

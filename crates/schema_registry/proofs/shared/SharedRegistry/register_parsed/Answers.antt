@@ -1,4 +1,4 @@
-use Rattle.std.proofs.Common.{string_bytes, inr}
+use Rattle.std.proofs.Common.{string_bytes}
 use Rattle.std.proofs.lemmas.Result.{err_from_is_err_and}
 use Rattle.schema_registry.specs.Accepting.{registry_after}
 use Rattle.schema_registry.specs.Command.{command_of}
@@ -30,10 +30,10 @@ returns-in_err-id-clause-answer g c =
     let asked = c.requires in
     rw (p.1, p.2, asked.command_is) (
       λ _. record { commands = c.deref_mut.result.now; accepted = c.in_err-id.ensures.accepted; grows = asked.subject_is },
-      λ known. inr (record {
+      λ known. record {
         commands = c.deref_mut.result.now;
         accepted = c.in_err-id.ensures.accepted;
         answer = registered-refusal (registry_after c.deref_mut.result.now) (string_bytes c.args.subject) asked.text c.args.schema asked.subject_is asked.declares
             c.in_err-id.field-0.0 (c.in_err-id.ensures.answer known);
-      }),
+      },
     )

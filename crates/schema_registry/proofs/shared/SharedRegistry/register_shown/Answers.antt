@@ -1,4 +1,4 @@
-use Rattle.std.proofs.Common.{◌≡◌, refl, true, false, [], string_bytes, rules, inr}
+use Rattle.std.proofs.Common.{◌≡◌, refl, true, false, [], string_bytes, rules}
 use Rattle.std.proofs.lemmas.Result.{err_from_is_err_and}
 use Rattle.schema_registry.specs.Lists.{no_lists}
 use Rattle.schema_registry.specs.Answers.{no_command}
@@ -6,13 +6,13 @@ use Rattle.schema_registry.specs.Command.{RegisterCommand}
 use Rattle.schema_registry.specs.Subject.{is_subject}
 use Rattle.schema_registry.proofs.SomeAnswer.{memory-refused, registration-grows}
 use Rattle.schema_registry.proofs.Told.{schema-refused, subject-refused}
-use Rattle.schema_registry.proofs.shared.SharedRegistry.register.Goals as goal
+use Rattle.schema_registry.proofs.shared.SharedRegistry.register_shown.Goals as goal
 
 pub returns-then-not-is_subject-clause-answer : goal.returns-then-not-is_subject-clause-answer
 returns-then-not-is_subject-clause-answer g c =
     let named : is_subject (string_bytes c.args.subject) ≡ false = search rules in (
       λ none. absurd (let no : ⊥ = cc in no),
-      λ _. inr (record { commands = []; accepted = no_command; answer = subject-refused no_lists (string_bytes c.args.subject) (string_bytes c.args.text) named }),
+      λ _. record { commands = []; accepted = no_command; answer = subject-refused no_lists (string_bytes c.args.subject) (string_bytes c.args.text) named },
     )
 
 pub returns-in_err-schema-clause-answer : goal.returns-in_err-schema-clause-answer
@@ -23,11 +23,11 @@ returns-in_err-schema-clause-answer g c =
       λ _. record { commands = []; accepted = no_command; grows = named },
       λ known.
           let bad = c.in_err-schema.ensures known in
-          inr (record {
+          record {
             commands = [];
             accepted = no_command;
             answer = schema-refused no_lists (string_bytes c.args.subject) (string_bytes c.args.text) bad.0 c.in_err-schema.field-0.0 named (rw c.deref-2.ensures at bad.2) bad.1;
-          }),
+          },
     )
 
 pub returns-in_err-name-clause-answer : goal.returns-in_err-name-clause-answer
