@@ -133,7 +133,7 @@ impl Registry {
         self.register(subject, schema, history)
     }
 
-    /// AddsRegistration the schema of a text.
+    /// Registers the schema of a text.
     pub(super) fn register_text(
         &mut self,
         subject: String,
