@@ -34,7 +34,7 @@ impl BlockWalk {
     ghost use Rattle.avro_bytes.specs.Contract.{Finds};
     ghost use Rattle.avro_bytes.specs.Meter.{opened_blocks};
 
-    /// A walk over the blocks at a place, and the meter inside them.
+    /// A walk over the blocks at a place, and the meter inside them. `TooDeep` inside `MOST_DEPTH` others, told there.
     pub fn begin(at: usize, m: Meter) -> Result<(BlockWalk, Meter), Fault>
         ensures { Begins at result (opened_blocks at m) }
     {
@@ -82,7 +82,9 @@ impl BlockWalk {
         self.size
     }
 
-    /// Whether there is a further item, and where it begins, or else the place after the blocks.
+    /// Whether there is a further item, and where it begins, or else the place after the blocks. After an `Err` the walk
+    /// is where it was: `Need` where bytes are missing, `BadNumber` of a count or a size, `BadBlock` of a block that
+    /// ends, `TooMany` of an item.
     #[tactic(auto, using(crate::specs::Laws::Walks::item_meter, crate::specs::Laws::Walks::end_meter, crate::specs::Laws::Walks::head_places, crate::specs::Laws::Walks::inside_keeps, crate::specs::Laws::Walks::end_takes))]
     pub fn next(&mut self, bytes: &[u8], at: usize, m: Meter) -> Result<(bool, usize, Meter), Fault>
         requires in_bounds { at ≤ length bytes.now }

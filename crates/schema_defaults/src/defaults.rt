@@ -81,7 +81,7 @@ fn leaf_default(alloc: Global, kind: &Kind, value: &Value) -> Result<Datum, Sche
     }
 }
 
-/// The datum that a value is by the node of a number.
+/// The datum that a value is by the node of a number, or `BadDefault` where it is none.
 #[cycle(default)]
 pub fn default_at(
     alloc: Global,

@@ -48,7 +48,7 @@ fn type_aliases(alloc: Global, name: &Name, value: Option<&Value>) -> Result<Ali
     Ok(Aliases::of_texts(alloc, namespace, texts)?)
 }
 
-/// The aliases of a field.
+/// The aliases of a field. `Unknown` where the attribute is no list of texts, `BadName` where one of them is no name.
 #[tactic(auto, using(crate::proofs::Texts::all_names), unfolding(crate::specs::Aliases::field_aliases))]
 pub fn field_aliases(alloc: Global, value: Option<&Value>) -> Result<Vec<String>, SchemaError>
     ensures { Tells (λ v. map string_bytes v.items) result (field_aliases (data_at value.entry)) }
@@ -68,7 +68,8 @@ pub struct NewNames {
     pub number: Option<usize>,
 }
 
-/// The new name that the attributes of a type define, and its aliases.
+/// The new name that the attributes of a type define, and its aliases. Errors of the name (`new_name`) come before those
+/// of the aliases: `Unknown` where they are no list of texts, `BadName` where one of them is no full name.
 #[tactic(auto, unfolding(crate::specs::Aliases::new_names))]
 pub fn new_names(
     alloc: Global,

@@ -81,7 +81,7 @@ pub fn text_at(value: Option<&Value>) -> Option<&str>
     value?.as_str()
 }
 
-/// The text at an attribute that has to be there.
+/// The text at an attribute that has to be there, or `Unknown`.
 pub fn text_of(value: Option<&Value>) -> Result<&str, SchemaError>
     ensures told { Tells (λ s. s.now) result (text_of (data_at value.entry)) }
     ensures room { result ≢ Err NoMemory }
@@ -153,7 +153,8 @@ fn own_name(
     Ok(NewName { name, number })
 }
 
-/// The full name that the attributes of a type define.
+/// The full name that the attributes of a type define. `Unknown` where `name` is no text, or `namespace`, where that
+/// counts; `BadName` where the full name is against the rule, or a primitive type's; `Redefined` where it has a node.
 #[tactic(auto, unfolding(crate::specs::Names::new_name))]
 pub fn new_name(
     alloc: Global,
@@ -200,7 +201,7 @@ pub fn defined_node(text: &str, enclosing: &Namespace, drafts: &Drafts) -> Optio
     }
 }
 
-/// The name of a field after others.
+/// The name of a field after others. `Unknown` where it is no text, `BadName` where it is no name or another field's.
 #[tactic(auto, unfolding(crate::specs::Names::field_name))]
 pub fn field_name(
     alloc: Global,

@@ -26,7 +26,7 @@ fn texts_in(alloc: Global, items: &[Value]) -> Result<Vec<String>, SchemaError>
     Ok(texts)
 }
 
-/// The texts that the value at an attribute lists.
+/// The texts that the value at an attribute lists, or `Unknown` where it is no list of texts.
 pub fn texts_of(alloc: Global, value: Option<&Value>) -> Result<Vec<String>, SchemaError>
     ensures { Tells (λ v. map string_bytes v.items) result (texts_of (data_at value.entry)) }
 {
@@ -58,7 +58,8 @@ fn as_symbols(alloc: Global, texts: Vec<String>) -> Result<Symbols, SchemaError>
     }
 }
 
-/// The symbols of an enum.
+/// The symbols of an enum. `Unknown` where they are no list of texts, `BadSymbols` where one is no name or comes twice,
+/// and else `TooLarge` where there are more than `MOST_SYMBOLS`.
 #[tactic(auto, unfolding(crate::specs::Attributes::symbols_of))]
 pub fn symbols_of(alloc: Global, value: Option<&Value>) -> Result<Symbols, SchemaError>
     ensures symbols { Tells (λ s. s) result (symbols_of (data_at value.entry)) }
@@ -71,7 +72,8 @@ pub fn symbols_of(alloc: Global, value: Option<&Value>) -> Result<Symbols, Schem
     Ok(symbols)
 }
 
-/// The position of the symbol that `default` names, where there is one.
+/// The position of the symbol that `default` names, where there is one. `Unknown` where it is no text, `BadSymbols` where
+/// it is none of the symbols.
 pub fn default_symbol(symbols: &Symbols, value: Option<&Value>) -> Result<Option<u32>, SchemaError>
     requires { length (symbols.now) ≤ MOST_SYMBOLS }
     ensures told { Tells (λ n. n) result (default_symbol (symbols.now) (data_at value.entry)) }
@@ -87,7 +89,8 @@ pub fn default_symbol(symbols: &Symbols, value: Option<&Value>) -> Result<Option
     }
 }
 
-/// The number of bytes of a fixed.
+/// The number of bytes of a fixed. `Unknown` where there is none, `BadNumber` where it is no whole number from 0 on,
+/// `TooLarge` where it passes `MOST_FIXED`.
 pub fn size_of(value: Option<&Value>) -> Result<usize, SchemaError>
     ensures told { Tells (λ n. n) result (size_of (data_at value.entry)) }
     ensures room { result ≢ Err NoMemory }
