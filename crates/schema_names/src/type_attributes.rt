@@ -72,8 +72,8 @@ pub fn symbols_of(alloc: Global, value: Option<&Value>) -> Result<Symbols, Schem
     Ok(symbols)
 }
 
-/// The position of the symbol that `default` names, where there is one. `Unknown` where it is no text, `BadSymbols` where
-/// it is none of the symbols.
+/// The position of the symbol that `default` names, where there is one. `Unknown` where it is no text, `BadSymbols`
+/// where it is none of the symbols.
 pub fn default_symbol(symbols: &Symbols, value: Option<&Value>) -> Result<Option<u32>, SchemaError>
     requires { length (symbols.now) ≤ MOST_SYMBOLS }
     ensures told { Tells (λ n. n) result (default_symbol (symbols.now) (data_at value.entry)) }

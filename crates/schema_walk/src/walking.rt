@@ -120,8 +120,8 @@ fn walk_fixed(
     Ok(node)
 }
 
-/// The node of the schema that a value is; it and its parts go after the nodes that are there. An `Err` is the first fault
-/// in the order of the walk, and of the drafts nothing is said then.
+/// The node of the schema that a value is; it and its parts go after the nodes that are there. An `Err` is the first
+/// fault in the order of the walk, and of the drafts nothing is said then.
 #[cycle(walk)]
 pub fn walk<'v>(
     alloc: Global,
