@@ -186,9 +186,9 @@ impl<'v> Drafts<'v> {
         ensures refused { OnErr result (self.new ≡ self.old) }
     {
         name.has_two_parts();
-        let (space, last) = (name.namespace(), name.last());
         let (nodes, numbers, scopes) = (&mut self.nodes, &mut self.numbers, &mut self.scopes);
-        add_first_named(alloc, nodes, numbers, scopes, space, last, draft)?;
+        let (namespace, last) = (name.namespace(), name.last());
+        add_first_named(alloc, nodes, numbers, scopes, namespace, last, draft)?;
         Ok(())
     }
 

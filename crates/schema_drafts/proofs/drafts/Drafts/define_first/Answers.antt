@@ -27,4 +27,4 @@ invariant_of-self-2 c =
     (fresh-first namespace last none (heads_of ns) new) (ap drafts_of added.values ∙ drafts_of-append d.nodes.items (c.args.draft ∷ [])) d.numbers d.scopes.items c.self.invariant new c.add_first_named.new.namespaces scope.1.0 scope.0 (length d.scopes.items) (length d.nodes.items)
     scope.1.1 (sym (length-drafts_of d.nodes.items)) refl
     (subst (λ l. UpdatesBy string_cmp (λ k. slice_cmp nat_cmp l (string_bytes k)) scope.1.0 scope.0 (Some (length d.nodes.items))) c.last-last.ensures scope.1.2)
-    (subst (λ l. UpdatesBy string_cmp (λ k. slice_cmp nat_cmp l (string_bytes k)) d.numbers c.add_first_named.new.namespaces (Some (length d.scopes.items))) c.namespace-space.ensures added.namespace))
+    (subst (λ l. UpdatesBy string_cmp (λ k. slice_cmp nat_cmp l (string_bytes k)) d.numbers c.add_first_named.new.namespaces (Some (length d.scopes.items))) c.namespace-namespace.ensures added.namespace))
