@@ -16,6 +16,8 @@ mod rows;
 #[cfg(test)]
 mod run_tests;
 #[cfg(test)]
+mod text_tests;
+#[cfg(test)]
 mod wide_pairs;
 #[cfg(test)]
 mod words;
