@@ -1,5 +1,5 @@
 use Rattle.stepper.specs.Running.{IsOn, IsUnder}
-use Rattle.stepper_tests.proofs.slice_tests.all_words.Given as goal
+use Rattle.stepper_tests.proofs.slice_tests.push_turns.Given as goal
 
 abbrev pub invariant-each : goal.invariant-each
 invariant-each l = record {
