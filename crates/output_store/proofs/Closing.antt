@@ -16,7 +16,7 @@ use Rattle.output_store.specs.declared.store.Frame.{Frame}
 use Rattle.output_store.specs.declared.store.Frame.TheVariants as frames
 use Rattle.output_store.specs.Buffers.{AreLaid, IsPlace, Laid, with_closed, with_fewer}
 use Rattle.output_store.specs.Frames.{AreFrames, HoldsBuffers, first_of, frames_in, items_of, newest_place, walk_of}
-use Rattle.output_store.specs.Segments.{bytes_of}
+use Rattle.ropes.specs.Segments.{bytes_of}
 use Rattle.output_store.specs.Store.{Held, IsKept, close_blocks, closed_between, held_of, leave, out_of, texts_of, with_frames}
 use Rattle.output_store.proofs.Framing.{add-done, add-fits, add-over, appended, placed, sizes}
 use Rattle.output_store.proofs.Keeping.{store_of, total-fits, total-is}

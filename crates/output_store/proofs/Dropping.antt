@@ -9,12 +9,12 @@ use Rattle.isa.specs.State as state
 use Rattle.isa.specs.State.{Store, add, emptied, empty_buffers, is_done, total}
 use Rattle.output_store.specs.declared.buffers.Place.{Place}
 use Rattle.output_store.specs.declared.buffers.Place.TheVariants as places
-use Rattle.output_store.specs.declared.segment.Segment.{Segment}
+use Rattle.ropes.specs.declared.segment.Segment.{Segment}
 use Rattle.output_store.specs.declared.store.Frame.{Frame}
 use Rattle.output_store.specs.declared.store.Frame.TheVariants as frames
 use Rattle.output_store.specs.Buffers.{AreLaid, IsPlace, Laid, segments_at, with_added, with_fewer}
 use Rattle.output_store.specs.Frames.{AreFrames, first_of, frames_in, newest_place, walk_of}
-use Rattle.output_store.specs.Segments.{bytes_of, with_bytes}
+use Rattle.ropes.specs.Segments.{bytes_of, with_bytes}
 use Rattle.output_store.specs.Store.{Held, IsKept, held_of, leave, out_of, texts_of, with_frames}
 use Rattle.output_store.proofs.Closing.{fewer-texts, kept-dropped, rest-frames}
 use Rattle.output_store.proofs.Framing.{one-total, placed}

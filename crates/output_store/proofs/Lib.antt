@@ -1,5 +1,3 @@
-pub mod Roping
-pub mod Writing
 pub mod Joining
 pub mod Laying
 pub mod Placing

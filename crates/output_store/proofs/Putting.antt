@@ -5,13 +5,13 @@ use Rattle.output_store.specs.declared.buffers.Buffer.{Buffer}
 use Rattle.output_store.specs.declared.buffers.Buffer.TheVariants as buffers
 use Rattle.output_store.specs.declared.buffers.Place.{Place}
 use Rattle.output_store.specs.declared.buffers.Place.TheVariants as places
-use Rattle.output_store.specs.declared.segment.Segment.{Segment}
+use Rattle.ropes.specs.declared.segment.Segment.{Segment}
 use Rattle.output_store.specs.Buffers.{AllHeld, IsHeld, IsLaid, IsLater, IsPlace, Laid, buffer_at, laid_of, segments_at, segments_of, with_added, with_closed}
-use Rattle.output_store.specs.Ropes.{rope_at}
-use Rattle.output_store.specs.Segments.{AreWithin, IsSegment, bytes_at, bytes_of, with_bytes, with_lists}
+use Rattle.ropes.specs.Ropes.{rope_at}
+use Rattle.ropes.specs.Segments.{AreWithin, IsSegment, bytes_at, bytes_of, with_bytes, with_lists}
 use Rattle.output_store.proofs.Joining.{AllHeld-later, later-later}
 use Rattle.output_store.proofs.Laying.{within-back, within-front}
-use Rattle.output_store.proofs.Writing.{bytes_of-append}
+use Rattle.ropes.proofs.Writing.{bytes_of-append}
 use Rattle.output_store.proofs.Placing.{Became, added-became, all-drop, closed-became, closing, fewer-laid, held-place, place-there, put-out, put-slot, segments-place, within-place, shows-added-out, shows-added-slot, shows-closed-out, shows-closed-slot}
 
 module _ (arena : List ℕ) (old : List (List Segment)) (out : Buffer) (slots : List Buffer) (laid : Laid) (is : laid_of arena old out slots ≡ laid) (keeps : IsLaid arena old out slots) where

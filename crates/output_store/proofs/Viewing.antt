@@ -10,7 +10,7 @@ use Rattle.isa.specs.State as state
 use Rattle.isa.specs.State.{Store}
 use Rattle.output_store.specs.declared.buffers.Place.{Place}
 use Rattle.output_store.specs.declared.buffers.Place.TheVariants as places
-use Rattle.output_store.specs.declared.segment.Segment.{Segment}
+use Rattle.ropes.specs.declared.segment.Segment.{Segment}
 use Rattle.output_store.specs.declared.store.Frame.{Frame}
 use Rattle.output_store.specs.declared.store.Frame.TheVariants as frames
 use Rattle.output_store.specs.declared.views.BufferAt.{BufferAt}
@@ -18,7 +18,7 @@ use Rattle.output_store.specs.declared.views.BufferAt.TheVariants as at
 use Rattle.output_store.specs.declared.views.FrameView.TheVariants as views
 use Rattle.output_store.specs.Buffers.{AreLaid, IsPlace, Laid, segments_at}
 use Rattle.output_store.specs.Frames.{AreFrames, first_of, frames_in, segments_in, slot_of}
-use Rattle.output_store.specs.Segments.{AreSegments, bytes_at, bytes_of}
+use Rattle.ropes.specs.Segments.{AreSegments, bytes_at, bytes_of}
 use Rattle.output_store.specs.Store.{Held, held_of, out_of, texts_of}
 use Rattle.output_store.specs.Viewing.{buffer_of, end_below, end_over, frame_numbered, gathered_in, gathered_place, place_named, segments_of_buffer, slots_in, slot_place, view_at, view_in, view_of}
 use Rattle.output_store.proofs.Placing.{all-at}

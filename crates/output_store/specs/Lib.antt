@@ -1,5 +1,4 @@
-pub mod Segments
-pub mod Ropes
+pub use Rattle.ropes.specs.Segments
 pub mod Buffers
 pub mod Frames
 pub mod Store

@@ -2,15 +2,14 @@ ghost use Rattle.std.specs.Prelude.{◌≡◌, ◌≢◌, ℕ, ◌+◌, ◌-◌,
 ghost use Rattle.isa.specs.declared.limits.TheConstants.{MOST_SLOTS};
 ghost use Rattle.output_store.specs.declared.buffers.Buffer.TheVariants.{Empty};
 ghost use Rattle.output_store.specs.Buffers.{AreLaid, AreRopes, IsHeld, AllHeld, IsLater, IsPlace, buffer_at, segments_at, segments_of, with_added, with_closed, with_fewer, with_none, with_opened};
-ghost use Rattle.output_store.specs.Segments.{AreSegments, bytes_of, with_bytes, with_lists, with_segment, with_segments};
+ghost use Rattle.ropes.specs.Segments.{AreSegments, bytes_of, with_bytes, with_lists, with_segment, with_segments};
 
-use crate::ropes::Ropes;
-use crate::segment::Segment;
+use ropes::{Ropes, Segment};
 use std::alloc::{AllocError, Global};
 use std::marker::Model;
 
 /// The segments of a buffer.
-#[derive(Clone, Copy, Debug)]
+#[derive(Clone, Copy)]
 pub enum Buffer {
     Empty,
     One(Segment),
@@ -23,7 +22,7 @@ pub enum Buffer {
 }
 
 /// Which buffer: the output, or a slot.
-#[derive(Clone, Copy, Debug)]
+#[derive(Clone, Copy)]
 pub enum Place {
     Out,
     Slot(usize),

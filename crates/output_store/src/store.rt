@@ -1,19 +1,19 @@
 ghost use Rattle.std.specs.Prelude.{◌≡◌, ◌≢◌, ℕ, ◌+◌, ◌-◌, ◌<◌, ◌≤◌, Bool, true, false, List, [], ◌∷◌, ◌++◌, length, is_some, option_map, reverse, vec_len, Some, None, OnErr, OnOk, IfOk, IsTrue};
 ghost use Rattle.avro_bytes.specs.declared.limits.TheConstants.{MOST_DEPTH};
-ghost use Rattle.avro_bytes.specs.Written.{block_count};
 ghost use Rattle.outcome.specs.declared.limits.TheConstants.{MOST_OUTPUT};
 ghost use Rattle.isa.specs.State.{add, emptied, has_current, is_done, total};
 ghost use Rattle.output_store.specs.Frames.{FewSlots, HasSlot, HoldsBuffers, first_of, frame_of, has_current_below, is_skip, is_skipped, items_of, newest_place, opened_at, place_of, skip_walk_of, slots_of, slots_opened, walk_of};
 ghost use Rattle.output_store.specs.Store.{Appends, around_items, close_blocks, close_record, closed_between, leave, meter_of, next_item, next_skipped, select, with_frames};
 
 use crate::buffers::{Buffers, Place};
-use avro_bytes::{BlockWalk, Meter, put_long};
+use avro_bytes::{BlockWalk, Meter};
 use outcome::MOST_OUTPUT;
+use row_parts::spell_around;
 use std::alloc::{AllocError, Global};
 use std::marker::Model;
 
 /// What is open, and where its slots begin.
-#[derive(Clone, Copy, Debug)]
+#[derive(Clone, Copy)]
 pub enum Frame {
     /// What lies below all frames.
     Bottom,
@@ -37,7 +37,7 @@ pub enum Frame {
 }
 
 /// What is to be opened.
-#[derive(Clone, Copy, Debug)]
+#[derive(Clone, Copy)]
 pub enum Opening {
     /// A record of so many slots.
     Record(usize),
@@ -121,20 +121,6 @@ fn popped(frames: &mut Vec<Frame>) -> Frame
         Some(frame) => frame,
         None => unreachable!(),
     }
-}
-
-/// What stands before so many items in one block and after them, and how much of it before.
-fn spell_around(around: &mut Vec<u8>, items: u32) -> Result<usize, AllocError>
-    ensures spelled { OnOk result (around.new.items ≡ block_count items ++ 0 ∷ []) }
-    ensures before { IfOk result (λ before. before ≡ length (block_count items)) }
-{
-    around.clear();
-    if items > 0 {
-        put_long(around, items.into())?;
-    }
-    let before = around.len();
-    around.push(0)?;
-    Ok(before)
 }
 
 /// Open frames with their buffers, the output, and what was told of it: what a run holds.

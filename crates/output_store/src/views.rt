@@ -1,12 +1,12 @@
 ghost use Rattle.std.specs.Prelude.{◌≡◌, ◌++◌, ◌∷◌, length, Some, reverse, slice_get, option_map, is_some, true, OnErr, OnOk};
-ghost use Rattle.output_store.specs.Segments.{AreSegments, bytes_of};
+ghost use Rattle.ropes.specs.Segments.{AreSegments, bytes_of};
 ghost use Rattle.output_store.specs.Viewing.{buffer_of, end_below, end_over, frame_numbered, place_named, segments_of_buffer, view_at, view_in, view_of};
 
 use crate::buffers::Place;
-use crate::segment::Segment;
 use crate::store::{Frame, Store};
 use avro_bytes::BlockWalk;
 use outcome::MOST_OUTPUT;
+use ropes::Segment;
 use std::alloc::{AllocError, Global};
 
 /// What a frame is, less the bytes of its buffers.

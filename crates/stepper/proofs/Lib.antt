@@ -1,7 +1,5 @@
 pub mod Appending
 pub mod Tables
-pub mod Characters
-pub mod Checking
 pub mod Counts
 pub mod Stepping
 pub mod Slicing

@@ -7,18 +7,20 @@ ghost use Rattle.isa.specs.declared.limits.TheConstants.{MOST_INSTRS, MOST_PIECE
 ghost use Rattle.isa.specs.Table.{begun, content, ends_part, fixed, if_current, moved, moves, next};
 ghost use Rattle.stepper.specs.Contract.{AsksOf, HasRoom, asks, move_of, OnlyAppends, Stays, Takes};
 ghost use Rattle.stepper.specs.Memory.{MayAdd};
-ghost use Rattle.stepper.specs.Running.{HasMoved, IsCheck, IsOn, Unasked, check_of, is_asked, part_of};
+ghost use Rattle.row_parts.specs.Pieces.{HasMoved, part_of};
+ghost use Rattle.row_parts.specs.Text.{IsCheck, Unasked, check_of, is_asked};
+ghost use Rattle.stepper.specs.Running.{IsOn};
 
-use crate::check::TextCheck;
-use crate::machine::{Machine, Part};
+use crate::machine::Machine;
 use crate::step::Step;
-use avro_bytes::{Fault, MalformedKind, read_length};
+use avro_bytes::{MalformedKind, read_length};
 use isa::{End, MOST_PIECE, Program, Trap};
 use outcome::Outcome;
+use row_parts::{Part, Piece, TextCheck, piece_at};
 use std::alloc::AllocError;
 
 /// How a content moves.
-#[derive(Clone, Copy, Debug)]
+#[derive(Clone, Copy)]
 pub enum Moving {
     /// It is added.
     Bytes,
@@ -138,7 +140,7 @@ impl Machine {
         )
     }
 
-    /// Some bytes of a content move, after which there are more.
+    /// Some bytes of a content move, after which there are more, and this is known of it.
     fn move_piece(
         &mut self,
         moving: Moving,
@@ -152,7 +154,7 @@ impl Machine {
         requires there { self.old.state.pos + MOST_PIECE ≤ length input.now }
         requires left { MOST_PIECE < part.left }
         requires on { IsOn input.now self.old }
-        requires part { HasMoved input.now self.old.state.pos (check_of check) (part_of part) }
+        requires part { HasMoved input.now (self.old.state.pos + MOST_PIECE) (check_of check) (part_of part) }
         requires asked { is_asked (check_of check) ≡ asks moving }
         requires stood { AsksOf moving self.old.check self.old.state.part }
         ensures takes { Takes (Some (moved program.now input.now ended (move_of moving) (part_of part) MOST_PIECE
@@ -167,7 +169,6 @@ impl Machine {
         if self.put(moving, &input[pos..to]).is_err() {
             return Step::NoMemory;
         }
-        let check = check.pass(input, part.from, pos, to);
         let left = Part {
             left: part.left - MOST_PIECE,
             from: part.from,
@@ -256,14 +257,11 @@ impl Machine {
         ensures stays { Stays moving self.old.state self.new }
         ensures memory { result ≡ Step.NoMemory → MayAdd moving }
     {
-        let there = input.len() - self.pos();
-        if there < part.left.min(MOST_PIECE) {
-            return self.refuse(Fault::Need, program, input, ended);
+        match piece_at(part, check, input, self.pos()) {
+            Ok(Piece::Full(check)) => self.move_piece(moving, part, check, program, input, ended),
+            Ok(Piece::Rest) => self.end_part(moving, part, check, program, input, ended),
+            Err(fault) => self.refuse(fault, program, input, ended),
         }
-        if part.left > MOST_PIECE {
-            return self.move_piece(moving, part, check, program, input, ended);
-        }
-        self.end_part(moving, part, check, program, input, ended)
     }
 
     /// A content after its length.

@@ -4,7 +4,6 @@
 mod ahead;
 mod attempts;
 mod blocks;
-mod check;
 mod contents;
 mod flow;
 mod held;
@@ -19,7 +18,8 @@ mod step;
 mod whole;
 
 pub use laws::machines_go_on_with_more_input;
-pub use machine::{Machine, Part};
+pub use machine::Machine;
 pub use output_store::{BufferAt, FrameView};
+pub use row_parts::Part;
 pub use slice::{Slice, Why};
 pub use step::Step;

@@ -1,32 +1,25 @@
 #![tactic(auto, using(crate::proofs::Appending::goes_on, crate::proofs::Appending::same_arena))]
 
 ghost use Rattle.std.specs.Prelude.{◌≡◌, ◌≢◌, ◌≤◌, ◌<◌, ◌+◌, ℕ, [], ◌∷◌, ◌++◌, length, is_some, option_to_list, OnOk, OnErr, Some, None, false, true};
-ghost use Rattle.avro_bytes.specs.declared.fault.Fault.TheVariants.{NoMemory};
 ghost use Rattle.avro_bytes.specs.declared.meter.Meter.{Meter};
 ghost use Rattle.isa.specs.declared.limits.TheConstants.{MOST_INSTRS};
 ghost use Rattle.isa.specs.State.{has_current, meter_of};
 ghost use Rattle.avro_bytes.specs.Shortest.{IsTight, shortest};
 ghost use Rattle.isa.specs.Table.{added, next, stop, trap};
-ghost use Rattle.stepper.specs.Contract.{OnlyAppends, Takes, refused};
+ghost use Rattle.row_parts.specs.declared.ending.Verdict.TheVariants.{Done};
+ghost use Rattle.row_parts.specs.Ending.{refused, told};
+ghost use Rattle.stepper.specs.Contract.{OnlyAppends, Takes};
 ghost use Rattle.stepper.specs.Running.{end_of};
 
-use crate::check::TextCheck;
 use crate::step::Step;
-use avro_bytes::{Fault, MalformedKind, Meter, put_long};
+use avro_bytes::{Fault, Meter, put_long};
 use isa::{End, Program, Trap};
 use outcome::Outcome;
 use output_store::Store;
+use row_parts::{Ending, Part, RowCount, TextCheck, Verdict};
 use std::alloc::{AllocError, Global};
 use std::marker::Model;
 use stretches::{Found, is_tight};
-
-/// A content of which bytes are still to move.
-#[derive(Clone, Copy, Debug)]
-pub struct Part {
-    pub left: usize,
-    /// Where its first byte stands.
-    pub from: usize,
-}
 
 /// A run of a program: callers see it as a state of the instruction table, and how that is kept.
 #[derive(Drop)]
@@ -37,7 +30,7 @@ pub struct Machine {
     pub(crate) store: Store,
     pub(crate) part: Option<Part>,
     pub(crate) check: TextCheck,
-    pub(crate) count: u64,
+    pub(crate) count: RowCount,
     pub(crate) end: Option<End>,
     pub(crate) scratch: Vec<u8>,
     /// What was found ahead.
@@ -52,7 +45,7 @@ impl Model for Machine {
 
     ghost Value = { Running };
 
-    ghost view = { λ m. running_of m.pc m.pos m.calls.items m.store m.part m.check m.count m.end };
+    ghost view = { λ m. running_of m.pc m.pos m.calls.items m.store m.part m.check m.count.rows m.end };
 }
 
 impl Machine {
@@ -69,7 +62,7 @@ impl Machine {
             store: Store::new(alloc),
             part: None,
             check: TextCheck::Unasked,
-            count: 0,
+            count: RowCount { rows: 0 },
             end: None,
             scratch: Vec::new(alloc),
             found: Found::new(alloc),
@@ -88,7 +81,7 @@ impl Machine {
         self.store.reset();
         self.part = None;
         self.check = TextCheck::Unasked;
-        self.count = 0;
+        self.count = RowCount { rows: 0 };
         self.end = None;
         self.looked = 0;
     }
@@ -104,7 +97,7 @@ impl Machine {
     pub fn count(&self) -> u64
         ensures { result ≡ self.now.state.count }
     {
-        self.count
+        self.count.rows
     }
 
     /// The place of the next byte.
@@ -147,6 +140,47 @@ impl Machine {
         self.stop(End::Trap(trap))
     }
 
+    /// By what the run ends, where it does.
+    pub(crate) fn ending<'a>(
+        &self,
+        program: &'a Program,
+        input: &'a [u8],
+        ended: bool,
+    ) -> Ending<'a>
+        ensures program { result.program.now ≡ program.now }
+        ensures input { result.input.now ≡ input.now }
+        ensures ended { result.ended ≡ ended }
+        ensures mark { result.mark ≡ self.now.state.store.mark }
+        ensures over { result.over ≡ self.now.state.store.over }
+    {
+        Ending {
+            program,
+            input,
+            ended,
+            mark: self.mark(),
+            over: self.is_over(),
+        }
+    }
+
+    /// What a verdict comes to.
+    pub(crate) fn conclude(&mut self, verdict: Verdict) -> Step
+        ensures takes { Takes (told verdict self.old.state) result self.old self.new }
+        ensures kept { self.new ≡ record self.old { state = record self.old.state { end = self.new.state.end } } }
+        ensures memory { result ≡ Step.NoMemory → verdict ≡ Done }
+    {
+        match verdict {
+            Verdict::Waits => Step::Waits,
+            Verdict::Malformed { kind, at } => self.stop(End::Out(Outcome::Malformed { kind, at })),
+            Verdict::Mismatch(miss) => self.stop(End::Out(Outcome::Mismatch(miss))),
+            Verdict::OutputTooLarge => self.stop(End::Out(Outcome::OutputTooLarge)),
+            Verdict::Done => match self.put_together() {
+                Ok(out) => self.stop(End::Out(Outcome::Done(out))),
+                Err(_) => Step::NoMemory,
+            },
+            Verdict::Trap(trap) => self.trap(trap),
+        }
+    }
+
     /// Bytes are missing, or cannot be read.
     pub(crate) fn refuse(
         &mut self,
@@ -155,7 +189,6 @@ impl Machine {
         input: &[u8],
         ended: bool,
     ) -> Step
-        requires { fault ≢ NoMemory }
         ensures takes { Takes (refused program.now input.now ended fault self.old.state) result self.old self.new }
         ensures layout { self.new.layout ≡ self.old.layout }
         ensures pos { self.new.state.pos ≡ self.old.state.pos }
@@ -164,15 +197,8 @@ impl Machine {
         ensures memory { result ≢ Step.NoMemory }
         ensures store { self.new.state.store ≡ self.old.state.store }
     {
-        match fault {
-            Fault::Malformed { kind, at } => self.stop(End::Out(Outcome::Malformed { kind, at })),
-            Fault::Need if ended => self.stop(End::Out(Outcome::Malformed {
-                kind: MalformedKind::Truncated,
-                at: input.len(),
-            })),
-            Fault::Need => Step::Waits,
-            Fault::NoMemory => unreachable!(),
-        }
+        let verdict = self.ending(program, input, ended).refused(fault);
+        self.conclude(verdict)
     }
 
     /// At the next instruction, with the bytes up to a place read.
@@ -250,6 +276,38 @@ impl Machine {
         self.scratch.clear();
         put_long(&mut self.scratch, n)?;
         self.store.add(&self.scratch)
+    }
+
+    /// Bytes at the end of the current buffer: the run is at the next instruction then, with the bytes up to a place
+    /// read.
+    pub(crate) fn move_bytes(&mut self, bytes: &[u8], to: usize) -> Step
+        requires pc { self.old.state.pc < MOST_INSTRS }
+        requires room { has_current self.old.state.store.frames ≡ true }
+        ensures takes { Takes (Some (next to (added bytes.now self.old.state))) result self.old self.new }
+        ensures appends { OnlyAppends self.old self.new }
+        ensures within { (len : ℕ) → self.old.state.pos ≤ len → to ≤ len → self.new.state.pos ≤ len }
+        ensures part { self.new.state.part ≡ self.old.state.part }
+    {
+        if self.add(bytes).is_err() {
+            return Step::NoMemory;
+        }
+        self.next(to)
+    }
+
+    /// The same of a number that was read, in its shortest spelling: its own, where that is the shortest.
+    pub(crate) fn move_number(&mut self, n: i64, spelling: &[u8], to: usize) -> Step
+        requires pc { self.old.state.pc < MOST_INSTRS }
+        requires room { has_current self.old.state.store.frames ≡ true }
+        requires tight { IsTight spelling.now → spelling.now ≡ shortest n }
+        ensures takes { Takes (Some (next to (added (shortest n) self.old.state))) result self.old self.new }
+        ensures appends { OnlyAppends self.old self.new }
+        ensures within { (len : ℕ) → self.old.state.pos ≤ len → to ≤ len → self.new.state.pos ≤ len }
+        ensures part { self.new.state.part ≡ self.old.state.part }
+    {
+        if self.add_spelled(n, spelling).is_err() {
+            return Step::NoMemory;
+        }
+        self.next(to)
     }
 
     /// The shortest spelling of a number that was read at the end of the current buffer: its own, where that is the

@@ -27,12 +27,7 @@ impl Machine {
             return self.trap(Trap::NoBuffer);
         }
         match read_boolean(input, self.pos(), self.meter()) {
-            Ok((value, to, _)) => {
-                if self.add(&[u8::from(value)]).is_err() {
-                    return Step::NoMemory;
-                }
-                self.next(to)
-            }
+            Ok((value, to, _)) => self.move_bytes(&[u8::from(value)], to),
             Err(fault) => self.refuse(fault, program, input, ended),
         }
     }
@@ -53,10 +48,7 @@ impl Machine {
         match read_int(input, self.pos(), self.meter()) {
             Ok((value, to, _)) => {
                 let spelling = spelling(input, self.pos(), to, value.into());
-                if self.add_spelled(value.into(), spelling).is_err() {
-                    return Step::NoMemory;
-                }
-                self.next(to)
+                self.move_number(value.into(), spelling, to)
             }
             Err(fault) => self.refuse(fault, program, input, ended),
         }
@@ -78,10 +70,7 @@ impl Machine {
         match read_long(input, self.pos(), self.meter()) {
             Ok((value, to, _)) => {
                 let spelling = spelling(input, self.pos(), to, value);
-                if self.add_spelled(value, spelling).is_err() {
-                    return Step::NoMemory;
-                }
-                self.next(to)
+                self.move_number(value, spelling, to)
             }
             Err(fault) => self.refuse(fault, program, input, ended),
         }

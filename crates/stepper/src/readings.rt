@@ -1,11 +1,13 @@
 ghost use Rattle.std.specs.Prelude.{◌≡◌, ◌++◌, length, reverse, slice_get, option_map, is_some, false, true, None, Some, OnErr, OnOk};
 ghost use Rattle.output_store.specs.Segments.{AreSegments, bytes_of};
 ghost use Rattle.output_store.specs.Viewing.{buffer_of, place_and_length, segments_of_buffer, view_of};
-ghost use Rattle.stepper.specs.Running.{carried, end_of, part_of};
+ghost use Rattle.row_parts.specs.Pieces.{part_of};
+ghost use Rattle.stepper.specs.Running.{carried, end_of};
 
-use crate::machine::{Machine, Part};
+use crate::machine::Machine;
 use isa::End;
 use output_store::{BufferAt, FrameView};
+use row_parts::Part;
 use std::alloc::AllocError;
 
 impl Machine {

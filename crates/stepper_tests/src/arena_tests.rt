@@ -1,9 +1,10 @@
 //! Where the bytes of a run lie.
 
-ghost use Rattle.stepper.specs.Running.{IsOn, IsUnder};
+ghost use Rattle.std.specs.Prelude.{◌≡◌};
+ghost use Rattle.stepper.specs.Running.{IsOn, IsUnder, start};
 
-use crate::programs::{bytes, program};
-use crate::same::same;
+use crate::asked::{Asked, assert_told};
+use crate::programs::push_hex;
 use debugger::show;
 use isa::Program;
 use std::alloc::{AllocError, Global};
@@ -22,48 +23,39 @@ const NOWHERE: u32 = u32::MAX;
 
 const SWAPPED: &str = "0 CALL 2,1 HALT,2 RECORD 2,3 SLOT 1,4 LONG,5 SLOT 0,6 TEXT,7 ENDREC,8 RET";
 
-/// The arena of a machine after so many rows, with nothing looked for ahead.
-fn arena_after(
+/// Appends the arena of a machine after so many rows, with nothing looked for ahead.
+pub(crate) fn push_arena(
     alloc: Global,
+    output: &mut String,
+    machine: &mut Machine,
     program: &Program,
     input: &[u8],
     k: u64,
-) -> Result<Vec<u8>, AllocError> {
-    let mut machine = Machine::new(alloc);
+) -> Result<(), AllocError>
+    requires { machine.old ≡ start }
+{
     let _rows = machine.slice(program, input, true, &[NOWHERE], k);
-    Vec::from_slice(alloc, machine.arena())
-}
-
-/// The arena after so many rows of the program of these lines.
-fn arena(alloc: Global, lines: &str, input: &[u8], k: u64) -> Result<Vec<u8>, Fail> {
-    let program = program(alloc, lines)?;
-    Ok(arena_after(alloc, &program, input, k)?)
+    push_hex(alloc, output, machine.arena())
 }
 
 #[test]
 fn a_closed_record_adds_nothing_to_the_arena(rt: HostRuntime) -> Result<(), Fail> {
-    let input = bytes(rt.alloc(), "3606666f6f")?;
-    let arena = arena(rt.alloc(), SWAPPED, &input, 8)?;
-    same(&rt, arena.as_slice(), input.as_slice());
-    Ok(())
+    assert_told(&rt, SWAPPED, &INPUT, Asked::Arena(8), "3606666f6f")
 }
 
-/// What is carried of a cut character after so many rows.
-fn carry_after(
+/// Appends what is carried of a cut character after so many rows.
+pub(crate) fn push_carry(
     alloc: Global,
+    output: &mut String,
+    machine: &mut Machine,
     program: &Program,
     input: &[u8],
     k: u64,
-) -> Result<Vec<u8>, AllocError> {
-    let mut machine = Machine::new(alloc);
+) -> Result<(), AllocError>
+    requires { machine.old ≡ start }
+{
     let _rows = machine.slice(program, input, true, &[], k);
-    Vec::from_slice(alloc, machine.carry())
-}
-
-/// The same for the program of these lines.
-fn carry(alloc: Global, lines: &str, input: &[u8], k: u64) -> Result<Vec<u8>, Fail> {
-    let program = program(alloc, lines)?;
-    Ok(carry_after(alloc, &program, input, k)?)
+    push_hex(alloc, output, machine.carry())
 }
 
 #[test]
@@ -71,20 +63,17 @@ fn a_cut_character_is_carried(rt: HostRuntime) -> Result<(), Fail> {
     let mut input = [b'a'; 67];
     input[..2].copy_from_slice(&[0x82, 0x01]);
     input[65..].copy_from_slice(&[0xc3, 0xa9]);
-    let carry = carry(rt.alloc(), "0 TEXT,1 HALT", &input, 2)?;
-    same(&rt, carry.as_slice(), [0xc3].as_slice());
-    Ok(())
+    assert_told(&rt, "0 TEXT,1 HALT", &input, Asked::Carry(2), "c3")
 }
 
-/// The place and the length of each segment of a buffer.
-fn segment_words(alloc: Global, machine: &Machine, at: BufferAt) -> Result<String, AllocError> {
-    let mut words = String::new(alloc);
+/// Appends the place and the length of each segment of a buffer.
+fn push_segments(output: &mut String, machine: &Machine, at: BufferAt) -> Result<(), AllocError> {
     for number in 0..SEGMENTS {
         if let Some((place, len)) = machine.segment(at, number) {
-            write!(words, "({place}, {len})")?;
+            write!(output, "({place}, {len})")?;
         }
     }
-    Ok(words)
+    Ok(())
 }
 
 /// The bytes of a buffer after a byte that was there before, or nothing where there is no such buffer.
@@ -97,40 +86,23 @@ fn buffer_bytes(alloc: Global, machine: &Machine, at: BufferAt) -> Result<Vec<u8
     Ok(bytes)
 }
 
-/// The segments and the bytes of a buffer.
-fn buffer_words(alloc: Global, machine: &Machine, at: BufferAt) -> Result<String, AllocError> {
-    let mut words = segment_words(alloc, machine, at)?;
-    let bytes = buffer_bytes(alloc, machine, at)?;
-    let hex = hex::encode(alloc, &bytes)?;
-    write!(words, " {hex}")?;
-    Ok(words)
-}
-
-/// The same after so many rows, with nothing looked for ahead.
-fn words_after(
+/// Appends the segments and the bytes of a buffer after so many rows, with nothing looked for ahead.
+pub(crate) fn push_buffer_after(
     alloc: Global,
+    output: &mut String,
+    machine: &mut Machine,
     program: &Program,
     input: &[u8],
     k: u64,
     at: BufferAt,
-) -> Result<String, AllocError> {
-    let mut machine = Machine::new(alloc);
+) -> Result<(), AllocError>
+    requires { machine.old ≡ start }
+{
     let _rows = machine.slice(program, input, true, &[NOWHERE], k);
-    buffer_words(alloc, &machine, at)
-}
-
-/// Whether a buffer has these segments and bytes, so many rows after the first of the program of these lines.
-fn has(
-    alloc: Global,
-    lines: &str,
-    input: &[u8],
-    k: u64,
-    at: BufferAt,
-    want: &str,
-) -> Result<bool, Fail> {
-    let program = program(alloc, lines)?;
-    let words = words_after(alloc, &program, input, k, at)?;
-    Ok(words.as_str() == want)
+    push_segments(output, machine, at)?;
+    output.push_str(" ")?;
+    let bytes = buffer_bytes(alloc, machine, at)?;
+    push_hex(alloc, output, &bytes)
 }
 
 /// The payload of the record of a long and a string.
@@ -141,38 +113,28 @@ const ITEMS: [u8; 4] = [0x04, 0x06, 0x08, 0x00];
 
 #[test]
 fn a_closed_record_has_its_slots_segments(rt: HostRuntime) -> Result<(), Fail> {
-    assert!(rt;
-        has(
-            rt.alloc(),
-            SWAPPED,
-            &INPUT,
-            8,
-            BufferAt::Out,
-            "(1, 4)(0, 1) ff06666f6f36"
-        )?
-    );
-    Ok(())
+    let asked = Asked::Buffer(8, BufferAt::Out);
+    assert_told(&rt, SWAPPED, &INPUT, asked, "(1, 4)(0, 1) ff06666f6f36")
 }
 
 #[test]
 fn slots_are_read_by_number(rt: HostRuntime) -> Result<(), Fail> {
-    let first = BufferAt::Slot { frame: 0, slot: 0 };
-    let second = BufferAt::Slot { frame: 0, slot: 1 };
-    let third = BufferAt::Slot { frame: 0, slot: 2 };
-    assert!(rt; has(rt.alloc(), SWAPPED, &INPUT, 7, first, "(1, 4) ff06666f6f")?);
-    assert!(rt; has(rt.alloc(), SWAPPED, &INPUT, 7, second, "(0, 1) ff36")?);
-    assert!(rt; has(rt.alloc(), SWAPPED, &INPUT, 7, third, " ")?);
-    Ok(())
+    let first = Asked::Buffer(7, BufferAt::Slot { frame: 0, slot: 0 });
+    let second = Asked::Buffer(7, BufferAt::Slot { frame: 0, slot: 1 });
+    let third = Asked::Buffer(7, BufferAt::Slot { frame: 0, slot: 2 });
+    assert_told(&rt, SWAPPED, &INPUT, first, "(1, 4) ff06666f6f")?;
+    assert_told(&rt, SWAPPED, &INPUT, second, "(0, 1) ff36")?;
+    assert_told(&rt, SWAPPED, &INPUT, third, " ")
 }
 
 #[test]
 fn gathered_items_are_read(rt: HostRuntime) -> Result<(), Fail> {
-    let gathered = BufferAt::Gathered { frame: 0 };
-    let slot = BufferAt::Slot { frame: 0, slot: 0 };
-    assert!(rt; has(rt.alloc(), ARRAY, &ITEMS, 3, gathered, "(0, 1) ff06")?);
-    assert!(rt; has(rt.alloc(), ARRAY, &ITEMS, 3, slot, " ")?);
-    assert!(rt; has(rt.alloc(), ARRAY, &ITEMS, 3, BufferAt::Out, " ff")?);
-    Ok(())
+    let gathered = Asked::Buffer(3, BufferAt::Gathered { frame: 0 });
+    let slot = Asked::Buffer(3, BufferAt::Slot { frame: 0, slot: 0 });
+    let output = Asked::Buffer(3, BufferAt::Out);
+    assert_told(&rt, ARRAY, &ITEMS, gathered, "(0, 1) ff06")?;
+    assert_told(&rt, ARRAY, &ITEMS, slot, " ")?;
+    assert_told(&rt, ARRAY, &ITEMS, output, " ff")
 }
 
 /// What a machine shows, and its arena.
@@ -237,31 +199,27 @@ fn takes_rows(
     Ok(true)
 }
 
-/// The arena and the segments of the output after so many rows that are taken one by one.
-fn stepped_words(
+/// Appends the arena and the segments of the output after so many rows that are taken one by one.
+pub(crate) fn push_steps(
     alloc: Global,
+    output: &mut String,
+    machine: &mut Machine,
     program: &Program,
     input: &[u8],
     k: usize,
-) -> Result<String, AllocError> {
-    let mut machine = Machine::new(alloc);
-    if !takes_rows(alloc, &mut machine, program, input, k)? {
-        return String::from_str(alloc, "no such row");
+) -> Result<(), AllocError>
+    requires { machine.old ≡ start }
+{
+    if !takes_rows(alloc, machine, program, input, k)? {
+        return output.push_str("no such row");
     }
-    let arena = hex::encode(alloc, machine.arena())?;
-    let segments = segment_words(alloc, &machine, BufferAt::Out)?;
-    format!(in alloc; "{arena} {segments}")
-}
-
-/// The same for the program of these lines.
-fn stepped(alloc: Global, lines: &str, input: &[u8], k: usize) -> Result<String, Fail> {
-    let program = program(alloc, lines)?;
-    Ok(stepped_words(alloc, &program, input, k)?)
+    push_hex(alloc, output, machine.arena())?;
+    output.push_str(" ")?;
+    push_segments(output, machine, BufferAt::Out)
 }
 
 #[test]
 fn rows_are_taken_one_by_one(rt: HostRuntime) -> Result<(), Fail> {
-    let words = stepped(rt.alloc(), SWAPPED, &INPUT, 8)?;
-    same(&rt, words.as_str(), "3606666f6f (1, 4)(0, 1)");
-    Ok(())
+    let want = "3606666f6f (1, 4)(0, 1)";
+    assert_told(&rt, SWAPPED, &INPUT, Asked::Steps(8), want)
 }

@@ -6,6 +6,8 @@ mod ahead_tests;
 #[cfg(test)]
 mod arena_tests;
 #[cfg(test)]
+mod asked;
+#[cfg(test)]
 mod programs;
 #[cfg(test)]
 mod row_tests;

@@ -1,14 +1,14 @@
 //! Programs by their code lines, and what their runs answer.
 
 ghost use Rattle.std.specs.Prelude.{◌≡◌, ◌≤◌, length, take, IfOk};
-ghost use Rattle.stepper.specs.Running.{IsOn, IsUnder};
+ghost use Rattle.stepper.specs.Running.{IsOn, IsUnder, start};
 
 use assembler::{AsmError, assemble};
 use hex::FromHexError;
 use isa::{End, Program, Trap};
 use outcome::Outcome;
 use std::alloc::{AllocError, Global};
-use std::test::Fail;
+use std::fmt::Write;
 use stepper::{Machine, Why};
 
 /// More turns than any test takes.
@@ -42,18 +42,18 @@ pub(crate) fn program(alloc: Global, lines: &str) -> Result<Program, AsmError> {
     }
 }
 
-/// A new machine after a run on an input that comes in pieces, in slices of so many rows.
-fn run(alloc: Global, program: &Program, input: &[u8], piece: usize, k: u64) -> Machine {
-    let mut machine = Machine::new(alloc);
+/// A run on an input that comes in pieces, in slices of so many rows.
+fn run(machine: &mut Machine, program: &Program, input: &[u8], piece: usize, k: u64)
+    requires { machine.old ≡ start }
+{
     let mut end = 0;
     'turns: for _turn in 0..TURNS {
         let slice = machine.slice(program, &input[..end], end == input.len(), &[], k);
         if slice.why == Why::Ended {
-            return machine;
+            return;
         }
         end = further(slice.why, end, piece, input.len());
     }
-    machine
 }
 
 /// The end of a further piece, where the machine waits for one.
@@ -68,26 +68,41 @@ fn further(why: Why, end: usize, piece: usize, len: usize) -> usize
     if len - end < piece { len } else { end + piece }
 }
 
-/// The end of a run, in words.
-pub(crate) fn end_words(alloc: Global, end: &End) -> Result<String, AllocError> {
+/// Appends bytes in hexadecimal.
+pub(crate) fn push_hex(alloc: Global, output: &mut String, bytes: &[u8]) -> Result<(), AllocError> {
+    let hex = hex::encode(alloc, bytes)?;
+    output.push_str(hex.as_str())
+}
+
+/// Appends an output, and `-` where it has no bytes.
+fn push_done(alloc: Global, output: &mut String, bytes: &[u8]) -> Result<(), AllocError> {
+    output.push_str("done ")?;
+    if bytes.is_empty() {
+        return output.push_str("-");
+    }
+    push_hex(alloc, output, bytes)
+}
+
+/// Appends the end of a run.
+fn push_end(alloc: Global, output: &mut String, end: &End) -> Result<(), AllocError> {
     match end {
-        End::Out(Outcome::Done(bytes)) => {
-            let hex = hex::encode(alloc, bytes.as_slice())?;
-            let shown = if hex.is_empty() { "-" } else { hex.as_str() };
-            format!(in alloc; "done {shown}")
-        }
+        End::Out(Outcome::Done(bytes)) => push_done(alloc, output, bytes.as_slice()),
         End::Out(Outcome::Mismatch(m)) => {
             let kind = m.kind.name();
-            format!(in alloc; "mismatch {kind} {} {}", m.writer_node, m.reader_node)
+            write!(
+                output,
+                "mismatch {kind} {} {}",
+                m.writer_node, m.reader_node
+            )
         }
         End::Out(Outcome::Malformed { kind, at }) => {
             let kind = kind.name();
-            format!(in alloc; "malformed {kind} at {at}")
+            write!(output, "malformed {kind} at {at}")
         }
-        End::Out(Outcome::OutputTooLarge) => String::from_str(alloc, "output too large"),
+        End::Out(Outcome::OutputTooLarge) => output.push_str("output too large"),
         End::Trap(trap) => {
             let trap = trap_name(*trap);
-            format!(in alloc; "trap {trap}")
+            write!(output, "trap {trap}")
         }
     }
 }
@@ -104,40 +119,34 @@ fn trap_name(trap: Trap) -> &'static str {
     }
 }
 
-/// What a machine shows of its run, in words.
-pub(crate) fn words(alloc: Global, machine: &Machine) -> Result<String, AllocError> {
-    let count = machine.count();
+/// Appends how a machine's run ended, or that it runs, and its count.
+pub(crate) fn push_words(
+    alloc: Global,
+    output: &mut String,
+    machine: &Machine,
+) -> Result<(), AllocError> {
     match machine.end() {
-        Some(end) => {
-            let end = end_words(alloc, end)?;
-            format!(in alloc; "{end} count {count}")
-        }
-        None => format!(in alloc; "running count {count}"),
+        Some(end) => push_end(alloc, output, end)?,
+        None => output.push_str("running")?,
     }
+    let count = machine.count();
+    write!(output, " count {count}")
 }
 
-/// What a run on an input answers, in words.
-fn run_words(
+/// Appends what a run on an input answers that comes in pieces, in slices of so many rows.
+pub(crate) fn push_run(
     alloc: Global,
+    output: &mut String,
+    machine: &mut Machine,
     program: &Program,
     input: &[u8],
     piece: usize,
     k: u64,
-) -> Result<String, AllocError> {
-    let machine = run(alloc, program, input, piece, k);
-    words(alloc, &machine)
-}
-
-/// What a run of the program of these lines answers, in pieces and slices of so many.
-pub(crate) fn told(
-    alloc: Global,
-    lines: &str,
-    input: &[u8],
-    piece: usize,
-    k: u64,
-) -> Result<String, Fail> {
-    let program = program(alloc, lines)?;
-    Ok(run_words(alloc, &program, input, piece, k)?)
+) -> Result<(), AllocError>
+    requires { machine.old ≡ start }
+{
+    run(machine, program, input, piece, k);
+    push_words(alloc, output, machine)
 }
 
 /// The bytes of a row of hexadecimal digits.

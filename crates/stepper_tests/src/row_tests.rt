@@ -1,9 +1,11 @@
 //! Worked rows: what programs answer, and after how many rows. Each line of a table is a program, its input and the
 //! answer.
 
-use crate::programs::{ALL, bytes, told};
+use crate::asked::{Asked, told};
+use crate::programs::{ALL, bytes};
 use crate::same::holds;
 use std::alloc::Global;
+use std::process::Abort;
 use std::test::Fail;
 
 const ROWS: &str =
@@ -54,7 +56,7 @@ const LIMITS: &str = "0 ENTER,1 JUMP 0||malformed TooDeep at 0 count 2001
 /// What a run of this program on these bytes answers, in pieces and slices of so many.
 fn answer(alloc: Global, lines: &str, hex: &str, piece: usize, k: u64) -> Result<String, Fail> {
     let input = bytes(alloc, hex)?;
-    told(alloc, lines, &input, piece, k)
+    told(alloc, lines, &input, Asked::End { piece, k })
 }
 
 /// Whether the program of this line answers so, in pieces and slices of so many.
@@ -68,36 +70,29 @@ fn is_true(alloc: Global, line: &str, piece: usize, k: u64) -> Result<bool, Fail
     Ok(answer(alloc, lines, hex, piece, k)?.as_str() == want)
 }
 
-#[test]
-fn worked_rows_come_out(rt: HostRuntime) -> Result<(), Fail> {
-    for line in ROWS.lines() {
-        holds(&rt, is_true(rt.alloc(), line, 1_000_000, ALL)?, line);
-        holds(&rt, is_true(rt.alloc(), line, 1, ALL)?, line);
+/// The programs of these lines answer so, in pieces and slices of so many.
+fn assert_rows(
+    rt: &(impl Abort + AllocGlobal),
+    rows: &str,
+    piece: usize,
+    k: u64,
+) -> Result<(), Fail> {
+    for line in rows.lines() {
+        holds(rt, is_true(rt.alloc(), line, piece, k)?, line);
     }
     Ok(())
 }
 
 #[test]
-fn slices_change_nothing(rt: HostRuntime) -> Result<(), Fail> {
-    for line in ROWS.lines() {
-        holds(&rt, is_true(rt.alloc(), line, 1, 1)?, line);
-        holds(&rt, is_true(rt.alloc(), line, 3, 2)?, line);
-    }
-    Ok(())
+fn worked_rows_come_out_in_whatever_pieces_and_slices(rt: HostRuntime) -> Result<(), Fail> {
+    assert_rows(&rt, ROWS, 1_000_000, ALL)?;
+    assert_rows(&rt, ROWS, 1, ALL)?;
+    assert_rows(&rt, ROWS, 1, 1)?;
+    assert_rows(&rt, ROWS, 3, 2)
 }
 
 #[test]
-fn traps_are_told(rt: HostRuntime) -> Result<(), Fail> {
-    for line in TRAPS.lines() {
-        holds(&rt, is_true(rt.alloc(), line, 1, ALL)?, line);
-    }
-    Ok(())
-}
-
-#[test]
-fn depth_and_units_have_limits(rt: HostRuntime) -> Result<(), Fail> {
-    for line in LIMITS.lines() {
-        holds(&rt, is_true(rt.alloc(), line, 1, ALL)?, line);
-    }
-    Ok(())
+fn traps_and_limits_are_told(rt: HostRuntime) -> Result<(), Fail> {
+    assert_rows(&rt, TRAPS, 1, ALL)?;
+    assert_rows(&rt, LIMITS, 1, ALL)
 }

@@ -2,18 +2,22 @@
 
 ghost use Rattle.stepper.specs.Running.{IsOn, IsUnder};
 
-use crate::programs::{bytes, program, words};
-use crate::same::same;
+use crate::asked::{Asked, assert_told};
+use crate::programs::push_words;
 use isa::Program;
 use std::alloc::{AllocError, Global};
+use std::fmt::Write;
 use std::test::Fail;
 use stepper::{Machine, Why};
 
 const SAME: &str = "0 CALL 2,1 HALT,2 RECORD 2,3 SLOT 0,4 LONG,5 SLOT 1,6 TEXT,7 ENDREC,8 RET";
 
+/// The payload of the record of a long and a string.
+const INPUT: [u8; 5] = [0x36, 0x06, 0x66, 0x6f, 0x6f];
+
 /// What is asked of a slice.
 #[derive(Clone, Copy)]
-struct Asked {
+pub(crate) struct Turn {
     breaks: &'static [u32],
     rows: u64,
 }
@@ -28,158 +32,116 @@ fn why_name(why: Why) -> &'static str {
     }
 }
 
-/// What a slice of a machine takes, in words.
-fn slice_words(
-    alloc: Global,
+/// Appends what a slice of a machine takes.
+fn push_slice(
+    output: &mut String,
     machine: &mut Machine,
     program: &Program,
     input: &[u8],
     ended: bool,
-    asked: &Asked,
-) -> Result<String, AllocError>
+    turn: &Turn,
+) -> Result<(), AllocError>
     requires under { IsUnder program.now machine.old }
     requires on { IsOn input.now machine.old }
     ensures under { IsUnder program.now machine.new }
     ensures on { IsOn input.now machine.new }
 {
-    let slice = machine.slice(program, input, ended, asked.breaks, asked.rows);
+    let slice = machine.slice(program, input, ended, turn.breaks, turn.rows);
     let why = why_name(slice.why);
-    format!(in alloc; "{} {why}", slice.rows)
+    write!(output, "{} {why}", slice.rows)
 }
 
-/// What slices take one after another, each in words, and then what the machine shows.
-fn all_words(
+/// Appends what slices take one after another, and then what the machine shows.
+pub(crate) fn push_turns(
     alloc: Global,
+    output: &mut String,
     machine: &mut Machine,
     program: &Program,
     input: &[u8],
     ended: bool,
-    asked: &[Asked],
-) -> Result<String, AllocError>
+    turns: &[Turn],
+) -> Result<(), AllocError>
     requires under { IsUnder program.now machine.old }
     requires on { IsOn input.now machine.old }
 {
-    let mut all = String::new(alloc);
-    'each: for one in asked {
-        all.push_str(slice_words(alloc, machine, program, input, ended, one)?.as_str())?;
-        all.push_str(", ")?;
+    'each: for turn in turns {
+        push_slice(output, machine, program, input, ended, turn)?;
+        output.push_str(", ")?;
     }
-    all.push_str(words(alloc, machine)?.as_str())?;
-    Ok(all)
-}
-
-/// The same for a new machine.
-fn new_words(
-    alloc: Global,
-    program: &Program,
-    input: &[u8],
-    ended: bool,
-    asked: &[Asked],
-) -> Result<String, AllocError> {
-    let mut machine = Machine::new(alloc);
-    all_words(alloc, &mut machine, program, input, ended, asked)
-}
-
-/// The same for the program of these lines.
-fn told(
-    alloc: Global,
-    lines: &str,
-    input: &[u8],
-    ended: bool,
-    asked: &[Asked],
-) -> Result<String, Fail> {
-    let program = program(alloc, lines)?;
-    Ok(new_words(alloc, &program, input, ended, asked)?)
+    push_words(alloc, output, machine)
 }
 
 #[test]
 fn slices_say_why_they_stop(rt: HostRuntime) -> Result<(), Fail> {
-    let input = bytes(rt.alloc(), "3606666f6f")?;
     // After six rows a content is begun: the breakpoint at its instruction does not stop it.
-    let asked = [
-        Asked {
+    let turns = [
+        Turn {
             breaks: &[5],
             rows: 100,
         },
-        Asked {
+        Turn {
             breaks: &[5],
             rows: 100,
         },
-        Asked {
+        Turn {
             breaks: &[],
             rows: 2,
         },
-        Asked {
+        Turn {
             breaks: &[6],
             rows: 100,
         },
-        Asked {
+        Turn {
             breaks: &[],
             rows: 100,
         },
     ];
-    let told = told(rt.alloc(), SAME, &input, true, &asked)?;
-    same(
-        &rt,
-        told.as_str(),
-        "4 broke, 0 broke, 2 spent, 4 ended, 0 ended, done 3606666f6f count 10",
-    );
-    Ok(())
+    let asked = Asked::Slices {
+        turns: &turns,
+        ended: true,
+    };
+    let want = "4 broke, 0 broke, 2 spent, 4 ended, 0 ended, done 3606666f6f count 10";
+    assert_told(&rt, SAME, &INPUT, asked, want)
 }
 
 #[test]
 fn slices_wait_for_bytes(rt: HostRuntime) -> Result<(), Fail> {
-    let asked = [Asked {
+    let turns = [Turn {
         breaks: &[],
         rows: 100,
     }];
-    let told = told(rt.alloc(), SAME, &[], false, &asked)?;
-    same(&rt, told.as_str(), "3 waits, running count 3");
-    Ok(())
+    let asked = Asked::Slices {
+        turns: &turns,
+        ended: false,
+    };
+    assert_told(&rt, SAME, &[], asked, "3 waits, running count 3")
 }
 
-/// What a machine takes of each of three messages, reset before it.
-fn messages_words(
-    alloc: Global,
+/// Appends what a machine takes of each of three messages, reset before it.
+pub(crate) fn push_messages(
+    output: &mut String,
     machine: &mut Machine,
     program: &Program,
     input: &[u8],
-) -> Result<String, AllocError> {
-    let mut all = String::new(alloc);
-    let asked = Asked {
+) -> Result<(), AllocError> {
+    let turn = Turn {
         breaks: &[],
         rows: 100,
     };
     'messages: for _message in 0..3 {
         machine.reset();
-        all.push_str(slice_words(alloc, machine, program, input, true, &asked)?.as_str())?;
-        all.push_str(if machine.take_end().is_some() {
+        push_slice(output, machine, program, input, true, &turn)?;
+        output.push_str(if machine.take_end().is_some() {
             " taken, "
         } else {
             " lost, "
         })?;
     }
-    Ok(all)
-}
-
-fn reset_words(alloc: Global, program: &Program, input: &[u8]) -> Result<String, AllocError> {
-    let mut machine = Machine::new(alloc);
-    messages_words(alloc, &mut machine, program, input)
-}
-
-fn told_of_messages(alloc: Global, lines: &str, input: &[u8]) -> Result<String, Fail> {
-    let program = program(alloc, lines)?;
-    Ok(reset_words(alloc, &program, input)?)
+    Ok(())
 }
 
 #[test]
 fn a_machine_is_reset(rt: HostRuntime) -> Result<(), Fail> {
-    let input = bytes(rt.alloc(), "3606666f6f")?;
-    let told = told_of_messages(rt.alloc(), SAME, &input)?;
-    same(
-        &rt,
-        told.as_str(),
-        "10 ended taken, 10 ended taken, 10 ended taken, ",
-    );
-    Ok(())
+    let want = "10 ended taken, 10 ended taken, 10 ended taken, ";
+    assert_told(&rt, SAME, &INPUT, Asked::Messages, want)
 }

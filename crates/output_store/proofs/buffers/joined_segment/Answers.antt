@@ -1,5 +1,5 @@
 use Rattle.std.proofs.Common.{◌∷◌, sym}
-use Rattle.output_store.specs.Ropes.{rope_at}
+use Rattle.ropes.specs.Ropes.{rope_at}
 use Rattle.output_store.proofs.Joining.{after-last, goes_on}
 use Rattle.output_store.proofs.buffers.joined_segment.Goals as goal
 

@@ -2,8 +2,8 @@ use Rattle.std.proofs.Common.{◌≡◌, ◌∙◌, ◌++◌, ℕ, List, length,
 use Rattle.output_store.specs.declared.buffers.Buffer.{Buffer}
 use Rattle.output_store.specs.declared.buffers.Buffer.TheVariants.{One}
 use Rattle.output_store.specs.Buffers.{buffer_at}
-use Rattle.output_store.specs.Ropes.{rope_at}
-use Rattle.output_store.specs.Segments.{bytes_at, bytes_of}
+use Rattle.ropes.specs.Ropes.{rope_at}
+use Rattle.ropes.specs.Segments.{bytes_at, bytes_of}
 use Rattle.output_store.proofs.Placing.{place-there, within-place, wrote}
 use Rattle.output_store.proofs.Putting.{wide}
 use Rattle.output_store.proofs.buffers.Buffers.write.Goals as goal

@@ -1,7 +1,7 @@
 use Rattle.std.proofs.Common.{◌≤◌, ◌∙◌, ◌∷◌, List, ap, arith, length, reverse, slice_get, sym}
 use Rattle.std.proofs.lemmas.Option.{slice_get_past}
 use Rattle.outcome.specs.declared.limits.TheConstants.{MOST_OUTPUT}
-use Rattle.output_store.specs.declared.segment.Segment.{Segment}
+use Rattle.ropes.specs.declared.segment.Segment.{Segment}
 use Rattle.output_store.specs.Buffers.{segments_at}
 use Rattle.output_store.proofs.Viewing.{buffer-shown, few-segments, is-placed, none-named, none-placed, segments-named}
 use Rattle.output_store.proofs.store.Store.segment.Goals as goal

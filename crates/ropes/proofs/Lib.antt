@@ -1,0 +1,2 @@
+pub mod Roping
+pub mod Writing

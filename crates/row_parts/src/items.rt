@@ -1,0 +1,19 @@
+ghost use Rattle.std.specs.Prelude.{◌≡◌, ◌∷◌, ◌++◌, [], length, IfOk, OnOk};
+ghost use Rattle.avro_bytes.specs.Written.{block_count};
+
+use avro_bytes::put_long;
+use std::alloc::AllocError;
+
+/// What stands before so many items in one block and after them, and how much of it before.
+pub fn spell_around(around: &mut Vec<u8>, items: u32) -> Result<usize, AllocError>
+    ensures spelled { OnOk result (around.new.items ≡ block_count items ++ 0 ∷ []) }
+    ensures before { IfOk result (λ before. before ≡ length (block_count items)) }
+{
+    around.clear();
+    if items > 0 {
+        put_long(around, items.into())?;
+    }
+    let before = around.len();
+    around.push(0)?;
+    Ok(before)
+}
