@@ -20,8 +20,8 @@ use Rattle.program_code.proofs.Numbers.{added, bytes_is, bytes_refl}
 use Rattle.program_code.proofs.Ranges.{code_length}
 use Rattle.program_lines.specs.declared.error.CompileError.{CompileError}
 use Rattle.program_lines.specs.declared.error.CompileError.TheVariants.{ProgramTooLarge, NoMemory}
-use Rattle.program_lines.specs.declared.lines.Line as rust
-use Rattle.program_lines.specs.Lines.{line_of, lines_in}
+use Rattle.program_tables.specs.declared.lines.Line as rust
+use Rattle.program_tables.specs.Lines.{line_of, lines_in}
 use Rattle.program_compiler.specs.Parts.{AreWide, Assembles, FitNowhere, IsLong, LinksAll}
 use Rattle.program_compiler.proofs.Jumps.{lines_left}
 

@@ -4,7 +4,7 @@ ghost use Rattle.program_code.specs.Numbering.{numbered};
 ghost use Rattle.program_code.specs.Code.{are_whole as are_whole_lines};
 ghost use Rattle.program_code.specs.Code.{is_lost as is_lost_line};
 ghost use Rattle.program_compiler.specs.Parts.{Assembles};
-ghost use Rattle.program_lines.specs.Lines.{line_of, lines_in};
+ghost use Rattle.program_tables.specs.Lines.{line_of, lines_in};
 ghost use Rattle.program_lines.specs.Walking.{start_at};
 
 use crate::addresses::gather_jumps;

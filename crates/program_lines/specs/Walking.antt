@@ -8,9 +8,9 @@ use Rattle.program_code.specs.Numbering.{numbered}
 use Rattle.program_code.specs.Writing.{section}
 use Rattle.program_lines.specs.declared.error.CompileError.{CompileError}
 use Rattle.program_lines.specs.declared.error.CompileError.TheVariants.{ProgramTooLarge, NoMemory}
-use Rattle.program_lines.specs.declared.lines.Line as rust
-use Rattle.program_lines.specs.Lines.{lines_in}
-use Rattle.program_lines.specs.Sections.{place}
+use Rattle.program_tables.specs.declared.lines.Line as rust
+use Rattle.program_tables.specs.Lines.{lines_in}
+use Rattle.program_tables.specs.Sections.{place}
 
 -- the sections in the order of their first calls, where each begins, and all lines
 pub record SectionLines : Type 0 where

@@ -1,14 +1,13 @@
 ghost use Rattle.std.specs.Prelude.{◌≡◌};
-ghost use Rattle.program_lines.specs.Lines.{section_of};
+ghost use Rattle.program_tables.specs.Lines.{section_of};
 ghost use Rattle.program_lines.specs.Walking.{Walks, start_at};
 
 use crate::error::CompileError;
 use crate::known::Known;
-use crate::lines::{Line, Section, put_all};
 use crate::schema_pair::SchemaPair;
-use crate::sections::{Sections, note_calls};
 use avro_types::Nodes;
 use isa::MOST_INSTRS;
+use program_tables::{Line, Section, Sections, note_calls, put_all};
 use std::alloc::Global;
 use std::marker::Model;
 

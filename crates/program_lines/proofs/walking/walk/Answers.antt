@@ -2,7 +2,7 @@
 use Rattle.std.proofs.Common.{◌≡◌, ◌++◌, ◌∙◌, ap, arith, length, rules}
 use Rattle.std.specs.Vec.{vec_len}
 use Rattle.program_code.specs.Numbering.{adding, calls_of, named_in, same_section}
-use Rattle.program_lines.specs.Lines.{lines_in, section_of}
+use Rattle.program_tables.specs.Lines.{lines_in, section_of}
 use Rattle.program_lines.proofs.Walked.{all_walked, fewer_left, too_many, walked_init, walked_on}
 use Rattle.program_lines.proofs.walking.walk.Goals as goal
 
