@@ -1,9 +1,9 @@
-use Rattle.std.proofs.Common.{◌∙◌, ap, arith, cond, eqb, length, rules, sym}
+use Rattle.std.proofs.Common.{◌∙◌, arith, sym}
 use Rattle.std.proofs.lemmas.Result.{err_from_is_err_and}
 use Rattle.assembler.specs.Assembling.{nothing, with_lines}
 use Rattle.listing_words.specs.Words.{parts}
 use Rattle.assembler.proofs.Reading.{bad_end, good_end, line_fails, line_read}
-use Rattle.assembler.proofs.assembling.draft_of_lines.Goals as goal
+use Rattle.assembler.proofs.assembling.take_lines.Goals as goal
 
 pub returns-in_err-take : goal.returns-in_err-take
 returns-in_err-take c =
