@@ -1,5 +1,5 @@
 -- The listing of a program is assembled.
-use Rattle.std.proofs.Common.{◌≡◌, ℕ, zero, suc, ◌+◌, ◌<◌, ◌≤◌, nat_lt, nat_le, nat_eq, eqb, cond, ◌&&◌, Bool, true, false, List, [], ◌∷◌, ◌++◌, length, map, Option, Some, None, Result, Ok, Err, refl, sym, ap, subst, ◌∙◌, append_assoc, add-one, arith}
+use Rattle.std.proofs.Common.{◌≡◌, ℕ, suc, ◌+◌, ◌<◌, ◌≤◌, nat_lt, nat_le, nat_eq, Bool, true, false, List, [], ◌∷◌, ◌++◌, length, map, Option, Some, None, Result, Ok, Err, refl, sym, ap, subst, ◌∙◌, append_assoc, arith}
 use Rattle.std.specs.Prelude.{codes}
 use Rattle.std.specs.Fmt.{decimal}
 use Rattle.std.specs.List.{AllByRecursion, flat_map}
@@ -11,7 +11,7 @@ use Rattle.isa.specs.declared.entry.Entry.{Entry}
 use Rattle.isa.specs.declared.instr.Instr.{Instr}
 use Rattle.isa.specs.declared.limits.TheConstants.{MOST_CONSTANT_BYTES, MOST_ENTRIES, MOST_INSTRS, MOST_TABLES}
 use Rattle.isa.specs.declared.program.ProgramError.{ProgramError}
-use Rattle.isa.specs.Judging.{first_error, judged}
+use Rattle.isa.specs.Judging.{judged}
 use Rattle.isa.specs.Lists.{total_length}
 use Rattle.isa.specs.Operation.{name_of, operand_of, operation_of, shape_of}
 use Rattle.isa.specs.declared.operation.Shape.{Shape}
@@ -23,9 +23,9 @@ use Rattle.assembler.specs.declared.fault.AsmError.{AsmError}
 use Rattle.assembler.specs.declared.fault.AsmFault.{AsmFault}
 use Rattle.assembler.specs.Assembling.{◌>>=◌, Gives, assembled, fits_constant, fits_list, in_range, is_before_code, is_before_jumps, is_before_maps, is_before_misses, nothing, placed, with_constant, with_header, with_instr, with_jumps, with_lines, with_map, with_miss, with_words}
 use Rattle.assembler.specs.Listing.{constant_line, entry, instr_line, jumps_line, lines_from, listing_of, map_line, miss_line, number, operand}
-use Rattle.assembler.specs.Things.{Numbered, constant_in, each_in, entry_in, instr_in, miss_in, numbered}
-use Rattle.listing_words.specs.Words.{number_in, parts, words}
-use Rattle.assembler.proofs.Fit.{EntryFits, Fits, InstrFits, IsLow, MissFits, program_fits}
+use Rattle.assembler.specs.Things.{constant_in, each_in, entry_in, instr_in, miss_in}
+use Rattle.listing_words.specs.Words.{number_in, parts}
+use Rattle.assembler.proofs.Fit.{EntryFits, InstrFits, IsLow, MissFits, program_fits}
 use Rattle.assembler.proofs.Joined.{after}
 use Rattle.listing_words.proofs.Numbers.{are_digits, model, number_again, tells}
 use Rattle.assembler.proofs.Taken.{ok_is}

@@ -1,5 +1,5 @@
 -- Reading one line after the other, as a loop does.
-use Rattle.std.proofs.Common.{◌≡◌, ℕ, suc, ◌+◌, List, [], ◌∷◌, length, cond, eqb, true, false, Result, Ok, Err, refl, sym, ap, ◌∙◌, add-one}
+use Rattle.std.proofs.Common.{◌≡◌, ℕ, ◌+◌, List, [], ◌∷◌, length, cond, eqb, true, false, Result, Ok, Err, refl, sym, ap, ◌∙◌, add-one}
 use Rattle.isa.specs.Program.{Program}
 use Rattle.assembler.specs.declared.fault.AsmError.{AsmError}
 use Rattle.assembler.specs.declared.fault.AsmError.TheVariants as errors
@@ -7,7 +7,7 @@ use Rattle.assembler.specs.declared.fault.AsmErrorKind.TheVariants.{BadHeader, B
 use Rattle.assembler.specs.declared.fault.AsmFault.{AsmFault}
 use Rattle.std.specs.Prelude.{codes}
 use Rattle.std.specs.Str.{bytes_eq}
-use Rattle.assembler.specs.Assembling.{◌>>=◌, Fails, Gives, after_header, fault, nothing, with_header, with_lines, with_words}
+use Rattle.assembler.specs.Assembling.{◌>>=◌, Fails, after_header, fault, nothing, with_header, with_lines, with_words}
 use Rattle.listing_words.specs.Words.{parts, words}
 use Rattle.listing_words.proofs.Parts.{parts_some}
 

@@ -1,6 +1,6 @@
 -- What words spell a thing, and that they say it.
-use Rattle.std.proofs.Common.{◌≡◌, ◌⊎◌, inl, inr, ℕ, ◌^◌, ◌-◌, ◌<◌, ◌≤◌, nat_eq, nat_lt, nat_le, cond, ◌&&◌, ◌||◌, not, Bool, true, false, List, [], ◌∷◌, ◌++◌, length, map, Option, Some, None, is_some, Result, Ok, Err, refl, sym, ap, subst, ◌∙◌, append_assoc, arith}
-use Rattle.std.specs.Prelude.{codes, option_map}
+use Rattle.std.proofs.Common.{◌≡◌, ◌⊎◌, inl, inr, ℕ, ◌<◌, ◌≤◌, nat_eq, nat_lt, cond, ◌&&◌, Bool, true, false, List, [], ◌∷◌, ◌++◌, length, map, Option, Some, None, Result, refl, ap, ◌∙◌, arith}
+use Rattle.std.specs.Prelude.{option_map}
 use Rattle.std.specs.Char.{is_ascii_digit}
 use Rattle.std.specs.Fmt.{decimal}
 use Rattle.std.specs.List.{AllByRecursion, flat_map, list_all}
@@ -10,7 +10,7 @@ use Rattle.std.proofs.lemmas.List.Concat.{flat_map-cons}
 use Rattle.std.proofs.lemmas.List.Sums.{list_all-from_AllPass}
 use Rattle.std.proofs.lemmas.Slice.Eq.{bytes_eq-Decides}
 use Rattle.hex.specs.declared.error.FromHexError.{FromHexError}
-use Rattle.hex.specs.Hex.{IsBytes, decode_of, encode_lower, is_hex_digit}
+use Rattle.hex.specs.Hex.{IsBytes, encode_lower, is_hex_digit}
 use Rattle.hex.proofs.HexLemmas.{decode_of-encode_lower, decode_of-ok}
 use Rattle.outcome.specs.MismatchKind as kinds
 use Rattle.outcome.specs.declared.mismatch.Mismatch.{Mismatch}
@@ -26,14 +26,13 @@ use Rattle.isa.specs.declared.operation.Shape.{Shape}
 use Rattle.isa.specs.declared.operation.Shape.TheVariants as shapes
 use Rattle.isa.specs.Operation.{instr_of, name_of, operand_of, operation_of, shape_of}
 use Rattle.isa.proofs.Operations as operations
-use Rattle.assembler.specs.Listing.{entry, number, operand}
-use Rattle.assembler.specs.Things.{◌>>=◌, Numbered, at_end, bytes_in, constant_in, each_in, entry_in, first_number, instr_in, miss_in, numbered, operand_in, spelled_so}
-use Rattle.listing_words.specs.Words.{is_numeral, kind_named, number_in, operation_named, value_of}
+use Rattle.assembler.specs.Listing.{entry}
+use Rattle.assembler.specs.Things.{◌>>=◌, at_end, bytes_in, constant_in, each_in, entry_in, first_number, instr_in, miss_in, numbered, operand_in, spelled_so}
+use Rattle.listing_words.specs.Words.{kind_named, number_in, operation_named}
 use Rattle.assembler.proofs.Fit.{EntryFits, InstrFits, IsLow, MissFits, OperandFits}
 use Rattle.assembler.proofs.Joined.{after}
 use Rattle.listing_words.proofs.Numbers.{are_digits, both, model, number_again, tells}
-use Rattle.assembler.proofs.Parted.{Above, AreWords, above_append, above_from_test}
-use Rattle.assembler.proofs.Said.{tail_of}
+use Rattle.assembler.proofs.Parted.{Above, AreWords, above_from_test}
 
 -- ---- numbers
 

@@ -1,5 +1,5 @@
 -- What is assembled has the text as its listing.
-use Rattle.std.proofs.Common.{◌≡◌, ℕ, zero, suc, ◌+◌, ◌-◌, ◌^◌, ◌<◌, ◌≤◌, nat_lt, nat_le, nat_eq, eqb, cond, not, ◌&&◌, Bool, true, false, List, [], ◌∷◌, ◌++◌, length, drop, Option, Some, None, Result, Ok, Err, refl, sym, ap, subst, ◌∙◌, append_assoc, arith}
+use Rattle.std.proofs.Common.{◌≡◌, ℕ, suc, ◌+◌, ◌^◌, ◌<◌, ◌≤◌, nat_lt, eqb, cond, not, Bool, true, false, List, [], ◌∷◌, ◌++◌, length, drop, Some, None, Result, Ok, Err, refl, sym, ap, subst, ◌∙◌, append_assoc, arith}
 use Rattle.std.specs.Prelude.{codes}
 use Rattle.std.specs.List.{AllByRecursion, flat_map}
 use Rattle.std.specs.Fmt.{decimal}
@@ -10,10 +10,9 @@ use Rattle.hex.specs.Hex.{encode_lower}
 use Rattle.outcome.specs.MismatchKind as kinds
 use Rattle.outcome.specs.declared.mismatch.Mismatch.{Mismatch}
 use Rattle.isa.specs.declared.entry.Entry.{Entry}
-use Rattle.isa.specs.declared.instr.Instr.{Instr}
 use Rattle.isa.specs.declared.limits.TheConstants.{MOST_INSTRS, MOST_TABLES}
 use Rattle.isa.specs.Program.{Program}
-use Rattle.assembler.specs.declared.fault.AsmErrorKind.TheVariants.{BadHeader, BadIndex, BadLine, TooLarge}
+use Rattle.assembler.specs.declared.fault.AsmErrorKind.TheVariants.{BadIndex, BadLine, TooLarge}
 use Rattle.assembler.specs.declared.fault.AsmFault.{AsmFault}
 use Rattle.assembler.specs.Assembling.{◌>>=◌, checked, fault, fits_constant, fits_list, is_before_code, is_before_jumps, is_before_maps, is_before_misses, placed, with_constant, with_instr, with_jumps, with_lines, with_map, with_miss, with_words}
 use Rattle.assembler.specs.Listing.{constant_line, entry, instr_line, jumps_line, lines, lines_from, listing_of, map_line, miss_line, number}

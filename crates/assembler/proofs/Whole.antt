@@ -1,5 +1,5 @@
 -- A text is assembled just where it is the listing of a program.
-use Rattle.std.proofs.Common.{◌≡◌, ℕ, cond, Bool, true, false, List, [], ◌∷◌, ◌++◌, length, Option, Some, None, Result, Ok, Err, refl, sym, ap, subst, ◌∙◌}
+use Rattle.std.proofs.Common.{◌≡◌, ℕ, cond, Bool, true, false, List, [], ◌∷◌, ◌++◌, Option, Some, None, Result, Ok, Err, refl, sym, ap, subst, ◌∙◌}
 use Rattle.std.specs.Prelude.{codes, IfOk}
 use Rattle.std.specs.Str.{bytes_eq}
 use Rattle.isa.specs.declared.program.ProgramError.{ProgramError}
@@ -9,8 +9,7 @@ use Rattle.isa.specs.Range.{IsProgram}
 use Rattle.isa.proofs.Judged.{sound}
 use Rattle.assembler.specs.declared.fault.AsmError.{AsmError}
 use Rattle.assembler.specs.declared.fault.AsmErrorKind.TheVariants.{BadHeader}
-use Rattle.assembler.specs.declared.fault.AsmFault.{AsmFault}
-use Rattle.assembler.specs.Assembling.{◌>>=◌, Gives, after_header, assembled, fault, in_range, nothing, with_header, with_lines}
+use Rattle.assembler.specs.Assembling.{Gives, after_header, assembled, fault, in_range, nothing, with_header}
 use Rattle.assembler.specs.Listing.{listing_of}
 use Rattle.listing_words.specs.Words.{parts}
 use Rattle.assembler.proofs.Fit.{Fits, program_fits}

@@ -1,9 +1,6 @@
 -- What assembling a listing answers: a program, or the first fault. All of this is this project's own.
-use Rattle.std.specs.Prelude.{◌≡◌, ℕ, suc, ◌+◌, Bool, true, not, ◌&&◌, ◌==◌, nat_lt, nat_le, if◌then◌else◌, List, [], ◌∷◌, ◌++◌, length, codes, Option, Some, None, Result, Ok, Err}
+use Rattle.std.specs.Prelude.{◌≡◌, ℕ, suc, ◌+◌, Bool, true, not, ◌&&◌, ◌==◌, nat_lt, nat_le, if◌then◌else◌, List, [], ◌∷◌, ◌++◌, length, codes, Some, None, Result, Ok, Err}
 use Rattle.std.specs.Str.{bytes_eq}
-use Rattle.outcome.specs.declared.mismatch.Mismatch.{Mismatch}
-use Rattle.isa.specs.declared.entry.Entry.{Entry}
-use Rattle.isa.specs.declared.instr.Instr.{Instr}
 use Rattle.isa.specs.declared.limits.TheConstants.{MOST_CONSTANT_BYTES, MOST_ENTRIES, MOST_INSTRS, MOST_TABLES}
 use Rattle.isa.specs.declared.program.ProgramError.{ProgramError}
 use Rattle.isa.specs.declared.program.ProgramError.TheVariants as wrong
@@ -73,6 +70,18 @@ fits_constant P bytes =
 
 abbrev pub fits_list : {A : Type 0} → List (List A) → List A → Bool
 fits_list lists list = nat_lt (length lists) MOST_TABLES && nat_le (length list) MOST_ENTRIES
+
+-- a list more, if it stands in its place, has the next number, and there is room for it
+abbrev pub with_list : {A : Type 0} → ℕ → Bool → List (List A) → ℕ → List A → Bool → Result (List (List A)) AsmFault
+with_list at here lists number list fits = do
+  _ ← checked at here (length lists) number (nat_lt (length lists) MOST_TABLES && fits)
+  Ok (lists ++ list ∷ [])
+
+-- a constant more
+abbrev pub pushed_constant : ℕ → Program → ℕ → List ℕ → Result Program AsmFault
+pushed_constant at P number bytes = do
+  _ ← checked at (is_before_maps P) (length P.constants) number (fits_constant P bytes)
+  Ok (record P { constants = P.constants ++ bytes ∷ [] })
 
 unfoldable pub with_constant : ℕ → Program → List (List ℕ) → Result Program AsmFault
 with_constant at P ws = do

@@ -11,11 +11,11 @@ use isa::Program;
 use listing_words::{is_text, split_line};
 use std::alloc::Global;
 
-/// What the lines after the header say.
-fn draft_of_lines(alloc: Global, text: &[u8]) -> Result<Draft, AsmError>
-    ensures { Gives (λ d. d) result (with_lines 2 nothing (parts 10 text.now)) }
+/// Takes the lines after the header.
+fn take_lines(draft: &mut Draft, alloc: Global, text: &[u8]) -> Result<(), AsmError>
+    requires { draft.old ≡ nothing }
+    ensures { Gives (λ _. draft.new) result (with_lines 2 nothing (parts 10 text.now)) }
 {
-    let mut draft = Draft::new(alloc);
     let mut rest = text;
     let mut at = 2;
     while let Some((line, after)) = split_line(rest) {
@@ -26,13 +26,14 @@ fn draft_of_lines(alloc: Global, text: &[u8]) -> Result<Draft, AsmError>
     if !rest.is_empty() {
         return Err(fault(AsmErrorKind::BadLine, at));
     }
-    Ok(draft)
+    Ok(())
 }
 
-/// What a listing says.
+/// Takes a whole listing.
 #[tactic(auto, unfolding(crate::specs::Assembling::with_header))]
-fn draft_of(alloc: Global, text: &[u8]) -> Result<Draft, AsmError>
-    ensures { Gives (λ d. d) result (with_header (parts 10 text.now)) }
+fn take_listing(draft: &mut Draft, alloc: Global, text: &[u8]) -> Result<(), AsmError>
+    requires { draft.old ≡ nothing }
+    ensures { Gives (λ _. draft.new) result (with_header (parts 10 text.now)) }
 {
     let (header, lines) = match split_line(text) {
         Some(parts) => parts,
@@ -42,7 +43,7 @@ fn draft_of(alloc: Global, text: &[u8]) -> Result<Draft, AsmError>
     if !is_text(header, "avro program 1") {
         return Err(fault(AsmErrorKind::BadHeader, 1));
     }
-    draft_of_lines(alloc, lines)
+    take_lines(draft, alloc, lines)
 }
 
 /// The program that a text says, or else the first fault.
@@ -50,7 +51,8 @@ fn draft_of(alloc: Global, text: &[u8]) -> Result<Draft, AsmError>
 fn assemble_whole(alloc: Global, text: &[u8]) -> Result<Program, AsmError>
     ensures { Gives (λ x. x) result (assembled text.now) }
 {
-    let draft = draft_of(alloc, text)?;
+    let mut draft = Draft::new(alloc);
+    take_listing(&mut draft, alloc, text)?;
     draft.judge()
 }
 

@@ -1,13 +1,13 @@
-ghost use Rattle.std.specs.Prelude.{◌≡◌, ◌+◌, ◌^◌, ◌<◌, ◌≤◌, ◌∷◌};
+ghost use Rattle.std.specs.Prelude.{◌≡◌, ◌+◌, ◌^◌, ◌<◌, ◌≤◌, ◌∷◌, ◌++◌, [], OnErr, OnOk, length, true};
 ghost use Rattle.isa.specs.Judging.{judged};
 ghost use Rattle.isa.specs.Program.{Program as Parted};
-ghost use Rattle.assembler.specs.Assembling.{Gives, checked, fault, fault_of, in_range, index_of, is_before_code, is_before_jumps, is_before_maps, is_before_misses, nothing, with_constant, with_instr, with_jumps, with_map, with_miss, with_words};
+ghost use Rattle.assembler.specs.Assembling.{Gives, checked, fault, fault_of, in_range, index_of, is_before_code, is_before_jumps, is_before_maps, is_before_misses, nothing, with_constant, pushed_constant, with_instr, with_jumps, with_list, with_map, with_miss, with_words};
 ghost use Rattle.assembler.specs.Draft.{AreFirst};
 ghost use Rattle.listing_words.specs.Words.{later, words};
 ghost use Rattle.assembler.specs.declared.fault.AsmError.TheVariants as errors;
 
 use crate::fault::{AsmError, AsmErrorKind, AsmFault};
-use crate::things::{constant_of, first_number, instr_of, list_of, miss_of};
+use crate::things::{first_number, instr_of, miss_of, numbered_constant, numbered_list};
 use isa::{
     Lists, MOST_CONSTANT_BYTES, MOST_ENTRIES, MOST_INSTRS, MOST_TABLES, Parts, Program,
     ProgramError,
@@ -17,7 +17,7 @@ use std::alloc::Global;
 use std::marker::Model;
 
 /// What is read of a listing so far. Callers see it as its parts.
-#[derive(Debug, Drop)]
+#[derive(Drop)]
 pub(crate) struct Draft {
     parts: Parts,
     /// How many bytes more the constants may have.
@@ -58,8 +58,28 @@ fn check(at: usize, here: bool, next: usize, number: u32, fits: bool) -> Result<
     Ok(())
 }
 
+/// Adds a list to a table, if it stands in its place, has the next number, and there is room for it.
+fn push_list<T: Copy>(
+    table: &mut Lists<T>,
+    at: usize,
+    here: bool,
+    number: u32,
+    list: &[T],
+    fits: bool,
+) -> Result<(), AsmError>
+    ensures pushed { Gives (λ _. table.new) result (with_list at here table.old number list.now fits) }
+    ensures refused { OnErr result (table.new ≡ table.old) }
+    ensures added { OnOk result ((length table.old < MOST_TABLES) × (fits ≡ true)
+        × (table.new ≡ table.old ++ list.now ∷ [])) }
+{
+    let next = table.len();
+    check(at, here, next, number, next < MOST_TABLES && fits)?;
+    table.push(list)?;
+    Ok(())
+}
+
 /// The lines in which sections begin, counted from 1.
-#[derive(Clone, Copy, Debug)]
+#[derive(Clone, Copy)]
 struct FirstLines {
     maps: usize,
     jumps: usize,
@@ -127,59 +147,52 @@ impl Draft {
         self.parts.maps.len() == 0 && self.is_before_jumps()
     }
 
-    /// Takes the line of a constant, of which the words after the first are left.
-    #[tactic(auto, unfolding(crate::specs::Assembling::with_constant, crate::specs::Things::numbered))]
-    fn take_constant(&mut self, alloc: Global, at: usize, words: &[u8]) -> Result<(), AsmError>
-        ensures { Gives (λ _. self.new) result (with_constant at self.old (later words.now)) }
+    /// Adds a constant.
+    fn push_constant(&mut self, at: usize, number: u32, bytes: &[u8]) -> Result<(), AsmError>
+        ensures { Gives (λ _. self.new) result (pushed_constant at self.old number bytes.now) }
     {
-        let Some((number, rest)) = first_number(words) else {
-            return Err(fault(AsmErrorKind::BadLine, at));
-        };
-        let Some(bytes) = constant_of(alloc, rest)? else {
-            return Err(fault(AsmErrorKind::BadLine, at));
-        };
-        let next = self.parts.constants.len();
-        let fits = next < MOST_TABLES && bytes.len() <= self.room;
-        check(at, self.is_before_maps(), next, number, fits)?;
-        self.parts.constants.push(&bytes)?;
+        let here = self.is_before_maps();
+        let fits = bytes.len() <= self.room;
+        push_list(&mut self.parts.constants, at, here, number, bytes, fits)?;
         self.room -= bytes.len();
         Ok(())
     }
 
+    /// Takes the line of a constant, of which the words after the first are left.
+    #[tactic(auto, unfolding(crate::specs::Assembling::with_constant))]
+    fn take_constant(&mut self, alloc: Global, at: usize, words: &[u8]) -> Result<(), AsmError>
+        ensures { Gives (λ _. self.new) result (with_constant at self.old (later words.now)) }
+    {
+        let Some((number, bytes)) = numbered_constant(alloc, words)? else {
+            return Err(fault(AsmErrorKind::BadLine, at));
+        };
+        self.push_constant(at, number, &bytes)
+    }
+
     /// Takes the line of a map.
-    #[tactic(auto, unfolding(crate::specs::Assembling::with_map, crate::specs::Things::numbered))]
+    #[tactic(auto, unfolding(crate::specs::Assembling::with_map))]
     fn take_map(&mut self, alloc: Global, at: usize, words: &[u8]) -> Result<(), AsmError>
         ensures { Gives (λ _. self.new) result (with_map at self.old (later words.now)) }
     {
-        let Some((number, rest)) = first_number(words) else {
+        let Some((number, map)) = numbered_list(alloc, words)? else {
             return Err(fault(AsmErrorKind::BadLine, at));
         };
-        let Some(map) = list_of(alloc, rest)? else {
-            return Err(fault(AsmErrorKind::BadLine, at));
-        };
-        let next = self.parts.maps.len();
-        let fits = next < MOST_TABLES && map.len() <= MOST_ENTRIES;
-        check(at, self.is_before_jumps(), next, number, fits)?;
-        self.parts.maps.push(&map)?;
-        Ok(())
+        let here = self.is_before_jumps();
+        let fits = map.len() <= MOST_ENTRIES;
+        push_list(&mut self.parts.maps, at, here, number, &map, fits)
     }
 
     /// Takes the line of a jump table.
-    #[tactic(auto, unfolding(crate::specs::Assembling::with_jumps, crate::specs::Things::numbered))]
+    #[tactic(auto, unfolding(crate::specs::Assembling::with_jumps))]
     fn take_jumps(&mut self, alloc: Global, at: usize, words: &[u8]) -> Result<(), AsmError>
         ensures { Gives (λ _. self.new) result (with_jumps at self.old (later words.now)) }
     {
-        let Some((number, rest)) = first_number(words) else {
+        let Some((number, table)) = numbered_list(alloc, words)? else {
             return Err(fault(AsmErrorKind::BadLine, at));
         };
-        let Some(table) = list_of(alloc, rest)? else {
-            return Err(fault(AsmErrorKind::BadLine, at));
-        };
-        let next = self.parts.jumps.len();
-        let fits = next < MOST_TABLES && table.len() <= MOST_ENTRIES;
-        check(at, self.is_before_misses(), next, number, fits)?;
-        self.parts.jumps.push(&table)?;
-        Ok(())
+        let here = self.is_before_misses();
+        let fits = table.len() <= MOST_ENTRIES;
+        push_list(&mut self.parts.jumps, at, here, number, &table, fits)
     }
 
     /// Takes the line of a miss.

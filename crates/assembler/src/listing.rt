@@ -147,16 +147,23 @@ fn push_code(output: &mut String, code: &[Instr]) -> Result<(), AllocError>
     Ok(())
 }
 
+/// Appends the listing of a program.
+fn push_listing(alloc: Global, output: &mut String, program: &Program) -> Result<(), AllocError>
+    ensures { OnOk result (string_bytes output.new ≡ string_bytes output.old ++ listing_of program.now) }
+{
+    output.push_str("avro program 1\n")?;
+    push_constants(alloc, output, program.constants())?;
+    push_maps(output, program.maps())?;
+    push_tables(output, program.jumps())?;
+    push_misses(output, program.misses())?;
+    push_code(output, program.code())
+}
+
 /// The listing of a program.
 pub fn disassemble(alloc: Global, program: &Program) -> Result<String, AllocError>
     ensures { IfOk result (λ text. string_bytes text ≡ listing_of program.now) }
 {
     let mut output = String::new(alloc);
-    output.push_str("avro program 1\n")?;
-    push_constants(alloc, &mut output, program.constants())?;
-    push_maps(&mut output, program.maps())?;
-    push_tables(&mut output, program.jumps())?;
-    push_misses(&mut output, program.misses())?;
-    push_code(&mut output, program.code())?;
+    push_listing(alloc, &mut output, program)?;
     Ok(output)
 }

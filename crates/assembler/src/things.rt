@@ -1,5 +1,5 @@
 ghost use Rattle.std.specs.Prelude.{◌≡◌, ℕ, List, Option, IfOk, option_map};
-ghost use Rattle.assembler.specs.Things.{at_end, bytes_in, constant_in, each_in, entry_in, first_number, instr_in, miss_in, operand_in};
+ghost use Rattle.assembler.specs.Things.{at_end, bytes_in, constant_in, each_in, entry_in, first_number, instr_in, miss_in, numbered, operand_in};
 ghost use Rattle.listing_words.specs.Words.{later, number_in};
 
 use hex::FromHexError;
@@ -37,7 +37,7 @@ pub fn bytes_of(alloc: Global, word: &[u8]) -> Result<Option<Vec<u8>>, AllocErro
 
 /// The constant that the words of a line say.
 #[tactic(auto, unfolding(crate::specs::Things::constant_in))]
-pub(crate) fn constant_of(alloc: Global, rest: &[u8]) -> Result<Option<Vec<u8>>, AllocError>
+fn constant_of(alloc: Global, rest: &[u8]) -> Result<Option<Vec<u8>>, AllocError>
     ensures { IfOk result (λ found. option_map (λ bytes. bytes.items) found ≡ constant_in (later rest.now)) }
 {
     let Some((word, rest)) = next_word(rest) else {
@@ -80,7 +80,7 @@ impl Word for Entry {
 }
 
 /// What each of the words of a line says.
-pub(crate) fn list_of<T: Word>(alloc: Global, words: &[u8]) -> Result<Option<Vec<T>>, AllocError>
+fn list_of<T: Word>(alloc: Global, words: &[u8]) -> Result<Option<Vec<T>>, AllocError>
     ensures { IfOk result (λ found. option_map (λ list. list.items) found ≡ each_in T.said (later words.now)) }
 {
     let mut list = Vec::new(alloc);
@@ -93,6 +93,42 @@ pub(crate) fn list_of<T: Word>(alloc: Global, words: &[u8]) -> Result<Option<Vec
         rest = after;
     }
     Ok(Some(list))
+}
+
+/// The number and the constant that the words of a line say.
+#[tactic(auto, unfolding(crate::specs::Things::numbered))]
+pub(crate) fn numbered_constant(
+    alloc: Global,
+    words: &[u8],
+) -> Result<Option<(u32, Vec<u8>)>, AllocError>
+    ensures { IfOk result
+        (λ found. option_map (λ x. (x.0, x.1.items)) found ≡ numbered constant_in (later words.now)) }
+{
+    let Some((number, rest)) = first_number(words) else {
+        return Ok(None);
+    };
+    match constant_of(alloc, rest)? {
+        Some(bytes) => Ok(Some((number, bytes))),
+        None => Ok(None),
+    }
+}
+
+/// The number and the list that the words of a line say.
+#[tactic(auto, unfolding(crate::specs::Things::numbered))]
+pub(crate) fn numbered_list<T: Word>(
+    alloc: Global,
+    words: &[u8],
+) -> Result<Option<(u32, Vec<T>)>, AllocError>
+    ensures { IfOk result
+        (λ found. option_map (λ x. (x.0, x.1.items)) found ≡ numbered (each_in T.said) (later words.now)) }
+{
+    let Some((number, rest)) = first_number(words) else {
+        return Ok(None);
+    };
+    match list_of(alloc, rest)? {
+        Some(list) => Ok(Some((number, list))),
+        None => Ok(None),
+    }
 }
 
 /// A thing, where no word is left.

@@ -38,6 +38,10 @@ jumps_at f = section_at f MOST_TABLES (section_at f MOST_ENTRIES (address_at f))
 abbrev pub misses_at : Format → List ℕ → Read (List Mismatch)
 misses_at f = section_at f MOST_TABLES (miss_at f)
 
+-- what a program holds before any section is read
+abbrev pub nothing : Program
+nothing = record { code = []; constants = []; maps = []; jumps = []; misses = [] }
+
 -- what the sections hold and where they begin, and the bytes after them
 abbrev pub sections_read : List (List ℕ) × List ℕ → List (List Entry) × List ℕ → List (List ℕ) × List ℕ
     → List Mismatch × List ℕ → List Instr × List ℕ → (Program × Starts) × List ℕ

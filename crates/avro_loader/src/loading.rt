@@ -4,46 +4,44 @@ ghost use Rattle.isa.specs.Range.{IsProgram};
 ghost use Rattle.image_words.specs.Reading.{opened};
 ghost use Rattle.avro_loader.specs.declared.fault.LoadError.TheVariants.{NoMemory};
 ghost use Rattle.avro_loader.specs.Image.{IsImage, image_of};
-ghost use Rattle.avro_loader.specs.Loading.{in_range, loaded, loaded_as, migrated, sections_at, starts_of};
+ghost use Rattle.avro_loader.specs.Loading.{in_range, loaded, loaded_as, migrated, nothing, sections_at, starts_of};
 ghost use Rattle.avro_loader.specs.Reading.{Gives};
 ghost use Rattle.isa.specs.Judging.{judged};
 
 use crate::fault::LoadError;
 use crate::places::{Sections, from_wrong};
-use crate::reading::{section_of, section_of_code, section_of_constants, section_of_tables};
+use crate::reading::{
+    push_section, push_section_of_code, push_section_of_constants, push_section_of_tables,
+};
 use crate::saving::save;
 use image_words::{Format, ImageFault, ended, open};
-use isa::{MOST_TABLES, Parts, Program, ProgramError};
+use isa::{Lists, MOST_TABLES, Parts, Program, ProgramError};
 use std::alloc::Global;
 
-/// What the sections hold and where they begin, and the bytes after them.
+/// Adds what the sections hold to parts that hold nothing. Where they begin, and the bytes after them.
 #[tactic(auto, unfolding(crate::specs::Loading::sections_at))]
-fn sections_of(
+fn push_sections<'a>(
     alloc: Global,
     format: Format,
-    bytes: &[u8],
-) -> Result<(Parts, Sections<'_>, &[u8]), LoadError>
-    ensures { Gives (λ x. ((program_of x.0, starts_of x.1), x.2.now)) result (sections_at format bytes.now) }
+    bytes: &'a [u8],
+    parts: &mut Parts,
+) -> Result<(Sections<'a>, &'a [u8]), LoadError>
+    requires { program_of parts.old ≡ nothing }
+    ensures { Gives (λ x. ((program_of parts.new, starts_of x.0), x.1.now)) result
+        (sections_at format bytes.now) }
 {
-    let (constants, maps_from) = section_of_constants(alloc, format, bytes)?;
-    let (maps, jumps_from) = section_of_tables(alloc, format, maps_from)?;
-    let (jumps, misses_from) = section_of_tables(alloc, format, jumps_from)?;
-    let (misses, code_from) = section_of(alloc, format, MOST_TABLES, misses_from)?;
-    let (code, rest) = section_of_code(alloc, format, code_from)?;
-    let parts = Parts {
-        code,
-        constants,
+    let maps = push_section_of_constants(format, bytes, &mut parts.constants)?;
+    let jumps = push_section_of_tables(alloc, format, maps, &mut parts.maps)?;
+    let misses = push_section_of_tables(alloc, format, jumps, &mut parts.jumps)?;
+    let code = push_section(format, MOST_TABLES, misses, &mut parts.misses)?;
+    let rest = push_section_of_code(format, code, &mut parts.code)?;
+    let starts = Sections {
         maps,
         jumps,
         misses,
+        code,
     };
-    let starts = Sections {
-        maps: maps_from,
-        jumps: jumps_from,
-        misses: misses_from,
-        code: code_from,
-    };
-    Ok((parts, starts, rest))
+    Ok((starts, rest))
 }
 
 /// A program of parts, or else the place of what is out of range.
@@ -69,7 +67,14 @@ fn program_of_parts(
 fn load_as(alloc: Global, format: Format, bytes: &[u8]) -> Result<Program, LoadError>
     ensures { Gives (λ x. x) result (loaded_as format bytes.now) }
 {
-    let (parts, starts, rest) = sections_of(alloc, format, bytes)?;
+    let mut parts = Parts {
+        code: Vec::new(alloc),
+        constants: Lists::new(alloc),
+        maps: Lists::new(alloc),
+        jumps: Lists::new(alloc),
+        misses: Vec::new(alloc),
+    };
+    let (starts, rest) = push_sections(alloc, format, bytes, &mut parts)?;
     ended(format, rest)?;
     program_of_parts(alloc, format, starts, parts)
 }
@@ -102,6 +107,13 @@ pub fn load(alloc: Global, bytes: &[u8]) -> Result<Program, LoadError>
     load_whole(alloc, bytes)
 }
 
+/// The image of a program.
+fn image_of(alloc: Global, program: &Program) -> Result<Vec<u8>, LoadError>
+    ensures { Gives (λ made. made.items) result (Ok (image_of program.now)) }
+{
+    Ok(save(alloc, program)?)
+}
+
 /// The image of version 2 of the program whose image these bytes are, or else the first fault.
 pub fn migrate(alloc: Global, bytes: &[u8]) -> Result<Vec<u8>, LoadError>
     ensures found { IfOk result (λ made. (P : Parted) × IsImage P bytes.now × (made.items ≡ image_of P)) }
@@ -109,5 +121,5 @@ pub fn migrate(alloc: Global, bytes: &[u8]) -> Result<Vec<u8>, LoadError>
     ensures memory { IsErrOf result NoMemory → IsOk (opened bytes.now) }
 {
     let program = load(alloc, bytes)?;
-    Ok(save(alloc, &program)?)
+    image_of(alloc, &program)
 }

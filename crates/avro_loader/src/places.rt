@@ -4,7 +4,7 @@ ghost use Rattle.avro_loader.specs.Loading.{after, from_wrong, starts_of};
 ghost use Rattle.avro_loader.specs.Reading.{Gives, section_at};
 
 use crate::fault::LoadError;
-use crate::reading::{tables_of, things_of};
+use crate::reading::{push_tables, push_things};
 use crate::thing::Thing;
 use image_words::{Format, u32_at};
 use isa::{Entry, Instr, Lists, ProgramError};
@@ -12,7 +12,7 @@ use outcome::Mismatch;
 use std::alloc::Global;
 
 /// The bytes of an image from each of its sections on.
-#[derive(Clone, Copy, Debug)]
+#[derive(Clone, Copy)]
 pub struct Sections<'a> {
     pub maps: &'a [u8],
     pub jumps: &'a [u8],
@@ -31,8 +31,8 @@ fn after<'a, T: Thing>(
     ensures { Gives (λ left. left.now) result (after (T.thing_at format) number bytes.now) }
 {
     let (_count, rest) = u32_at(bytes)?;
-    let (_things, left): (Vec<T>, &[u8]) = things_of(alloc, format, number, rest)?;
-    Ok(left)
+    let mut things: Vec<T> = Vec::new(alloc);
+    push_things(format, number, rest, &mut things)
 }
 
 /// The bytes after a count and so many tables.
@@ -47,8 +47,8 @@ fn after_tables<'a, T: Thing>(
         (after (section_at format MOST_ENTRIES (T.thing_at format)) number bytes.now) }
 {
     let (_count, rest) = u32_at(bytes)?;
-    let (_tables, left): (Lists<T>, &[u8]) = tables_of(alloc, format, number, rest)?;
-    Ok(left)
+    let mut tables: Lists<T> = Lists::new(alloc);
+    push_tables(alloc, format, number, rest, &mut tables)
 }
 
 /// The bytes from the thing on that is out of range.

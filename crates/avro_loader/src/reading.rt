@@ -1,4 +1,5 @@
-ghost use Rattle.std.specs.Prelude.{◌≡◌, List, length, Ok};
+ghost use Rattle.std.specs.Prelude.{◌≡◌, List, [], length, Ok};
+ghost use Rattle.image_words.specs.Reading.{Tells};
 ghost use Rattle.avro_loader.specs.Reading.{Gives, count_at, things_at, section_at, constant_at, constants_at, constants_section_at, code_at};
 
 use crate::fault::LoadError;
@@ -9,117 +10,120 @@ use std::alloc::Global;
 
 /// A count within its limit, and the bytes after it.
 #[tactic(auto, unfolding(crate::specs::Reading::count_at))]
-pub(crate) fn count_of(
-    format: Format,
-    most: usize,
-    bytes: &[u8],
-) -> Result<(usize, &[u8]), LoadError>
-    ensures { Gives (λ x. (x.0, x.1.now)) result (count_at format most bytes.now) }
+fn count_of(format: Format, most: usize, bytes: &[u8]) -> Result<(usize, &[u8]), ImageFault>
+    ensures { Tells (λ x. (x.0, x.1.now)) result (count_at format most bytes.now) }
 {
     let (count, rest) = u32_at(bytes)?;
     let count = count as usize;
     if most < count {
-        return Err(LoadError::Fault(ImageFault::TooLarge(format.place(bytes))));
+        return Err(ImageFault::TooLarge(format.place(bytes)));
     }
     Ok((count, rest))
 }
 
-/// So many things, and the bytes after them.
-pub(crate) fn things_of<T: Thing>(
-    alloc: Global,
+/// Adds so many things to none. The bytes after them.
+pub(crate) fn push_things<'a, T: Thing>(
     format: Format,
     count: usize,
-    bytes: &[u8],
-) -> Result<(Vec<T>, &[u8]), LoadError>
-    ensures { Gives (λ x. (x.0.items, x.1.now)) result (things_at (T.thing_at format) count bytes.now) }
+    bytes: &'a [u8],
+    things: &mut Vec<T>,
+) -> Result<&'a [u8], LoadError>
+    requires { things.old.items ≡ [] }
+    ensures { Gives (λ rest. (things.new.items, rest.now)) result (things_at (T.thing_at format) count bytes.now) }
 {
-    let mut things = Vec::new(alloc);
     let mut rest = bytes;
     for _ in 0..count {
         let (thing, after) = T::read(format, rest)?;
         things.push(thing)?;
         rest = after;
     }
-    Ok((things, rest))
+    Ok(rest)
 }
 
-/// A count and so many things, and the bytes after them.
+/// Adds the things of a section, a count and so many, to none. The bytes after them.
 #[tactic(auto, unfolding(crate::specs::Reading::section_at))]
-pub(crate) fn section_of<T: Thing>(
-    alloc: Global,
+pub(crate) fn push_section<'a, T: Thing>(
     format: Format,
     most: usize,
-    bytes: &[u8],
-) -> Result<(Vec<T>, &[u8]), LoadError>
-    ensures { Gives (λ x. (x.0.items, x.1.now)) result (section_at format most (T.thing_at format) bytes.now) }
+    bytes: &'a [u8],
+    things: &mut Vec<T>,
+) -> Result<&'a [u8], LoadError>
+    requires { things.old.items ≡ [] }
+    ensures { Gives (λ rest. (things.new.items, rest.now)) result
+        (section_at format most (T.thing_at format) bytes.now) }
 {
     let (count, rest) = count_of(format, most, bytes)?;
-    things_of(alloc, format, count, rest)
+    push_things(format, count, rest, things)
 }
 
-/// So many tables, and the bytes after them.
-pub(crate) fn tables_of<T: Thing>(
+/// Adds so many tables to none. The bytes after them.
+pub(crate) fn push_tables<'a, T: Thing>(
     alloc: Global,
     format: Format,
     count: usize,
-    bytes: &[u8],
-) -> Result<(Lists<T>, &[u8]), LoadError>
-    ensures { Gives (λ x. (x.0, x.1.now)) result
+    bytes: &'a [u8],
+    tables: &mut Lists<T>,
+) -> Result<&'a [u8], LoadError>
+    requires { tables.old ≡ [] }
+    ensures { Gives (λ rest. (tables.new, rest.now)) result
         (things_at (section_at format MOST_ENTRIES (T.thing_at format)) count bytes.now) }
 {
-    let mut tables = Lists::new(alloc);
     let mut rest = bytes;
     for _ in 0..count {
-        let (table, after) = section_of(alloc, format, MOST_ENTRIES, rest)?;
+        let mut table = Vec::new(alloc);
+        let after = push_section(format, MOST_ENTRIES, rest, &mut table)?;
         tables.push(&table)?;
         rest = after;
     }
-    Ok((tables, rest))
+    Ok(rest)
 }
 
-/// A count and so many tables, and the bytes after them.
+/// Adds the tables of a section, a count and so many, to none. The bytes after them.
 #[tactic(auto, unfolding(crate::specs::Reading::section_at))]
-pub(crate) fn section_of_tables<T: Thing>(
+pub(crate) fn push_section_of_tables<'a, T: Thing>(
     alloc: Global,
     format: Format,
-    bytes: &[u8],
-) -> Result<(Lists<T>, &[u8]), LoadError>
-    ensures { Gives (λ x. (x.0, x.1.now)) result
+    bytes: &'a [u8],
+    tables: &mut Lists<T>,
+) -> Result<&'a [u8], LoadError>
+    requires { tables.old ≡ [] }
+    ensures { Gives (λ rest. (tables.new, rest.now)) result
         (section_at format MOST_TABLES (section_at format MOST_ENTRIES (T.thing_at format)) bytes.now) }
 {
     let (count, rest) = count_of(format, MOST_TABLES, bytes)?;
-    tables_of(alloc, format, count, rest)
+    push_tables(alloc, format, count, rest, tables)
 }
 
 /// A constant, where so many bytes may still come, and the bytes after it.
 #[tactic(auto, unfolding(crate::specs::Reading::constant_at))]
-fn constant_of(format: Format, room: usize, bytes: &[u8]) -> Result<(&[u8], &[u8]), LoadError>
-    ensures { Gives (λ x. (x.0.now, x.1.now)) result (constant_at format room bytes.now) }
+fn constant_of(format: Format, room: usize, bytes: &[u8]) -> Result<(&[u8], &[u8]), ImageFault>
+    ensures { Tells (λ x. (x.0.now, x.1.now)) result (constant_at format room bytes.now) }
 {
     let (len, rest) = u32_at(bytes)?;
     let len = len as usize;
     if len == 0 {
-        return Err(LoadError::Fault(ImageFault::BadByte(format.place(bytes))));
+        return Err(ImageFault::BadByte(format.place(bytes)));
     }
     if room < len {
-        return Err(LoadError::Fault(ImageFault::TooLarge(format.place(bytes))));
+        return Err(ImageFault::TooLarge(format.place(bytes)));
     }
     if rest.len() < len {
-        return Err(LoadError::Fault(ImageFault::Truncated));
+        return Err(ImageFault::Truncated);
     }
     Ok(rest.split_at(len))
 }
 
-/// So many constants, and the bytes after them.
-fn constants_of(
-    alloc: Global,
+/// Adds so many constants to none. The bytes after them.
+fn push_constants<'a>(
     format: Format,
     count: usize,
-    bytes: &[u8],
-) -> Result<(Lists<u8>, &[u8]), LoadError>
-    ensures { Gives (λ x. (x.0, x.1.now)) result (constants_at format MOST_CONSTANT_BYTES count bytes.now) }
+    bytes: &'a [u8],
+    constants: &mut Lists<u8>,
+) -> Result<&'a [u8], LoadError>
+    requires { constants.old ≡ [] }
+    ensures { Gives (λ rest. (constants.new, rest.now)) result
+        (constants_at format MOST_CONSTANT_BYTES count bytes.now) }
 {
-    let mut constants = Lists::new(alloc);
     let mut room = MOST_CONSTANT_BYTES;
     let mut rest = bytes;
     for _ in 0..count {
@@ -128,34 +132,36 @@ fn constants_of(
         room = room.saturating_sub(constant.len());
         rest = after;
     }
-    Ok((constants, rest))
+    Ok(rest)
 }
 
-/// The section of constants, and the bytes after it.
+/// Adds the section of constants to none. The bytes after it.
 #[tactic(auto, unfolding(crate::specs::Reading::constants_section_at))]
-pub(crate) fn section_of_constants(
-    alloc: Global,
+pub(crate) fn push_section_of_constants<'a>(
     format: Format,
-    bytes: &[u8],
-) -> Result<(Lists<u8>, &[u8]), LoadError>
-    ensures { Gives (λ x. (x.0, x.1.now)) result (constants_section_at format bytes.now) }
+    bytes: &'a [u8],
+    constants: &mut Lists<u8>,
+) -> Result<&'a [u8], LoadError>
+    requires { constants.old ≡ [] }
+    ensures { Gives (λ rest. (constants.new, rest.now)) result (constants_section_at format bytes.now) }
 {
     let (count, rest) = count_of(format, MOST_TABLES, bytes)?;
-    constants_of(alloc, format, count, rest)
+    push_constants(format, count, rest, constants)
 }
 
-/// The section of the code, and the bytes after it.
+/// Adds the section of the code to none. The bytes after it.
 #[tactic(auto, unfolding(crate::specs::Reading::code_at))]
-pub(crate) fn section_of_code(
-    alloc: Global,
+pub(crate) fn push_section_of_code<'a>(
     format: Format,
-    bytes: &[u8],
-) -> Result<(Vec<Instr>, &[u8]), LoadError>
-    ensures { Gives (λ x. (x.0.items, x.1.now)) result (code_at format bytes.now) }
+    bytes: &'a [u8],
+    code: &mut Vec<Instr>,
+) -> Result<&'a [u8], LoadError>
+    requires { code.old.items ≡ [] }
+    ensures { Gives (λ rest. (code.new.items, rest.now)) result (code_at format bytes.now) }
 {
     let (count, rest) = count_of(format, format.version.most_instrs(), bytes)?;
     if count == 0 {
         return Err(LoadError::Fault(ImageFault::NoCode));
     }
-    things_of(alloc, format, count, rest)
+    push_things(format, count, rest, code)
 }

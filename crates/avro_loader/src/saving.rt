@@ -41,16 +41,23 @@ fn put_constants(out: &mut Vec<u8>, constants: &Lists<u8>) -> Result<(), AllocEr
     Ok(())
 }
 
+/// Adds the image of a program, in version 2.
+fn put_image(out: &mut Vec<u8>, program: &Program) -> Result<(), AllocError>
+    ensures { OnOk result (out.new.items ≡ out.old.items ++ image_of program.now) }
+{
+    out.extend_from_slice(b"AVRP\x02")?;
+    put_constants(out, program.constants())?;
+    put_tables(out, program.maps())?;
+    put_tables(out, program.jumps())?;
+    put_section(out, program.misses())?;
+    put_section(out, program.code())
+}
+
 /// The image of a program, in version 2.
 pub fn save(alloc: Global, program: &Program) -> Result<Vec<u8>, AllocError>
     ensures { IfOk result (λ made. made.items ≡ image_of program.now) }
 {
     let mut out = Vec::new(alloc);
-    out.extend_from_slice(b"AVRP\x02")?;
-    put_constants(&mut out, program.constants())?;
-    put_tables(&mut out, program.maps())?;
-    put_tables(&mut out, program.jumps())?;
-    put_section(&mut out, program.misses())?;
-    put_section(&mut out, program.code())?;
+    put_image(&mut out, program)?;
     Ok(out)
 }

@@ -2,11 +2,10 @@ ghost use Rattle.std.specs.Prelude.{◌≡◌, ◌++◌, ℕ, List, OnOk, IfSome
 ghost use Rattle.image_words.specs.declared.version.Format.{Format};
 ghost use Rattle.image_words.specs.declared.version.Version.TheVariants.{Two};
 ghost use Rattle.image_words.specs.Spelling.{address};
-ghost use Rattle.image_words.specs.Reading.{Read, address_at};
+ghost use Rattle.image_words.specs.Reading.{Read, Tells, address_at};
 ghost use Rattle.avro_loader.specs.Image.{entry, miss, instr};
-ghost use Rattle.avro_loader.specs.Reading.{Gives, entry_at, miss_at, instr_at, kind_at};
+ghost use Rattle.avro_loader.specs.Reading.{entry_at, miss_at, instr_at, kind_at};
 
-use crate::fault::LoadError;
 use image_words::{Format, ImageFault, address_of, operand_of, put_long, put_short, u16_at};
 use isa::{Entry, Instr, Operation, Shape};
 use outcome::{Mismatch, MismatchKind};
@@ -20,8 +19,8 @@ pub(crate) trait Thing: Copy {
     /// Its bytes in version 2.
     ghost spelled: { Self → List ℕ };
 
-    fn read<'a>(format: Format, bytes: &'a [u8]) -> Result<(Self, &'a [u8]), LoadError>
-        ensures { Gives (λ x. (x.0, x.1.now)) result (thing_at format bytes.now) };
+    fn read<'a>(format: Format, bytes: &'a [u8]) -> Result<(Self, &'a [u8]), ImageFault>
+        ensures { Tells (λ x. (x.0, x.1.now)) result (thing_at format bytes.now) };
 
     fn put(self, out: &mut Vec<u8>) -> Result<(), AllocError>
         ensures { OnOk result (out.new.items ≡ out.old.items ++ spelled self) };
@@ -32,8 +31,8 @@ impl Thing for u32 {
 
     ghost spelled = { address Two };
 
-    fn read<'a>(format: Format, bytes: &'a [u8]) -> Result<(u32, &'a [u8]), LoadError> {
-        Ok(address_of(format, bytes)?)
+    fn read<'a>(format: Format, bytes: &'a [u8]) -> Result<(u32, &'a [u8]), ImageFault> {
+        address_of(format, bytes)
     }
 
     fn put(self, out: &mut Vec<u8>) -> Result<(), AllocError> {
@@ -47,9 +46,9 @@ impl Thing for Entry {
     ghost spelled = { entry };
 
     #[tactic(auto, unfolding(crate::specs::Reading::entry_at))]
-    fn read<'a>(format: Format, bytes: &'a [u8]) -> Result<(Entry, &'a [u8]), LoadError> {
+    fn read<'a>(format: Format, bytes: &'a [u8]) -> Result<(Entry, &'a [u8]), ImageFault> {
         match bytes {
-            [] => Err(LoadError::Fault(ImageFault::Truncated)),
+            [] => Err(ImageFault::Truncated),
             [0, rest @ ..] => {
                 let (position, rest) = u16_at(rest)?;
                 Ok((Entry::Position(position), rest))
@@ -58,7 +57,7 @@ impl Thing for Entry {
                 let (miss, rest) = u16_at(rest)?;
                 Ok((Entry::Miss(miss), rest))
             }
-            [_, ..] => Err(LoadError::Fault(ImageFault::BadByte(format.place(bytes)))),
+            [_, ..] => Err(ImageFault::BadByte(format.place(bytes))),
         }
     }
 
@@ -96,12 +95,12 @@ impl Thing for Mismatch {
     ghost spelled = { miss };
 
     #[tactic(auto, unfolding(crate::specs::Reading::miss_at))]
-    fn read<'a>(format: Format, bytes: &'a [u8]) -> Result<(Mismatch, &'a [u8]), LoadError> {
+    fn read<'a>(format: Format, bytes: &'a [u8]) -> Result<(Mismatch, &'a [u8]), ImageFault> {
         let [first, rest @ ..] = bytes else {
-            return Err(LoadError::Fault(ImageFault::Truncated));
+            return Err(ImageFault::Truncated);
         };
         let Some(kind) = kind_of(*first) else {
-            return Err(LoadError::Fault(ImageFault::BadByte(format.place(bytes))));
+            return Err(ImageFault::BadByte(format.place(bytes)));
         };
         let (writer_node, rest) = u16_at(rest)?;
         let (reader_node, rest) = u16_at(rest)?;
@@ -126,12 +125,12 @@ impl Thing for Instr {
     ghost spelled = { instr Two };
 
     #[tactic(auto, unfolding(crate::specs::Reading::instr_at))]
-    fn read<'a>(format: Format, bytes: &'a [u8]) -> Result<(Instr, &'a [u8]), LoadError> {
+    fn read<'a>(format: Format, bytes: &'a [u8]) -> Result<(Instr, &'a [u8]), ImageFault> {
         let [first, rest @ ..] = bytes else {
-            return Err(LoadError::Fault(ImageFault::Truncated));
+            return Err(ImageFault::Truncated);
         };
         let Some(operation) = Operation::at_code(*first) else {
-            return Err(LoadError::Fault(ImageFault::BadByte(format.place(bytes))));
+            return Err(ImageFault::BadByte(format.place(bytes)));
         };
         let (operand, rest) = operand_of(format, operation.shape(), rest)?;
         Ok((operation.with(operand), rest))

@@ -39,7 +39,7 @@ miss 0 NoSymbol 3 0
 ";
 
 /// Whether the listing of a program is this text.
-fn is_listed(alloc: Global, program: &Program, text: &str) -> Result<bool, AllocError> {
+pub(crate) fn is_listed(alloc: Global, program: &Program, text: &str) -> Result<bool, AllocError> {
     let listing = listed(alloc, program)?;
     Ok(listing.as_str() == text)
 }
@@ -150,39 +150,39 @@ fn numbers_and_operands(rt: HostRuntime) -> Result<(), AllocError> {
     Ok(())
 }
 
+/// The line of a map of so many entries.
+fn map_line(alloc: Global, number: usize, entries: usize) -> Result<String, AllocError> {
+    let entries = " 1".repeat(alloc, entries)?;
+    format!(in alloc; "map {number}{entries}\n")
+}
+
 /// Whether a map of so many entries comes back.
 fn map_comes_back(alloc: Global, entries: usize) -> Result<bool, AllocError> {
-    let entries = " 1".repeat(alloc, entries)?;
-    let text = format!(in alloc; "avro program 1\nmap 0{entries}\n0 HALT\n")?;
+    let line = map_line(alloc, 0, entries)?;
+    let text = format!(in alloc; "avro program 1\n{line}0 HALT\n")?;
     comes_back(alloc, &text)
 }
 
 /// The error of a map of so many entries.
-fn error_of_map(alloc: Global, entries: usize) -> Result<Option<AsmError>, AllocError> {
-    let entries = " 1".repeat(alloc, entries)?;
-    let lines = format!(in alloc; "map 0{entries}\n")?;
-    error_of(alloc, &lines)
+fn error_of_map(
+    alloc: Global,
+    number: usize,
+    entries: usize,
+) -> Result<Option<AsmError>, AllocError> {
+    let line = map_line(alloc, number, entries)?;
+    error_of(alloc, &line)
 }
 
 #[test]
-fn maps_have_a_limit_of_entries(rt: HostRuntime) {
-    let same = map_comes_back(rt.alloc(), 4096).expect(&rt, "no memory");
+fn maps_have_a_limit_of_entries(rt: HostRuntime) -> Result<(), AllocError> {
+    let same = map_comes_back(rt.alloc(), 4096)?;
     assert!(rt; same);
-    let found = error_of_map(rt.alloc(), 4097).expect(&rt, "no memory");
+    let found = error_of_map(rt.alloc(), 0, 4097)?;
     assert!(rt; found == fault(2, AsmErrorKind::TooLarge));
-}
-
-/// The error of a map of more entries than there may be, whose number is not the next one.
-fn error_of_another_map(alloc: Global) -> Result<Option<AsmError>, AllocError> {
-    let entries = " 1".repeat(alloc, 4097)?;
-    let lines = format!(in alloc; "map 1{entries}\n")?;
-    error_of(alloc, &lines)
-}
-
-#[test]
-fn a_wrong_number_is_told_before_a_limit(rt: HostRuntime) {
-    let found = error_of_another_map(rt.alloc()).expect(&rt, "no memory");
-    assert!(rt; found == fault(2, AsmErrorKind::BadIndex));
+    // A number that is not the next one is told before the limit.
+    let other = error_of_map(rt.alloc(), 1, 4097)?;
+    assert!(rt; other == fault(2, AsmErrorKind::BadIndex));
+    Ok(())
 }
 
 /// The error of a constant of so many bytes, before any instruction.

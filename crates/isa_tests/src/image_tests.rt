@@ -1,6 +1,7 @@
 //! Images of both versions: those of a program, and what is told of bytes that are no image.
 
 use crate::again::{loaded, migrated, saved};
+use crate::program_tests::is_list;
 use avro_loader::{ImageFault, LoadError};
 use isa::{Entry, Instr, Program};
 use outcome::{Mismatch, MismatchKind};
@@ -74,37 +75,46 @@ fn fault_with(
 }
 
 /// Whether the program of an image has a code.
-fn assert_code(rt: &(impl Abort + AllocGlobal), image: &[u8], code: &[Instr]) {
-    let program = loaded(rt.alloc(), image).expect(rt, "an image");
-    assert!(rt; program.code() == code);
+fn has_code(alloc: Global, image: &[u8], code: &[Instr]) -> bool {
+    match loaded(alloc, image) {
+        Ok(program) => program.code() == code,
+        Err(_) => false,
+    }
 }
 
-/// The image that the program of an image is saved as.
-fn saved_again(alloc: Global, image: &[u8]) -> Result<Vec<u8>, LoadError> {
-    let program = loaded(alloc, image)?;
-    Ok(saved(alloc, &program)?)
+/// Whether a program is saved as this image.
+fn is_saved(alloc: Global, program: &Program, image: &[u8]) -> bool {
+    match saved(alloc, program) {
+        Ok(again) => again.as_slice() == image,
+        Err(AllocError) => false,
+    }
 }
 
 /// Whether the program of an image is saved as this image.
-fn assert_saved(rt: &(impl Abort + AllocGlobal), image: &[u8], other: &[u8]) {
-    let again = saved_again(rt.alloc(), image).expect(rt, "an image");
-    assert!(rt; again.as_slice() == other);
+fn is_saved_again(alloc: Global, image: &[u8], other: &[u8]) -> bool {
+    match loaded(alloc, image) {
+        Ok(program) => is_saved(alloc, &program, other),
+        Err(_) => false,
+    }
 }
 
 /// Whether an image is migrated to this image.
-fn assert_migrated(rt: &(impl Abort + AllocGlobal), image: &[u8], other: &[u8]) {
-    let again = migrated(rt.alloc(), image).expect(rt, "an image");
-    assert!(rt; again.as_slice() == other);
+fn is_migrated(alloc: Global, image: &[u8], other: &[u8]) -> bool {
+    match migrated(alloc, image) {
+        Ok(again) => again.as_slice() == other,
+        Err(_) => false,
+    }
 }
 
 /// Whether two images are one program's in the two versions.
 fn assert_versions(rt: &(impl Abort + AllocGlobal), first: &[u8], second: &[u8], code: &[Instr]) {
+    let alloc = rt.alloc();
     assert!(rt; first.len() == 42 && second.len() == 44);
-    assert_code(rt, first, code);
-    assert_code(rt, second, code);
-    assert_saved(rt, first, second);
-    assert_migrated(rt, first, second);
-    assert_migrated(rt, second, second);
+    assert!(rt; has_code(alloc, first, code));
+    assert!(rt; has_code(alloc, second, code));
+    assert!(rt; is_saved_again(alloc, first, second));
+    assert!(rt; is_migrated(alloc, first, second));
+    assert!(rt; is_migrated(alloc, second, second));
 }
 
 #[test]
@@ -127,86 +137,89 @@ fn both_versions_are_loaded_and_saved_as_the_second(rt: HostRuntime) -> Result<(
 }
 
 /// Whether a program has a thing of each kind, which are these.
-fn assert_has_all(rt: &impl Abort, program: &Program) {
-    assert!(rt; program.constants().get(0) == Some([2u8, 255].as_slice()));
-    assert!(rt; program.maps().get(0) == Some([Entry::Position(3), Entry::Miss(0)].as_slice()));
-    assert!(rt; program.jumps().get(0) == Some([0u32, 5].as_slice()));
+fn has_all(program: &Program) -> bool {
     let miss = Mismatch {
         kind: MismatchKind::NoSymbol,
         writer_node: 1,
         reader_node: 2,
     };
-    assert!(rt; program.misses() == [miss].as_slice());
+    is_list(program.constants(), 0, &[2, 255])
+        && is_list(program.maps(), 0, &[Entry::Position(3), Entry::Miss(0)])
+        && is_list(program.jumps(), 0, &[0, 5])
+        && program.misses() == [miss].as_slice()
+}
+
+/// Whether the program of an image has them.
+fn image_has_all(alloc: Global, image: &[u8]) -> bool {
+    match loaded(alloc, image) {
+        Ok(program) => has_all(&program),
+        Err(_) => false,
+    }
 }
 
 #[test]
 fn things_of_each_kind_are_loaded_and_saved(rt: HostRuntime) -> Result<(), AllocError> {
     let image = bytes(rt.alloc(), IMAGE_OF_ALL)?;
-    let program = loaded(rt.alloc(), &image).expect(&rt, "an image");
-    assert_has_all(&rt, &program);
-    assert_saved(&rt, &image, &image);
+    assert!(rt; image_has_all(rt.alloc(), &image));
+    assert!(rt; is_saved_again(rt.alloc(), &image, &image));
     Ok(())
 }
 
 #[test]
 fn an_enum_has_four_bytes_for_its_symbols(rt: HostRuntime) -> Result<(), AllocError> {
     let image = bytes(rt.alloc(), IMAGE_OF_ENUM)?;
-    assert_code(&rt, &image, &[Instr::SkipEnum(3), Instr::Halt]);
-    assert_saved(&rt, &image, &image);
+    assert!(rt; has_code(rt.alloc(), &image, &[Instr::SkipEnum(3), Instr::Halt]));
+    assert!(rt; is_saved_again(rt.alloc(), &image, &image));
     Ok(())
 }
 
 #[test]
-fn faults_are_told_in_reading_order(rt: HostRuntime) {
-    let alloc = rt.alloc();
+fn faults_are_told_in_reading_order_at_their_places(rt: HostRuntime) -> Result<(), AllocError> {
     let cases = [
-        (0, 0u8, ImageFault::BadMagic),
-        (4, 3, ImageFault::BadVersion),
-        (5, 1, ImageFault::TooLarge(5)),
-        (25, 0x20, ImageFault::BadByte(25)),
-        (25, 0, ImageFault::BadByte(25)),
-        (27, 9, ImageFault::OutOfRange(25)),
-        (24, 0, ImageFault::NoCode),
-        (24, 8, ImageFault::Trailing(41)),
-        (24, 10, ImageFault::Truncated),
+        (IMAGE_1, 0, 0u8, ImageFault::BadMagic),
+        (IMAGE_1, 4, 3, ImageFault::BadVersion),
+        (IMAGE_1, 5, 1, ImageFault::TooLarge(5)),
+        (IMAGE_1, 25, 0x20, ImageFault::BadByte(25)),
+        (IMAGE_1, 25, 0, ImageFault::BadByte(25)),
+        (IMAGE_1, 27, 9, ImageFault::OutOfRange(25)),
+        (IMAGE_1, 24, 0, ImageFault::NoCode),
+        (IMAGE_1, 24, 8, ImageFault::Trailing(41)),
+        (IMAGE_1, 24, 10, ImageFault::Truncated),
+        (IMAGE_OF_ALL, 12, 0, ImageFault::BadByte(9)),
+        (IMAGE_OF_ALL, 10, 0xff, ImageFault::TooLarge(9)),
+        (IMAGE_OF_ALL, 23, 2, ImageFault::BadByte(23)),
+        (IMAGE_OF_ALL, 24, 0x10, ImageFault::OutOfRange(23)),
+        (IMAGE_OF_ALL, 28, 1, ImageFault::OutOfRange(26)),
+        (IMAGE_OF_ALL, 44, 6, ImageFault::OutOfRange(41)),
+        (IMAGE_OF_ALL, 49, 6, ImageFault::BadByte(49)),
+        (IMAGE_OF_ALL, 50, 4, ImageFault::OutOfRange(49)),
+        (IMAGE_OF_ALL, 60, 1, ImageFault::OutOfRange(58)),
     ];
-    for (at, byte, fault) in cases {
-        let found = fault_with(alloc, IMAGE_1, at, byte).expect(&rt, "no memory");
+    for (image, at, byte, fault) in cases {
+        let found = fault_with(rt.alloc(), image, at, byte)?;
         assert!(rt; found == Some(fault));
     }
+    Ok(())
+}
+
+/// Whether each front of an image is truncated, and a byte after it is told.
+fn assert_ends(rt: &(impl Abort + AllocGlobal), image: &mut Vec<u8>) -> Result<(), AllocError> {
+    for len in 0..image.len() {
+        assert!(rt; fault_of(rt.alloc(), &image[..len]) == Some(ImageFault::Truncated));
+    }
+    let len = image.len();
+    image.push(0)?;
+    assert!(rt; fault_of(rt.alloc(), image) == Some(ImageFault::Trailing(len)));
+    Ok(())
 }
 
 #[test]
-fn faults_of_tables_are_told_at_their_places(rt: HostRuntime) {
-    let alloc = rt.alloc();
-    let cases = [
-        (12, 0u8, ImageFault::BadByte(9)),
-        (10, 0xff, ImageFault::TooLarge(9)),
-        (23, 2, ImageFault::BadByte(23)),
-        (24, 0x10, ImageFault::OutOfRange(23)),
-        (28, 1, ImageFault::OutOfRange(26)),
-        (44, 6, ImageFault::OutOfRange(41)),
-        (49, 6, ImageFault::BadByte(49)),
-        (50, 4, ImageFault::OutOfRange(49)),
-        (60, 1, ImageFault::OutOfRange(58)),
-    ];
-    for (at, byte, fault) in cases {
-        let found = fault_with(alloc, IMAGE_OF_ALL, at, byte).expect(&rt, "no memory");
-        assert!(rt; found == Some(fault));
-    }
-}
-
-#[test]
-fn every_front_is_truncated_and_nothing_follows(rt: HostRuntime) {
-    let alloc = rt.alloc();
+fn every_front_is_truncated_and_nothing_follows(rt: HostRuntime) -> Result<(), AllocError> {
     for text in [IMAGE_1, IMAGE_2, IMAGE_OF_ALL] {
-        let mut image = bytes(alloc, text).expect(&rt, "no memory");
-        for len in 0..image.len() {
-            assert!(rt; fault_of(alloc, &image[..len]) == Some(ImageFault::Truncated));
-        }
-        image.push(0).expect(&rt, "no memory");
-        assert!(rt; fault_of(alloc, &image) == Some(ImageFault::Trailing(image.len() - 1)));
+        let mut image = bytes(rt.alloc(), text)?;
+        assert_ends(&rt, &mut image)?;
     }
+    Ok(())
 }
 
 /// What the image that has a fault in its second instruction is told with one byte more.
@@ -296,28 +309,29 @@ fn in_version_two(alloc: Global, image: &[u8]) -> Result<Vec<u8>, AllocError> {
 }
 
 /// Whether a program of bytes is saved as these bytes in version 2, and they are migrated to the same.
-fn assert_program_of(rt: &(impl Abort + AllocGlobal), bytes: &[u8], program: &Program) {
-    let second = in_version_two(rt.alloc(), bytes).expect(rt, "no memory");
-    let saved = saved(rt.alloc(), program).expect(rt, "no memory");
-    assert!(rt; saved.as_slice() == second.as_slice());
-    assert_migrated(rt, bytes, &second);
+fn is_program_of(alloc: Global, bytes: &[u8], program: &Program) -> Result<bool, AllocError> {
+    let second = in_version_two(alloc, bytes)?;
+    Ok(is_saved(alloc, program, &second) && is_migrated(alloc, bytes, &second))
 }
 
 /// Whether bytes are no image, or their program is saved so.
-fn assert_image(rt: &(impl Abort + AllocGlobal), bytes: &[u8]) {
-    if let Ok(program) = loaded(rt.alloc(), bytes) {
-        assert_program_of(rt, bytes, &program);
+fn is_image_or_none(alloc: Global, bytes: &[u8]) -> Result<bool, AllocError> {
+    match loaded(alloc, bytes) {
+        Ok(program) => is_program_of(alloc, bytes, &program),
+        Err(_) => Ok(true),
     }
 }
 
 /// The same of an image with each byte at each place.
-fn assert_changed(rt: &(impl Abort + AllocGlobal), image: &[u8]) -> Result<(), AllocError> {
+fn assert_changed(rt: &(impl Abort + AllocGlobal), image: &mut Vec<u8>) -> Result<(), AllocError> {
     for at in 0..image.len() {
+        let was = image[at];
         for byte in 0..=255u8 {
-            let mut changed = Vec::from_slice(rt.alloc(), image)?;
-            changed[at] = byte;
-            assert_image(rt, &changed);
+            image[at] = byte;
+            let same = is_image_or_none(rt.alloc(), image)?;
+            assert!(rt; same);
         }
+        image[at] = was;
     }
     Ok(())
 }
@@ -325,8 +339,8 @@ fn assert_changed(rt: &(impl Abort + AllocGlobal), image: &[u8]) -> Result<(), A
 #[test]
 fn bytes_that_are_loaded_are_an_image(rt: HostRuntime) -> Result<(), AllocError> {
     for text in [IMAGE_1, IMAGE_2, IMAGE_OF_ALL] {
-        let image = bytes(rt.alloc(), text)?;
-        assert_changed(&rt, &image)?;
+        let mut image = bytes(rt.alloc(), text)?;
+        assert_changed(&rt, &mut image)?;
     }
     Ok(())
 }

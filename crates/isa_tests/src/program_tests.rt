@@ -85,7 +85,7 @@ fn push_four(lists: &mut Lists<u8>) -> Result<(), AllocError> {
 }
 
 /// Whether the list at a position is this one.
-fn is_list<T: Copy + PartialEq>(lists: &Lists<T>, position: usize, list: &[T]) -> bool {
+pub(crate) fn is_list<T: Copy + PartialEq>(lists: &Lists<T>, position: usize, list: &[T]) -> bool {
     lists.get(position) == Some(list)
 }
 
@@ -132,14 +132,23 @@ fn has_tables(program: &Program) -> bool {
         && program.misses() == [miss(0)].as_slice()
 }
 
+/// Whether parts are a program that shows them.
+fn are_shown(parts: Parts, code: &[Instr]) -> bool {
+    match Program::new(parts) {
+        Ok(program) => {
+            program.is_in_range();
+            has_code(&program, code) && has_tables(&program)
+        }
+        Err(_) => false,
+    }
+}
+
 #[test]
-fn a_program_shows_its_parts(rt: HostRuntime) {
+fn a_program_shows_its_parts(rt: HostRuntime) -> Result<(), AllocError> {
     let code = [Instr::Call(1), Instr::Halt];
-    let parts = parts(rt.alloc(), &code).expect(&rt, "no memory");
-    let program = Program::new(parts).expect(&rt, "a program");
-    program.is_in_range();
-    assert!(rt; has_code(&program, &code));
-    assert!(rt; has_tables(&program));
+    let parts = parts(rt.alloc(), &code)?;
+    assert!(rt; are_shown(parts, &code));
+    Ok(())
 }
 
 #[test]
@@ -301,15 +310,17 @@ fn fault_of_constants(
     len: usize,
     times: usize,
 ) -> Result<Option<ProgramError>, AllocError> {
+    let constants = long_lists(alloc, 0u8, len, times)?;
     let mut parts = halts(alloc, 1)?;
-    parts.constants = long_lists(alloc, 0u8, len, times)?;
+    parts.constants = constants;
     Ok(fault(parts))
 }
 
 /// What is told of a code with a jump table of so many entries in place of its own.
 fn fault_of_jumps(alloc: Global, len: usize) -> Result<Option<ProgramError>, AllocError> {
+    let jumps = long_lists(alloc, 0u32, len, 1)?;
     let mut parts = halts(alloc, 1)?;
-    parts.jumps = long_lists(alloc, 0u32, len, 1)?;
+    parts.jumps = jumps;
     Ok(fault(parts))
 }
 

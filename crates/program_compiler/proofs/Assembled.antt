@@ -20,9 +20,9 @@ use Rattle.program_code.proofs.Numbers.{added, bytes_is, bytes_refl}
 use Rattle.program_code.proofs.Ranges.{code_length}
 use Rattle.program_lines.specs.declared.error.CompileError.{CompileError}
 use Rattle.program_lines.specs.declared.error.CompileError.TheVariants.{ProgramTooLarge, NoMemory}
-use Rattle.program_lines.specs.declared.lines.Line as rust
-use Rattle.program_lines.specs.Lines.{line_of, lines_in}
-use Rattle.program_compiler.specs.Parts.{AreWide, Assembles, FitNowhere, IsLong, LinksAll}
+use Rattle.program_tables.specs.declared.lines.Line as rust
+use Rattle.program_tables.specs.Lines.{line_of, lines_in}
+use Rattle.program_compiler.specs.Parts.{AreWide, Assembles, FitNowhere, IsLong, LinksAll, LinksTables}
 use Rattle.program_compiler.proofs.Jumps.{lines_left}
 
 module _ (W R : List Node) (lines : List rust.Line) (i : ℕ) (line : rust.Line) (lost : Bool) (lt : i < length lines) (is : line ≡ get_or lines i line) (told : lost ≡ is_lost (line_of W R line)) where
@@ -125,20 +125,38 @@ module _ (starts : Section → ℕ) (W R : List Node) (lines all : List rust.Lin
     same_code : code_from starts cs ms 0 0 0 (lines_in W R all) ≡ code_from starts (constants_in (lines_in W R all)) (misses_in (lines_in W R all)) 0 0 0 (lines_in W R all)
     same_code = ap (λ x. code_from starts x ms 0 0 0 (lines_in W R all)) all_constants ∙ ap (λ y. code_from starts (constants_in (lines_in W R all)) y 0 0 0 (lines_in W R all)) all_misses
 
-    pub none_assembled : (e : CompileError) (result : Result (Vec Instr) CompileError) → result ≡ Err e → LinksAll (lines_in W R all) (code_from starts cs ms 0 0 0 (lines_in W R all)) result → Assembles (lines_in W R all) (numbered starts (lines_in W R all)) (Err e)
+    pub none_assembled : (e : CompileError) (result : Result (Vec Instr) CompileError) → result ≡ Err e → LinksAll (lines_in W R all) (code_from starts cs ms 0 0 0 (lines_in W R all)) result → LinksTables (lines_in W R all) (numbered starts (lines_in W R all)) (Err e)
     none_assembled ProgramTooLarge result is h =
         let here : FitNowhere (named_in constants_of (lines_in W R all)) (code_from starts cs ms 0 0 0 (lines_in W R all)) = subst (LinksAll (lines_in W R all) (code_from starts cs ms 0 0 0 (lines_in W R all))) is h in
         λ whole prog. none_fits starts (lines_in W R all) (subst (FitNowhere (named_in constants_of (lines_in W R all))) same_code here) prog
     none_assembled NoMemory result is h = tt
 
-    pub linked_parts : (code : Vec Instr) (maps : List (List Entry)) (jumps : List (List ℕ)) (listed : List (List ℕ)) (listed_misses : List Mismatch) (result : Result (Vec Instr) CompileError) → result ≡ Ok code
-        → LinksAll (lines_in W R all) (code_from starts cs ms 0 0 0 (lines_in W R all)) result → maps ≡ map (map (entry_of ms)) (named_in maps_of (lines_in W R lines)) → jumps ≡ jumps_from 0 (lines_in W R lines) → listed ≡ cs → listed_misses ≡ ms
-        → ◌≡◌ {A = Program} (record { code = code.items; constants = listed; maps = maps; jumps = jumps; misses = listed_misses }) (numbered starts (lines_in W R all))
-    linked_parts code maps jumps listed listed_misses result is h em ej el en =
+    pub code_is : (code : Vec Instr) (result : Result (Vec Instr) CompileError) → result ≡ Ok code → LinksAll (lines_in W R all) (code_from starts cs ms 0 0 0 (lines_in W R all)) result
+        → code.items ≡ code_from starts (constants_in (lines_in W R all)) (misses_in (lines_in W R all)) 0 0 0 (lines_in W R all)
+    code_is code result is h =
         let here : code.items ≡ code_from starts cs ms 0 0 0 (lines_in W R all) = subst (LinksAll (lines_in W R all) (code_from starts cs ms 0 0 0 (lines_in W R all))) is h in
-        let to_code = here ∙ same_code in
-        let to_constants = el ∙ all_constants in
-        let to_misses = en ∙ all_misses in
-        let to_jumps = ej ∙ ap (λ l. jumps_from 0 (lines_in W R l)) same in
-        let to_maps = em ∙ ap (λ y. map (map (entry_of y)) (named_in maps_of (lines_in W R lines))) all_misses ∙ ap (λ l. map (map (entry_of (misses_in (lines_in W R all)))) (named_in maps_of (lines_in W R l))) same in
-        five to_code to_constants to_maps to_jumps to_misses
+        here ∙ same_code
+
+    pub maps_are : (maps : List (List Entry)) → maps ≡ map (map (entry_of ms)) (named_in maps_of (lines_in W R lines)) → maps ≡ map (map (entry_of (misses_in (lines_in W R all)))) (named_in maps_of (lines_in W R all))
+    maps_are maps em = em ∙ ap (λ y. map (map (entry_of y)) (named_in maps_of (lines_in W R lines))) all_misses ∙ ap (λ l. map (map (entry_of (misses_in (lines_in W R all)))) (named_in maps_of (lines_in W R l))) same
+
+  pub jumps_are : (jumps : List (List ℕ)) → jumps ≡ jumps_from 0 (lines_in W R lines) → jumps ≡ jumps_from 0 (lines_in W R all)
+  jumps_are jumps ej = ej ∙ ap (λ l. jumps_from 0 (lines_in W R l)) same
+
+  pub misses_are : (ms : List Mismatch) → ms ≡ misses_in (lines_in W R lines) → ms ≡ misses_in (lines_in W R all)
+  misses_are ms are = are ∙ ap (λ l. misses_in (lines_in W R l)) same
+
+  pub many_misses : (ms : List Mismatch) (n : ℕ) → n ≡ length ms → ms ≡ misses_in (lines_in W R all) → MOST_TABLES < n → IsProgram (numbered starts (lines_in W R all)) → ⊥
+  many_misses ms n len are many prog = none_missing starts (lines_in W R all) n (len ∙ ap length are) many prog
+
+-- what is linked, with the constants and the misses, is the program
+pub linked_parts : (lines : List Line) (P : Program) (code : Vec Instr) (maps : List (List Entry)) (jumps constants : List (List ℕ)) (misses : List Mismatch) (result : Result (Vec Instr × List (List Entry) × List (List ℕ)) CompileError)
+    → result ≡ Ok (code, maps, jumps) → LinksTables lines P result → constants ≡ P.constants → misses ≡ P.misses
+    → ◌≡◌ {A = Program} (record { code = code.items; constants = constants; maps = maps; jumps = jumps; misses = misses }) P
+linked_parts lines P code maps jumps constants misses result is h ec em =
+    let here = subst (LinksTables lines P) is h in
+    five here.0 ec here.1 here.2 em
+
+pub none_linked : (lines : List Line) (P : Program) (e : CompileError) (result : Result (Vec Instr × List (List Entry) × List (List ℕ)) CompileError) → result ≡ Err e → LinksTables lines P result → Assembles lines P (Err e)
+none_linked lines P ProgramTooLarge result is h = subst (LinksTables lines P) is h
+none_linked lines P NoMemory result is h = tt

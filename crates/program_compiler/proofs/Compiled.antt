@@ -15,7 +15,7 @@ use Rattle.program_code.specs.Lines.{Line, Section, Op, Put, Miss, BytesText, En
 use Rattle.program_code.specs.Linking.{ProgramIsInRange}
 use Rattle.program_code.specs.Numbering.{code_from, constants_in, entry_of, jumps_from, jumps_of, linked, maps_of, misses_in, named_in, numbered}
 use Rattle.program_code.specs.Writing.{section}
-use Rattle.program_lines.specs.Lines.{lines_in}
+use Rattle.program_tables.specs.Lines.{lines_in}
 use Rattle.program_lines.specs.declared.error.CompileError.{CompileError}
 use Rattle.program_lines.specs.declared.error.CompileError.TheVariants as CompileErrors
 use Rattle.program_lines.specs.Walking.{AreSectionLines, SectionLines, Walks, start_at}

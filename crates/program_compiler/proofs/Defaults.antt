@@ -8,10 +8,10 @@ use Rattle.avro_types.specs.Node.{Node}
 use Rattle.program_code.specs.Numbering.{adding, has, number}
 use Rattle.program_code.proofs.Growing.{number_more}
 use Rattle.program_code.proofs.Numbers.{added, bytes_refl, has_more}
-use Rattle.program_lines.specs.declared.lines.Constant.TheVariants.{Default}
-use Rattle.program_lines.specs.Lines.{bytes_of}
+use Rattle.program_tables.specs.declared.lines.Constant.TheVariants.{Default}
+use Rattle.program_tables.specs.Lines.{bytes_of}
 use Rattle.program_tables.specs.Tables.{found}
-use Rattle.program_lines.specs.Sections.{pair_cmp}
+use Rattle.program_tables.specs.Sections.{pair_cmp}
 use Rattle.program_compiler.specs.Tables.{AreDefaults}
 use Rattle.program_compiler.proofs.Sharing.{number_is, pair_is}
 use Rattle.program_tables.proofs.Tables.{adding_there, is_found}

@@ -13,9 +13,9 @@ use Rattle.outcome.specs.declared.mismatch.Mismatch.{Mismatch}
 use Rattle.program_code.specs.Lines.{Section}
 use Rattle.program_code.specs.Numbering.{code_from, constants_of, jumps_of, linked, maps_of, named_in}
 use Rattle.program_code.proofs.Numbering.{all_front, all_back}
-use Rattle.program_lines.specs.declared.lines.Go.TheVariants as goes
-use Rattle.program_lines.specs.declared.lines.Line as rust
-use Rattle.program_lines.specs.Lines.{line_of, lines_in}
+use Rattle.program_tables.specs.declared.lines.Go.TheVariants as goes
+use Rattle.program_tables.specs.declared.lines.Line as rust
+use Rattle.program_tables.specs.Lines.{line_of, lines_in}
 use Rattle.program_compiler.specs.declared.linking.Numbered.{Numbered}
 use Rattle.program_compiler.specs.declared.linking.Numbered.TheVariants as kinds
 use Rattle.program_compiler.specs.Linking.{instr_with}

@@ -8,8 +8,8 @@ use Rattle.outcome.specs.declared.mismatch.Mismatch.{Mismatch}
 use Rattle.avro_types.specs.Node.{Node}
 use Rattle.program_code.specs.Numbering.{adding, has, lacked, same_miss}
 use Rattle.program_code.proofs.Numbers.{added, all_more, miss_refl}
-use Rattle.program_lines.specs.Lines.{targets_of}
-use Rattle.program_lines.specs.Sections.{pair_cmp}
+use Rattle.program_tables.specs.Lines.{targets_of}
+use Rattle.program_tables.specs.Sections.{pair_cmp}
 use Rattle.program_compiler.specs.Tables.{AreNoted}
 use Rattle.program_compiler.proofs.Sharing.{pair_is}
 

@@ -10,8 +10,8 @@ use Rattle.avro_types.specs.Node.{Node}
 use Rattle.outcome.specs.declared.mismatch.Mismatch.{Mismatch}
 use Rattle.isa.specs.declared.entry.Entry.{Entry}
 use Rattle.program_code.specs.Numbering.{entry_of}
-use Rattle.program_lines.specs.Lines.{targets_of}
-use Rattle.program_lines.specs.Sections.{pair_cmp}
+use Rattle.program_tables.specs.Lines.{targets_of}
+use Rattle.program_tables.specs.Sections.{pair_cmp}
 use Rattle.program_compiler.specs.Tables.{AreShared}
 use Rattle.program_tables.proofs.Tables.{nat_at, then_at}
 

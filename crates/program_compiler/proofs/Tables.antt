@@ -4,8 +4,8 @@ use Rattle.std.proofs.Math.Seq.{drop-cons}
 use Rattle.avro_types.specs.Node.{Node}
 use Rattle.program_code.specs.Lines.{Line}
 use Rattle.program_code.specs.Numbering.{adding, named_in}
-use Rattle.program_lines.specs.declared.lines.Line as rust
-use Rattle.program_lines.specs.Lines.{line_of, lines_in}
+use Rattle.program_tables.specs.declared.lines.Line as rust
+use Rattle.program_tables.specs.Lines.{line_of, lines_in}
 use Rattle.program_tables.proofs.Tables.{adding_on}
 
 module _ {A : Type 0} (same : A → A → Bool) where

@@ -5,6 +5,7 @@ use Rattle.std.specs.Global.{Vec}
 use Rattle.std.specs.List.{AllByRecursion}
 use Rattle.std.specs.Str.{bytes_eq}
 use Rattle.outcome.specs.declared.limits.TheConstants.{MOST_OUTPUT}
+use Rattle.isa.specs.declared.entry.Entry.{Entry}
 use Rattle.isa.specs.declared.instr.Instr.{Instr}
 use Rattle.isa.specs.declared.parts.Parts.{Parts}
 use Rattle.isa.specs.Program.{Program, program_of}
@@ -53,6 +54,12 @@ abbrev pub LinksAll : List Line → List Instr → Result (Vec Instr) CompileErr
 LinksAll lines code (Ok v) = v.items ≡ code
 LinksAll lines code (Err ProgramTooLarge) = FitNowhere (named_in constants_of lines) code
 LinksAll lines code (Err NoMemory) = Unit {0}
+
+-- the code, the maps and the jump tables of a program, or none where that is no program
+abbrev pub LinksTables : List Line → Program → Result (Vec Instr × List (List Entry) × List (List ℕ)) CompileError → Type 0
+LinksTables lines P (Ok x) = (x.0.items ≡ P.code) × (x.1 ≡ P.maps) × (x.2 ≡ P.jumps)
+LinksTables lines P (Err ProgramTooLarge) = are_whole lines ≡ true → IsProgram P → ⊥
+LinksTables lines P (Err NoMemory) = Unit {0}
 
 -- the parts of the program of all lines, or none where that is no program
 abbrev pub Assembles : List Line → Program → Result Parts CompileError → Type 0

@@ -2,7 +2,7 @@ ghost use Rattle.std.specs.Prelude.{◌≡◌, ◌+◌, ◌++◌, List, map, IfO
 ghost use Rattle.avro_types.specs.Node.{Node};
 ghost use Rattle.program_code.specs.Numbering.{jumps_from, jumps_of};
 ghost use Rattle.program_compiler.specs.Parts.{AreWide, IsWide, Narrows};
-ghost use Rattle.program_lines.specs.Lines.{line_of, lines_in};
+ghost use Rattle.program_tables.specs.Lines.{line_of, lines_in};
 
 use isa::Lists;
 use program_lines::Line;

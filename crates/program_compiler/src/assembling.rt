@@ -1,10 +1,11 @@
-ghost use Rattle.std.specs.Prelude.{◌≡◌, List};
+ghost use Rattle.std.specs.Prelude.{◌≡◌, ◌≤◌, List, length, true};
 ghost use Rattle.avro_types.specs.Node.{Node};
-ghost use Rattle.program_code.specs.Numbering.{numbered};
+ghost use Rattle.program_code.specs.Numbering.{constants_in, misses_in, numbered};
 ghost use Rattle.program_code.specs.Code.{are_whole as are_whole_lines};
 ghost use Rattle.program_code.specs.Code.{is_lost as is_lost_line};
-ghost use Rattle.program_compiler.specs.Parts.{Assembles};
-ghost use Rattle.program_lines.specs.Lines.{line_of, lines_in};
+ghost use Rattle.program_compiler.specs.Parts.{Assembles, LinksTables};
+ghost use Rattle.program_compiler.specs.Tables.{AreDefaults};
+ghost use Rattle.program_tables.specs.Lines.{line_of, lines_in};
 ghost use Rattle.program_lines.specs.Walking.{start_at};
 
 use crate::addresses::gather_jumps;
@@ -13,8 +14,9 @@ use crate::linking::{Tables, link};
 use crate::maps::gather_maps;
 use crate::misses::gather_misses;
 use avro_types::Nodes;
-use isa::{MOST_INSTRS, MOST_TABLES, Parts};
+use isa::{Entry, Instr, Lists, MOST_INSTRS, MOST_TABLES, Parts};
 use program_lines::{CompileError, Line, SectionLines};
+use program_tables::Constants;
 use std::alloc::Global;
 use std::collections::BTreeMap;
 
@@ -40,6 +42,70 @@ fn are_whole(lines: &[Line]) -> bool
     true
 }
 
+/// The code, the maps and the jump tables of the program of all sections, which name these constants and misses.
+fn linked_tables(
+    alloc: Global,
+    w: &Nodes,
+    r: &Nodes,
+    tables: &Tables,
+) -> Result<(Vec<Instr>, Lists<Entry>, Lists<u32>), CompileError>
+    requires few { length tables.now.section_lines.now.lines ≤ MOST_INSTRS }
+    requires defaults { AreDefaults r.now tables.now.defaults.now tables.now.constants.now }
+    requires constants { tables.now.constants.now ≡ constants_in (lines_in w.now r.now tables.now.section_lines.now.lines) }
+    requires misses { tables.now.misses.now ≡ misses_in (lines_in w.now r.now tables.now.section_lines.now.lines) }
+    ensures { LinksTables (lines_in w.now r.now tables.now.section_lines.now.lines)
+        (numbered (start_at tables.now.section_lines.now)
+        (lines_in w.now r.now tables.now.section_lines.now.lines)) result }
+{
+    let lines = tables.section_lines.lines();
+    if tables.misses.len() > MOST_TABLES {
+        return Err(CompileError::ProgramTooLarge);
+    }
+    let maps = gather_maps(alloc, w, r, tables.misses, lines)?;
+    let Some(jumps) = gather_jumps(alloc, lines)? else {
+        return Err(CompileError::ProgramTooLarge);
+    };
+    match link(alloc, r, tables) {
+        Ok(code) => Ok((code, maps, jumps)),
+        Err(error) => Err(error),
+    }
+}
+
+/// The parts of the program of all sections, whose lines name these constants.
+fn parts_with_constants(
+    alloc: Global,
+    w: &Nodes,
+    r: &Nodes,
+    section_lines: &SectionLines,
+    defaults: &BTreeMap<(usize, usize), usize>,
+    constants: Constants,
+) -> Result<Parts, CompileError>
+    requires few { length section_lines.now.lines ≤ MOST_INSTRS }
+    requires whole { are_whole_lines (lines_in w.now r.now section_lines.now.lines) ≡ true }
+    requires defaults { AreDefaults r.now defaults.now constants }
+    requires constants { constants ≡ constants_in (lines_in w.now r.now section_lines.now.lines) }
+    ensures { Assembles (lines_in w.now r.now section_lines.now.lines)
+        (numbered (start_at section_lines.now) (lines_in w.now r.now section_lines.now.lines)) result }
+{
+    let misses = gather_misses(alloc, w, r, section_lines.lines())?;
+    let tables = Tables {
+        section_lines,
+        constants: &constants,
+        defaults,
+        misses: &misses,
+    };
+    match linked_tables(alloc, w, r, &tables) {
+        Ok((code, maps, jumps)) => Ok(Parts {
+            code,
+            constants: constants.into_list(),
+            maps,
+            jumps,
+            misses: misses.into_list(),
+        }),
+        Err(error) => Err(error),
+    }
+}
+
 /// The parts of the program of all sections.
 pub(crate) fn parts_of_lines(
     alloc: Global,
@@ -61,29 +127,5 @@ pub(crate) fn parts_of_lines(
     let Some(constants) = gather_constants(alloc, &mut defaults, r, lines)? else {
         return Err(CompileError::ProgramTooLarge);
     };
-    let misses = gather_misses(alloc, w, r, lines)?;
-    if misses.len() > MOST_TABLES {
-        return Err(CompileError::ProgramTooLarge);
-    }
-    let maps = gather_maps(alloc, w, r, &misses, lines)?;
-    let Some(jumps) = gather_jumps(alloc, lines)? else {
-        return Err(CompileError::ProgramTooLarge);
-    };
-    let tables = Tables {
-        section_lines,
-        constants: &constants,
-        defaults: &defaults,
-        misses: &misses,
-    };
-    let code = match link(alloc, r, &tables) {
-        Ok(code) => code,
-        Err(error) => return Err(error),
-    };
-    Ok(Parts {
-        code,
-        constants: constants.into_list(),
-        maps,
-        jumps,
-        misses: misses.into_list(),
-    })
+    parts_with_constants(alloc, w, r, section_lines, &defaults, constants)
 }

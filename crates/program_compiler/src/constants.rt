@@ -6,9 +6,9 @@ ghost use Rattle.outcome.specs.declared.limits.TheConstants.{MOST_OUTPUT};
 ghost use Rattle.program_code.specs.Numbering.{constants_of, named_in};
 ghost use Rattle.program_compiler.specs.Parts.{Notes};
 ghost use Rattle.program_compiler.specs.Tables.{AreDefaults};
-ghost use Rattle.program_lines.specs.declared.lines.Constant.TheVariants.{Default};
-ghost use Rattle.program_lines.specs.Lines.{default_of, fields_of_record, line_of, lines_in};
-ghost use Rattle.program_lines.specs.Lines.{bytes_of as bytes_of_constant};
+ghost use Rattle.program_tables.specs.declared.lines.Constant.TheVariants.{Default};
+ghost use Rattle.program_tables.specs.Lines.{default_of, fields_of_record, line_of, lines_in};
+ghost use Rattle.program_tables.specs.Lines.{bytes_of as bytes_of_constant};
 
 use avro_bytes::put_long;
 use avro_datum::{WriteError, write};

@@ -8,8 +8,8 @@ ghost use Rattle.program_code.specs.Numbering.{linked as instr_of};
 ghost use Rattle.program_compiler.specs.Linking.{instr_with};
 ghost use Rattle.program_compiler.specs.Tables.{AreDefaults};
 ghost use Rattle.program_compiler.specs.Parts.{Links, LinksAll, LinksTo, Narrows};
-ghost use Rattle.program_lines.specs.Lines.{line_of, lines_in};
-ghost use Rattle.program_lines.specs.Lines.{bytes_of as bytes_of_constant};
+ghost use Rattle.program_tables.specs.Lines.{line_of, lines_in};
+ghost use Rattle.program_tables.specs.Lines.{bytes_of as bytes_of_constant};
 ghost use Rattle.program_lines.specs.Walking.{start_at};
 
 use crate::addresses::{ahead, operand};

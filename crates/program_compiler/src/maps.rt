@@ -1,6 +1,6 @@
 ghost use Rattle.std.specs.Prelude.{◌≡◌, ◌≤◌, ◌++◌, ◌∷◌, [], length, map, slice_get, string_bytes, IfOk, OnOk};
 ghost use Rattle.program_code.specs.Numbering.{entry_of, maps_of, named_in};
-ghost use Rattle.program_lines.specs.Lines.{line_of, lines_in, symbols_of, targets_of};
+ghost use Rattle.program_tables.specs.Lines.{line_of, lines_in, symbols_of, targets_of};
 ghost use Rattle.program_compiler.specs.Tables.{AreShared};
 
 use avro_types::{Kind, Nodes};

@@ -1,7 +1,7 @@
 ghost use Rattle.std.specs.Prelude.{◌≡◌, ◌∷◌, [], slice_get, IfOk, OnOk};
 ghost use Rattle.program_code.specs.Numbering.{adding, lacked, misses_in, misses_of, same_miss};
 ghost use Rattle.program_code.specs.Writing.{target};
-ghost use Rattle.program_lines.specs.Lines.{line_of, lines_in, targets_of};
+ghost use Rattle.program_tables.specs.Lines.{line_of, lines_in, targets_of};
 ghost use Rattle.program_compiler.specs.Tables.{AreNoted};
 
 use crate::maps::symbols;

@@ -7,8 +7,8 @@ use Rattle.avro_types.specs.Node.{Node, UnionNode}
 use Rattle.avro_types.specs.Laws.Booleans.{none_some}
 use Rattle.program_lines.specs.Known.{AreLacking, ArePlaced, lacking_node}
 use Rattle.program_lines.specs.Members.{ArePositionsOf}
-use Rattle.program_lines.specs.Sections.{pair_cmp}
-use Rattle.program_lines.proofs.Numbered.{nat_is, pair_is}
+use Rattle.program_tables.specs.Sections.{pair_cmp}
+use Rattle.program_tables.proofs.Numbered.{nat_is, pair_is}
 
 abbrev Nodes : Type 0
 Nodes = BTreeMap (ℕ × ℕ) (Option ℕ)

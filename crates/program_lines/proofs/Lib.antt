@@ -1,10 +1,8 @@
-pub mod Appended
 pub mod FirstMember
 pub mod Kept
 pub mod Named
 pub mod NamedTypes
 pub mod NoBytes
-pub mod Numbered
 pub mod RoutineSteps
 pub mod SectionSteps
 pub mod Starts

@@ -1,7 +1,8 @@
 -- The lines of routines, one field after another.
-use Rattle.std.proofs.Common.{◌≡◌, ℕ, zero, suc, ◌+◌, ◌<◌, ◌≤◌, Bool, false, List, [], ◌∷◌, ◌++◌, length, drop, get_or, Option, Some, None, IfSome, option_map, refl, sym, ap, ◌∙◌, arith, append_assoc}
+use Rattle.std.proofs.Common.{◌≡◌, ℕ, zero, suc, ◌+◌, ◌<◌, ◌≤◌, Bool, false, List, [], ◌∷◌, ◌++◌, length, drop, get_or, Option, Some, None, IfSome, option_map, refl, sym, ap, subst, ◌∙◌, arith, append_assoc}
 use Rattle.std.specs.Prelude.{slice_get, ◌==◌, if◌then◌else◌}
 use Rattle.std.proofs.Math.Seq.{drop-cons}
+use Rattle.std.proofs.lemmas.Option.{slice_get-get_or}
 use Rattle.avro_types.specs.declared.kind.Field.{Field}
 use Rattle.avro_types.specs.declared.kind.Kind.{Kind}
 use Rattle.avro_types.specs.declared.kind.Kind.TheVariants as kinds
@@ -15,14 +16,15 @@ use Rattle.isa.specs.declared.instr.Instr.TheVariants as op
 use Rattle.matching.specs.declared.pairing.Partner.{Partner}
 use Rattle.matching.specs.declared.pairing.Route.{Route}
 use Rattle.matching.specs.Options.{given}
-use Rattle.matching.specs.Partners.{AreRoutes, has_partner, partner_at, partners, routes, routes_to}
+use Rattle.matching.specs.Partners.{AreRoutes, IsRoute, has_partner, partner_at, partners, routes, routes_to}
 use Rattle.program_code.specs.Lines.{Line, Lost, Op, Put}
-use Rattle.program_code.specs.Skipping.{skip_routine}
-use Rattle.program_code.specs.Writing.{default_bytes, defaults_code, put_in}
+use Rattle.program_code.specs.Skipping.{K, skip_routine}
+use Rattle.program_code.specs.Writing.{X, default_bytes, defaults_code, field_code, fields_code, put_in}
 use Rattle.resolver.specs.Resolution.{field_lists}
-use Rattle.program_lines.specs.declared.lines.Constant.TheVariants as constants
-use Rattle.program_lines.specs.Lines.{bytes_of, default_of, fields_of_record}
-use Rattle.program_lines.proofs.Steps.{two}
+use Rattle.program_tables.specs.declared.lines.Constant.TheVariants as constants
+use Rattle.program_tables.proofs.Appended.{two}
+use Rattle.program_tables.specs.Lines.{HasSlot, bytes_of, default_of, fields_of_record, slot_lines}
+use Rattle.program_lines.specs.Fields.{read_code}
 
 -- ---- both are records
 
@@ -61,6 +63,45 @@ routes_to_within writers readers places rs (f ∷ ws) (p ∷ ps) a b le = (recor
 
 pub routes_within : (writers readers places : ℕ) (ws rs : List FieldNode) → FieldsBelow writers ws → FieldsBelow readers rs → length rs ≤ places → AreRoutes writers readers places (routes ws rs)
 routes_within writers readers places ws rs a b le = routes_to_within writers readers places rs ws (partners ws rs) a b le
+
+-- ---- fields
+
+module _ (writers readers : ℕ) (rts : List Route) (i : ℕ) (none : Route) (lt : i < length rts) where
+  -- the route of the next field, and those of the others
+  pub route_here : AreRoutes writers readers MOST_FIELDS (drop i rts) → IsRoute writers readers MOST_FIELDS (get_or rts i none) × AreRoutes writers readers MOST_FIELDS (drop (i + 1) rts)
+  route_here left =
+      let e : suc i ≡ i + 1 = omega arith in
+      let both = subst (AreRoutes writers readers MOST_FIELDS) (drop-cons rts i none lt) left in
+      (both.0, subst (λ k. AreRoutes writers readers MOST_FIELDS (drop k rts)) e both.1)
+
+  pub has_slot : IsRoute writers readers MOST_FIELDS (get_or rts i none) → IfSome (slice_get rts i) HasSlot
+  has_slot is = subst (λ (o : Option Route). IfSome o HasSlot) (sym (slice_get-get_or rts i none lt)) (position (get_or rts i none).partner is.partner)
+    where
+      position : (o : Option Partner) → IfSome o (λ p. (p.position < MOST_FIELDS) × (p.node < readers)) → IfSome o (λ p. p.position < MOST_FIELDS)
+      position None h = tt
+      position (Some p) h = h.0
+
+-- its slot, and what reads it
+module _ (W R : List Node) (rts : List Route) (i : ℕ) (none : Route) where
+  one_field : (route : Route) → slot_lines (Some route) ++ read_code W R route ≡ field_code W R route
+  one_field route = go route.partner
+    where
+      go : (o : Option Partner) → given o [] (λ p. Op (op.Slot p.position) ∷ []) ++ given o (K W route.node) (λ p. X W R route.node p.node) ≡ given o (K W route.node) (λ p. Op (op.Slot p.position) ∷ X W R route.node p.node)
+      go None = refl
+      go (Some p) = refl
+
+  pub field_on : (lines mid new whole : List Line) → i < length rts → mid ≡ lines ++ slot_lines (slice_get rts i) → new ≡ mid ++ read_code W R (get_or rts i none)
+      → lines ++ fields_code W R (drop i rts) ≡ whole → new ++ fields_code W R (drop (i + 1) rts) ≡ whole
+  field_on lines mid new whole lt em en so_far =
+      let e : i + 1 ≡ suc i = omega arith in
+      let route = get_or rts i none in
+      let slot = em ∙ ap (λ o. lines ++ slot_lines o) (slice_get-get_or rts i none lt) in
+      let both = two lines mid new (slot_lines (Some route)) (read_code W R route) slot en ∙ ap (λ l. lines ++ l) (one_field route) in
+      ap (λ k. new ++ fields_code W R (drop k rts)) e
+      ∙ ap (λ l. l ++ fields_code W R (drop (suc i) rts)) both
+      ∙ append_assoc lines (field_code W R route) (fields_code W R (drop (suc i) rts))
+      ∙ ap (λ rs. lines ++ fields_code W R rs) (sym (drop-cons rts i none lt))
+      ∙ so_far
 
 -- ---- defaults
 

@@ -6,7 +6,7 @@ use Rattle.program_code.specs.Code.{lines_of, start_in}
 use Rattle.program_code.specs.Lines.{Line, Section}
 use Rattle.program_code.specs.Numbering.{adding, calls_of, named_in, same_section}
 use Rattle.program_code.proofs.Numbers.{Extends, added, section_refl}
-use Rattle.program_lines.specs.Sections.{place_from}
+use Rattle.program_tables.specs.Sections.{place_from}
 
 get_at : (front more : List ℕ) (x d : ℕ) → slice_index_or (front ++ x ∷ more) (length front) d ≡ x
 get_at [] more x d = refl

@@ -6,8 +6,8 @@ use Rattle.isa.specs.declared.instr.Instr.{Instr}
 use Rattle.program_code.specs.Lines.{Line, Lost, looped}
 use Rattle.program_code.specs.Skipping.{skip_node, skip_within}
 use Rattle.program_code.specs.Writing.{write_node, write_within}
-use Rattle.program_lines.specs.declared.lines.Line as rust
-use Rattle.program_lines.specs.Lines.{lines_in}
+use Rattle.program_tables.specs.declared.lines.Line as rust
+use Rattle.program_tables.specs.Lines.{lines_in}
 
 pub skip_none : (W : List Node) (levels n : ℕ) (old new : List Line) → levels ≡ 0 → new ≡ old ++ Lost ∷ [] → new ≡ old ++ skip_within W levels n
 unfolding skip_within
@@ -31,10 +31,6 @@ write_more W R zero w r node old new code some at is h = absurd (some refl)
 write_more W R (suc k) w r node old new code some at is h =
     let e : suc k - 1 ≡ k = omega arith in
     h ∙ ap (λ l. old ++ l) (sym is ∙ ap (λ j. write_node W R (write_within W R j) w r (Some node)) e ∙ ap (write_node W R (write_within W R k) w r) (sym at))
-
--- one piece after another
-pub two : {A : Type 0} (old mid new a b : List A) → mid ≡ old ++ a → new ≡ mid ++ b → new ≡ old ++ (a ++ b)
-two old mid new a b ea eb = eb ∙ ap (λ l. l ++ b) ea ∙ append_assoc old a b
 
 -- an opening line, and the loop of a body that began empty
 pub looped_after : (next : ℕ → Instr) (open' : Line) (old mid new body code : List Line) → mid ≡ old ++ open' ∷ [] → body ≡ code → new ≡ mid ++ looped next body → new ≡ old ++ open' ∷ looped next code

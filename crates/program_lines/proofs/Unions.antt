@@ -1,14 +1,11 @@
 -- A union's lines, by its first member and the others.
 use Rattle.std.proofs.Common.{◌≡◌, ℕ, zero, suc, ◌+◌, ◌-◌, ◌<◌, List, [], ◌∷◌, ◌++◌, length, map, Some, refl, set, sym, ap, ◌∙◌, arith, append_assoc, length-append}
-use Rattle.std.proofs.lemmas.List.{length-map}
 use Rattle.std.specs.Prelude.{slice_get}
 use Rattle.avro_types.specs.Node.{Node, UnionNode}
 use Rattle.isa.specs.declared.instr.Instr.TheVariants as op
 use Rattle.program_code.specs.Lines.{Line, Ahead, Branch, begins, one_of}
 use Rattle.program_code.specs.Skipping.{skip_node, skip_within}
 use Rattle.program_code.specs.Writing.{write_node, write_within}
-use Rattle.program_lines.specs.declared.lines.Line as rust
-use Rattle.program_lines.specs.Lines.{line_of, lines_in}
 
 set_at : (front more : List Line) (free line : Line) → set (front ++ free ∷ more) (length front) line ≡ front ++ line ∷ more
 set_at [] more free line = refl
@@ -61,6 +58,3 @@ write_union W R (suc n) w r members before mid fars code some at ef ec em =
     ∙ ap (λ f. before ++ Branch f ∷ code) (ef ∙ ap (λ k. begins 1 (map (λ m. write_within W R k m r) members)) e)
     ∙ ap (λ c. before ++ Branch (begins 1 (map (λ m. write_within W R n m r) members)) ∷ c) (ec ∙ ap (λ k. one_of (map (λ m. write_within W R k m r) members)) e)
     ∙ sym (ap (λ x. before ++ write_node W R (write_within W R n) w r x) at)
-
-pub lines_length : (W R : List Node) (ls : List rust.Line) → length (lines_in W R ls) ≡ length ls
-lines_length W R ls = length-map ls (line_of W R)

@@ -9,11 +9,11 @@ use Rattle.program_code.specs.Lines.{Section, Main, Line}
 use Rattle.program_code.specs.Numbering.{adding, calls_of, named_in, same_section}
 use Rattle.program_code.specs.Writing.{section}
 use Rattle.program_code.proofs.Going.{Going, done, going_init, going_on, no_room, rounds_left}
-use Rattle.program_lines.specs.declared.lines.Line as rust
-use Rattle.program_lines.specs.Lines.{lines_in}
+use Rattle.program_tables.specs.declared.lines.Line as rust
+use Rattle.program_tables.specs.Lines.{lines_in}
 use Rattle.program_lines.specs.Walking.{AreSectionLines, start_at}
 use Rattle.program_lines.proofs.Starts.{place_start, starts_next, starts_of}
-use Rattle.program_lines.proofs.Unions.{lines_length}
+use Rattle.program_tables.proofs.Appended.{lines_length}
 
 past : (ss : List Section) (i : ℕ) → slice_get ss i ≡ None → length ss ≤ i
 past [] i e = omega arith

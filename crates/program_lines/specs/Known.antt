@@ -7,7 +7,7 @@ use Rattle.matching.specs.Options.{given}
 use Rattle.resolver.specs.Resolution.{field_lists, lacking}
 use Rattle.program_lines.specs.Members.{ArePositionsOf}
 use Rattle.program_lines.specs.NamedTypes.{AreTypesOf}
-use Rattle.program_lines.specs.Sections.{pair_cmp}
+use Rattle.program_tables.specs.Sections.{pair_cmp}
 use Rattle.program_lines.specs.declared.known.Known.{Known}
 
 -- the node of the first of the reader's fields that has neither a partner nor a default

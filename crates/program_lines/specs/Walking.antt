@@ -8,9 +8,9 @@ use Rattle.program_code.specs.Numbering.{numbered}
 use Rattle.program_code.specs.Writing.{section}
 use Rattle.program_lines.specs.declared.error.CompileError.{CompileError}
 use Rattle.program_lines.specs.declared.error.CompileError.TheVariants.{ProgramTooLarge, NoMemory}
-use Rattle.program_lines.specs.declared.lines.Line as rust
-use Rattle.program_lines.specs.Lines.{lines_in}
-use Rattle.program_lines.specs.Sections.{place}
+use Rattle.program_tables.specs.declared.lines.Line as rust
+use Rattle.program_tables.specs.Lines.{lines_in}
+use Rattle.program_tables.specs.Sections.{place}
 
 -- the sections in the order of their first calls, where each begins, and all lines
 pub record SectionLines : Type 0 where
@@ -31,3 +31,9 @@ abbrev pub Walks : List Node → List Node → Result SectionLines CompileError 
 Walks W R (Ok l) = AreSectionLines W R l
 Walks W R (Err ProgramTooLarge) = code_of W R ≡ None
 Walks W R (Err NoMemory) = Unit {0}
+
+-- the same of sections, begins and lines that are filled in
+abbrev pub Fills : List Node → List Node → List Section → List ℕ → List rust.Line → Result (Unit {0}) CompileError → Type 0
+Fills W R sections starts lines (Ok done) = AreSectionLines W R (record { sections = sections; starts = starts; lines = lines })
+Fills W R sections starts lines (Err ProgramTooLarge) = code_of W R ≡ None
+Fills W R sections starts lines (Err NoMemory) = Unit {0}

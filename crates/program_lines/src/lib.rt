@@ -5,16 +5,14 @@
 mod blank;
 mod error;
 mod known;
-mod lines;
 mod members;
 mod named_types;
 mod routines;
 mod schema_pair;
-mod sections;
 mod skipping;
 mod walking;
 mod writing;
 
 pub use error::CompileError;
-pub use lines::{Constant, Go, Line, Section};
+pub use program_tables::{Constant, Go, Line, Section};
 pub use walking::{SectionLines, walk};

@@ -7,18 +7,19 @@ ghost use Rattle.matching.specs.Partners.{has_partner as has_partner_of};
 ghost use Rattle.matching.specs.declared.pairing.Route.{Route};
 ghost use Rattle.program_code.specs.Lines.{Lost};
 ghost use Rattle.program_code.specs.Skipping.{skip_fields, skip_routine};
-ghost use Rattle.program_code.specs.Writing.{default_bytes, defaults_code, field_code, fields_code, put_in, section, write_routine};
+ghost use Rattle.program_code.specs.Writing.{default_bytes, defaults_code, fields_code, put_in, section, write_routine};
 ghost use Rattle.resolver.specs.Resolution.{field_lists};
+ghost use Rattle.program_lines.specs.Fields.{read_code};
 ghost use Rattle.program_lines.specs.Known.{AreKnown};
-ghost use Rattle.program_lines.specs.Lines.{default_of, fields_of_record, lines_in, section_of};
+ghost use Rattle.program_tables.specs.Lines.{default_of, fields_of_record, lines_in, routine_lines, section_of};
 
 use crate::blank::is_blank;
 use crate::known::Known;
-use crate::lines::{Constant, Line, Section, put};
 use crate::schema_pair::SchemaPair;
 use avro_types::{Field, Kind, MOST_FIELDS};
 use isa::Instr;
 use matching::{Route, routes};
+use program_tables::{Constant, Line, Section, put, put_routine, put_slot};
 use resolver::field_lists;
 use std::alloc::{AllocError, Global};
 
@@ -94,25 +95,22 @@ impl SchemaPair<'_> {
         Ok(())
     }
 
-    /// Adds the lines of a writer's field.
-    fn put_field(
+    /// Adds the lines that read one of the writer's fields, after its slot.
+    fn read_field(
         &self,
         known: &mut Known,
-        route: &Route,
+        route: Route,
         lines: &mut Vec<Line>,
     ) -> Result<(), AllocError>
-        requires route { IsRoute (length self.now.writer.now) (length self.now.reader.now) MOST_FIELDS route.now }
+        requires route { IsRoute (length self.now.writer.now) (length self.now.reader.now) MOST_FIELDS route }
         requires known { AreKnown self.now.writer.now self.now.reader.now known.old }
         ensures lines { OnOk result (lines_in self.now.writer.now self.now.reader.now lines.new.items
             ≡ lines_in self.now.writer.now self.now.reader.now lines.old.items
-            ++ field_code self.now.writer.now self.now.reader.now route.now) }
+            ++ read_code self.now.writer.now self.now.reader.now route) }
         ensures known { AreKnown self.now.writer.now self.now.reader.now known.new }
     {
         match route.partner {
-            Some(partner) => {
-                put(lines, Line::Op(Instr::Slot(partner.position as u32)))?;
-                self.write(known, route.node, partner.node, lines)
-            }
+            Some(partner) => self.write(known, route.node, partner.node, lines),
             None => self.skip(route.node, lines),
         }
     }
@@ -131,8 +129,9 @@ impl SchemaPair<'_> {
             ++ fields_code self.now.writer.now self.now.reader.now routes.now) }
         ensures known { AreKnown self.now.writer.now self.now.reader.now known.new }
     {
-        for route in routes {
-            self.put_field(known, route, lines)?;
+        for field in 0..routes.len() {
+            put_slot(lines, routes, field)?;
+            self.read_field(known, routes[field], lines)?;
         }
         Ok(())
     }
@@ -148,6 +147,32 @@ impl SchemaPair<'_> {
             self.skip(field.node, lines)?;
         }
         Ok(())
+    }
+
+    /// Adds the lines of the routine of two records whose fields go together so.
+    fn put_routes(
+        &self,
+        known: &mut Known,
+        routes: &[Route],
+        rn: usize,
+        rs: &[Field],
+        lines: &mut Vec<Line>,
+    ) -> Result<(), AllocError>
+        requires routes { AreRoutes (length self.now.writer.now) (length self.now.reader.now) MOST_FIELDS routes.now }
+        requires few { length rs.now ≤ MOST_FIELDS }
+        requires fields { fields_of_record (slice_get self.now.reader.now rn) ≡ fields_of rs.now }
+        requires known { AreKnown self.now.writer.now self.now.reader.now known.old }
+        ensures lines { OnOk result (lines_in self.now.writer.now self.now.reader.now lines.new.items
+            ≡ lines_in self.now.writer.now self.now.reader.now lines.old.items
+            ++ routine_lines (length rs.now) (fields_code self.now.writer.now self.now.reader.now routes.now)
+            (defaults_code routes.now 0 (fields_of rs.now))) }
+        ensures known { AreKnown self.now.writer.now self.now.reader.now known.new }
+    {
+        let mut fields = Vec::new(self.alloc);
+        self.put_fields(known, routes, &mut fields)?;
+        let mut defaults = Vec::new(self.alloc);
+        self.put_defaults(rn, routes, rs, &mut defaults)?;
+        put_routine(lines, rs.len() as u32, fields, defaults)
     }
 
     /// Adds the lines of the routine of two records.
@@ -173,11 +198,7 @@ impl SchemaPair<'_> {
             return put(lines, Line::Lost);
         };
         let routes = routes(self.alloc, ws, rs)?;
-        put(lines, Line::Op(Instr::Record(rs.len() as u32)))?;
-        self.put_fields(known, &routes, lines)?;
-        self.put_defaults(rn, &routes, rs, lines)?;
-        put(lines, Line::Op(Instr::EndRecord))?;
-        put(lines, Line::Op(Instr::Return))
+        self.put_routes(known, &routes, rn, rs, lines)
     }
 
     /// Adds the lines of the routine that skips a record.

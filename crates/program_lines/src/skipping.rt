@@ -2,12 +2,12 @@ ghost use Rattle.std.specs.Prelude.{◌≡◌, ◌+◌, ◌++◌, ◌<◌, ◌�
 ghost use Rattle.std.specs.List.{AllByRecursion};
 ghost use Rattle.program_code.specs.Lines.{begins, one_of};
 ghost use Rattle.program_code.specs.Skipping.{K, skip_within};
-ghost use Rattle.program_lines.specs.Lines.{lines_in};
+ghost use Rattle.program_tables.specs.Lines.{lines_in};
 
-use crate::lines::{Go, Line, Section, put, put_all, put_loop, set_jump};
 use crate::schema_pair::SchemaPair;
 use avro_types::{Kind, MOST_NODES};
 use isa::Instr;
+use program_tables::{Go, Line, Section, put, put_all, put_loop, set_jump};
 use std::alloc::AllocError;
 
 impl SchemaPair<'_> {

@@ -1,14 +1,15 @@
-ghost use Rattle.std.specs.Prelude.{◌≡◌};
-ghost use Rattle.program_lines.specs.Lines.{section_of};
-ghost use Rattle.program_lines.specs.Walking.{Walks, start_at};
+ghost use Rattle.std.specs.Prelude.{◌≡◌, ◌∷◌, []};
+ghost use Rattle.program_code.specs.Lines.{Main};
+ghost use Rattle.program_tables.specs.Lines.{section_of};
+ghost use Rattle.program_lines.specs.Known.{AreKnown};
+ghost use Rattle.program_lines.specs.Walking.{Fills, Walks, start_at};
 
 use crate::error::CompileError;
 use crate::known::Known;
-use crate::lines::{Line, Section, put_all};
 use crate::schema_pair::SchemaPair;
-use crate::sections::{Sections, note_calls};
 use avro_types::Nodes;
 use isa::MOST_INSTRS;
+use program_tables::{Line, Section, Sections, note_calls, put_all};
 use std::alloc::Global;
 use std::marker::Model;
 
@@ -48,6 +49,35 @@ impl SectionLines {
     }
 }
 
+impl SchemaPair<'_> {
+    /// Adds the sections that are called for to the main one, in the order of their first calls, where each begins, and
+    /// their lines. `ProgramTooLarge` where they have more lines than a program may have instructions.
+    fn add_sections(
+        &self,
+        known: &mut Known,
+        sections: &mut Sections,
+        starts: &mut Vec<usize>,
+        lines: &mut Vec<Line>,
+    ) -> Result<(), CompileError>
+        requires known { AreKnown self.now.writer.now self.now.reader.now known.old }
+        requires sections { sections.old ≡ Main ∷ [] }
+        requires starts { starts.old.items ≡ [] }
+        requires lines { lines.old.items ≡ [] }
+        ensures { Fills self.now.writer.now self.now.reader.now sections.new starts.new.items lines.new.items result }
+    {
+        while let Some(next) = sections.get(starts.len()) {
+            if lines.len() >= MOST_INSTRS {
+                return Err(CompileError::ProgramTooLarge);
+            }
+            starts.push(lines.len())?;
+            let code = self.section(known, next)?;
+            note_calls(sections, &code)?;
+            put_all(lines, code)?;
+        }
+        Ok(())
+    }
+}
+
 /// The sections of a pair of schemas, in the order of their first calls. `ProgramTooLarge` where they have more lines
 /// than a program may have instructions.
 pub fn walk(alloc: Global, w: &Nodes, r: &Nodes) -> Result<SectionLines, CompileError>
@@ -62,18 +92,12 @@ pub fn walk(alloc: Global, w: &Nodes, r: &Nodes) -> Result<SectionLines, Compile
     let mut starts = Vec::new(alloc);
     let mut lines = Vec::new(alloc);
     let mut known = Known::new(alloc);
-    while let Some(next) = sections.get(starts.len()) {
-        if lines.len() >= MOST_INSTRS {
-            return Err(CompileError::ProgramTooLarge);
-        }
-        starts.push(lines.len())?;
-        let code = pair.section(&mut known, next)?;
-        note_calls(&mut sections, &code)?;
-        put_all(&mut lines, code)?;
+    match pair.add_sections(&mut known, &mut sections, &mut starts, &mut lines) {
+        Ok(()) => Ok(SectionLines {
+            sections,
+            starts,
+            lines,
+        }),
+        Err(error) => Err(error),
     }
-    Ok(SectionLines {
-        sections,
-        starts,
-        lines,
-    })
 }

@@ -9,28 +9,17 @@ ghost use Rattle.program_code.specs.Lines.{BytesText, Lost, Op, begins, looped, 
 ghost use Rattle.program_code.specs.Writing.{X, is_text, placed_node, record_code, straight_node, write_within};
 ghost use Rattle.resolver.specs.Resolution.{field_lists, lacking};
 ghost use Rattle.program_lines.specs.Known.{AreKnown};
-ghost use Rattle.program_lines.specs.Lines.{lines_in};
+ghost use Rattle.program_tables.specs.Lines.{lines_in};
 
 use crate::known::Known;
-use crate::lines::{Constant, Go, Line, Section, put, put_all, put_loop, set_jump};
 use crate::schema_pair::SchemaPair;
 use avro_types::{Kind, MOST_NODES};
 use isa::Instr;
 use matching::{Place, both_items, both_values};
-use outcome::{Mismatch, MismatchKind};
+use outcome::MismatchKind;
+use program_tables::{Constant, Go, Line, miss, put, put_all, put_loop, put_record, set_jump};
 use resolver::field_lists;
 use std::alloc::AllocError;
-
-/// A mismatch of that kind, with both nodes.
-fn miss(kind: MismatchKind, writer_node: usize, reader_node: usize) -> Mismatch
-    ensures { result ≡ miss kind writer_node reader_node }
-{
-    Mismatch {
-        kind,
-        writer_node,
-        reader_node,
-    }
-}
 
 impl SchemaPair<'_> {
     /// Adds the line that writes bytes, which have to be UTF-8 where the reader has a string.
@@ -69,12 +58,11 @@ impl SchemaPair<'_> {
         if field_lists(self.writer, wn, self.reader, rn).is_none() {
             return put(lines, Line::Lost);
         }
-        match known.lacking_node(self, wn, rn)? {
-            Some(node) => {
-                put(lines, Line::Miss(miss(MismatchKind::NoDefault, wn, node)))?;
-                self.skip(wn, lines)
-            }
-            None => put(lines, Line::Call(Section::Write(wn, rn))),
+        let lacking = known.lacking_node(self, wn, rn)?;
+        put_record(lines, wn, rn, lacking)?;
+        match lacking {
+            Some(_) => self.skip(wn, lines),
+            None => Ok(()),
         }
     }
 

@@ -1,1 +1,3 @@
+pub mod Appended
+pub mod Numbered
 pub mod Tables

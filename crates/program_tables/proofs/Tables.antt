@@ -1,5 +1,5 @@
 -- Things in a row, with one more after the others.
-use Rattle.std.proofs.Common.{◌≡◌, ℕ, suc, ◌≤◌, Bool, true, false, cond, List, [], ◌∷◌, ◌++◌, length, Option, Some, None, is_some, refl, sym, ap, ◌∙◌, arith, option_map, map}
+use Rattle.std.proofs.Common.{◌≡◌, ℕ, suc, ◌+◌, ◌<◌, ◌≤◌, Bool, true, false, cond, List, [], ◌∷◌, ◌++◌, length, drop, get_or, Option, Some, None, is_some, refl, sym, ap, ◌∙◌, append_assoc, arith, option_map, map}
 use Rattle.std.specs.Prelude.{◌==◌, ◌&&◌, if◌then◌else◌}
 use Rattle.std.specs.declared.cmp.Ordering.{Ordering}
 use Rattle.std.specs.declared.cmp.Ordering.TheVariants.{Less, Equal, Greater}
@@ -8,12 +8,19 @@ use Rattle.std.specs.Option.{unwrap_or}
 use Rattle.std.specs.Ordering.{is_eq, nat_cmp, ordering_then}
 use Rattle.std.specs.Str.{bytes_eq}
 use Rattle.std.proofs.lemmas.Map.Text.{is_eq-slice_cmp}
-use Rattle.matching.specs.Options.{or_else}
+use Rattle.std.proofs.Math.Seq.{drop-cons}
+use Rattle.avro_types.specs.Node.{Node}
+use Rattle.isa.specs.declared.entry.Entry.TheVariants as entries
+use Rattle.matching.specs.Options.{given, or_else}
+use Rattle.outcome.specs.declared.mismatch.MismatchKind.TheVariants as kinds
+use Rattle.resolver.specs.Resolution.{symbol_for as position_of_symbol}
 use Rattle.outcome.specs.MismatchKind.{code_of as code_of_kind}
 use Rattle.outcome.specs.declared.mismatch.Mismatch.{Mismatch}
-use Rattle.program_code.specs.Numbering.{adding, has, number, same_miss}
+use Rattle.program_code.specs.Lines.{Lacks, To, miss}
+use Rattle.program_code.specs.Numbering.{adding, entry_of, has, number, same_miss}
+use Rattle.program_code.specs.Writing.{target}
 use Rattle.program_code.proofs.Numbers.{bytes_is, bytes_refl, miss_is}
-use Rattle.program_tables.specs.Tables.{bytes_cmp, found, key_cmp, key_of}
+use Rattle.program_tables.specs.Tables.{bytes_cmp, entry_at, found, key_cmp, key_of}
 
 suc_or : (o p : Option ℕ) → option_map suc (or_else o p) ≡ or_else (option_map suc o) (option_map suc p)
 suc_or None p = refl
@@ -137,3 +144,21 @@ number_or same a xs o len n is el e = e ∙ ap (λ p. unwrap_or p len) is ∙ ap
 pub map_twice : {X Y Z : Type 0} (f : Y → Z) (g : X → Y) (xs : List X) → map (λ x. f (g x)) xs ≡ map f (map g xs)
 map_twice f g [] = refl
 map_twice f g (x ∷ xs) = ap (λ l. f (g x) ∷ l) (map_twice f g xs)
+
+-- one more of what each becomes
+pub mapped_on : {X Y : Type 0} (f : X → Y) (xs : List X) (i : ℕ) (x : X) (before : List Y) (y : Y) (whole : List Y) → i < length xs → x ≡ get_or xs i x → y ≡ f x → before ++ map f (drop i xs) ≡ whole → (before ++ y ∷ []) ++ map f (drop (i + 1) xs) ≡ whole
+mapped_on f xs i x before y whole lt is e so_far =
+    let next : i + 1 ≡ suc i = omega arith in
+    ap (λ k. (before ++ y ∷ []) ++ map f (drop k xs)) next
+    ∙ append_assoc before (y ∷ []) (map f (drop (suc i) xs))
+    ∙ ap (λ z. before ++ z ∷ map f (drop (suc i) xs)) (e ∙ ap f is)
+    ∙ ap (λ l. before ++ map f l) (sym (drop-cons xs i x lt))
+    ∙ so_far
+
+-- what a symbol becomes, by its position
+pub entry_is : (misses : List Mismatch) (w r : ℕ) (reader : Option Node) (symbol : List ℕ) (n : ℕ) → n ≡ number same_miss (miss kinds.NoSymbol w r) misses → entry_at n (position_of_symbol reader symbol) ≡ entry_of misses (target w r reader symbol)
+entry_is misses w r reader symbol n e = go (position_of_symbol reader symbol)
+  where
+    go : (o : Option ℕ) → entry_at n o ≡ entry_of misses (given o (Lacks (miss kinds.NoSymbol w r)) To)
+    go (Some p) = refl
+    go None = ap entries.Miss e

@@ -6,6 +6,9 @@ use Rattle.std.specs.Cmp.Lexicographic.{slice_cmp}
 use Rattle.std.specs.BTreeMap.{get}
 use Rattle.std.specs.Global.{Vec}
 use Rattle.std.specs.Str.{bytes_eq}
+use Rattle.isa.specs.declared.entry.Entry.{Entry}
+use Rattle.isa.specs.declared.entry.Entry.TheVariants as entries
+use Rattle.matching.specs.Options.{given}
 use Rattle.outcome.specs.MismatchKind.{code_of as code_of_kind}
 use Rattle.outcome.specs.declared.mismatch.Mismatch.{Mismatch}
 use Rattle.program_code.specs.Numbering.{has, number, same_miss}
@@ -33,3 +36,7 @@ AreMisses s = (m : Mismatch) → get key_cmp s.numbers (key_of m) ≡ found same
 
 abbrev pub AreConstants : constants.Inside → Type 0
 AreConstants s = (v : Vec ℕ) → get bytes_cmp s.numbers v ≡ found bytes_eq v.items s.list
+
+-- what a symbol with that position becomes, or else the miss of a number
+abbrev pub entry_at : ℕ → Option ℕ → Entry
+entry_at lacking position = given position (entries.Miss lacking) entries.Position

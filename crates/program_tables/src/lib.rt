@@ -1,11 +1,18 @@
-//! What the lines of a pair's code name: constants and misses, each once and with its number, and what the symbols of a
-//! pair of enums become.
+//! The lines of a pair's code, and what they name: routines, constants and misses, each once and with its number, and
+//! what the symbols of a pair of enums become.
 #![tactic(auto)]
 
 mod constants;
+mod lines;
 mod misses;
+mod sections;
 mod targets;
 
 pub use constants::Constants;
+pub use lines::{
+    Constant, Go, Line, Section, miss, put, put_all, put_loop, put_record, put_routine, put_slot,
+    set_jump,
+};
 pub use misses::Misses;
+pub use sections::{Sections, note_calls};
 pub use targets::{entries, position_for};

@@ -1,6 +1,7 @@
 ghost use Rattle.std.specs.Prelude.{◌≡◌, ◌≤◌, length, map, slice_get, string_bytes, IfOk};
 ghost use Rattle.program_code.specs.Numbering.{entry_of};
 ghost use Rattle.program_code.specs.Writing.{target};
+ghost use Rattle.program_tables.specs.Tables.{entry_at};
 ghost use Rattle.resolver.specs.Resolution.{symbol_for as position_of_symbol};
 
 use crate::misses::Misses;
@@ -18,6 +19,16 @@ pub fn position_for(nodes: &Nodes, node: usize, symbol: &str) -> Option<u32>
         symbol_for(nodes, node, symbol)
     } else {
         None
+    }
+}
+
+/// What a symbol of a writer's becomes with a reader's enum: its position there, or else the miss of a number.
+fn entry_for(r: &Nodes, reader: usize, symbol: &str, lacking: u32) -> Entry
+    ensures { result ≡ entry_at lacking (position_of_symbol (slice_get r.now reader) symbol.now) }
+{
+    match position_for(r, reader, symbol) {
+        Some(position) => Entry::Position(position),
+        None => Entry::Miss(lacking),
     }
 }
 
@@ -41,11 +52,7 @@ pub fn entries(
     }) as u32;
     let mut entries = Vec::new(alloc);
     for position in 0..symbols.len() {
-        let entry = match position_for(r, reader, symbols[position].as_str()) {
-            Some(position) => Entry::Position(position),
-            None => Entry::Miss(lacking),
-        };
-        entries.push(entry)?;
+        entries.push(entry_for(r, reader, symbols[position].as_str(), lacking))?;
     }
     Ok(entries)
 }

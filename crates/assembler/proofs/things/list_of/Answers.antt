@@ -1,4 +1,4 @@
-use Rattle.std.proofs.Common.{sym, ◌∙◌}
+use Rattle.std.proofs.Common.{sym}
 use Rattle.assembler.specs.Things.{each_in}
 use Rattle.listing_words.specs.Words.{later}
 use Rattle.assembler.proofs.Each.{word_fails, word_read, words_read}

@@ -2,7 +2,7 @@
 use Rattle.std.proofs.Common.{◌≡◌, drop, List}
 use Rattle.avro_types.specs.Node.{Node}
 use Rattle.program_code.specs.Code.{are_whole}
-use Rattle.program_lines.specs.Lines.{lines_in}
+use Rattle.program_tables.specs.Lines.{lines_in}
 use Rattle.program_compiler.proofs.assembling.are_whole.Given as goal
 
 abbrev pub invariant-loop-line : goal.invariant-loop-line

@@ -2,7 +2,7 @@
 use Rattle.std.proofs.Common.{◌≡◌, ◌≤◌, ◌++◌, drop, List}
 use Rattle.avro_types.specs.Node.{Node}
 use Rattle.program_code.specs.Numbering.{code_from}
-use Rattle.program_lines.specs.Lines.{lines_in}
+use Rattle.program_tables.specs.Lines.{lines_in}
 use Rattle.program_lines.specs.Walking.{start_at}
 use Rattle.program_compiler.proofs.linking.link.Given as goal
 

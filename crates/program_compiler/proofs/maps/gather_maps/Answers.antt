@@ -2,7 +2,7 @@
 use Rattle.std.proofs.Common.{◌∙◌, ◌++◌, sym, ap, map, append-nil}
 use Rattle.std.proofs.Math.ListN.{drop_of_length-le}
 use Rattle.program_code.specs.Numbering.{entry_of, maps_of, named_in}
-use Rattle.program_lines.specs.Lines.{lines_in}
+use Rattle.program_tables.specs.Lines.{lines_in}
 use Rattle.program_compiler.proofs.Jumps.{maps_on}
 use Rattle.program_compiler.proofs.maps.gather_maps.Goals as goal
 

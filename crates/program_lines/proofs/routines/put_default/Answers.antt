@@ -1,6 +1,6 @@
 -- The slot of a default, and its bytes.
 use Rattle.std.proofs.lemmas.Result.{on_ok_weaker}
-use Rattle.program_lines.specs.Lines.{lines_in}
+use Rattle.program_tables.specs.Lines.{lines_in}
 use Rattle.program_lines.proofs.RoutineSteps.{some_default}
 use Rattle.program_lines.proofs.routines.put_default.Goals as goal
 

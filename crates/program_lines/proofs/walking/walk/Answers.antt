@@ -1,41 +1,5 @@
--- A round for each section, and none left.
-use Rattle.std.proofs.Common.{◌≡◌, ◌++◌, ◌∙◌, ap, arith, length, rules}
-use Rattle.std.specs.Vec.{vec_len}
-use Rattle.program_code.specs.Numbering.{adding, calls_of, named_in, same_section}
-use Rattle.program_lines.specs.Lines.{lines_in, section_of}
-use Rattle.program_lines.proofs.Walked.{all_walked, fewer_left, too_many, walked_init, walked_on}
+-- Nothing is known at first.
 use Rattle.program_lines.proofs.walking.walk.Goals as goal
 
-pub loop-next-init : goal.loop-next-init
-loop-next-init c = record {
-  known = c.new-known.ensures c.args.w.now c.args.r.now;
-  walked = walked_init c.args.w.now c.args.r.now c.new-starts.result.items c.in_ok-sections.sections c.new-lines.result.items c.new-starts.ensures.items c.in_ok-sections.ensures c.new-lines.ensures.items;
-}
-
-pub returns-then-len-ge-MOST_INSTRS : goal.returns-then-len-ge-MOST_INSTRS
-returns-then-len-ge-MOST_INSTRS c =
-    let starts : vec_len c.loop-next.starts ≡ length c.loop-next.starts.items = search rules in
-    let lines : vec_len c.loop-next.lines ≡ length c.loop-next.lines.items = search rules in
-    too_many c.args.w.now c.args.r.now c.loop-next.starts.items c.len.result c.len-in-Some.result c.loop-next.sections c.loop-next.lines.items (section_of c.in-Some.next) c.loop-next.invariant.walked (c.len.ensures ∙ starts) c.in-Some.ensures (c.len-in-Some.ensures ∙ lines) c.if-len-ge-MOST_INSTRS.true
-
-pub loop-next-smaller : goal.loop-next-smaller
-loop-next-smaller c =
-    let lines : vec_len c.loop-next.lines ≡ length c.loop-next.lines.items = search rules in
-    fewer_left c.args.w.now c.args.r.now c.loop-next.starts.items c.push.new.self.items c.len-in-Some-2.result c.loop-next.sections c.loop-next.lines.items c.loop-next.invariant.walked (c.len-in-Some-2.ensures ∙ lines) (omega (arith, c.len-in-Some-2.ensures, c.len-in-Some.ensures, c.if-len-ge-MOST_INSTRS.false)) c.in_ok-push.ensures.items
-
-pub loop-next-preserved : goal.loop-next-preserved
-loop-next-preserved c =
-    let starts : vec_len c.loop-next.starts ≡ length c.loop-next.starts.items = search rules in
-    let lines : vec_len c.loop-next.lines ≡ length c.loop-next.lines.items = search rules in
-    record {
-      known = c.in_ok-code.ensures.known;
-      walked =
-          walked_on c.args.w.now c.args.r.now c.loop-next.starts.items c.push.new.self.items c.len.result c.len-in-Some-2.result c.loop-next.sections c.note_calls.new.sections c.loop-next.lines.items (lines_in c.args.w.now c.args.r.now c.put_all.new.lines.items) (section_of c.in-Some.next) c.loop-next.invariant.walked (c.len.ensures ∙ starts) c.in-Some.ensures (c.len-in-Some-2.ensures ∙ lines) (omega (arith, c.len-in-Some-2.ensures, c.len-in-Some.ensures, c.if-len-ge-MOST_INSTRS.false)) c.in_ok-push.ensures.items
-          (c.in_ok-note_calls.ensures c.args.w.now c.args.r.now ∙ ap (λ ls. adding same_section c.loop-next.sections (named_in calls_of (lines_in c.args.w.now c.args.r.now ls))) c.deref.ensures.value ∙ ap (λ ls. adding same_section c.loop-next.sections (named_in calls_of ls)) c.in_ok-code.ensures.lines)
-          (c.in_ok-put_all.ensures c.args.w.now c.args.r.now ∙ ap (λ ls. lines_in c.args.w.now c.args.r.now c.loop-next.lines.items ++ ls) c.in_ok-code.ensures.lines);
-    }
-
-pub returns : goal.returns
-returns c =
-    let starts : vec_len c.loop-next.starts ≡ length c.loop-next.starts.items = search rules in
-    all_walked c.args.w.now c.args.r.now c.loop-next.starts.items c.len.result c.loop-next.sections c.loop-next.lines.items c.loop-next.invariant.walked (c.len.ensures ∙ starts) c.in_default.ensures
+pub add_sections-requires-clause-known : goal.add_sections-requires-clause-known
+add_sections-requires-clause-known c = c.new-known.ensures c.args.w.now c.args.r.now

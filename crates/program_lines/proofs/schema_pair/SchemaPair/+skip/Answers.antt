@@ -6,10 +6,11 @@ use Rattle.avro_types.specs.declared.limits.TheConstants.{MOST_NODES}
 use Rattle.avro_types.specs.Node.{UnionNode, node_of}
 use Rattle.program_code.specs.Lines.{Lost}
 use Rattle.program_code.specs.Skipping.{skip_within}
-use Rattle.program_lines.specs.Lines.{lines_in}
+use Rattle.program_tables.specs.Lines.{lines_in}
 use Rattle.matching.proofs.Members.{members_below}
 use Rattle.program_lines.proofs.Steps.{body_is, key_then, looped_after, skip_more, skip_none}
-use Rattle.program_lines.proofs.Unions.{first_then, hole_below, lines_length, places_then, skip_union}
+use Rattle.program_tables.proofs.Appended.{lines_length}
+use Rattle.program_lines.proofs.Unions.{first_then, hole_below, places_then, skip_union}
 use Rattle.program_lines.proofs.schema_pair.SchemaPair.+skip.Goals as goal
 
 pub skip_within-returns-then-levels-eq0 : goal.skip_within-returns-then-levels-eq0

@@ -6,10 +6,11 @@ use Rattle.avro_types.specs.declared.limits.TheConstants.{MOST_NODES}
 use Rattle.avro_types.specs.Node.{UnionNode, node_of}
 use Rattle.program_code.specs.Lines.{Enum, Miss, Lost}
 use Rattle.program_code.specs.Writing.{target, write_within}
-use Rattle.program_lines.specs.Lines.{lines_in, symbols_of}
+use Rattle.program_tables.specs.Lines.{lines_in, symbols_of}
 use Rattle.matching.proofs.Members.{members_below}
-use Rattle.program_lines.proofs.Steps.{body_is, key_then, looped_after, two, write_more, write_none}
-use Rattle.program_lines.proofs.Unions.{first_then, hole_below, lines_length, places_then, write_union}
+use Rattle.program_lines.proofs.Steps.{body_is, key_then, looped_after, write_more, write_none}
+use Rattle.program_tables.proofs.Appended.{lines_length, two}
+use Rattle.program_lines.proofs.Unions.{first_then, hole_below, places_then, write_union}
 use Rattle.program_lines.proofs.WriteSteps.{no_union, parts_none, parts_some, placed_more, straight_more}
 use Rattle.program_lines.proofs.schema_pair.SchemaPair.+write.Goals as goal
 

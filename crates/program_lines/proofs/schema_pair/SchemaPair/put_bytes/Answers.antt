@@ -5,7 +5,7 @@ use Rattle.std.proofs.lemmas.Result.{on_ok_weaker}
 use Rattle.avro_types.specs.Node.{node_of}
 use Rattle.program_code.specs.Lines.{BytesText}
 use Rattle.program_code.specs.Writing.{is_text}
-use Rattle.program_lines.specs.Lines.{lines_in}
+use Rattle.program_tables.specs.Lines.{lines_in}
 use Rattle.program_lines.proofs.schema_pair.SchemaPair.put_bytes.Goals as goal
 
 pub returns-in-Text : goal.returns-in-Text

@@ -6,7 +6,7 @@ use Rattle.std.proofs.Math.ListN.{drop_of_length-le}
 use Rattle.avro_types.specs.Node.{fields_of}
 use Rattle.matching.specs.Partners.{has_partner}
 use Rattle.program_code.specs.Writing.{defaults_code}
-use Rattle.program_lines.specs.Lines.{lines_in}
+use Rattle.program_tables.specs.Lines.{lines_in}
 use Rattle.program_lines.proofs.RoutineSteps.{default_on, field_at}
 use Rattle.program_lines.proofs.schema_pair.SchemaPair.put_defaults.Goals as goal
 

@@ -2,7 +2,7 @@
 use Rattle.std.proofs.Common.{◌≡◌, ◌++◌, List, drop}
 use Rattle.avro_types.specs.Node.{Node, fields_of}
 use Rattle.program_code.specs.Writing.{defaults_code}
-use Rattle.program_lines.specs.Lines.{lines_in}
+use Rattle.program_tables.specs.Lines.{lines_in}
 use Rattle.program_lines.proofs.schema_pair.SchemaPair.put_defaults.Given as goal
 
 abbrev pub invariant-loop-position : goal.invariant-loop-position

@@ -4,12 +4,12 @@ use Rattle.matching.specs.Partners.{AreRoutes}
 use Rattle.avro_types.specs.declared.limits.TheConstants.{MOST_FIELDS}
 use Rattle.program_code.specs.Writing.{fields_code}
 use Rattle.program_lines.specs.Known.{AreKnown}
-use Rattle.program_lines.specs.Lines.{lines_in}
+use Rattle.program_tables.specs.Lines.{lines_in}
 use Rattle.program_lines.proofs.schema_pair.SchemaPair.put_fields.Given as goal
 
-abbrev pub invariant-loop-route : goal.invariant-loop-route
-invariant-loop-route l = record {
-  so_far : lines_in l.self.writer.now l.self.reader.now l.lines.items ++ fields_code l.self.writer.now l.self.reader.now (drop l.route-index l.routes) ≡ lines_in l.self.writer.now l.self.reader.now l.fn.lines.items ++ fields_code l.self.writer.now l.self.reader.now l.routes;
+abbrev pub invariant-loop-field : goal.invariant-loop-field
+invariant-loop-field l = record {
+  so_far : lines_in l.self.writer.now l.self.reader.now l.lines.items ++ fields_code l.self.writer.now l.self.reader.now (drop l.field l.routes) ≡ lines_in l.self.writer.now l.self.reader.now l.fn.lines.items ++ fields_code l.self.writer.now l.self.reader.now l.routes;
   known : AreKnown l.self.writer.now l.self.reader.now l.known;
-  left : AreRoutes (length l.self.writer.now) (length l.self.reader.now) MOST_FIELDS (drop l.route-index l.routes);
+  left : AreRoutes (length l.self.writer.now) (length l.self.reader.now) MOST_FIELDS (drop l.field l.routes);
 }

@@ -2,9 +2,9 @@
 use Rattle.std.proofs.Common.{◌≤◌, ◌++◌, ap, sym, ◌∙◌, length, arith}
 use Rattle.std.proofs.lemmas.Result.{on_ok_weaker}
 use Rattle.program_code.specs.Writing.{section}
-use Rattle.program_lines.specs.Lines.{lines_in, section_of}
+use Rattle.program_tables.specs.Lines.{lines_in, section_of}
+use Rattle.program_tables.proofs.Appended.{two}
 use Rattle.program_lines.proofs.SectionSteps.{main_more, no_node, no_reader_node, no_writer_node, skip_section, write_section}
-use Rattle.program_lines.proofs.Steps.{two}
 use Rattle.program_lines.proofs.schema_pair.SchemaPair.put_section.Goals as goal
 
 pub returns-in_ok-write-in-Main-clause-lines : goal.returns-in_ok-write-in-Main-clause-lines

@@ -3,9 +3,9 @@ use Rattle.std.proofs.Common.{◌++◌, ap, sym, ◌∙◌, Some}
 use Rattle.std.proofs.lemmas.Result.{on_ok_weaker}
 use Rattle.avro_types.specs.Node.{fields_of, node_of}
 use Rattle.program_code.specs.Skipping.{skip_fields, skip_routine}
-use Rattle.program_lines.specs.Lines.{lines_in}
+use Rattle.program_tables.specs.Lines.{lines_in}
+use Rattle.program_tables.proofs.Appended.{two}
 use Rattle.program_lines.proofs.RoutineSteps.{no_record}
-use Rattle.program_lines.proofs.Steps.{two}
 use Rattle.program_lines.proofs.schema_pair.SchemaPair.put_skip_routine.Goals as goal
 
 pub returns-in_default : goal.returns-in_default

@@ -3,7 +3,7 @@ use Rattle.std.proofs.Common.{◌≡◌, ◌++◌, drop, length}
 use Rattle.avro_types.specs.Node.{fields_of}
 use Rattle.avro_types.specs.WellFormed.{FieldsBelow}
 use Rattle.program_code.specs.Skipping.{skip_fields}
-use Rattle.program_lines.specs.Lines.{lines_in}
+use Rattle.program_tables.specs.Lines.{lines_in}
 use Rattle.program_lines.proofs.schema_pair.SchemaPair.skip_fields.Given as goal
 
 abbrev pub invariant-loop-field : goal.invariant-loop-field
