@@ -30,3 +30,9 @@ command_of (commands.Version subject version) = VersionCommand (string_bytes sub
 command_of commands.Subjects = SubjectsCommand
 command_of (commands.Schema id) = SchemaCommand id
 command_of (commands.Level subject) = LevelCommand (option_map string_bytes subject)
+
+-- it only asks, and changes nothing
+abbrev pub IsQuestion : Command → Type 0
+IsQuestion (RegisterCommand subject text) = ⊥
+IsQuestion (SetLevelCommand subject level) = ⊥
+IsQuestion c = Unit {0}

@@ -10,9 +10,8 @@ use crate::command::Command;
 use crate::limits::MOST_SCHEMAS;
 use crate::refusal::Refusal;
 use crate::registry::Registry;
-use crate::registry::registering::parse_schema;
+use crate::registry::registering::schema_for;
 use crate::reply::Reply;
-use crate::subject::is_subject;
 use avro_schema::Schema;
 use once_cell::race::{Note, OnceBox};
 use std::alloc::{AllocError, Global};
@@ -60,8 +59,14 @@ impl Model for SharedRegistry {
     ghost invariant = { λ s. length s.cells.items ≡ MOST_SCHEMAS };
 }
 
-/// What stands for the schema that a cell shows, which is this one where it showed none.
-fn seen_in(cell: &OnceBox<Schema>, shown: Box<Schema>) -> Note<Schema>
+/// A copy of a schema, in a box.
+fn boxed_copy(alloc: Global, schema: &Schema) -> Result<Box<Schema>, AllocError> {
+    Ok(Box::new(alloc, schema.copy()?)?)
+}
+
+/// What stands for the value that a cell shows, which is this one where it showed none. Generic, so that a proof sees
+/// nothing of the value.
+fn seen_in<T: Drop>(cell: &OnceBox<T>, shown: Box<T>) -> Note<T>
     ensures cell { result.cell ≡ cell_name cell.now }
     ensures known { IsSome result.known }
 {
@@ -164,12 +169,9 @@ impl SharedRegistry {
             × IfSome r.schema (λ s. s.text ≢ compacted (string_bytes text)))) }
         ensures answer { IsSomeShown (string_bytes subject) (string_bytes text) result }
     {
-        if !is_subject(&subject) {
-            return Err(Refusal::BadSubject);
-        }
-        let schema = parse_schema(self.alloc, &text)?;
+        let schema = schema_for(self.alloc, &subject, &text)?;
         let name = subject.clone()?;
-        self.register_parsed(rt, &Command::Register { subject, text }, name, schema)
+        self.register_parsed(rt, &Command::Register { subject, text }, name, &schema)
     }
 
     /// Does what a command asks that registers a schema, which was parsed from its text, and shows the schema in the
@@ -179,20 +181,19 @@ impl SharedRegistry {
         rt: &R,
         command: &Command,
         subject: String,
-        schema: Schema,
+        schema: &Schema,
     ) -> Result<Result<Receipt, Receipt>, Refusal>
-        requires { AsksToRegister (command_of command.now) (string_bytes subject) schema }
+        requires { AsksToRegister (command_of command.now) (string_bytes subject) schema.now }
         ensures receipt { IfOk result (λ shown. IfOk shown (λ r. IsReceiptOf self.now r
-            × IfSome r.schema (λ s. s.text ≡ schema.text))) }
+            × IfSome r.schema (λ s. s.text ≡ schema.now.text))) }
         ensures clash { IfOk result (λ shown. IfErr shown (λ r. IsReceiptOf self.now r
-            × IfSome r.schema (λ s. s.text ≢ schema.text))) }
+            × IfSome r.schema (λ s. s.text ≢ schema.now.text))) }
         ensures answer { IsSomeShownOf (command_of command.now) result }
     {
-        let kept = schema.copy()?;
-        let shown = Box::new(self.alloc, schema.copy()?)?;
+        let shown = boxed_copy(self.alloc, schema)?;
         let mut registry = self.registry.lock(rt);
         let id = registry.register_parsed(command, subject, schema)?;
-        Ok(self.show(id, shown, &kept))
+        Ok(self.show(id, shown, schema))
     }
 
     /// Shows a schema in the cell of its id; where the cell shows a schema of another text, the error is its receipt.

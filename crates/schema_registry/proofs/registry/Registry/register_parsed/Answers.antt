@@ -8,4 +8,4 @@ pub returns-clause-known : goal.returns-clause-known
 returns-clause-known c =
     let holds = c.self.invariant.0 in
     let few : length (registry_after c.args.self.now).schemas ≤ MOST_SCHEMAS = rw (← c.self.view_is, ← holds.schemas_are) holds.few_schemas in
-    ids-given (registry_after c.args.self.now) few (string_bytes c.args.subject) c.args.schema c.register.result c.register.ensures.answer
+    ids-given (registry_after c.args.self.now) few (string_bytes c.args.subject) c.args.schema.now c.register.result (rw c.in_ok-copy.ensures at c.register.ensures.answer)

@@ -6,21 +6,9 @@ use Rattle.schema_registry.proofs.SomeAnswer.{memory-refused, registration-grows
 use Rattle.schema_registry.proofs.Told.{registered-refusal}
 use Rattle.schema_registry.proofs.shared.SharedRegistry.register_parsed.Goals as goal
 
-pub returns-in_err-kept-clause-answer : goal.returns-in_err-kept-clause-answer
-returns-in_err-kept-clause-answer g c =
-    let p = err_from_is_err_and c.from_residual.result c.from_residual.ensures.1 in
-    let asked = c.requires in
-    rw (p.1, p.2) (memory-refused (command_of c.args.command.now) (registration-grows _ (string_bytes c.args.subject) asked.text asked.command_is asked.subject_is))
-
-pub returns-in_err-copy-clause-answer : goal.returns-in_err-copy-clause-answer
-returns-in_err-copy-clause-answer g c =
-    let p = err_from_is_err_and c.from_residual-in_err-copy.result c.from_residual-in_err-copy.ensures.1 in
-    let asked = c.requires in
-    rw (p.1, p.2) (memory-refused (command_of c.args.command.now) (registration-grows _ (string_bytes c.args.subject) asked.text asked.command_is asked.subject_is))
-
 pub returns-in_err-shown-clause-answer : goal.returns-in_err-shown-clause-answer
 returns-in_err-shown-clause-answer g c =
-    let p = err_from_is_err_and c.from_residual-in_err-shown.result c.from_residual-in_err-shown.ensures.1 in
+    let p = err_from_is_err_and c.from_residual.result c.from_residual.ensures.1 in
     let asked = c.requires in
     rw (p.1, p.2) (memory-refused (command_of c.args.command.now) (registration-grows _ (string_bytes c.args.subject) asked.text asked.command_is asked.subject_is))
 
@@ -33,7 +21,7 @@ returns-in_err-id-clause-answer g c =
       λ known. record {
         commands = c.deref_mut.result.now;
         accepted = c.in_err-id.ensures.accepted;
-        answer = registered-refusal (registry_after c.deref_mut.result.now) (string_bytes c.args.subject) asked.text c.args.schema asked.subject_is asked.declares
+        answer = registered-refusal (registry_after c.deref_mut.result.now) (string_bytes c.args.subject) asked.text c.args.schema.now asked.subject_is asked.declares
             c.in_err-id.field-0.0 (c.in_err-id.ensures.answer known);
       },
     )
