@@ -177,6 +177,18 @@ only-asks commands.Subjects one two = tt
 only-asks (commands.Schema id) one two = tt
 only-asks (commands.Level subject) one two = tt
 
+-- a command that registers is the one that does
+pub registers : (c : rust.Command) (subject text : List ℕ) → command_of c ≡ RegisterCommand subject text → ((subject text : String Global) → c ≡ commands.Register subject text → ⊥) → ⊥
+registers (commands.Register s t) subject text is other = other s t refl
+registers (commands.SetLevel s level) subject text is other = cc
+registers (commands.Lookup s t) subject text is other = cc
+registers (commands.Check s version t) subject text is other = cc
+registers (commands.Versions s) subject text is other = cc
+registers (commands.Version s version) subject text is other = cc
+registers commands.Subjects subject text is other = cc
+registers (commands.Schema id) subject text is other = cc
+registers (commands.Level s) subject text is other = cc
+
 pub asked-taken : (lists : Lists) (c : Command) → IsQuestion c → taken lists c ≡ lists
 asked-taken lists (RegisterCommand subject text) asks = absurd asks
 asked-taken lists (SetLevelCommand subject level) asks = absurd asks

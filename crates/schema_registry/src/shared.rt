@@ -1,9 +1,9 @@
 ghost use Rattle.std.specs.Prelude.{◌≡◌, ◌≢◌, ◌<◌, ◌≤◌, Some, IfErr, IfOk, IfSome, IsSome, length, string_bytes};
 ghost use Rattle.once_cell.specs.Once.{cell_name};
 ghost use Rattle.schema_registry.specs.Accepting.{compacted};
-ghost use Rattle.schema_registry.specs.Command.{command_of};
+ghost use Rattle.schema_registry.specs.Command.{RegisterCommand, command_of};
 ghost use Rattle.schema_registry.specs.Reply.{answer_of};
-ghost use Rattle.schema_registry.specs.Shared.{IsReceiptOf, IsSomeAnswer, IsSomeId, IsSomeShown, IsSomeShownOf};
+ghost use Rattle.schema_registry.specs.Shared.{IsReceiptOf, IsSomeAnswer, IsSomeId, IsSomeShown};
 ghost use Rattle.schema_registry.specs.Tables.{AsksToRegister};
 
 use crate::command::Command;
@@ -170,29 +170,29 @@ impl SharedRegistry {
         ensures answer { IsSomeShown (string_bytes subject) (string_bytes text) result }
     {
         let schema = schema_for(self.alloc, &subject, &text)?;
-        let name = subject.clone()?;
-        self.register_parsed(rt, &Command::Register { subject, text }, name, &schema)
+        self.register_parsed(rt, subject, text, &schema)
     }
 
-    /// Does what a command asks that registers a schema, which was parsed from its text, and shows the schema in the
-    /// cell of its id; where the cell shows a schema of another text, it tells the receipt of that one.
+    /// Registers the schema of a text, which was parsed from it, and shows the schema in the cell of its id; where the
+    /// cell shows a schema of another text, it tells the receipt of that one.
     fn register_parsed<R: Wait>(
         &self,
         rt: &R,
-        command: &Command,
         subject: String,
+        text: String,
         schema: &Schema,
     ) -> Result<Result<Receipt, Receipt>, Refusal>
-        requires { AsksToRegister (command_of command.now) (string_bytes subject) schema.now }
+        requires { AsksToRegister (RegisterCommand (string_bytes subject) (string_bytes text))
+            (string_bytes subject) schema.now }
         ensures receipt { IfOk result (λ shown. IfOk shown (λ r. IsReceiptOf self.now r
             × IfSome r.schema (λ s. s.text ≡ schema.now.text))) }
         ensures clash { IfOk result (λ shown. IfErr shown (λ r. IsReceiptOf self.now r
             × IfSome r.schema (λ s. s.text ≢ schema.now.text))) }
-        ensures answer { IsSomeShownOf (command_of command.now) result }
+        ensures answer { IsSomeShown (string_bytes subject) (string_bytes text) result }
     {
         let shown = boxed_copy(self.alloc, schema)?;
         let mut registry = self.registry.lock(rt);
-        let id = registry.register_parsed(command, subject, schema)?;
+        let id = registry.register_parsed(Command::Register { subject, text }, schema)?;
         Ok(self.show(id, shown, schema))
     }
 

@@ -6,7 +6,7 @@ ghost use Rattle.avro_schema.specs.Schema.{Declaration};
 ghost use Rattle.schema_registry.specs.declared.limits.TheConstants.{MOST_SCHEMAS};
 ghost use Rattle.schema_registry.specs.Accepting.{declaration_of, id_for, registry_after, with_schema};
 ghost use Rattle.schema_registry.specs.Answers.{Answer, AreAccepted, AreSafe, Gives, GivesId, Grows, IsAnswer, answer_to, is_full, pairs_of, where_declared};
-ghost use Rattle.schema_registry.specs.Command.{RegisterCommand, command_of};
+ghost use Rattle.schema_registry.specs.Command.{RegisterCommand, command_of, subject_in};
 ghost use Rattle.schema_registry.specs.Lists.{level_of, versions_of, with_text};
 ghost use Rattle.schema_registry.specs.Subject.{is_subject};
 ghost use Rattle.schema_registry.specs.Tables.{AddsRegistration, AsksToRegister, entry_of};
@@ -146,21 +146,44 @@ impl Registry {
     /// Does what a command asks that registers a schema, which was parsed from its text.
     pub(crate) fn register_parsed(
         &mut self,
-        command: &Command,
-        subject: String,
+        command: Command,
         schema: &Schema,
     ) -> Result<u32, Refusal>
-        requires { AsksToRegister (command_of command.now) (string_bytes subject) schema.now }
-        ensures answer { GivesId (registry_after self.old) (string_bytes subject) schema.now result }
+        requires { AsksToRegister (command_of command) (subject_in (command_of command)) schema.now }
+        ensures answer { GivesId (registry_after self.old) (subject_in (command_of command)) schema.now result }
         ensures known { IfOk result (λ id. (0 < id) × (id ≤ MOST_SCHEMAS)) }
         ensures accepted { AreAccepted self.old }
-        ensures ok { OnOk result (self.new ≡ self.old ++ command_of command.now ∷ []) }
+        ensures ok { OnOk result (self.new ≡ self.old ++ command_of command ∷ []) }
         ensures err { OnErr result (self.new ≡ self.old) }
     {
         self.is_accepted();
-        let copy = schema.copy()?;
-        let history = self.history.and(command);
-        self.register(subject, copy, history)
+        let history = self.history.and(&command);
+        self.register_asked(command, schema, history)
+    }
+
+    /// Registers what a command asks to register, and keeps the history.
+    fn register_asked(
+        &mut self,
+        command: Command,
+        schema: &Schema,
+        history: History,
+    ) -> Result<u32, Refusal>
+        requires asks { AsksToRegister (command_of command) (subject_in (command_of command)) schema.now }
+        requires new { history.commands ≡ self.old ++ command_of command ∷ [] }
+        ensures answer { GivesId (registry_after self.old) (subject_in (command_of command)) schema.now result }
+        ensures ok { OnOk result (self.new ≡ history.commands) }
+        ensures err { OnErr result (self.new ≡ self.old) }
+    {
+        match command {
+            Command::Register {
+                subject,
+                text: _text,
+            } => {
+                let copy = schema.copy()?;
+                self.register(subject, copy, history)
+            }
+            _other => unreachable!(),
+        }
     }
 
     /// Registers the schema of a text.

@@ -1,9 +1,7 @@
-use Rattle.std.proofs.Common.{refl, [], string_bytes}
+use Rattle.std.proofs.Common.{[], string_bytes}
 use Rattle.std.proofs.lemmas.Result.{err_from_is_err_and}
 use Rattle.schema_registry.specs.Lists.{no_lists}
 use Rattle.schema_registry.specs.Answers.{no_command, registration}
-use Rattle.schema_registry.specs.Command.{RegisterCommand}
-use Rattle.schema_registry.proofs.SomeAnswer.{memory-refused, registration-grows}
 use Rattle.schema_registry.proofs.shared.SharedRegistry.register_shown.Goals as goal
 
 pub returns-in_err-schema-clause-answer : goal.returns-in_err-schema-clause-answer
@@ -14,10 +12,3 @@ returns-in_err-schema-clause-answer g c =
       λ none. record { commands = []; accepted = no_command; grows = rw c.deref.ensures at (c.in_err-schema.ensures.memory none) },
       λ known. record { commands = []; accepted = no_command; answer = refused known (registration no_lists (string_bytes c.args.subject)) },
     )
-
-pub returns-in_err-name-clause-answer : goal.returns-in_err-name-clause-answer
-returns-in_err-name-clause-answer g c =
-    let p = err_from_is_err_and c.from_residual-in_err-name.result c.from_residual-in_err-name.ensures.1 in
-    let named = rw c.deref.ensures at c.in_ok-schema.ensures.ok.0 in
-    let command = RegisterCommand (string_bytes c.args.subject) (string_bytes c.args.text) in
-    rw (p.1, p.2) (memory-refused command (registration-grows command (string_bytes c.args.subject) (string_bytes c.args.text) refl named))
