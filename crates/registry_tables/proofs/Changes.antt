@@ -36,8 +36,11 @@ pub versions-put : (m n : BTreeMap (String Global) (List ℕ)) (subject : List �
     → Puts m n subject ids → Puts m n subject (ids_in (get_by_text m subject) ++ id ∷ [])
 versions-put m n subject o id ids is are put = subst (Puts m n subject) (are ∙ ap (λ o. ids_in o ++ id ∷ []) (sym is)) put
 
--- ---- a text that is new
+-- ---- the id of a text
 
-module _ (ids : BTreeMap (String Global) ℕ) (text : List ℕ) (lacking : get_by_text ids text ≡ None) where
-  pub next-id : (count n : ℕ) → n ≡ count → n + 1 ≡ id_or_next ids text count
-  next-id count n same = rw (lacking, same) refl
+module _ (ids : BTreeMap (String Global) ℕ) (text : List ℕ) (count : ℕ) where
+  pub known-id : (id : ℕ) → get_by_text ids text ≡ Some id → id ≡ id_or_next ids text count
+  known-id id is = rw is refl
+
+  pub next-id : get_by_text ids text ≡ None → count + 1 ≡ id_or_next ids text count
+  next-id lacking = rw lacking refl

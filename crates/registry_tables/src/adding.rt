@@ -5,6 +5,7 @@ ghost use Rattle.std.specs.BTreeMap.{get_by_text};
 ghost use Rattle.registry_tables.specs.declared.limits.TheConstants.{MOST_ID};
 ghost use Rattle.registry_tables.specs.Maps.{AreSame, Puts, id_or_next, ids_in, number_of};
 
+use crate::putting::{put, put_copy};
 use crate::versions::Versions;
 use std::alloc::{AllocError, Global};
 use std::collections::BTreeMap;
@@ -22,13 +23,38 @@ fn add_version(
         (ids_in (get_by_text subjects.old (string_bytes subject)) ++ id ∷ [])) }
     ensures err { OnErr result (AreSame subjects.old subjects.new) }
 {
-    if let Some(versions) = subjects.get_mut(subject.as_str()) {
-        versions.add(id)?;
-        return Ok(());
+    match subjects.get_mut(subject.as_str()) {
+        Some(versions) => versions.add(id),
+        None => put(subjects, subject, Versions::one(alloc, id)?),
     }
-    let versions = Versions::one(alloc, id)?;
-    subjects.insert(subject, versions)?;
-    Ok(())
+}
+
+/// Puts a new text under an id, and makes the id the next version of a subject.
+fn add_text(
+    alloc: Global,
+    ids: &mut BTreeMap<String, u32>,
+    subjects: &mut BTreeMap<String, Versions>,
+    subject: String,
+    text: &str,
+    id: u32,
+) -> Result<u32, AllocError>
+    requires lacking { get_by_text ids.old text.now ≡ None }
+    requires new { number_of id (ids_in (get_by_text subjects.old (string_bytes subject))) ≡ None }
+    requires known { id ≤ MOST_ID }
+    ensures id { IfOk result (λ given. given ≡ id) }
+    ensures ids { OnOk result (Puts ids.old ids.new text.now id) }
+    ensures versions { OnOk result (Puts subjects.old subjects.new (string_bytes subject)
+        (ids_in (get_by_text subjects.old (string_bytes subject)) ++ id ∷ [])) }
+    ensures err { OnErr result (AreSame ids.old ids.new × AreSame subjects.old subjects.new) }
+{
+    put_copy(alloc, ids, text, id)?;
+    match add_version(alloc, subjects, subject, id) {
+        Ok(()) => Ok(id),
+        Err(error) => {
+            ids.remove(text);
+            Err(error)
+        }
+    }
 }
 
 /// Makes a text the next version of a subject, under the text's id, which is the next one where the text is new. Where
@@ -55,12 +81,5 @@ pub fn add(
         return Ok(id);
     }
     let id = count as u32 + 1;
-    ids.insert(String::from_str(alloc, text)?, id)?;
-    match add_version(alloc, subjects, subject, id) {
-        Ok(()) => Ok(id),
-        Err(_) => {
-            ids.remove(text);
-            Err(AllocError)
-        }
-    }
+    add_text(alloc, ids, subjects, subject, text, id)
 }

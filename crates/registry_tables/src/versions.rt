@@ -31,19 +31,12 @@ impl Versions {
         requires { id ≤ MOST_ID }
         ensures { IfOk result (λ versions. versions ≡ id ∷ []) }
     {
-        let mut versions = Versions::new(alloc);
-        versions.add(id)?;
-        Ok(versions)
-    }
-
-    /// No version.
-    fn new(alloc: Global) -> Versions
-        ensures { result ≡ [] }
-    {
-        Versions {
+        let mut versions = Versions {
             ids: Vec::new(alloc),
             numbers: BTreeMap::new(alloc),
-        }
+        };
+        versions.add(id)?;
+        Ok(versions)
     }
 
     /// How many there are.

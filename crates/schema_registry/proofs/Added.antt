@@ -1,6 +1,6 @@
 -- One more version, whose schema the subject lacks.
-use Rattle.std.proofs.Common.{◌≡◌, ◌≢◌, ◌≤◌, ◌<◌, ℕ, suc, ◌+◌, List, [], ◌∷◌, ◌++◌, length, Bool, true, false, cond, not, ◌&&◌, ◌||◌, ◌==◌, Option, Some, None, Result, Ok, Err, is_some, refl, sym, ap, subst, ◌∙◌, arith, inl, inr, String, Global, length-append}
-use Rattle.std.specs.Prelude.{IfSome, nat_le, unwrap_or}
+use Rattle.std.proofs.Common.{◌≡◌, ◌≢◌, ◌≤◌, ◌<◌, ℕ, suc, ◌+◌, List, [], ◌∷◌, ◌++◌, length, Bool, true, false, cond, not, ◌&&◌, ◌||◌, ◌==◌, Option, Some, None, Result, Ok, Err, is_none, is_some, refl, sym, ap, subst, ◌∙◌, arith, inl, inr, String, Global, length-append}
+use Rattle.std.specs.Prelude.{IfErr, IfOk, IfSome, nat_le, nat_lt, unwrap_or}
 use Rattle.std.specs.BTreeMap.{BTreeMap, get_by_text}
 use Rattle.std.specs.List.{AllByRecursion, position_from}
 use Rattle.std.specs.Option.{option_and_then, option_map}
@@ -11,11 +11,12 @@ use Rattle.avro_schema.specs.Schema.{Declaration}
 use Rattle.schema_registry.specs.declared.level.Level.{Level}
 use Rattle.schema_registry.specs.declared.limits.TheConstants.{MOST_SCHEMAS}
 use Rattle.schema_registry.specs.Accepting.{id_for, registered, with_schema, with_version}
-use Rattle.schema_registry.specs.Answers.{AreSafe, IsAnswer, Pair, has_no_id, is_full, pairs_of, registration}
+use Rattle.schema_registry.specs.Answers.{AreSafe, GivesId, IsAnswer, Pair, has_no_id, is_full, pairs_of, registration}
 use Rattle.schema_registry.specs.Lists.{Entry, Lists, id_of, level_of, versions_of, with_text}
 use Rattle.schema_registry.specs.Reply.{IdReply}
 use Rattle.schema_names.specs.declared.error.SchemaError.{SchemaError}
-use Rattle.schema_registry.specs.declared.refusal.Refusal.TheVariants.{Full, Incompatible}
+use Rattle.schema_registry.specs.declared.refusal.Refusal.TheVariants.{Full, Incompatible, NoMemory}
+use Rattle.schema_registry.specs.declared.refusal.Refusal.{Refusal}
 use Rattle.registry_tables.specs.declared.limits.TheConstants.{MOST_ID}
 use Rattle.registry_tables.specs.Maps.{Puts, ids_in, number_of}
 use Rattle.schema_registry.specs.Tables.{Holds, IsId, entry_of, versions_from}
@@ -53,6 +54,17 @@ id-below schema schemas few = at (id_of schema.text schemas) refl
     at : (o : Option ℕ) → id_of schema.text schemas ≡ o → unwrap_or o (length schemas + 1) ≤ MOST_ID
     at None is = omega (arith, few)
     at (Some id) is = let h = id-within schema.text 1 schemas id is in omega (arith, h.1, few)
+
+-- an id is beyond the schemas just where no schema has the text
+pub beyond-new : (schema : Declaration) (schemas : List Declaration) (id : ℕ) → id ≡ id_for schema schemas → nat_lt (length schemas) id ≡ is_none (id_of schema.text schemas)
+beyond-new schema schemas id is = at (id_of schema.text schemas) refl
+  where
+    at : (o : Option ℕ) → id_of schema.text schemas ≡ o → nat_lt (length schemas) id ≡ is_none o
+    at None e = let next : id ≡ length schemas + 1 = is ∙ rw e refl in grind (arith, nat_tests)
+    at (Some i) e =
+        let within = id-within schema.text 1 schemas i e in
+        let same : id ≡ i = is ∙ rw e refl in
+        let le : id ≤ length schemas = omega (arith, within.1, same) in grind (arith, nat_tests)
 
 -- an id that no schema has yet stands nowhere
 no-number-yet : (schemas : List Declaration) (n id : ℕ) (ids : List ℕ) → AllByRecursion (IsId schemas) ids → length schemas < id → position_from (λ i. i == id) n ids ≡ None
@@ -111,6 +123,12 @@ module _ (lists : Lists) (s : List ℕ) (schema : Declaration) where
 
   pub add-answer : found ≡ None → AreSafe pairs → is_full lists schema s ≡ false → (id : ℕ) → id ≡ id_for schema lists.schemas → IsAnswer (registration lists s schema) (Ok (IdReply id))
   add-answer lacking safe room id is = rw (lacking, room, is) (inl (safe, refl))
+
+  -- where it is added, if there is memory
+  pub added-answer : found ≡ None → AreSafe pairs → is_full lists schema s ≡ false → (r : Result ℕ Refusal) → IfOk r (λ id. id ≡ id_for schema lists.schemas) → IfErr r (λ e. e ≡ NoMemory)
+      → GivesId lists s schema r
+  added-answer lacking safe room (Ok id) is none = add-answer lacking safe room id is
+  added-answer lacking safe room (Err e) is none = λ known. absurd (known none)
 
 -- nothing changes where the subject has the schema
 pub known-held : (schemas : List Declaration) (subjects : BTreeMap (String Global) (List ℕ)) (levels : BTreeMap (String Global) Level) (global : Level) (lists : Lists)

@@ -14,7 +14,9 @@ use Rattle.std.proofs.lemmas.Slice.Eq.{bytes_eq-Decides}
 use Rattle.avro_schema.specs.Schema.{Declaration}
 use Rattle.schema_registry.specs.declared.level.Level.{Level}
 use Rattle.schema_registry.specs.declared.level.Level.TheVariants.{Backward}
-use Rattle.schema_registry.specs.Command.{Command}
+use Rattle.schema_registry.specs.declared.command.Command as rust
+use Rattle.schema_registry.specs.declared.command.Command.TheVariants as commands
+use Rattle.schema_registry.specs.Command.{Command, CheckCommand, IsQuestion, LevelCommand, LookupCommand, RegisterCommand, SchemaCommand, SetLevelCommand, SubjectsCommand, VersionCommand, VersionsCommand, command_of}
 use Rattle.schema_registry.specs.Accepting.{registry_after, taken, taken_all}
 use Rattle.schema_registry.specs.Lists.{Entry, Lists, id_of, is_same, level_set, no_lists, subjects_of, subjects_with_level, versions_of, with_id, with_text}
 use Rattle.schema_registry.specs.Reply.{Reply}
@@ -161,6 +163,42 @@ question-accepted schemas subjects levels global old commands held accepted c re
   held-after schemas subjects levels global old commands c are (subst (Holds schemas subjects levels global) (sym same) held),
   accepted-more old commands c reply are accepted answer,
 )
+
+-- a command that neither registers nor sets a level only asks
+pub only-asks : (c : rust.Command) → ((subject text : String Global) → c ≡ commands.Register subject text → ⊥) → ((subject : Option (String Global)) (level : Level) → c ≡ commands.SetLevel subject level → ⊥)
+    → IsQuestion (command_of c)
+only-asks (commands.Register subject text) one two = absurd (one subject text refl)
+only-asks (commands.SetLevel subject level) one two = absurd (two subject level refl)
+only-asks (commands.Lookup subject text) one two = tt
+only-asks (commands.Check subject version text) one two = tt
+only-asks (commands.Versions subject) one two = tt
+only-asks (commands.Version subject version) one two = tt
+only-asks commands.Subjects one two = tt
+only-asks (commands.Schema id) one two = tt
+only-asks (commands.Level subject) one two = tt
+
+-- a command that registers is the one that does
+pub registers : (c : rust.Command) (subject text : List ℕ) → command_of c ≡ RegisterCommand subject text → ((subject text : String Global) → c ≡ commands.Register subject text → ⊥) → ⊥
+registers (commands.Register s t) subject text is other = other s t refl
+registers (commands.SetLevel s level) subject text is other = cc
+registers (commands.Lookup s t) subject text is other = cc
+registers (commands.Check s version t) subject text is other = cc
+registers (commands.Versions s) subject text is other = cc
+registers (commands.Version s version) subject text is other = cc
+registers commands.Subjects subject text is other = cc
+registers (commands.Schema id) subject text is other = cc
+registers (commands.Level s) subject text is other = cc
+
+pub asked-taken : (lists : Lists) (c : Command) → IsQuestion c → taken lists c ≡ lists
+asked-taken lists (RegisterCommand subject text) asks = absurd asks
+asked-taken lists (SetLevelCommand subject level) asks = absurd asks
+asked-taken lists (LookupCommand subject text) asks = refl
+asked-taken lists (CheckCommand subject version text) asks = refl
+asked-taken lists (VersionsCommand subject) asks = refl
+asked-taken lists (VersionCommand subject version) asks = refl
+asked-taken lists SubjectsCommand asks = refl
+asked-taken lists (SchemaCommand id) asks = refl
+asked-taken lists (LevelCommand subject) asks = refl
 
 -- the same where each subject has what it had
 pub same-held : (schemas : List Declaration) (subjects new : BTreeMap (String Global) (List ℕ)) (levels : BTreeMap (String Global) Level) (global : Level) (lists : Lists)

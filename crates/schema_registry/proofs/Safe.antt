@@ -56,6 +56,19 @@ pub tests-ways : {P : Type 0} (writer reader : P → Declaration) (level : Level
 tests-ways writer reader level new old newer older n o b c is-n is-o forth forth-test back back-test =
     tests-level level new old n o b c is-n is-o (tests-pair writer reader newer n b old new forth forth-test) (tests-pair writer reader older o c new old back back-test)
 
+-- of the pairs that a level may ask for, where the first is not safe
+pub tests-forth : {P : Type 0} (writer reader : P → Declaration) (level : Level) (new old : Declaration) (newer : Option P) (n b : Bool) → n ≡ new_reads_old level
+    → MatchOption newer (n ≡ false) (λ p. (n ≡ true) × (writer p ≡ old) × (reader p ≡ new)) → MatchOption newer (IsTrue b) (λ p. IsTrue b ↔ IsSafe (writer p).nodes (reader p).nodes)
+    → b ≡ false → Tests false (pairs_with level new old)
+tests-forth writer reader level new old newer n b is-n forth forth-test off =
+    let front : Tests b (cond n ((old, new) ∷ []) []) = tests-pair writer reader newer n b old new forth forth-test in
+    let back = cond (old_reads_new level) ((new, old) ∷ []) [] in (
+      λ e. absurd (let no : ⊥ = cc in no),
+      λ all.
+          let safe = subst (λ m. AreSafe (cond m ((old, new) ∷ []) [] ++ back)) (sym is-n) all in
+          absurd (let on : b ≡ true = front.1 (safe-front (cond n ((old, new) ∷ []) []) back safe) in let no : ⊥ = cc in no),
+    )
+
 -- ---- a new schema beside older ones
 
 module _ (level : Level) (new : Declaration) (schemas : List Declaration) where

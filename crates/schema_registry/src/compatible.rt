@@ -21,7 +21,7 @@ fn reads(alloc: Global, pair: Option<(&Schema, &Schema)>) -> Result<bool, AllocE
     let Some((writer, reader)) = pair else {
         return Ok(true);
     };
-    Ok(can_read(alloc, writer.nodes(), reader.nodes())?)
+    can_read(alloc, writer.nodes(), reader.nodes())
 }
 
 /// Whether a new schema goes together with an older one.
@@ -33,9 +33,10 @@ pub(crate) fn goes_with(
 ) -> Result<bool, AllocError>
     ensures { IfOk result (λ b. IsTrue b ↔ AreSafe (pairs_with level new.now old.now)) }
 {
-    let forth = reads(alloc, newer_reads(level.new_reads_old(), new, old))?;
-    let back = reads(alloc, older_reads(level.old_reads_new(), new, old))?;
-    Ok(forth && back)
+    if !reads(alloc, newer_reads(level.new_reads_old(), new, old))? {
+        return Ok(false);
+    }
+    reads(alloc, older_reads(level.old_reads_new(), new, old))
 }
 
 /// Whether a new schema goes together with each of those of some ids.

@@ -1,7 +1,7 @@
 ghost use Rattle.std.specs.Prelude.{◌≡◌, ℕ, List, [], ◌∷◌, ◌++◌, length, map, OnOk, OnErr, IfErr, option_map};
 ghost use Rattle.schema_registry.specs.Accepting.{registry_after};
 ghost use Rattle.schema_registry.specs.Answers.{AreAccepted, Gives, Grows, answer_to};
-ghost use Rattle.schema_registry.specs.Command.{command_of};
+ghost use Rattle.schema_registry.specs.Command.{IsQuestion, command_of};
 ghost use Rattle.schema_registry.specs.Lists.{numbered, versions_of};
 ghost use Rattle.schema_registry.specs.Tables.{numbers_from};
 
@@ -73,25 +73,50 @@ impl Registry {
             → Grows (registry_after self.old) (command_of command)) }
     {
         let history = self.history.and(&command);
-        let reply = match command {
-            Command::Register { subject, text } => return self.register_text(
-                subject, text, history,
-            ),
-            Command::SetLevel { subject, level } => return self.set_level(subject, level, history),
-            Command::Lookup { subject, text } => self.lookup(subject, &text)?,
+        self.apply_and_keep(command, history)
+    }
+
+    /// Does or answers what a command asks, and keeps the history.
+    fn apply_and_keep(&mut self, command: Command, history: History) -> Result<Reply, Refusal>
+        requires { history.commands ≡ self.old ++ command_of command ∷ [] }
+        ensures answer { Gives (answer_to (registry_after self.old) (command_of command)) result }
+        ensures ok { OnOk result (self.new ≡ history.commands) }
+        ensures err { OnErr result (self.new ≡ self.old) }
+        ensures memory { IfErr result (λ e. e ≡ Refusal.NoMemory
+            → Grows (registry_after self.old) (command_of command)) }
+    {
+        match command {
+            Command::Register { subject, text } => self.register_text(subject, text, history),
+            Command::SetLevel { subject, level } => self.set_level(subject, level, history),
+            question => {
+                let reply = self.answer(question)?;
+                self.history = history;
+                Ok(reply)
+            }
+        }
+    }
+
+    /// Answers a command that only asks.
+    fn answer(&self, question: Command) -> Result<Reply, Refusal>
+        requires { IsQuestion (command_of question) }
+        ensures answer { Gives (answer_to (registry_after self.now) (command_of question)) result }
+        ensures memory { IfErr result (λ e. e ≡ Refusal.NoMemory
+            → Grows (registry_after self.now) (command_of question)) }
+    {
+        match question {
+            Command::Lookup { subject, text } => self.lookup(subject, &text),
             Command::Check {
                 subject,
                 version,
                 text,
-            } => self.check(&subject, version, &text)?,
-            Command::Versions { subject } => self.versions(&subject)?,
-            Command::Version { subject, version } => self.version(subject, version)?,
-            Command::Subjects => self.subjects()?,
-            Command::Schema { id } => self.schema(id)?,
-            Command::Level { subject } => self.level(subject)?,
-        };
-        self.history = history;
-        Ok(reply)
+            } => self.check(&subject, version, &text),
+            Command::Versions { subject } => self.versions(&subject),
+            Command::Version { subject, version } => self.version(subject, version),
+            Command::Subjects => self.subjects(),
+            Command::Schema { id } => self.schema(id),
+            Command::Level { subject } => self.level(subject),
+            Command::Register { .. } | Command::SetLevel { .. } => unreachable!(),
+        }
     }
 
     /// The schema of an id.

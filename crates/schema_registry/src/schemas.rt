@@ -1,5 +1,6 @@
-ghost use Rattle.std.specs.Prelude.{◌≡◌, ◌≤◌, [], ◌∷◌, ◌++◌, length, None, option_map, IfOk, OnOk, OnErr, if◌then◌else◌, string_bytes};
+ghost use Rattle.std.specs.Prelude.{◌≡◌, ◌≤◌, ◌<◌, [], ◌∷◌, ◌++◌, length, None, option_map, IfOk, OnOk, OnErr, if◌then◌else◌, string_bytes};
 ghost use Rattle.std.specs.BTreeMap.{get_by_text};
+ghost use Rattle.std.specs.Vec.{vec_capacity, vec_len};
 ghost use Rattle.registry_tables.specs.Maps.{AreSame, Puts, ids_in, number_of};
 ghost use Rattle.schema_registry.specs.declared.limits.TheConstants.{MOST_SCHEMAS};
 ghost use Rattle.schema_registry.specs.Accepting.{id_for, with_schema};
@@ -37,16 +38,14 @@ impl Model for SchemaTable {
     ghost invariant = { λ t. AreIdsOf t.ids t.schemas.items };
 }
 
-/// Puts a schema behind the others, if it is new.
-fn push_new(schemas: &mut Vec<Schema>, is_new: bool, schema: Schema) -> Result<(), AllocError>
-    ensures ok { OnOk result (schemas.new.items
-        ≡ (if is_new then schemas.old.items ++ schema ∷ [] else schemas.old.items)) }
-    ensures err { OnErr result (schemas.new.items ≡ schemas.old.items) }
+/// Puts an item behind the others, if it is new. Generic, so that a proof sees nothing of the item.
+fn push_new<T: Drop>(items: &mut Vec<T>, is_new: bool, item: T)
+    requires { vec_len items.old < vec_capacity items.old }
+    ensures { items.new.items ≡ (if is_new then items.old.items ++ item ∷ [] else items.old.items) }
 {
     if is_new {
-        schemas.push(schema)?;
+        let _pushed = items.push(item);
     }
-    Ok(())
 }
 
 impl SchemaTable {
@@ -102,15 +101,16 @@ impl SchemaTable {
         ensures err { OnErr result ((self.new ≡ self.old) × AreSame subjects.old subjects.new) }
     {
         let count = self.schemas.len();
-        let named = schema.copy()?;
-        let is_new = self.id_of(named.text()).is_none();
-        push_new(&mut self.schemas, is_new, schema)?;
-        match add(alloc, &mut self.ids, subjects, count, subject, named.text()) {
-            Ok(id) => Ok(id),
-            Err(_) => {
-                self.schemas.truncate(count);
-                Err(AllocError)
-            }
-        }
+        self.schemas.try_reserve(1)?;
+        let id = add(
+            alloc,
+            &mut self.ids,
+            subjects,
+            count,
+            subject,
+            schema.text(),
+        )?;
+        push_new(&mut self.schemas, id as usize > count, schema);
+        Ok(id)
     }
 }

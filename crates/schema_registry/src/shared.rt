@@ -1,18 +1,17 @@
 ghost use Rattle.std.specs.Prelude.{◌≡◌, ◌≢◌, ◌<◌, ◌≤◌, Some, IfErr, IfOk, IfSome, IsSome, length, string_bytes};
 ghost use Rattle.once_cell.specs.Once.{cell_name};
 ghost use Rattle.schema_registry.specs.Accepting.{compacted};
-ghost use Rattle.schema_registry.specs.Command.{command_of};
+ghost use Rattle.schema_registry.specs.Command.{RegisterCommand, command_of};
 ghost use Rattle.schema_registry.specs.Reply.{answer_of};
-ghost use Rattle.schema_registry.specs.Shared.{IsReceiptOf, IsSomeAnswer, IsSomeId, IsSomeShown, IsSomeShownOf};
+ghost use Rattle.schema_registry.specs.Shared.{IsReceiptOf, IsSomeAnswer, IsSomeId, IsSomeShown};
 ghost use Rattle.schema_registry.specs.Tables.{AsksToRegister};
 
 use crate::command::Command;
 use crate::limits::MOST_SCHEMAS;
 use crate::refusal::Refusal;
 use crate::registry::Registry;
-use crate::registry::registering::parse_schema;
+use crate::registry::registering::schema_for;
 use crate::reply::Reply;
-use crate::subject::is_subject;
 use avro_schema::Schema;
 use once_cell::race::{Note, OnceBox};
 use std::alloc::{AllocError, Global};
@@ -60,8 +59,14 @@ impl Model for SharedRegistry {
     ghost invariant = { λ s. length s.cells.items ≡ MOST_SCHEMAS };
 }
 
-/// What stands for the schema that a cell shows, which is this one where it showed none.
-fn seen_in(cell: &OnceBox<Schema>, shown: Box<Schema>) -> Note<Schema>
+/// A copy of a schema, in a box.
+fn boxed_copy(alloc: Global, schema: &Schema) -> Result<Box<Schema>, AllocError> {
+    Ok(Box::new(alloc, schema.copy()?)?)
+}
+
+/// What stands for the value that a cell shows, which is this one where it showed none. Generic, so that a proof sees
+/// nothing of the value.
+fn seen_in<T: Drop>(cell: &OnceBox<T>, shown: Box<T>) -> Note<T>
     ensures cell { result.cell ≡ cell_name cell.now }
     ensures known { IsSome result.known }
 {
@@ -164,35 +169,31 @@ impl SharedRegistry {
             × IfSome r.schema (λ s. s.text ≢ compacted (string_bytes text)))) }
         ensures answer { IsSomeShown (string_bytes subject) (string_bytes text) result }
     {
-        if !is_subject(&subject) {
-            return Err(Refusal::BadSubject);
-        }
-        let schema = parse_schema(self.alloc, &text)?;
-        let name = subject.clone()?;
-        self.register_parsed(rt, &Command::Register { subject, text }, name, schema)
+        let schema = schema_for(self.alloc, &subject, &text)?;
+        self.register_parsed(rt, subject, text, &schema)
     }
 
-    /// Does what a command asks that registers a schema, which was parsed from its text, and shows the schema in the
-    /// cell of its id; where the cell shows a schema of another text, it tells the receipt of that one.
+    /// Registers the schema of a text, which was parsed from it, and shows the schema in the cell of its id; where the
+    /// cell shows a schema of another text, it tells the receipt of that one.
     fn register_parsed<R: Wait>(
         &self,
         rt: &R,
-        command: &Command,
         subject: String,
-        schema: Schema,
+        text: String,
+        schema: &Schema,
     ) -> Result<Result<Receipt, Receipt>, Refusal>
-        requires { AsksToRegister (command_of command.now) (string_bytes subject) schema }
+        requires { AsksToRegister (RegisterCommand (string_bytes subject) (string_bytes text))
+            (string_bytes subject) schema.now }
         ensures receipt { IfOk result (λ shown. IfOk shown (λ r. IsReceiptOf self.now r
-            × IfSome r.schema (λ s. s.text ≡ schema.text))) }
+            × IfSome r.schema (λ s. s.text ≡ schema.now.text))) }
         ensures clash { IfOk result (λ shown. IfErr shown (λ r. IsReceiptOf self.now r
-            × IfSome r.schema (λ s. s.text ≢ schema.text))) }
-        ensures answer { IsSomeShownOf (command_of command.now) result }
+            × IfSome r.schema (λ s. s.text ≢ schema.now.text))) }
+        ensures answer { IsSomeShown (string_bytes subject) (string_bytes text) result }
     {
-        let kept = schema.copy()?;
-        let shown = Box::new(self.alloc, schema.copy()?)?;
+        let shown = boxed_copy(self.alloc, schema)?;
         let mut registry = self.registry.lock(rt);
-        let id = registry.register_parsed(command, subject, schema)?;
-        Ok(self.show(id, shown, &kept))
+        let id = registry.register_parsed(Command::Register { subject, text }, schema)?;
+        Ok(self.show(id, shown, schema))
     }
 
     /// Shows a schema in the cell of its id; where the cell shows a schema of another text, the error is its receipt.

@@ -1,6 +1,4 @@
-ghost use Rattle.std.specs.Prelude.{◌≡◌, ◌≢◌, ◌∷◌, [], ◌++◌, ℕ, List, Some, IfErr, IfSome, OnOk, OnErr, if◌then◌else◌, option_map, string_bytes};
-ghost use Rattle.std.specs.BTreeMap.{IsUnchanged, get_by_text};
-ghost use Rattle.std.specs.Str.{bytes_eq};
+ghost use Rattle.std.specs.Prelude.{◌≡◌, ◌≢◌, ◌∷◌, [], ◌++◌, Some, IfErr, IfSome, OnOk, OnErr, option_map, string_bytes};
 ghost use Rattle.schema_registry.specs.Accepting.{registry_after};
 ghost use Rattle.schema_registry.specs.Answers.{Gives, Grows, answer_to, unless_refused};
 ghost use Rattle.schema_registry.specs.Command.{SetLevelCommand};
@@ -15,23 +13,7 @@ use crate::refusal::Refusal;
 use crate::reply::Reply;
 use crate::room::has_no_room;
 use crate::subject::is_subject;
-use registry_tables::set_for;
-use std::alloc::AllocError;
-use std::collections::BTreeMap;
-
-/// Puts a level under a name.
-fn put_level(
-    levels: &mut BTreeMap<String, Level>,
-    subject: String,
-    level: Level,
-) -> Result<(), AllocError>
-    ensures put { OnOk result ((s : List ℕ) → get_by_text levels.new s
-        ≡ (if bytes_eq (string_bytes subject) s then Some level else get_by_text levels.old s)) }
-    ensures err { OnErr result (IsUnchanged levels.old levels.new) }
-{
-    levels.insert(subject, level)?;
-    Ok(())
-}
+use registry_tables::{put, set_for};
 
 impl Registry {
     /// The level of a subject, which is its own or else the global one; without a subject the global one.
@@ -80,7 +62,7 @@ impl Registry {
         if let Some(refusal) = self.level_refusal(&subject) {
             return Err(refusal);
         }
-        put_level(&mut self.levels, subject, level)?;
+        put(&mut self.levels, subject, level)?;
         self.history = history;
         Ok(Reply::LevelIs(level))
     }

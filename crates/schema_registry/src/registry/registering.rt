@@ -2,10 +2,11 @@ ghost use Rattle.std.specs.Prelude.{◌≡◌, ◌<◌, ◌≢◌, ◌↔◌, �
 ghost use Rattle.std.specs.BTreeMap.{IsUnchanged, get_by_text};
 ghost use Rattle.std.specs.Str.{bytes_eq};
 ghost use Rattle.schema_names.specs.declared.error.SchemaError.{SchemaError};
+ghost use Rattle.avro_schema.specs.Schema.{Declaration};
 ghost use Rattle.schema_registry.specs.declared.limits.TheConstants.{MOST_SCHEMAS};
 ghost use Rattle.schema_registry.specs.Accepting.{declaration_of, id_for, registry_after, with_schema};
-ghost use Rattle.schema_registry.specs.Answers.{AreAccepted, AreSafe, Gives, GivesId, Grows, answer_to, is_full, pairs_of};
-ghost use Rattle.schema_registry.specs.Command.{RegisterCommand, command_of};
+ghost use Rattle.schema_registry.specs.Answers.{Answer, AreAccepted, AreSafe, Gives, GivesId, Grows, IsAnswer, answer_to, is_full, pairs_of, where_declared};
+ghost use Rattle.schema_registry.specs.Command.{RegisterCommand, command_of, subject_in};
 ghost use Rattle.schema_registry.specs.Lists.{level_of, versions_of, with_text};
 ghost use Rattle.schema_registry.specs.Subject.{is_subject};
 ghost use Rattle.schema_registry.specs.Tables.{AddsRegistration, AsksToRegister, entry_of};
@@ -36,6 +37,19 @@ pub(crate) fn parse_schema(alloc: Global, text: &str) -> Result<Schema, Refusal>
     }
 }
 
+/// The schema that a text declares, which is to stand under a subject.
+pub(crate) fn schema_for(alloc: Global, subject: &str, text: &str) -> Result<Schema, Refusal>
+    ensures ok { IfOk result (λ s. (is_subject subject.now ≡ true) × (declaration_of text.now ≡ Ok s)) }
+    ensures err { IfErr result (λ e. e ≢ Refusal.NoMemory → (answer : Declaration → Answer)
+        → IsAnswer (where_declared subject.now text.now answer) (Err e)) }
+    ensures memory { IfErr result (λ e. e ≡ Refusal.NoMemory → is_subject subject.now ≡ true) }
+{
+    if !is_subject(subject) {
+        return Err(Refusal::BadSubject);
+    }
+    parse_schema(alloc, text)
+}
+
 impl Registry {
     /// The version of a subject that has a schema, and the schema's id.
     pub(super) fn version_with(&self, subject: &str, schema: &Schema) -> Option<(u32, u32)>
@@ -59,7 +73,7 @@ impl Registry {
         };
         let level = self.level_of(Some(subject));
         let ids = compared(level.is_transitive(), versions.ids());
-        Ok(goes_with_all(self.alloc, level, schema, &self.schemas, ids)?)
+        goes_with_all(self.alloc, level, schema, &self.schemas, ids)
     }
 
     /// Whether there is no room for a schema, or for a subject.
@@ -69,8 +83,27 @@ impl Registry {
         self.schemas.has_no_id(schema.text()) || has_no_room(&self.subjects, subject, MOST_SUBJECTS)
     }
 
+    /// Whether a schema that a subject lacks may be a version of it, or else why it may not.
+    fn may_add(&self, subject: &str, schema: &Schema) -> Result<(), Refusal>
+        ensures ok { OnOk result (AreSafe (pairs_of (registry_after self.now)
+            (level_of (Some subject.now) (registry_after self.now).levels) schema.now
+            (versions_of subject.now (registry_after self.now).entries))
+            × (is_full (registry_after self.now) schema.now subject.now ≡ false)) }
+        ensures err { IfErr result (λ e. with_text schema.now.text (registry_after self.now).schemas
+            (versions_of subject.now (registry_after self.now).entries) ≡ None
+            → GivesId (registry_after self.now) subject.now schema.now (Err e)) }
+    {
+        if !self.is_compatible(subject, schema)? {
+            return Err(Refusal::Incompatible);
+        }
+        if self.is_full(subject, schema) {
+            return Err(Refusal::Full);
+        }
+        Ok(())
+    }
+
     /// Adds a version that the subject lacks, and keeps the history.
-    fn add(&mut self, subject: String, schema: Schema, history: History) -> Result<u32, AllocError>
+    fn add(&mut self, subject: String, schema: Schema, history: History) -> Result<u32, Refusal>
         requires command { AddsRegistration self.old (string_bytes subject) schema history.commands }
         requires lacking { with_text schema.text (registry_after self.old).schemas
             (versions_of (string_bytes subject) (registry_after self.old).entries) ≡ None }
@@ -81,6 +114,7 @@ impl Registry {
         ensures id { IfOk result (λ id. id ≡ id_for schema (registry_after self.old).schemas) }
         ensures ok { OnOk result (self.new ≡ history.commands) }
         ensures err { OnErr result (self.new ≡ self.old) }
+        ensures memory { IfErr result (λ e. e ≡ Refusal.NoMemory) }
     {
         let id = self
             .schemas
@@ -105,32 +139,51 @@ impl Registry {
             self.history = history;
             return Ok(id);
         }
-        if !self.is_compatible(&subject, &schema)? {
-            return Err(Refusal::Incompatible);
-        }
-        if self.is_full(&subject, &schema) {
-            return Err(Refusal::Full);
-        }
-        Ok(self.add(subject, schema, history)?)
+        self.may_add(&subject, &schema)?;
+        self.add(subject, schema, history)
     }
 
     /// Does what a command asks that registers a schema, which was parsed from its text.
     pub(crate) fn register_parsed(
         &mut self,
-        command: &Command,
-        subject: String,
-        schema: Schema,
+        command: Command,
+        schema: &Schema,
     ) -> Result<u32, Refusal>
-        requires { AsksToRegister (command_of command.now) (string_bytes subject) schema }
-        ensures answer { GivesId (registry_after self.old) (string_bytes subject) schema result }
+        requires { AsksToRegister (command_of command) (subject_in (command_of command)) schema.now }
+        ensures answer { GivesId (registry_after self.old) (subject_in (command_of command)) schema.now result }
         ensures known { IfOk result (λ id. (0 < id) × (id ≤ MOST_SCHEMAS)) }
         ensures accepted { AreAccepted self.old }
-        ensures ok { OnOk result (self.new ≡ self.old ++ command_of command.now ∷ []) }
+        ensures ok { OnOk result (self.new ≡ self.old ++ command_of command ∷ []) }
         ensures err { OnErr result (self.new ≡ self.old) }
     {
         self.is_accepted();
-        let history = self.history.and(command);
-        self.register(subject, schema, history)
+        let history = self.history.and(&command);
+        self.register_asked(command, schema, history)
+    }
+
+    /// Registers what a command asks to register, and keeps the history.
+    fn register_asked(
+        &mut self,
+        command: Command,
+        schema: &Schema,
+        history: History,
+    ) -> Result<u32, Refusal>
+        requires asks { AsksToRegister (command_of command) (subject_in (command_of command)) schema.now }
+        requires new { history.commands ≡ self.old ++ command_of command ∷ [] }
+        ensures answer { GivesId (registry_after self.old) (subject_in (command_of command)) schema.now result }
+        ensures ok { OnOk result (self.new ≡ history.commands) }
+        ensures err { OnErr result (self.new ≡ self.old) }
+    {
+        match command {
+            Command::Register {
+                subject,
+                text: _text,
+            } => {
+                let copy = schema.copy()?;
+                self.register(subject, copy, history)
+            }
+            _other => unreachable!(),
+        }
     }
 
     /// Registers the schema of a text.
@@ -148,10 +201,7 @@ impl Registry {
         ensures memory { IfErr result (λ e. e ≡ Refusal.NoMemory
             → Grows (registry_after self.old) (RegisterCommand (string_bytes subject) (string_bytes text))) }
     {
-        if !is_subject(&subject) {
-            return Err(Refusal::BadSubject);
-        }
-        let schema = parse_schema(self.alloc, &text)?;
+        let schema = schema_for(self.alloc, &subject, &text)?;
         Ok(Reply::Id(self.register(subject, schema, history)?))
     }
 }

@@ -35,8 +35,24 @@ fn answers_numbered(
     Ok(answered == wanted)
 }
 
-/// Rows with the answers that a new registry gives to their commands after other rows, which have the numbers from 1 to
-/// a count in place of `#`; or nothing, where those are answered otherwise.
+/// Rows with the answers that a registry gives to their commands after other rows, which have the numbers from 1 to a
+/// count in place of `#`; or nothing, where those are answered otherwise.
+fn answered_in(
+    alloc: Global,
+    registry: &mut Registry,
+    numbered_rows: &str,
+    count: usize,
+    rows: &str,
+) -> Result<String, AllocError> {
+    for number in 1..=count {
+        if !answers_numbered(alloc, registry, numbered_rows, number)? {
+            return Ok(String::new(alloc));
+        }
+    }
+    answered_by(alloc, registry, rows)
+}
+
+/// The same of a new registry.
 pub(crate) fn answered_after(
     alloc: Global,
     numbered_rows: &str,
@@ -44,10 +60,5 @@ pub(crate) fn answered_after(
     rows: &str,
 ) -> Result<String, AllocError> {
     let mut registry = Registry::new(alloc);
-    for number in 1..=count {
-        if !answers_numbered(alloc, &mut registry, numbered_rows, number)? {
-            return Ok(String::new(alloc));
-        }
-    }
-    answered_by(alloc, &mut registry, rows)
+    answered_in(alloc, &mut registry, numbered_rows, count, rows)
 }

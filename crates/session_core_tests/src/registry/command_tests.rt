@@ -6,6 +6,7 @@ use crate::registry::rows::{
     EACH_ID, EACH_LEVEL, EACH_SUBJECT, FORWARD, FULL, LATEST, LEVELS, MANY, NO_IDS, NO_LEVELS,
     NO_SUBJECTS, NUMBERED, OWN, REFUSALS, SUBJECTS, TRANSITIVE, VERSIONS,
 };
+use crate::same::same;
 use schema_registry::{
     LONGEST_SUBJECT, MOST_LEVELS, MOST_SCHEMAS, MOST_SUBJECTS, Refusal, Registry,
 };
@@ -22,7 +23,7 @@ fn assert_after(
     rows: &str,
 ) -> Result<(), Fail> {
     let answered = answered_after(rt.alloc(), numbered_rows, count, rows)?;
-    assert_eq!(rt; answered.as_str(), rows);
+    same(rt, answered.as_str(), rows);
     Ok(())
 }
 
@@ -117,22 +118,27 @@ fn asked(alloc: Global, registry: &mut Registry) -> Result<String, AllocError> {
 fn is_kept(alloc: Global, registry: &mut Registry, line: &str) -> Result<bool, Refusal> {
     let before = asked(alloc, registry)?;
     let command = command_of(alloc, line)?;
-    match registry.apply(command) {
-        Err(Refusal::NoMemory) => Ok(asked(alloc, registry)? == before),
-        _ => Ok(true),
+    if registry.apply(command).err() != Some(Refusal::NoMemory) {
+        return Ok(true);
     }
+    Ok(asked(alloc, registry)? == before)
 }
 
-/// Whether each growth that is refused is kept out, and is made where it is asked for again.
-fn all_are_kept(alloc: Global) -> Result<bool, Refusal> {
-    let mut registry = Registry::new(alloc);
+/// Whether a registry keeps out each growth that is refused, and makes it where it is asked for again.
+fn all_are_kept_by(alloc: Global, registry: &mut Registry) -> Result<bool, Refusal> {
     for line in GROWING.lines() {
-        if !is_kept(alloc, &mut registry, line)? {
+        if !is_kept(alloc, registry, line)? {
             return Ok(false);
         }
-        answer_to(alloc, &mut registry, line)?;
+        answer_to(alloc, registry, line)?;
     }
-    Ok(asked(alloc, &mut registry)?.as_str() == GROWN)
+    Ok(asked(alloc, registry)?.as_str() == GROWN)
+}
+
+/// The same of a new registry.
+fn all_are_kept(alloc: Global) -> Result<bool, Refusal> {
+    let mut registry = Registry::new(alloc);
+    all_are_kept_by(alloc, &mut registry)
 }
 
 #[test]

@@ -62,7 +62,7 @@ pub(crate) fn command_of(alloc: Global, line: &str) -> Result<Command, Refusal> 
 }
 
 /// A reply as a line.
-pub(crate) fn reply_line(alloc: Global, reply: &Reply) -> Result<String, AllocError> {
+pub(crate) fn reply_line(alloc: Global, reply: Reply) -> Result<String, AllocError> {
     match reply {
         Reply::Id(id) => format!(in alloc; "id {id}"),
         Reply::Entry {
@@ -101,7 +101,7 @@ pub(crate) fn answer_line(
 /// What a registry replies to the command of a line, as a line.
 fn reply_to(alloc: Global, registry: &mut Registry, line: &str) -> Result<String, Refusal> {
     let reply = registry.apply(command_of(alloc, line)?)?;
-    Ok(reply_line(alloc, &reply)?)
+    Ok(reply_line(alloc, reply)?)
 }
 
 /// The answer of a registry that is asked once more, where memory ran out the first time.

@@ -5,6 +5,7 @@ ghost use Rattle.schema_registry.specs.Shared.{IsReceiptOf};
 
 use crate::registry::answers::push_row;
 use crate::registry::lines::{answer_line, command_of, reply_line, second_answer};
+use crate::same::same;
 use schema_registry::{Receipt, Refusal, SharedRegistry};
 use std::alloc::{AllocError, Global};
 use std::process::Abort;
@@ -175,7 +176,7 @@ fn reply_to<R: Wait>(
         return registered(rt, alloc, shared, text);
     }
     let reply = shared.apply(rt, command_of(alloc, line)?)?;
-    Ok(reply_line(alloc, &reply)?)
+    Ok(reply_line(alloc, reply)?)
 }
 
 /// What a shared registry answers to a line. Where it has no memory it is asked once more.
@@ -215,7 +216,7 @@ fn answered<R: Wait>(rt: &R, alloc: Global, rows: &str) -> Result<String, AllocE
 #[test]
 fn answers_as_a_registry_does(rt: HostRuntime) -> Result<(), Fail> {
     let answered = answered(&rt, rt.alloc(), ROWS)?;
-    assert_eq!(rt; answered.as_str(), ROWS);
+    same(&rt, answered.as_str(), ROWS);
     Ok(())
 }
 
@@ -242,6 +243,6 @@ fn shown_to_threads<R: Threads + Wait + Sync>(rt: &R, alloc: Global) -> Result<S
 #[test]
 fn four_threads_register_the_same_texts(rt: HostRuntime) -> Result<(), Fail> {
     let shown = shown_to_threads(&rt, rt.alloc())?;
-    assert_eq!(rt; shown.as_str(), SHOWN);
+    same(&rt, shown.as_str(), SHOWN);
     Ok(())
 }

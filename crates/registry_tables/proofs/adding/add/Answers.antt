@@ -1,53 +1,61 @@
-use Rattle.std.proofs.Common.{◌≡◌, ◌+◌, ◌++◌, ◌∷◌, [], arith, refl, sym, subst, Some, None, string_bytes, rules}
+use Rattle.std.proofs.Common.{◌≡◌, ◌++◌, ◌∷◌, [], arith, subst, sym, Some, None, string_bytes, rules}
+use Rattle.std.specs.Prelude.{IfOk, OnOk}
 use Rattle.std.specs.BTreeMap.{get_by_text}
-use Rattle.std.proofs.lemmas.Map.Text.{btree_map_updates_text}
 use Rattle.registry_tables.specs.Maps.{Puts, ids_in, number_of}
-use Rattle.registry_tables.proofs.Changes.{next-id, same-taken}
+use Rattle.registry_tables.proofs.Changes.{known-id, next-id, put-again}
 use Rattle.registry_tables.proofs.adding.add.Goals as goal
+
+pub returns-in-Some-clause-id : goal.returns-in-Some-clause-id
+returns-in-Some-clause-id c =
+    let there : get_by_text c.args.ids.now c.args.text.now ≡ Some c.in-Some.id = search rules in
+    known-id c.args.ids.now c.args.text.now c.args.count c.in-Some.id there
+
+pub returns-in-Some-clause-ids : goal.returns-in-Some-clause-ids
+returns-in-Some-clause-ids c =
+    let ids = c.args.ids.now in
+    let text = c.args.text.now in
+    let there : get_by_text ids text ≡ Some c.in-Some.id = search rules in
+    subst (Puts ids ids text) (known-id ids text c.args.count c.in-Some.id there) (put-again ids ids text c.in-Some.id there)
+
+pub returns-in-Some-clause-versions : goal.returns-in-Some-clause-versions
+returns-in-Some-clause-versions c =
+    let s = string_bytes c.args.subject in
+    let old = c.args.subjects.now in
+    let there : get_by_text c.args.ids.now c.args.text.now ≡ Some c.in-Some.id = search rules in
+    subst (λ n. Puts old c.add_version.new.subjects s (ids_in (get_by_text old s) ++ n ∷ []))
+    (known-id c.args.ids.now c.args.text.now c.args.count c.in-Some.id there) c.in_ok-add_version.ensures.ok
 
 pub overflow_add-id : goal.overflow_add-id
 overflow_add-id c =
     let lacking : get_by_text c.args.ids.now c.args.text.now ≡ None = search rules in
-    omega (arith, next-id c.args.ids.now c.args.text.now lacking c.args.count c.args.count refl, c.requires.few)
+    omega (arith, next-id c.args.ids.now c.args.text.now c.args.count lacking, c.requires.few)
 
-pub add_version-requires-2-clause-known : goal.add_version-requires-2-clause-known
-add_version-requires-2-clause-known c =
+pub add_text-requires-clause-known : goal.add_text-requires-clause-known
+add_text-requires-clause-known c =
     let lacking : get_by_text c.args.ids.now c.args.text.now ≡ None = search rules in
-    omega (arith, next-id c.args.ids.now c.args.text.now lacking c.args.count c.args.count refl, c.requires.few)
+    omega (arith, next-id c.args.ids.now c.args.text.now c.args.count lacking, c.requires.few)
 
-pub add_version-requires-2-clause-new : goal.add_version-requires-2-clause-new
-add_version-requires-2-clause-new c =
+pub add_text-requires-clause-new : goal.add_text-requires-clause-new
+add_text-requires-clause-new c =
     let lacking : get_by_text c.args.ids.now c.args.text.now ≡ None = search rules in
     subst (λ n. number_of n (ids_in (get_by_text c.args.subjects.now (string_bytes c.args.subject))) ≡ None)
-    (sym (next-id c.args.ids.now c.args.text.now lacking c.args.count c.args.count refl)) c.requires.new
+    (sym (next-id c.args.ids.now c.args.text.now c.args.count lacking)) c.requires.new
 
-pub returns-in-Ok-clause-id : goal.returns-in-Ok-clause-id
-returns-in-Ok-clause-id c =
+pub returns-clause-id : goal.returns-clause-id
+returns-clause-id c =
     let lacking : get_by_text c.args.ids.now c.args.text.now ≡ None = search rules in
-    next-id c.args.ids.now c.args.text.now lacking c.args.count c.args.count refl
+    subst (λ n. IfOk c.add_text.result (λ id. id ≡ n)) (next-id c.args.ids.now c.args.text.now c.args.count lacking) c.add_text.ensures.id
 
-pub returns-in-Ok-clause-ids : goal.returns-in-Ok-clause-ids
-returns-in-Ok-clause-ids c =
+pub returns-clause-ids : goal.returns-clause-ids
+returns-clause-ids c =
     let lacking : get_by_text c.args.ids.now c.args.text.now ≡ None = search rules in
-    let key = c.in_ok-from_str.ensures.ok in
-    let put = btree_map_updates_text (string_bytes c.in_ok-from_str.field-0) c.args.ids.now c.insert.new.self (Some (c.args.count + 1)) c.in_ok-insert.ensures.updates in
-    subst (Puts c.args.ids.now c.insert.new.self c.args.text.now)
-    (next-id c.args.ids.now c.args.text.now lacking c.args.count c.args.count refl)
-    (subst (λ t. Puts c.args.ids.now c.insert.new.self t (c.args.count + 1)) key put)
+    subst (λ n. OnOk c.add_text.result (Puts c.args.ids.now c.add_text.new.ids c.args.text.now n))
+    (next-id c.args.ids.now c.args.text.now c.args.count lacking) c.add_text.ensures.ids
 
-pub returns-in-Ok-clause-versions : goal.returns-in-Ok-clause-versions
-returns-in-Ok-clause-versions c =
+pub returns-clause-versions : goal.returns-clause-versions
+returns-clause-versions c =
+    let s = string_bytes c.args.subject in
+    let old = c.args.subjects.now in
     let lacking : get_by_text c.args.ids.now c.args.text.now ≡ None = search rules in
-    subst (λ n. Puts c.args.subjects.now c.add_version-2.new.subjects (string_bytes c.args.subject) (ids_in (get_by_text c.args.subjects.now (string_bytes c.args.subject)) ++ n ∷ []))
-    (next-id c.args.ids.now c.args.text.now lacking c.args.count c.args.count refl) c.in-Ok.ensures.ok
-
-pub returns-in-Err-clause-err : goal.returns-in-Err-clause-err
-returns-in-Err-clause-err c =
-    let lacking : get_by_text c.args.ids.now c.args.text.now ≡ None = search rules in
-    let key = c.in_ok-from_str.ensures.ok in
-    let put = btree_map_updates_text (string_bytes c.in_ok-from_str.field-0) c.args.ids.now c.insert.new.self (Some (c.args.count + 1)) c.in_ok-insert.ensures.updates in
-    let taken = btree_map_updates_text c.args.text.now c.insert.new.self c.remove.new.self None c.remove.ensures.updates in (
-      same-taken c.args.ids.now c.insert.new.self c.args.text.now c.remove.new.self (c.args.count + 1) lacking
-          (subst (λ t. Puts c.args.ids.now c.insert.new.self t (c.args.count + 1)) key put) taken,
-      c.in-Err.ensures.err,
-    )
+    subst (λ n. OnOk c.add_text.result (Puts old c.add_text.new.subjects s (ids_in (get_by_text old s) ++ n ∷ [])))
+    (next-id c.args.ids.now c.args.text.now c.args.count lacking) c.add_text.ensures.versions

@@ -1,11 +1,11 @@
-use Rattle.std.proofs.Common.{◌≡◌, ◌∙◌, sym, Some, None, string_bytes}
+use Rattle.std.proofs.Common.{◌≡◌, sym, Some, None, string_bytes}
+use Rattle.std.proofs.lemmas.Result.{err_from_is_err_and}
 use Rattle.schema_registry.specs.Accepting.{declaration_of, registry_after}
 use Rattle.schema_registry.specs.Command.{RegisterCommand}
 use Rattle.schema_registry.specs.Reply.{IdReply}
 use Rattle.schema_registry.specs.Tables.{entry_of}
-use Rattle.schema_registry.proofs.Added.{add-answer, found, full-answer, known-answer, known-held, pairs, unsafe-answer}
+use Rattle.schema_registry.proofs.Added.{added-answer, found, known-answer, known-held}
 use Rattle.schema_registry.proofs.Kept.{accepted-more, held-after}
-use Rattle.schema_registry.proofs.Safe.{Tests}
 use Rattle.schema_registry.proofs.Told.{registered-answer}
 use Rattle.schema_registry.proofs.registry.Registry.register.Goals as goal
 
@@ -26,26 +26,14 @@ invariant_of-self c =
           (registered-answer lists s asked.text schema asked.subject_is asked.declares (IdReply c.in-Some.id) (known-answer lists s schema e there)),
     )
 
-pub returns-then-not-branch-clause-answer : goal.returns-then-not-branch-clause-answer
-returns-then-not-branch-clause-answer c =
-    let lists = registry_after c.args.self.now in
-    let s = string_bytes c.args.subject in
-    let lacking : found lists s c.args.schema ≡ None = sym (rw c.deref.ensures at c.in_default.ensures) in
-    let tests : Tests c.in_ok-is_compatible.field-0 (pairs lists s c.args.schema) = rw c.deref-2.ensures at c.in_ok-is_compatible.ensures in
-    λ _. unsafe-answer lists s c.args.schema lacking (λ safe. let t = tests.1 safe in let f = c.if-not-branch.true in let no : ⊥ = cc in no)
-
-pub returns-then-is_full-clause-answer : goal.returns-then-is_full-clause-answer
-returns-then-is_full-clause-answer c =
-    let lists = registry_after c.args.self.now in
-    let s = string_bytes c.args.subject in
-    let lacking : found lists s c.args.schema ≡ None = sym (rw c.deref.ensures at c.in_default.ensures) in
-    let tests : Tests c.in_ok-is_compatible.field-0 (pairs lists s c.args.schema) = rw c.deref-2.ensures at c.in_ok-is_compatible.ensures in
-    λ _. full-answer lists s c.args.schema lacking (tests.0 c.if-not-branch.false) (sym (rw c.deref-3.ensures at c.is_full.ensures) ∙ c.if-is_full.true)
+pub returns-in_err-may_add-clause-answer : goal.returns-in_err-may_add-clause-answer
+returns-in_err-may_add-clause-answer c =
+    let p = err_from_is_err_and c.from_residual.result c.from_residual.ensures.1 in
+    let lacking : found (registry_after c.args.self.now) (string_bytes c.args.subject) c.args.schema ≡ None = sym (rw c.deref.ensures at c.in_default.ensures) in
+    rw (p.1, p.2) ((rw c.deref-2.ensures at c.in_err-may_add.ensures.err) lacking)
 
 pub returns-clause-answer : goal.returns-clause-answer
 returns-clause-answer c =
-    let lists = registry_after c.args.self.now in
-    let s = string_bytes c.args.subject in
-    let lacking : found lists s c.args.schema ≡ None = sym (rw c.deref.ensures at c.in_default.ensures) in
-    let tests : Tests c.in_ok-is_compatible.field-0 (pairs lists s c.args.schema) = rw c.deref-2.ensures at c.in_ok-is_compatible.ensures in
-    add-answer lists s c.args.schema lacking (tests.0 c.if-not-branch.false) (sym (rw c.deref-3.ensures at c.is_full.ensures) ∙ c.if-is_full.false) c.in_ok-add.field-0 c.in_ok-add.ensures.id
+    let lacking : found (registry_after c.args.self.now) (string_bytes c.args.subject) c.args.schema ≡ None = sym (rw c.deref.ensures at c.in_default.ensures) in
+    let may = rw c.deref-2.ensures at c.in_ok-may_add.ensures.ok in
+    added-answer (registry_after c.args.self.now) (string_bytes c.args.subject) c.args.schema lacking may.0 may.1 c.add.result c.add.ensures.id c.add.ensures.memory

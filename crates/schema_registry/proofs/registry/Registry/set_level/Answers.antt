@@ -20,8 +20,8 @@ returns-in-Some-level_refusal-clause-answer c =
     let e = rw c.deref.ensures at c.in-Some-level_refusal.ensures.answer c.args.level in
     rw c.in-Some.is (λ _. subst (λ a. IsAnswer a (Err c.in-Some-level_refusal.refusal)) (sym e) refl)
 
-pub returns-in_err-put_level-clause-memory : goal.returns-in_err-put_level-clause-memory
-returns-in_err-put_level-clause-memory c =
+pub returns-in_err-put-clause-memory : goal.returns-in_err-put-clause-memory
+returns-in_err-put-clause-memory c =
     let p = err_from_is_err_and c.from_residual.result c.from_residual.ensures.1 in
     let e = rw c.deref.ensures at c.in_default-level_refusal.ensures.answer c.args.level in
     rw (p.1, p.2, c.in-Some.is) (λ _. subst IsReply (sym e) tt)
@@ -34,7 +34,7 @@ invariant_of-self-2 c =
     let e = rw (c.deref.ensures, ← c.self.view_is) at c.in_default-level_refusal.ensures.answer c.args.level in
     let answer = subst (λ a. IsAnswer a (Ok (LevelReply c.args.level))) (sym e) refl in (
       held-after _ _ _ _ old c.args.history.commands (SetLevelCommand (Some s) c.args.level) are
-          (level-held _ _ _ _ _ c.self.invariant.0 c.put_level.new.levels s c.args.level c.in_ok-put_level.ensures.put),
+          (level-held _ _ _ _ _ c.self.invariant.0 c.put.new.map s c.args.level c.in_ok-put.ensures.ok),
       accepted-more old c.args.history.commands (SetLevelCommand (Some s) c.args.level) (LevelReply c.args.level) are c.self.invariant.1 answer,
     )
 
