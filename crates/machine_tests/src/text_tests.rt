@@ -7,7 +7,8 @@ use std::process::Abort;
 use std::test::Fail;
 
 /// A number, a text and another number.
-const AMONG_NUMBERS: &str = r#"{"type":"record","name":"T","fields":[{"name":"n","type":"long"},{"name":"t","type":"string"},{"name":"m","type":"long"}]}"#;
+const AMONG_NUMBERS: &str =
+    r#"{"type":"record","name":"T","fields":[{"name":"n","type":"long"},{"name":"t","type":"string"},{"name":"m","type":"long"}]}"#;
 
 /// The greatest length that one byte spells.
 const MOST_LETTERS: u8 = 63;
