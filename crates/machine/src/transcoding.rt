@@ -1,5 +1,6 @@
-ghost use Rattle.std.specs.Prelude.{◌≡◌};
-ghost use Rattle.machine.specs.Transcoding.{TranscodesPair, of_compiling, of_payload};
+ghost use Rattle.std.specs.Prelude.{◌≡◌, List, Ok};
+ghost use Rattle.avro_types.specs.Node.{Node};
+ghost use Rattle.machine.specs.Transcoding.{Makes, TranscodesPair, of_compiling, of_payload};
 
 use crate::transcoder::Transcoder;
 use avro_types::Nodes;
@@ -42,11 +43,18 @@ impl From<TranscodeError> for PairError {
     }
 }
 
+/// The outcome of the next payload, or why its pair of schemas and it have none.
+fn next_outcome(transcoder: &mut Transcoder<'_>, payload: &[u8]) -> Result<Outcome, PairError>
+    ensures { (W R : List Node) → Makes W R (Ok transcoder.old) → TranscodesPair W R payload.now result }
+{
+    Ok(transcoder.transcode(payload)?)
+}
+
 /// The outcome of one payload, by the program of its pair of schemas. `ProgramTooLarge` where that would pass a limit,
 /// and then `TooLarge` where the payload does.
 pub fn transcode(alloc: Global, w: &Nodes, r: &Nodes, payload: &[u8]) -> Result<Outcome, PairError>
     ensures { TranscodesPair w.now r.now payload.now result }
 {
     let mut transcoder = Transcoder::new(alloc, w, r)?;
-    Ok(transcoder.transcode(payload)?)
+    next_outcome(&mut transcoder, payload)
 }

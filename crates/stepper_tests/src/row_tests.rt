@@ -84,15 +84,23 @@ fn assert_rows(
 }
 
 #[test]
-fn worked_rows_come_out_in_whatever_pieces_and_slices(rt: HostRuntime) -> Result<(), Fail> {
+fn worked_rows_come_out(rt: HostRuntime) -> Result<(), Fail> {
     assert_rows(&rt, ROWS, 1_000_000, ALL)?;
-    assert_rows(&rt, ROWS, 1, ALL)?;
+    assert_rows(&rt, ROWS, 1, ALL)
+}
+
+#[test]
+fn slices_change_nothing(rt: HostRuntime) -> Result<(), Fail> {
     assert_rows(&rt, ROWS, 1, 1)?;
     assert_rows(&rt, ROWS, 3, 2)
 }
 
 #[test]
-fn traps_and_limits_are_told(rt: HostRuntime) -> Result<(), Fail> {
-    assert_rows(&rt, TRAPS, 1, ALL)?;
+fn traps_are_told(rt: HostRuntime) -> Result<(), Fail> {
+    assert_rows(&rt, TRAPS, 1, ALL)
+}
+
+#[test]
+fn depth_and_units_have_limits(rt: HostRuntime) -> Result<(), Fail> {
     assert_rows(&rt, LIMITS, 1, ALL)
 }
