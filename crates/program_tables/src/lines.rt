@@ -10,7 +10,7 @@ use outcome::{Mismatch, MismatchKind};
 use std::alloc::AllocError;
 
 /// A part of the code.
-#[derive(Clone, Copy, Debug, PartialEq, Eq)]
+#[derive(Clone, Copy)]
 pub enum Section {
     /// The code of both roots, and the end of the run.
     Main,
@@ -21,7 +21,7 @@ pub enum Section {
 }
 
 /// What goes to a place ahead.
-#[derive(Clone, Copy, Debug, PartialEq, Eq)]
+#[derive(Clone, Copy)]
 pub enum Go {
     Next,
     SkipNext,
@@ -29,7 +29,7 @@ pub enum Go {
 }
 
 /// Bytes that are put, told by where they come from.
-#[derive(Clone, Copy, Debug, PartialEq, Eq)]
+#[derive(Clone, Copy)]
 pub enum Constant {
     /// The spelling of a member's position.
     Position(u32),
