@@ -1,16 +1,16 @@
 -- Answers, where the refusals before them do not come.
-use Rattle.std.proofs.Common.{◌≡◌, ◌≢◌, ℕ, List, [], ◌∷◌, length, map, Bool, true, false, Option, Some, Ok, Err, cond, refl, ap}
+use Rattle.std.proofs.Common.{◌≡◌, ◌≢◌, ℕ, List, [], ◌∷◌, length, map, Bool, true, false, Some, Ok, Err, cond, refl, ap}
 use Rattle.schema_names.specs.declared.error.SchemaError.{SchemaError}
 use Rattle.avro_schema.specs.Schema.{Declaration}
 use Rattle.schema_registry.specs.declared.command.Version.{Version}
-use Rattle.schema_registry.specs.declared.refusal.Refusal.TheVariants.{BadSchema, BadSubject, Full, NoSubject, NoVersion, NoSchema}
+use Rattle.schema_registry.specs.declared.refusal.Refusal.TheVariants.{BadSchema, BadSubject, Full, NoVersion, NoSchema}
 use Rattle.schema_registry.specs.declared.refusal.Refusal.{Refusal}
 use Rattle.schema_registry.specs.declared.level.Level.{Level}
 use Rattle.schema_registry.specs.declared.limits.TheConstants.{MOST_LEVELS}
 use Rattle.schema_registry.specs.Accepting.{declaration_of}
-use Rattle.schema_registry.specs.Answers.{Answer, IsAnswer, Told, answer_to, checked, entry_answer, has_no_room, registration, where_registered, where_some, where_version, where_versions}
+use Rattle.schema_registry.specs.Answers.{Answer, IsAnswer, Told, answer_to, check_answer, entry_answer, has_no_room, registration, where_some, where_versions}
 use Rattle.schema_registry.specs.Command.{LookupCommand, CheckCommand, RegisterCommand, SetLevelCommand, VersionsCommand, VersionCommand}
-use Rattle.schema_registry.specs.Lists.{Entry, Lists, subjects_with_level, version_at, versions_of, with_text}
+use Rattle.schema_registry.specs.Lists.{Entry, Lists, numbered, subjects_with_level, version_at, versions_of, with_text}
 use Rattle.schema_registry.specs.Reply.{Reply, LevelReply, NumbersReply}
 use Rattle.schema_registry.specs.Subject.{is_subject, is_version}
 use Rattle.schema_registry.specs.Tables.{numbers_from, versions_from}
@@ -20,34 +20,23 @@ where-there : (s ids : List ℕ) (answer : List Entry → Answer) → ids ≢ []
 where-there s [] answer some = absurd (some refl)
 where-there s (i ∷ ids) answer some = refl
 
-module _ (lists : Lists) (s ids : List ℕ) (some : ids ≢ []) (known : versions_of s lists.entries ≡ versions_from s 1 ids) where
-  pub versions-is : is_subject s ≡ true → answer_to lists (VersionsCommand s) ≡ Told (Ok (NumbersReply (numbers_from 1 (length ids))))
-  versions-is named = rw (named, known, where-there s ids (λ versions. Told (Ok (NumbersReply (map (λ (e : Entry). e.version) versions)))) some)
+module _ (lists : Lists) (s ids : List ℕ) (named : is_subject s ≡ true) (some : ids ≢ []) (known : versions_of s lists.entries ≡ versions_from s 1 ids) where
+  pub versions-is : answer_to lists (VersionsCommand s) ≡ Told (Ok (NumbersReply (numbers_from 1 (length ids))))
+  versions-is = rw (named, known, where-there s ids (λ versions. Told (Ok (NumbersReply (map (λ (e : Entry). e.version) versions)))) some)
       (ap (λ ns. Told (Ok (NumbersReply ns))) (numbers-from s 1 ids))
 
-  pub version-there : (version : Version) (o : Option Entry) → o ≡ version_at version (versions_from s 1 ids) → (answer : Entry → Answer)
-      → where_version lists s version answer ≡ where_some o NoVersion answer
-  version-there version o is answer = rw (known, where-there s ids (λ versions. where_some (version_at version versions) NoVersion answer) some, is) refl
-
-  pub registered-there : (schema : Declaration) (o : Option Entry) → o ≡ with_text schema.text lists.schemas (versions_of s lists.entries) → (answer : Entry → Answer)
-      → where_registered lists s schema answer ≡ where_some o NoSchema answer
-  registered-there schema o is answer =
-      rw (is, known) (where-there s ids (λ versions. where_some (with_text schema.text lists.schemas versions) NoSchema answer) some)
-
--- the same of a subject that has no version
-pub nothing-there : (lists : Lists) (s : List ℕ) → versions_of s lists.entries ≡ [] → (answer : List Entry → Answer) → where_versions (versions_of s lists.entries) answer ≡ Told (Err NoSubject)
-nothing-there lists s none answer = rw none refl
-
-module _ (lists : Lists) (s : List ℕ) (named : is_subject s ≡ true) where
-  pub version-is : (version : Version) → is_version version ≡ true → answer_to lists (VersionCommand s version) ≡ where_version lists s version (entry_answer lists)
-  version-is version right = rw (named, right) refl
+  pub version-is : (version : Version) → is_version version ≡ true
+      → answer_to lists (VersionCommand s version) ≡ where_some (version_at version (versions_from s 1 ids)) NoVersion (entry_answer lists)
+  version-is version right = rw (named, right, known, where-there s ids (λ versions. where_some (version_at version versions) NoVersion (entry_answer lists)) some) refl
 
   module _ (text : List ℕ) (schema : Declaration) (is : declaration_of text ≡ Ok schema) where
-    pub lookup-is : answer_to lists (LookupCommand s text) ≡ where_registered lists s schema (entry_answer lists)
-    lookup-is = rw (named, is) refl
+    pub lookup-is : answer_to lists (LookupCommand s text) ≡ where_some (with_text schema.text lists.schemas (versions_of s lists.entries)) NoSchema (entry_answer lists)
+    lookup-is = rw (named, is, known, where-there s ids (λ versions. where_some (with_text schema.text lists.schemas versions) NoSchema (entry_answer lists)) some) refl
 
-    pub check-is : (version : Version) → is_version version ≡ true → answer_to lists (CheckCommand s version text) ≡ checked lists s version schema
-    check-is version right = rw (named, right, is) refl
+    pub check-is : (version : Version) → is_version version ≡ true → answer_to lists (CheckCommand s version text)
+        ≡ where_some (version_at version (versions_from s 1 ids)) NoVersion (λ e. where_some (numbered lists.schemas e.id) NoSchema (check_answer lists s schema))
+    check-is version right =
+        rw (named, right, is, known, where-there s ids (λ versions. where_some (version_at version versions) NoVersion (λ e. where_some (numbered lists.schemas e.id) NoSchema (check_answer lists s schema))) some) refl
 
 -- a level is set where there is room for its subject
 pub level-is : (lists : Lists) (s : List ℕ) (level : Level) (b : Bool) → is_subject s ≡ true → has_no_room (subjects_with_level lists.levels) s MOST_LEVELS ≡ b

@@ -6,7 +6,6 @@ use Rattle.schema_names.specs.declared.error.SchemaError.{SchemaError}
 use Rattle.avro_schema.specs.Schema.{Declaration}
 use Rattle.resolver.specs.Safety.{IsSafe}
 use Rattle.schema_registry.specs.declared.limits.TheConstants.{MOST_SCHEMAS, MOST_SUBJECTS, MOST_LEVELS}
-use Rattle.schema_registry.specs.declared.command.Version.{Version}
 use Rattle.schema_registry.specs.declared.level.Level.{Level}
 use Rattle.schema_registry.specs.declared.refusal.Refusal.{Refusal}
 use Rattle.schema_registry.specs.declared.refusal.Refusal.TheVariants.{BadSubject, BadVersion, BadSchema, NoSubject, NoVersion, NoSchema, Incompatible, Full, NoMemory}
@@ -133,43 +132,38 @@ module _ (lists : Lists) where
   GivesId subject schema (Ok id) = IsAnswer (registration subject schema) (Ok (IdReply id))
   GivesId subject schema (Err refusal) = refusal ≢ NoMemory → IsAnswer (registration subject schema) (Err refusal)
 
-  -- the version of a subject that is asked for
-  abbrev pub where_version : List ℕ → Version → (Entry → Answer) → Answer
-  where_version subject version answer =
-      where_versions (versions_of subject lists.entries) (λ versions. where_some (version_at version versions) NoVersion answer)
-
-  -- the version of a subject that has a schema
-  abbrev pub where_registered : List ℕ → Declaration → (Entry → Answer) → Answer
-  where_registered subject schema answer =
-      where_versions (versions_of subject lists.entries) (λ versions. where_some (with_text schema.text lists.schemas versions) NoSchema answer)
-
   -- at NONE every schema is compatible (our own rule)
   abbrev pub check_answer : List ℕ → Declaration → Declaration → Answer
   check_answer subject new old =
       WhereSafe (pairs_with (level_of (Some subject) lists.levels) new old) (Ok (CompatibleReply true)) (Ok (CompatibleReply false))
-
-  -- of a version to check, too, it is never told that there is no such schema
-  abbrev pub checked : List ℕ → Version → Declaration → Answer
-  checked subject version schema = where_version subject version (λ e. where_some (numbered lists.schemas e.id) NoSchema (check_answer subject schema))
 
   abbrev pub set_level_answer : Option (List ℕ) → Level → Answer
   set_level_answer None level = Told (Ok (LevelReply level))
   set_level_answer (Some subject) level =
       if has_no_room (subjects_with_level lists.levels) subject MOST_LEVELS then Told (Err Full) else Told (Ok (LevelReply level))
 
+  -- of a version to check, too, it is never told that there is no such schema
   abbrev pub answer_to : Command → Answer
-  answer_to (RegisterCommand subject text) = where_declared subject text (registration subject)
+  answer_to (RegisterCommand subject text) =
+      where_true (is_subject subject) BadSubject (where_schema (declaration_of text)
+      (registration subject))
   answer_to (SetLevelCommand subject level) = where_true (is_subject_or_none subject) BadSubject (set_level_answer subject level)
-  answer_to (LookupCommand subject text) = where_declared subject text (λ schema. where_registered subject schema entry_answer)
+  answer_to (LookupCommand subject text) =
+      where_true (is_subject subject) BadSubject (where_schema (declaration_of text)
+      (λ schema. where_versions (versions_of subject lists.entries)
+      (λ versions. where_some (with_text schema.text lists.schemas versions) NoSchema entry_answer)))
   answer_to (CheckCommand subject version text) =
       where_true (is_subject subject) BadSubject (where_true (is_version version) BadVersion (where_schema (declaration_of text)
-      (checked subject version)))
+      (λ schema. where_versions (versions_of subject lists.entries)
+      (λ versions. where_some (version_at version versions) NoVersion
+      (λ e. where_some (numbered lists.schemas e.id) NoSchema (check_answer subject schema))))))
   answer_to (VersionsCommand subject) =
       where_true (is_subject subject) BadSubject (where_versions (versions_of subject lists.entries)
       (λ versions. Told (Ok (NumbersReply (map (λ e. e.version) versions)))))
   answer_to (VersionCommand subject version) =
       where_true (is_subject subject) BadSubject (where_true (is_version version) BadVersion
-      (where_version subject version entry_answer))
+      (where_versions (versions_of subject lists.entries)
+      (λ versions. where_some (version_at version versions) NoVersion entry_answer)))
   answer_to SubjectsCommand = Told (Ok (NamesReply (finite.keys (subjects_of lists.entries))))
   answer_to (SchemaCommand id) = where_some (numbered lists.schemas id) NoSchema (λ s. Told (Ok (TextReply s.text)))
   answer_to (LevelCommand subject) =

@@ -1,20 +1,19 @@
 ghost use Rattle.std.specs.Prelude.{◌≡◌, ◌≢◌, ◌+◌, ◌≤◌, ◌<◌, ◌^◌, [], ◌∷◌, List, ℕ, Ok, Err, Some, None, true, false, IfErr, IfOk, MatchResult, length, map, option_map, string_bytes};
 ghost use Rattle.schema_registry.specs.Accepting.{registry_after};
-ghost use Rattle.schema_registry.specs.Answers.{Answer, Told, Gives, Grows, IsAnswer, IsReply, answer_to, checked, entry_answer, where_registered, where_version};
+ghost use Rattle.schema_registry.specs.Answers.{Gives, Grows, IsReply, answer_to, entry_answer, where_versions};
 ghost use Rattle.schema_registry.specs.Command.{LookupCommand, CheckCommand, VersionsCommand, VersionCommand, SubjectsCommand, SchemaCommand, LevelCommand};
-ghost use Rattle.schema_registry.specs.Lists.{Entry, version_at, versions_of};
-ghost use Rattle.schema_registry.specs.Subject.{is_subject, is_version};
+ghost use Rattle.schema_registry.specs.Lists.{version_at, versions_of};
+ghost use Rattle.schema_registry.specs.Subject.{is_version};
 ghost use Rattle.schema_registry.specs.Tables.{entry_of, number_for, numbers_from, versions_from};
 
 use super::Registry;
-use super::registering::{parse_schema, schema_for};
+use super::registering::parse_schema;
 use crate::command::Version;
 use crate::compatible::goes_with;
 use crate::limits::MOST_VERSION;
 use crate::refusal::Refusal;
 use crate::reply::Reply;
 use crate::subject::is_subject;
-use avro_schema::Schema;
 use registry_tables::Versions;
 use std::alloc::{AllocError, Global};
 
@@ -73,49 +72,6 @@ impl Registry {
         }
     }
 
-    /// The number of a subject's version that is asked for, and the id of its schema.
-    fn version_in(&self, subject: &str, version: Version) -> Result<(u32, u32), Refusal>
-        ensures found { IfOk result (λ p. (answer : Entry → Answer)
-            → where_version (registry_after self.now) subject.now version answer
-            ≡ answer (entry_of subject.now p.0 p.1)) }
-        ensures none { IfErr result (λ e. (e ≢ Refusal.NoMemory) × ((answer : Entry → Answer)
-            → where_version (registry_after self.now) subject.now version answer ≡ Told (Err e))) }
-    {
-        let versions = self.versions_of(subject)?;
-        match version_at(versions, version) {
-            Some(found) => Ok(found),
-            None => Err(Refusal::NoVersion),
-        }
-    }
-
-    /// The number of a subject's version that has a schema, and the schema's id.
-    fn registered(&self, subject: &str, schema: &Schema) -> Result<(u32, u32), Refusal>
-        ensures found { IfOk result (λ p. (answer : Entry → Answer)
-            → where_registered (registry_after self.now) subject.now schema.now answer
-            ≡ answer (entry_of subject.now p.0 p.1)) }
-        ensures none { IfErr result (λ e. (e ≢ Refusal.NoMemory) × ((answer : Entry → Answer)
-            → where_registered (registry_after self.now) subject.now schema.now answer ≡ Told (Err e))) }
-    {
-        self.versions_of(subject)?;
-        match self.version_with(subject, schema) {
-            Some(found) => Ok(found),
-            None => Err(Refusal::NoSchema),
-        }
-    }
-
-    /// The number of a subject's version that the schema of a text is, and the schema's id.
-    fn looked_up(&self, subject: &str, text: &str) -> Result<(u32, u32), Refusal>
-        ensures found { IfOk result (λ p. (is_subject subject.now ≡ true)
-            × (answer_to (registry_after self.now) (LookupCommand subject.now text.now)
-            ≡ entry_answer (registry_after self.now) (entry_of subject.now p.0 p.1))) }
-        ensures none { IfErr result (λ e. e ≢ Refusal.NoMemory
-            → IsAnswer (answer_to (registry_after self.now) (LookupCommand subject.now text.now)) (Err e)) }
-        ensures memory { IfErr result (λ e. e ≡ Refusal.NoMemory → is_subject subject.now ≡ true) }
-    {
-        let schema = schema_for(self.alloc, subject, text)?;
-        self.registered(subject, &schema)
-    }
-
     /// A version of a subject, with the text of its schema.
     fn entry(&self, subject: String, number: u32, id: u32) -> Result<Reply, Refusal>
         ensures answer { Gives (entry_answer (registry_after self.now)
@@ -142,7 +98,14 @@ impl Registry {
         ensures memory { IfErr result (λ e. e ≡ Refusal.NoMemory
             → Grows (registry_after self.now) (LookupCommand (string_bytes subject) text.now)) }
     {
-        let (number, id) = self.looked_up(&subject, text)?;
+        if !is_subject(&subject) {
+            return Err(Refusal::BadSubject);
+        }
+        let schema = parse_schema(self.alloc, text)?;
+        self.versions_of(&subject)?;
+        let Some((number, id)) = self.version_with(&subject, &schema) else {
+            return Err(Refusal::NoSchema);
+        };
         self.entry(subject, number, id)
     }
 
@@ -165,24 +128,15 @@ impl Registry {
             return Err(Refusal::BadVersion);
         }
         let schema = parse_schema(self.alloc, text)?;
-        self.check_schema(subject, version, &schema)
-    }
-
-    /// Whether a schema goes with a version of a subject, by the subject's level.
-    fn check_schema(
-        &self,
-        subject: &str,
-        version: Version,
-        schema: &Schema,
-    ) -> Result<Reply, Refusal>
-        ensures { Gives (checked (registry_after self.now) subject.now version schema.now) result }
-    {
-        let (_, id) = self.version_in(subject, version)?;
+        let versions = self.versions_of(subject)?;
+        let Some((_, id)) = version_at(versions, version) else {
+            return Err(Refusal::NoVersion);
+        };
         let Some(old) = self.schemas.get(id) else {
             return Err(Refusal::NoSchema);
         };
         let level = self.level_of(Some(subject));
-        Ok(Reply::Compatible(goes_with(self.alloc, level, schema, old)?))
+        Ok(Reply::Compatible(goes_with(self.alloc, level, &schema, old)?))
     }
 
     /// The numbers of a subject's versions.
@@ -211,7 +165,10 @@ impl Registry {
         if !is_version(version) {
             return Err(Refusal::BadVersion);
         }
-        let (number, id) = self.version_in(&subject, version)?;
+        let versions = self.versions_of(&subject)?;
+        let Some((number, id)) = version_at(versions, version) else {
+            return Err(Refusal::NoVersion);
+        };
         self.entry(subject, number, id)
     }
 

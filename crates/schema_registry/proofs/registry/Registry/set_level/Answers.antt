@@ -1,6 +1,5 @@
 use Rattle.std.proofs.Common.{sym, subst, refl, Some, None, Ok, Err, string_bytes}
 use Rattle.std.proofs.lemmas.Result.{err_from_is_err_and}
-use Rattle.schema_registry.specs.Accepting.{registry_after}
 use Rattle.schema_registry.specs.Answers.{IsAnswer, IsReply}
 use Rattle.schema_registry.specs.Command.{SetLevelCommand}
 use Rattle.schema_registry.specs.Reply.{LevelReply}

@@ -13,13 +13,13 @@ returns-in_err-numbers_to-clause-memory c =
     let p = err_from_is_err_and c.from_residual-in_err-numbers_to.result c.from_residual-in_err-numbers_to.ensures.1 in
     let named : is_subject c.args.subject.now ≡ true = search rules in
     let at = c.in_ok-versions.ensures in
-    let e = versions-is (registry_after c.args.self.now) c.args.subject.now c.in_ok-versions.versions.now at.0 at.1 named in
+    let e = versions-is (registry_after c.args.self.now) c.args.subject.now c.in_ok-versions.versions.now named at.0 at.1 in
     rw (p.1, p.2) (λ _. subst IsReply (sym e) tt)
 
 pub returns-clause-answer : goal.returns-clause-answer
 returns-clause-answer c =
     let named : is_subject c.args.subject.now ≡ true = search rules in
     let at = c.in_ok-versions.ensures in
-    let e = versions-is (registry_after c.args.self.now) c.args.subject.now c.in_ok-versions.versions.now at.0 at.1 named in
+    let e = versions-is (registry_after c.args.self.now) c.args.subject.now c.in_ok-versions.versions.now named at.0 at.1 in
     subst (λ a. IsAnswer a (Ok (NumbersReply c.in_ok-numbers_to.field-0.items))) (sym e)
     (ap (λ ns. Ok (NumbersReply ns)) (c.in_ok-numbers_to.ensures ∙ ap (numbers_from 1) c.len.ensures.len))

@@ -1,7 +1,6 @@
-use Rattle.std.proofs.Common.{◌≡◌, List, ℕ, length, map, refl, sym, ap, ◌∙◌}
+use Rattle.std.proofs.Common.{List, ℕ, sym, ap, ◌∙◌}
 use Rattle.std.specs.BTreeMap.{get_by_text}
 use Rattle.registry_tables.specs.Maps.{ids_in}
-use Rattle.schema_registry.specs.Lists.{Entry}
 use Rattle.schema_registry.specs.Tables.{numbers_from}
 use Rattle.schema_registry.proofs.Entries.{length-from, numbers-from}
 use Rattle.schema_registry.proofs.registry.Registry.versions_have_no_gaps.Goals as goal
