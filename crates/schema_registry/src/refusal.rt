@@ -1,21 +1,31 @@
 use avro_schema::SchemaError;
 use std::alloc::{AllocError, AllocFailed};
-use std::error::Error;
-use std::fmt::{self, Display, Formatter, Write};
+use thiserror::Error;
 
 /// Why a command was refused.
-#[derive(Clone, Copy, Debug, PartialEq, Eq)]
+#[derive(Clone, Copy, Debug, PartialEq, Eq, Error)]
 pub enum Refusal {
+    #[error("the name of the subject is empty, too long, or against the rule")]
     BadSubject,
+    #[error("a version that is no number from 1")]
     BadVersion,
+    #[error("no schema: {0}")]
     BadSchema(SchemaError),
+    #[error("no compatibility level")]
     BadLevel,
+    #[error("the subject has no versions")]
     NoSubject,
+    #[error("the subject has no such version")]
     NoVersion,
+    #[error("there is no such schema")]
     NoSchema,
+    #[error("the schema does not go with those that the level names")]
     Incompatible,
+    #[error("the registry is full")]
     Full,
+    #[error("a cell holds another schema")]
     Clash,
+    #[error("out of memory")]
     NoMemory,
 }
 
@@ -42,28 +52,6 @@ impl Refusal {
         }
     }
 }
-
-impl Display for Refusal {
-    fn fmt<W: Write>(&self, f: &mut Formatter<W>) -> fmt::Result {
-        let message = match self {
-            Refusal::BadSchema(error) => return write!(f, "no schema: {error}"),
-            Refusal::BadSubject =>
-                "the name of the subject is empty, too long, or against the rule",
-            Refusal::BadVersion => "a version that is no number from 1",
-            Refusal::BadLevel => "no compatibility level",
-            Refusal::NoSubject => "the subject has no versions",
-            Refusal::NoVersion => "the subject has no such version",
-            Refusal::NoSchema => "there is no such schema",
-            Refusal::Incompatible => "the schema does not go with those that the level names",
-            Refusal::Full => "the registry is full",
-            Refusal::Clash => "a cell holds another schema",
-            Refusal::NoMemory => "out of memory",
-        };
-        f.write_str(message)
-    }
-}
-
-impl Error for Refusal {}
 
 impl From<AllocError> for Refusal {
     ghost use Rattle.std.specs.Prelude.{◌≡◌};
