@@ -36,9 +36,8 @@ fn has_tables_of_list(program: &Program) -> bool {
         && program.misses().is_empty()
 }
 
-#[test]
-fn list_of_longs_to_itself(rt: HostRuntime) {
-    let program = program_of(&rt, LONG_LIST, LONG_LIST);
+/// Whether a program has the code of a list of longs.
+fn has_code_of_list(program: &Program) -> bool {
     let code = [
         Instr::Call(2),
         Instr::Halt,
@@ -54,13 +53,18 @@ fn list_of_longs_to_itself(rt: HostRuntime) {
         Instr::EndRecord,
         Instr::Return,
     ];
-    assert!(rt; program.code() == code.as_slice());
+    program.code() == code.as_slice()
+}
+
+#[test]
+fn list_of_longs_to_itself(rt: HostRuntime) {
+    let program = program_of(&rt, LONG_LIST, LONG_LIST);
+    assert!(rt; has_code_of_list(&program));
     assert!(rt; has_tables_of_list(&program));
 }
 
-/// Whether a reader takes the two fields of a record to these slots.
-fn assert_slots(rt: &(impl Abort + AllocGlobal), reader: &str, first: u32, second: u32) {
-    let program = program_of(rt, T, reader);
+/// Whether a program has the code that takes the two fields of a record to these slots.
+fn has_code_of_slots(program: &Program, first: u32, second: u32) -> bool {
     let code = [
         Instr::Call(2),
         Instr::Halt,
@@ -72,7 +76,13 @@ fn assert_slots(rt: &(impl Abort + AllocGlobal), reader: &str, first: u32, secon
         Instr::EndRecord,
         Instr::Return,
     ];
-    assert!(rt; program.code() == code.as_slice(), "{reader}");
+    program.code() == code.as_slice()
+}
+
+/// Whether a reader takes the two fields of a record to these slots.
+fn assert_slots(rt: &(impl Abort + AllocGlobal), reader: &str, first: u32, second: u32) {
+    let program = program_of(rt, T, reader);
+    assert!(rt; has_code_of_slots(&program, first, second), "{reader}");
     assert!(rt; program.constants().len() == 0);
 }
 
@@ -104,9 +114,8 @@ fn has_tables_of_evolved(program: &Program) -> bool {
         && program.misses() == misses.as_slice()
 }
 
-#[test]
-fn evolved_record(rt: HostRuntime) {
-    let program = program_of(&rt, WRITER, READER);
+/// Whether a program has the code of the next test.
+fn has_code_of_evolved(program: &Program) -> bool {
     let code = [
         Instr::Call(2),
         Instr::Halt,
@@ -128,6 +137,12 @@ fn evolved_record(rt: HostRuntime) {
         Instr::EndRecord,
         Instr::Return,
     ];
-    assert!(rt; program.code() == code.as_slice());
+    program.code() == code.as_slice()
+}
+
+#[test]
+fn evolved_record(rt: HostRuntime) {
+    let program = program_of(&rt, WRITER, READER);
+    assert!(rt; has_code_of_evolved(&program));
     assert!(rt; has_tables_of_evolved(&program));
 }
