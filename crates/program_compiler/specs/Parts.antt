@@ -56,7 +56,8 @@ LinksAll lines code (Err ProgramTooLarge) = FitNowhere (named_in constants_of li
 LinksAll lines code (Err NoMemory) = Unit {0}
 
 -- the code, the maps and the jump tables of a program, or none where that is no program
-abbrev pub LinksTables : List Line → Program → Result (Vec Instr × List (List Entry) × List (List ℕ)) CompileError → Type 0
+abbrev pub LinksTables : List Line → Program → Result (Vec Instr × List (List Entry) × List (List ℕ)) CompileError
+    → Type 0
 LinksTables lines P (Ok x) = (x.0.items ≡ P.code) × (x.1 ≡ P.maps) × (x.2 ≡ P.jumps)
 LinksTables lines P (Err ProgramTooLarge) = are_whole lines ≡ true → IsProgram P → ⊥
 LinksTables lines P (Err NoMemory) = Unit {0}

@@ -51,7 +51,8 @@ fn linked_tables(
 ) -> Result<(Vec<Instr>, Lists<Entry>, Lists<u32>), CompileError>
     requires few { length tables.now.section_lines.now.lines ≤ MOST_INSTRS }
     requires defaults { AreDefaults r.now tables.now.defaults.now tables.now.constants.now }
-    requires constants { tables.now.constants.now ≡ constants_in (lines_in w.now r.now tables.now.section_lines.now.lines) }
+    requires constants { tables.now.constants.now
+        ≡ constants_in (lines_in w.now r.now tables.now.section_lines.now.lines) }
     requires misses { tables.now.misses.now ≡ misses_in (lines_in w.now r.now tables.now.section_lines.now.lines) }
     ensures { LinksTables (lines_in w.now r.now tables.now.section_lines.now.lines)
         (numbered (start_at tables.now.section_lines.now)

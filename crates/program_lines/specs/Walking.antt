@@ -33,7 +33,9 @@ Walks W R (Err ProgramTooLarge) = code_of W R ≡ None
 Walks W R (Err NoMemory) = Unit {0}
 
 -- the same of sections, begins and lines that are filled in
-abbrev pub Fills : List Node → List Node → List Section → List ℕ → List rust.Line → Result (Unit {0}) CompileError → Type 0
-Fills W R sections starts lines (Ok done) = AreSectionLines W R (record { sections = sections; starts = starts; lines = lines })
+abbrev pub Fills : List Node → List Node → List Section → List ℕ → List rust.Line → Result (Unit {0}) CompileError
+    → Type 0
+Fills W R sections starts lines (Ok done) =
+    AreSectionLines W R (record { sections = sections; starts = starts; lines = lines })
 Fills W R sections starts lines (Err ProgramTooLarge) = code_of W R ≡ None
 Fills W R sections starts lines (Err NoMemory) = Unit {0}
