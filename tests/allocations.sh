@@ -1,8 +1,8 @@
 #!/usr/bin/env bash
 # Refuses each allocation in turn, which no proof can see. It is not part of the gate; it needs a C compiler.
-# The program, on its stored input: status 4 and nothing written, or the whole answer where a buffer could stay as it
-# was. The tests that ask again for what was refused: they pass, or end because what they build themselves was refused
-# (an output that is a vector refuses a write then); an answer that changed fails its assertion.
+# The program, on inputs to each of its words but `replay`: status 4 and nothing written, or the whole answer where a
+# buffer could stay as it was. The tests that ask again for what was refused: they pass, or end because what they build
+# themselves was refused (an output that is a vector refuses a write then); an answer that changed fails its assertion.
 # Usage, after `rt run` in crates/avrogate and `rt test` in each crate of tests: tests/allocations.sh
 set -uo pipefail
 cd "$(dirname "$0")/.."
@@ -50,17 +50,33 @@ refused() {
 }
 
 program=crates/avrogate/out/avrogate
-for ((n = 1; ; n++)); do
-  refused $n $program transcode <crates/avrogate/stdin || break
-  if [ $status = 4 ] && [ ! -s "$folder/out" ] && [ ! -s "$folder/err" ]; then
-    count ok
-  elif [ $status = 0 ] && cmp -s "$folder/out" crates/avrogate/stdout; then
-    count ok
-  else
-    count bad "avrogate, allocation $n: status $status"
-  fi
-done
-echo "avrogate: $((n - 1)) allocations refused in turn"
+# each INPUT WORD ..: the program on an input, to these words
+each() {
+  local input=$1 n
+  shift
+  "$program" "$@" <"$input" >"$folder/whole" 2>"$folder/err" || { count bad "avrogate $*: status $?"; return; }
+  for ((n = 1; ; n++)); do
+    refused $n "$program" "$@" <"$input" || break
+    if [ $status = 4 ] && [ ! -s "$folder/out" ] && [ ! -s "$folder/err" ]; then
+      count ok
+    elif [ $status = 0 ] && cmp -s "$folder/out" "$folder/whole"; then
+      count ok
+    else
+      count bad "avrogate $*, allocation $n: status $status"
+    fi
+  done
+  echo "avrogate $*: $((n - 1)) allocations refused in turn"
+}
+each crates/avrogate/stdin transcode
+record='{"type":"record","name":"T","fields":[{"name":"a","type":["null","long"]},{"name":"b","type":"string"},{"name":"g","type":"bytes"}]}'
+other='{"type":"record","name":"T","fields":[{"name":"b","type":"string"},{"name":"a","type":"long"},{"name":"d","type":"int","default":7}]}'
+printf '%s\n' "$record" "$other" >"$folder/pair"
+each "$folder/pair" compile
+each "$folder/pair" compile --image
+{ cat "$folder/pair"; printf '%s\n' 023606666f6f0200 'break 5' 'go 100' show 'step 2' show 'go 100' show list; } >"$folder/debug"
+each "$folder/debug" debug
+{ "$program" compile <"$folder/pair"; printf 'end\n02|3606|666f6f02|00\n0206666f6f\n0g\n'; } >"$folder/run"
+each "$folder/run" run
 
 # ask_again CRATE TEST ..: tests that ask again for what was refused, in the test program of their crate
 ask_again() {
@@ -88,17 +104,13 @@ ask_again avro_schema_tests schema_tests::{numbers_nodes_in_order_of_appearance,
 ask_again avro_schema_tests schema_tests::{a_name_is_one_however_it_is_told,names_of_other_namespaces_are_others}
 ask_again resolver_tests data_tests::payloads_are_read_and_written outcome_tests::{outcomes_of_pairs,readers_that_are_safe} resolving_tests::{fields_go_by_name,a_lacking_default_and_another_type_are_mismatches}
 ask_again session_core_tests registry::command_tests::{answers_each_question,levels_compare_what_they_name,refuses_in_order,maps_grow,a_growth_without_memory_changes_nothing}
-ask_again session_core_tests registry::shared_tests::answers_as_a_registry_does
-ask_again session_core_tests pair_row_tests::{one_cell_holds_one_pair,each_pair_has_its_own_cell} world_tests::a_refused_growth_ends_one_session
+ask_again session_core_tests pair_row_tests::{one_cell_holds_one_pair,each_pair_has_its_own_cell}
 ask_again isa_tests program_tests::{keeps_lists_and_shares_them,a_program_shows_its_parts}
 ask_again isa_tests assembling_tests::{listings_come_back,lines_of_no_form,numbers_and_operands} listing_tests::the_listing_of_a_map_and_a_miss
 ask_again isa_tests image_tests::{both_versions_are_loaded_and_saved_as_the_second,things_of_each_kind_are_loaded_and_saved,faults_are_told_in_reading_order_at_their_places}
 ask_again stepper_tests row_tests::{worked_rows_come_out,slices_change_nothing,traps_are_told} text_tests::{texts_take_a_row_for_64_bytes,bytes_that_are_no_text_are_a_miss}
 ask_again stepper_tests show_tests::programs_are_listed arena_tests::rows_are_taken_one_by_one
-ask_again machine_tests program_tests::{list_of_longs_to_itself,record_to_itself_and_by_aliases,evolved_record}
-ask_again machine_tests run_tests::cuts_and_slices_change_nothing pair_tests::{outcomes_of_pairs,payloads_follow_one_another}
-ask_again commands_tests line_forms::replay_tests::{schemas_and_pieces_are_read,levels_are_read}
-ask_again commands_tests compile_tests::{writes_listings,writes_images,tells_bad_schemas}
-ask_again commands_tests run_tests::{answers_schemas,answers_lines_that_are_no_payloads,answers_what_is_no_text,answers_worked_rows}
+ask_again machine_tests run_tests::cuts_and_slices_change_nothing pair_tests::payloads_by_themselves
+ask_again commands_tests replay_tests::a_refused_growth_ends_one_session
 echo "$passed passed, $failed failed"
 [ $failed = 0 ]

@@ -1,54 +1,69 @@
-//! What `replay` answers to lines.
+//! What `replay` answers where memory runs out.
 
-use crate::session_rows::{REFUSALS, REFUSED_MEMORY, TWO_SESSIONS};
 use session_commands::replay;
 use std::alloc::{AllocError, Global};
 use std::test::Fail;
 
-/// The lines of a table at even places, or at odd ones, each ended by an LF.
-fn every_other(alloc: Global, table: &str, odd: bool) -> Result<String, AllocError> {
-    let mut text = String::new(alloc);
-    let mut takes = !odd;
-    for line in table.lines() {
-        if takes {
-            text.push_str(line)?;
-            text.push_str("\n")?;
+/// Six sessions of two pairs, the first four of which are given the same payload. What makes them comes twice, since
+/// memory may run out the first time.
+const EVENTS: &str =
+    r#"register s {"type":"record","name":"T","fields":[{"name":"a","type":"long"},{"name":"b","type":"string"}]}
+register s {"type":"record","name":"T","fields":[{"name":"a","type":"long"},{"name":"b","type":"string"}]}
+register u {"type":"record","name":"T","fields":[{"name":"b","type":"string"},{"name":"a","type":"long"}]}
+register u {"type":"record","name":"T","fields":[{"name":"b","type":"string"},{"name":"a","type":"long"}]}
+publish 1 1
+publish 1 1
+publish 1 2
+publish 1 2
+begin 1 1
+begin 1 1
+begin 1 1
+begin 1 2
+begin 1 2
+begin 1 2
+piece 0 3606666f6f
+piece 1 3606666f6f
+piece 3 3606666f6f
+piece 4 3606666f6f
+finish 0
+finish 1
+finish 3
+finish 4
+slice 0 0 99
+slice 1 0 99
+slice 3 0 99
+slice 4 0 99
+result 0
+result 1
+result 3
+result 4
+"#;
+
+/// What is answered to events, asked again where memory ran out for the answers.
+fn answered(alloc: Global, events: &str) -> Result<String, AllocError> {
+    match replay(alloc, events.as_bytes()) {
+        Err(AllocError) => replay(alloc, events.as_bytes()),
+        answer => answer,
+    }
+}
+
+/// How many of the last lines tell an end on the payload, and how many that memory ran out.
+fn ends(answers: &str) -> (usize, usize) {
+    let (mut done, mut refused) = (0, 0);
+    for line in answers.lines() {
+        match line {
+            "done 3606666f6f count 10" | "done 06666f6f36 count 10" => done += 1,
+            _ if line.starts_with("no memory count ") => refused += 1,
+            _ => {}
         }
-        takes = !takes;
     }
-    Ok(text)
-}
-
-/// Whether the lines of a table are answered as it says.
-fn is_answered(alloc: Global, table: &str) -> Result<bool, AllocError> {
-    let input = every_other(alloc, table, false)?;
-    let output = every_other(alloc, table, true)?;
-    Ok(replay(alloc, input.as_bytes())? == output)
+    (done, refused)
 }
 
 #[test]
-fn answers_line_after_line(rt: HostRuntime) -> Result<(), Fail> {
-    let tables = [TWO_SESSIONS, REFUSED_MEMORY, REFUSALS];
-    for table in tables {
-        assert!(rt; is_answered(rt.alloc(), table)?, "{table}");
-    }
-    Ok(())
-}
-
-#[test]
-fn tells_a_state_and_a_listing(rt: HostRuntime) -> Result<(), Fail> {
-    let input =
-        "register s \"int\"\npublish 1 1\nbegin 1 1\npiece 0 80\nshow 0\nlist 0\nrefuse 0\nshow 0\n";
-    let output = "id 1\nok\nsession 0\nok\n\
-        count 0 pc 0 pos 0 units 0 part - mark - over 0 state running\nout -\n\
-        avro program 1\n0 INT\n1 HALT\nok\n\
-        count 0 pc 0 pos 0 units 0 part - mark - over 0 state memory\nout -\n";
-    let text = replay(rt.alloc(), input.as_bytes())?;
-    assert_eq!(rt; text.as_str(), output);
-    assert_eq!(rt; replay(rt.alloc(), &[])?.as_str(), "");
-    assert_eq!(rt;
-        replay(rt.alloc(), &[b'\n', 0xff])?.as_str(),
-        "bad line\nbad line\n"
-    );
+fn a_refused_growth_ends_one_session(rt: HostRuntime) -> Result<(), Fail> {
+    let answers = answered(rt.alloc(), EVENTS)?;
+    let (done, refused) = ends(&answers);
+    assert!(rt; done >= 3 && done + refused == 4, "{answers}");
     Ok(())
 }

@@ -1,100 +1,107 @@
-//! Payloads, each by itself and one after another.
+//! Payloads of a pair, by itself and one after another, and the refusals of each call.
 
-use crate::again::{Pair, pair_of, transcoder};
-use crate::rows::{BOTH, OUTCOMES, PAYLOADS};
-use crate::words::{next_words, pair_words};
-use machine::Transcoder;
+use crate::again::{Pair, compiled, outcome, pair_of, transcoder};
+use crate::words::pair_words;
+use machine::{Outcome, TranscodeError, Transcoder};
+use outcome::MOST_PAYLOAD;
+use program_compiler::CompileError;
 use std::alloc::{AllocError, Global};
-use std::process::Abort;
 use std::test::Fail;
 
-/// The outcome of a payload with a pair of schemas, in words.
-fn answer(alloc: Global, pair: &Pair, hex: &str) -> Result<String, Fail> {
-    let payload = hex::decode(alloc, hex)?;
-    Ok(pair_words(alloc, pair, &payload)?)
-}
-
-/// Whether the outcome of a payload is that answer.
-fn is_answer(alloc: Global, pair: &Pair, hex: &str, want: &str) -> Result<bool, Fail> {
-    let found = answer(alloc, pair, hex)?;
-    Ok(found.as_str() == want)
-}
-
-/// Whether the outcome of a payload with the schemas of two texts is that answer.
-fn is_texts_answer(
-    alloc: Global,
-    writer: &str,
-    reader: &str,
-    hex: &str,
-    want: &str,
-) -> Result<bool, Fail> {
-    let pair = pair_of(alloc, writer, reader)?;
-    is_answer(alloc, &pair, hex, want)
-}
-
-/// Whether a row is true.
-fn is_true(alloc: Global, row: &str) -> Result<bool, Fail> {
-    let mut parts = row.split('|');
-    let (Some(writer), Some(reader), Some(hex), Some(want)) = (
-        parts.next(),
-        parts.next(),
-        parts.next(),
-        parts.next(),
-    ) else {
-        return Ok(false);
-    };
-    is_texts_answer(alloc, writer, reader, hex, want)
-}
+/// Pairs of schemas, each with a payload and its outcome.
+const ROWS: [(&str, &str, &[u8], &str); 4] = [
+    (
+        "\"int\"",
+        "[\"null\",\"long\",\"int\"]",
+        &[0x02],
+        "done 0202",
+    ),
+    (
+        "[\"null\",\"string\"]",
+        "\"string\"",
+        &[0x00],
+        "mismatch NoMatch 1 0",
+    ),
+    (
+        "\"string\"",
+        "\"string\"",
+        &[0x02, 0xff],
+        "malformed BadText at 1",
+    ),
+    ("\"int\"", "\"int\"", &[0x80, 0x00], "done 00"),
+];
 
 #[test]
-fn outcomes_of_pairs(rt: HostRuntime) -> Result<(), Fail> {
-    for row in OUTCOMES.lines() {
-        assert!(rt; is_true(rt.alloc(), row)?, "{row}");
+fn payloads_by_themselves(rt: HostRuntime) -> Result<(), Fail> {
+    for (writer, reader, payload, want) in ROWS {
+        let pair = pair_of(rt.alloc(), writer, reader)?;
+        let told = pair_words(rt.alloc(), &pair, payload)?;
+        assert_eq!(rt; told.as_str(), want);
     }
     Ok(())
 }
 
-/// Whether the outcome of the next payload is that answer.
-fn is_next_answer(
+/// A text, so many times another with the numbers from 1 on in place of `%`, and a last one.
+fn wide(
     alloc: Global,
-    transcoder: &mut Transcoder<'_>,
-    payload: &[u8],
-    want: &str,
-) -> Result<bool, AllocError> {
-    let found = next_words(alloc, transcoder, payload)?;
-    Ok(found.as_str() == want)
-}
-
-/// Whether the next payload comes out as its row says.
-fn is_next(alloc: Global, transcoder: &mut Transcoder<'_>, row: &str) -> Result<bool, Fail> {
-    let Some((hex, want)) = row.split_once('|') else {
-        return Ok(false);
-    };
-    let payload = hex::decode(alloc, hex)?;
-    Ok(is_next_answer(alloc, transcoder, &payload, want)?)
-}
-
-/// Whether the payloads of these rows come out so, one after another.
-fn assert_rows(
-    rt: &(impl Abort + AllocGlobal),
-    transcoder: &mut Transcoder<'_>,
-    rows: &str,
-) -> Result<(), Fail> {
-    for row in rows.lines() {
-        assert!(rt; is_next(rt.alloc(), transcoder, row)?, "{row}");
+    first: &str,
+    many: usize,
+    each: &str,
+    last: &str,
+) -> Result<String, AllocError> {
+    let mut text = String::from_str(alloc, first)?;
+    for number in 1..=many {
+        let digits = format!(in alloc; "{number}")?;
+        let next = each.replace(alloc, '%', &digits)?;
+        text.push_str(&next)?;
     }
-    assert_eq!(rt; transcoder.program().len(), 9);
-    Ok(())
+    text.push_str(last)?;
+    Ok(text)
 }
 
-/// The same of a pair of schemas.
-fn assert_pair(rt: &(impl Abort + AllocGlobal), pair: &Pair, rows: &str) -> Result<(), Fail> {
-    let mut transcoder = transcoder(rt.alloc(), pair)?;
-    assert_rows(rt, &mut transcoder, rows)
+/// A union of 648 records R without fields, and a record R of 200 fields, all by default.
+fn wide_pair(alloc: Global) -> Result<Pair, Fail> {
+    let writer = wide(
+        alloc,
+        r#"[{"type":"record","name":"n.R","fields":[]}"#,
+        647,
+        r#",{"type":"record","name":"n%.R","fields":[]}"#,
+        "]",
+    )?;
+    let reader = wide(
+        alloc,
+        r#"{"type":"record","name":"R","fields":[{"name":"f","type":"int","default":0}"#,
+        199,
+        r#",{"name":"f%","type":"int","default":0}"#,
+        "]}",
+    )?;
+    Ok(pair_of(alloc, &writer, &reader)?)
 }
 
 #[test]
-fn payloads_follow_one_another(rt: HostRuntime) -> Result<(), Fail> {
-    let pair = pair_of(rt.alloc(), BOTH, BOTH)?;
-    assert_pair(&rt, &pair, PAYLOADS)
+fn programs_too_large(rt: HostRuntime) -> Result<(), Fail> {
+    let pair = wide_pair(rt.alloc())?;
+    let told = pair_words(rt.alloc(), &pair, &[0])?;
+    assert_eq!(rt; told.as_str(), "program too large");
+    assert!(rt; compiled(rt.alloc(), &pair).err() == Some(CompileError::ProgramTooLarge));
+    Ok(())
+}
+
+/// Whether a payload that is too large is refused, and the next one is taken.
+fn refuses(transcoder: &mut Transcoder<'_>, long: &[u8]) -> bool {
+    let refused = outcome(transcoder, long).err() == Some(TranscodeError::TooLarge);
+    let next = outcome(transcoder, &[2]);
+    refused && matches!(&next, Ok(Outcome::Done(bytes)) if bytes.as_slice() == [2].as_slice())
+}
+
+#[test]
+fn payloads_too_large(rt: HostRuntime) -> Result<(), Fail> {
+    let long = vec![in rt.alloc(); 0u8; MOST_PAYLOAD + 1]?;
+    let pair = pair_of(rt.alloc(), "\"int\"", "\"int\"")?;
+    let mut transcoder = transcoder(rt.alloc(), &pair)?;
+    assert!(rt; refuses(&mut transcoder, &long));
+    assert_eq!(rt; transcoder.program().len(), 2);
+    let told = pair_words(rt.alloc(), &pair, &long)?;
+    assert_eq!(rt; told.as_str(), "payload too large");
+    Ok(())
 }

@@ -1,8 +1,8 @@
 //! Answers in words, as the rows have them.
 
-use crate::again::{Pair, outcome, transcoded};
+use crate::again::{Pair, transcoded};
 use isa::End;
-use machine::{Outcome, PairError, TranscodeError, Transcoder};
+use machine::{Outcome, PairError};
 use std::alloc::{AllocError, Global};
 
 /// The outcome of a payload.
@@ -43,18 +43,5 @@ pub(crate) fn pair_words(alloc: Global, pair: &Pair, payload: &[u8]) -> Result<S
         Err(PairError::ProgramTooLarge) => String::from_str(alloc, "program too large"),
         Err(PairError::TooLarge) => String::from_str(alloc, "payload too large"),
         Err(PairError::NoMemory) => Err(AllocError),
-    }
-}
-
-/// The outcome of the next payload of several, or why there is none.
-pub(crate) fn next_words(
-    alloc: Global,
-    transcoder: &mut Transcoder<'_>,
-    payload: &[u8],
-) -> Result<String, AllocError> {
-    match outcome(transcoder, payload) {
-        Ok(outcome) => outcome_words(alloc, &outcome),
-        Err(TranscodeError::TooLarge) => String::from_str(alloc, "payload too large"),
-        Err(TranscodeError::NoMemory) => Err(AllocError),
     }
 }

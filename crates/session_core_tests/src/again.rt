@@ -1,9 +1,8 @@
 //! Calls that are made again where memory ran out the first time.
 
 use avro_schema::{Schema, SchemaError};
-use isa::{End, Program};
-use outcome::Outcome;
-use session_core::{Event, EventReply, PairRow, Programs, PublishError, World};
+use isa::Program;
+use session_core::{PairRow, Programs, PublishError};
 use std::alloc::{AllocError, Global};
 
 /// A schema, parsed again where memory ran out the first time.
@@ -31,50 +30,5 @@ pub(crate) fn published<'r>(
     match row.publish(writer, reader) {
         Err(PublishError::NoMemory) => row.publish(writer, reader),
         answer => answer,
-    }
-}
-
-/// How the machine of a session ended, as a line.
-fn end_line(alloc: Global, end: &End, count: u64) -> Result<String, AllocError> {
-    match end {
-        End::Out(Outcome::Done(bytes)) => {
-            let answer = hex::encode(alloc, bytes.as_slice())?;
-            format!(in alloc; "done {answer} count {count}")
-        }
-        _ => format!(in alloc; "another end count {count}"),
-    }
-}
-
-/// How a session ended, as a line.
-pub(crate) fn session_ends(
-    alloc: Global,
-    world: &World,
-    number: usize,
-) -> Result<String, AllocError> {
-    let Some(session) = world.session(number) else {
-        return String::from_str(alloc, "refused NoSession");
-    };
-    let count = session.machine().count();
-    if session.no_memory() {
-        return format!(in alloc; "no memory count {count}");
-    }
-    match session.machine().end() {
-        Some(end) => end_line(alloc, end, count),
-        None => String::from_str(alloc, "pending"),
-    }
-}
-
-/// What a world replies to an event, which happens again where memory was refused.
-pub(crate) fn did<'p>(world: &mut World<'p>, programs: &'p PairRow, event: &Event) -> EventReply {
-    let reply = world.event(programs, event);
-    match reply {
-        EventReply::Refused(refusal) => {
-            if refusal.name() == "NoMemory" {
-                world.event(programs, event)
-            } else {
-                reply
-            }
-        }
-        _ => reply,
     }
 }

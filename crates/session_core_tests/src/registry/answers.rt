@@ -1,64 +1,133 @@
-//! What a registry answers to rows: lines of commands, each with the line of its answer behind it.
+//! What a shared registry answers to rows: lines, each with the line of its answer behind it. A line is a command, or
+//! `find` with an id for the text under it, or `receipt` with a text for what its receipt shows.
 
-use crate::registry::lines::answer_to;
-use schema_registry::Registry;
+ghost use Rattle.std.specs.Prelude.{◌≡◌, IfOk};
+ghost use Rattle.schema_registry.specs.Shared.{IsReceiptOf};
+
+use crate::registry::lines::{answer_line, command_of, reply_line, second_answer};
+use schema_registry::{Receipt, Refusal, SharedRegistry};
 use std::alloc::{AllocError, Global};
+use std::sync::Wait;
 
-/// Adds a row: a line and its answer.
-pub(crate) fn push_row(answered: &mut String, line: &str, answer: &str) -> Result<(), AllocError> {
-    answered.push_str(line)?;
-    answered.push_str("\n")?;
-    answered.push_str(answer)?;
-    answered.push_str("\n")
+/// Registers a text.
+fn register<R: Wait>(
+    rt: &R,
+    alloc: Global,
+    shared: &SharedRegistry,
+    text: &str,
+) -> Result<(u32, Receipt), Refusal>
+    ensures { IfOk result (λ r. IsReceiptOf shared.now r.1 × (r.1.id ≡ r.0)) }
+{
+    let subject = String::from_str(alloc, "s")?;
+    shared.register(rt, subject, String::from_str(alloc, text)?)
 }
 
-/// Rows with the answers that a registry gives to their commands.
-fn answered_by(alloc: Global, registry: &mut Registry, rows: &str) -> Result<String, AllocError> {
+/// The text that is shown under an id, or `none`.
+pub(crate) fn found(shared: &SharedRegistry, id: u32) -> &str {
+    match shared.find(id) {
+        Some((schema, _)) => schema.text(),
+        None => "none",
+    }
+}
+
+/// The text that a receipt of an id shows, which agrees with one that is found.
+fn shown<'a>(shared: &'a SharedRegistry, id: u32, receipt: &mut Receipt) -> &'a str
+    requires { IsReceiptOf shared.now receipt.old × (receipt.old.id ≡ id) }
+{
+    if let Some((_, mut other)) = shared.find(id) {
+        shared.agree(receipt, &mut other);
+    }
+    shared.schema(receipt).text()
+}
+
+/// Registers a text, and tells the id with the text that its receipt shows.
+pub(crate) fn registered<R: Wait>(
+    rt: &R,
+    alloc: Global,
+    shared: &SharedRegistry,
+    text: &str,
+) -> Result<String, Refusal> {
+    let (id, mut receipt) = register(rt, alloc, shared, text)?;
+    let text = shown(shared, id, &mut receipt);
+    Ok(format!(in alloc; "{id} {text}")?)
+}
+
+/// What a shared registry replies to a line.
+fn reply_to<R: Wait>(
+    rt: &R,
+    alloc: Global,
+    shared: &SharedRegistry,
+    line: &str,
+) -> Result<String, Refusal> {
+    if let Some(word) = line.strip_prefix("find ") {
+        let id = word.parse::<u32>().unwrap_or(0);
+        return Ok(String::from_str(alloc, found(shared, id))?);
+    }
+    if let Some(text) = line.strip_prefix("receipt ") {
+        return registered(rt, alloc, shared, text);
+    }
+    let reply = shared.apply(rt, command_of(alloc, line)?)?;
+    Ok(reply_line(alloc, reply)?)
+}
+
+/// What a shared registry answers to a line. Where it has no memory it is asked once more.
+pub(crate) fn answer_to<R: Wait>(
+    rt: &R,
+    alloc: Global,
+    shared: &SharedRegistry,
+    line: &str,
+) -> Result<String, AllocError> {
+    match answer_line(alloc, reply_to(rt, alloc, shared, line)) {
+        Err(_) => second_answer(alloc, answer_line(alloc, reply_to(rt, alloc, shared, line))),
+        answer => answer,
+    }
+}
+
+/// Rows with the answers that a shared registry gives to every so manieth line, each behind its own.
+pub(crate) fn answered_by<R: Wait>(
+    rt: &R,
+    alloc: Global,
+    shared: &SharedRegistry,
+    rows: &str,
+    step: usize,
+) -> Result<String, AllocError> {
     let mut answered = String::new(alloc);
-    for line in rows.lines().step_by(2) {
-        let answer = answer_to(alloc, registry, line)?;
-        push_row(&mut answered, line, &answer)?;
+    for line in rows.lines().step_by(step) {
+        let answer = answer_to(rt, alloc, shared, line)?;
+        let row = format!(in alloc; "{line}\n{answer}\n")?;
+        answered.push_str(&row)?;
     }
     Ok(answered)
 }
 
-/// Whether a registry answers each command as its row has it, with a number in place of `#`.
-fn answers_numbered(
+/// Whether a shared registry answers each line as its row has it, with a number in place of `#`.
+fn answers_numbered<R: Wait>(
+    rt: &R,
     alloc: Global,
-    registry: &mut Registry,
+    shared: &SharedRegistry,
     rows: &str,
     number: usize,
 ) -> Result<bool, AllocError> {
     let word = format!(in alloc; "{number}")?;
     let wanted = rows.replace(alloc, '#', &word)?;
-    let answered = answered_by(alloc, registry, &wanted)?;
+    let answered = answered_by(rt, alloc, shared, &wanted, 2)?;
     Ok(answered == wanted)
 }
 
-/// Rows with the answers that a registry gives to their commands after other rows, which have the numbers from 1 to a
-/// count in place of `#`; or nothing, where those are answered otherwise.
-fn answered_in(
+/// Rows with the answers that a new shared registry gives to their lines after other rows, which have the numbers from
+/// 1 to a count in place of `#`; or nothing, where those are answered otherwise.
+pub(crate) fn answered_after<R: Wait>(
+    rt: &R,
     alloc: Global,
-    registry: &mut Registry,
     numbered_rows: &str,
     count: usize,
     rows: &str,
 ) -> Result<String, AllocError> {
+    let shared = SharedRegistry::new(alloc)?;
     for number in 1..=count {
-        if !answers_numbered(alloc, registry, numbered_rows, number)? {
+        if !answers_numbered(rt, alloc, &shared, numbered_rows, number)? {
             return Ok(String::new(alloc));
         }
     }
-    answered_by(alloc, registry, rows)
-}
-
-/// The same of a new registry.
-pub(crate) fn answered_after(
-    alloc: Global,
-    numbered_rows: &str,
-    count: usize,
-    rows: &str,
-) -> Result<String, AllocError> {
-    let mut registry = Registry::new(alloc);
-    answered_in(alloc, &mut registry, numbered_rows, count, rows)
+    answered_by(rt, alloc, &shared, rows, 2)
 }

@@ -1,34 +1,35 @@
 //! What a registry answers to commands in a row.
 
-use crate::registry::answers::{answered_after, push_row};
-use crate::registry::lines::{answer_to, command_of};
+use crate::registry::answers::{answer_to, answered_after, answered_by};
+use crate::registry::lines::command_of;
 use crate::registry::rows::{
     EACH_ID, EACH_LEVEL, EACH_SUBJECT, FORWARD, FULL, LATEST, LEVELS, MANY, NO_IDS, NO_LEVELS,
-    NO_SUBJECTS, NUMBERED, OWN, REFUSALS, SUBJECTS, TRANSITIVE, VERSIONS,
+    NO_SUBJECTS, NUMBERED, OWN, REFUSALS, SHARED, SUBJECTS, TRANSITIVE, VERSIONS,
 };
 use crate::same::same;
 use schema_registry::{
-    LONGEST_SUBJECT, MOST_LEVELS, MOST_SCHEMAS, MOST_SUBJECTS, Refusal, Registry,
+    LONGEST_SUBJECT, MOST_LEVELS, MOST_SCHEMAS, MOST_SUBJECTS, Refusal, SharedRegistry,
 };
 use std::alloc::{AllocError, Global};
 use std::process::Abort;
+use std::sync::Wait;
 use std::test::Fail;
 
 /// Whether a new registry answers each command as its row has it, after other rows that have the numbers from 1 to a
 /// count in place of `#`.
 fn assert_after(
-    rt: &(impl Abort + AllocGlobal),
+    rt: &(impl Abort + AllocGlobal + Wait),
     numbered_rows: &str,
     count: usize,
     rows: &str,
 ) -> Result<(), Fail> {
-    let answered = answered_after(rt.alloc(), numbered_rows, count, rows)?;
+    let answered = answered_after(rt, rt.alloc(), numbered_rows, count, rows)?;
     same(rt, answered.as_str(), rows);
     Ok(())
 }
 
 /// Whether a new registry answers each command as its row has it, for each of some tables of rows.
-fn assert_rows(rt: &(impl Abort + AllocGlobal), tables: &[&str]) -> Result<(), Fail> {
+fn assert_rows(rt: &(impl Abort + AllocGlobal + Wait), tables: &[&str]) -> Result<(), Fail> {
     for rows in tables {
         assert_after(rt, "", 0, rows)?;
     }
@@ -37,7 +38,7 @@ fn assert_rows(rt: &(impl Abort + AllocGlobal), tables: &[&str]) -> Result<(), F
 
 #[test]
 fn answers_each_question(rt: HostRuntime) -> Result<(), Fail> {
-    assert_rows(&rt, &[VERSIONS, SUBJECTS])
+    assert_rows(&rt, &[VERSIONS, SUBJECTS, SHARED])
 }
 
 #[test]
@@ -104,47 +105,38 @@ schema 3
 text "string"
 "#;
 
-/// What a registry answers to the questions.
-fn asked(alloc: Global, registry: &mut Registry) -> Result<String, AllocError> {
-    let mut answered = String::new(alloc);
-    for line in QUESTIONS.lines() {
-        let answer = answer_to(alloc, registry, line)?;
-        push_row(&mut answered, line, &answer)?;
-    }
-    Ok(answered)
-}
-
 /// Whether a registry that has no memory for the command of a line answers the questions as before.
-fn is_kept(alloc: Global, registry: &mut Registry, line: &str) -> Result<bool, Refusal> {
-    let before = asked(alloc, registry)?;
+fn is_kept<R: Wait>(
+    rt: &R,
+    alloc: Global,
+    shared: &SharedRegistry,
+    line: &str,
+) -> Result<bool, Refusal> {
+    let before = answered_by(rt, alloc, shared, QUESTIONS, 1)?;
     let command = command_of(alloc, line)?;
-    if registry.apply(command).err() != Some(Refusal::NoMemory) {
+    if shared.apply(rt, command).err() != Some(Refusal::NoMemory) {
         return Ok(true);
     }
-    Ok(asked(alloc, registry)? == before)
+    Ok(answered_by(rt, alloc, shared, QUESTIONS, 1)? == before)
 }
 
-/// Whether a registry keeps out each growth that is refused, and makes it where it is asked for again.
-fn all_are_kept_by(alloc: Global, registry: &mut Registry) -> Result<bool, Refusal> {
+/// What a new registry answers to the questions that keeps out each growth that is refused, and makes it where it is
+/// asked for again; or the line of a growth that is not kept out.
+fn grown<R: Wait>(rt: &R, alloc: Global) -> Result<String, Refusal> {
+    let shared = SharedRegistry::new(alloc)?;
     for line in GROWING.lines() {
-        if !is_kept(alloc, registry, line)? {
-            return Ok(false);
+        if !is_kept(rt, alloc, &shared, line)? {
+            return Ok(String::from_str(alloc, line)?);
         }
-        answer_to(alloc, registry, line)?;
+        answer_to(rt, alloc, &shared, line)?;
     }
-    Ok(asked(alloc, registry)?.as_str() == GROWN)
-}
-
-/// The same of a new registry.
-fn all_are_kept(alloc: Global) -> Result<bool, Refusal> {
-    let mut registry = Registry::new(alloc);
-    all_are_kept_by(alloc, &mut registry)
+    Ok(answered_by(rt, alloc, &shared, QUESTIONS, 1)?)
 }
 
 #[test]
 fn a_growth_without_memory_changes_nothing(rt: HostRuntime) -> Result<(), Fail> {
-    let kept = all_are_kept(rt.alloc())?;
-    assert!(rt; kept);
+    let found = grown(&rt, rt.alloc())?;
+    same(&rt, found.as_str(), GROWN);
     Ok(())
 }
 

@@ -1,8 +1,15 @@
 //! Commands and replies as lines, as the rows have them.
 
-use crate::lines::subject_of;
-use schema_registry::{Command, Level, Refusal, Registry, Reply, Version};
+use schema_registry::{Command, Level, Refusal, Reply, Version};
 use std::alloc::{AllocError, Global};
+
+/// The subject of a word, where `*` is none.
+fn subject_of(alloc: Global, word: &str) -> Result<Option<String>, AllocError> {
+    if word == "*" {
+        return Ok(None);
+    }
+    Ok(Some(String::from_str(alloc, word)?))
+}
 
 /// The version of a word.
 fn version_of(word: &str) -> Result<Version, Refusal> {
@@ -98,12 +105,6 @@ pub(crate) fn answer_line(
     }
 }
 
-/// What a registry replies to the command of a line, as a line.
-fn reply_to(alloc: Global, registry: &mut Registry, line: &str) -> Result<String, Refusal> {
-    let reply = registry.apply(command_of(alloc, line)?)?;
-    Ok(reply_line(alloc, reply)?)
-}
-
 /// The answer of a registry that is asked once more, where memory ran out the first time.
 pub(crate) fn second_answer(
     alloc: Global,
@@ -111,18 +112,6 @@ pub(crate) fn second_answer(
 ) -> Result<String, AllocError> {
     match answer {
         Err(_) => String::from_str(alloc, "no memory twice"),
-        answer => answer,
-    }
-}
-
-/// What a registry answers to the command of a line, as a line. Where it has no memory it is asked once more.
-pub(crate) fn answer_to(
-    alloc: Global,
-    registry: &mut Registry,
-    line: &str,
-) -> Result<String, AllocError> {
-    match answer_line(alloc, reply_to(alloc, registry, line)) {
-        Err(_) => second_answer(alloc, answer_line(alloc, reply_to(alloc, registry, line))),
         answer => answer,
     }
 }

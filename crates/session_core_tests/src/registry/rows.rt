@@ -379,3 +379,44 @@ FULL
 level other
 FORWARD
 ";
+
+/// Commands with their answers, look-ups of ids with the texts that they show, and registrations with their receipts.
+pub(crate) const SHARED: &str = r#"find 1
+none
+register  x
+refused BadSubject
+register s x
+refused BadSchema NotJson
+register s "int"
+id 1
+find 1
+"int"
+register s "string"
+refused Incompatible
+find 2
+none
+schema 2
+refused NoSchema
+register u "string"
+id 2
+find 2
+"string"
+receipt "int"
+1 "int"
+receipt  "int"
+1 "int"
+receipt "string"
+refused Incompatible
+receipt "long"
+3 "long"
+find 3
+"long"
+find 0
+none
+find 4096
+none
+find 4097
+none
+find 4294967295
+none
+"#;

@@ -1,14 +1,9 @@
 //! A registry that threads share.
 
-ghost use Rattle.std.specs.Prelude.{◌≡◌, IfOk};
-ghost use Rattle.schema_registry.specs.Shared.{IsReceiptOf};
-
-use crate::registry::answers::push_row;
-use crate::registry::lines::{answer_line, command_of, reply_line, second_answer};
+use crate::registry::answers::{answer_to, found, registered};
 use crate::same::same;
-use schema_registry::{Receipt, Refusal, SharedRegistry};
+use schema_registry::{Refusal, SharedRegistry};
 use std::alloc::{AllocError, Global};
-use std::process::Abort;
 use std::sync::Wait;
 use std::test::Fail;
 use std::thread;
@@ -34,90 +29,6 @@ const SHOWN: &str = r#""null"
 {"items":"int","type":"array"}
 {"name":"F","size":2,"type":"fixed"}
 "#;
-
-/// Commands with their answers, look-ups of ids with the texts that they show, and registrations with their receipts.
-const ROWS: &str = r#"find 1
-none
-register  x
-refused BadSubject
-register s x
-refused BadSchema NotJson
-register s "int"
-id 1
-find 1
-"int"
-register s "string"
-refused Incompatible
-find 2
-none
-schema 2
-refused NoSchema
-register u "string"
-id 2
-find 2
-"string"
-receipt "int"
-1 "int"
-receipt  "int"
-1 "int"
-receipt "string"
-refused Incompatible
-receipt "long"
-3 "long"
-find 3
-"long"
-find 0
-none
-find 4096
-none
-find 4097
-none
-find 4294967295
-none
-"#;
-
-/// Registers a text.
-fn register<R: Wait>(
-    rt: &R,
-    alloc: Global,
-    shared: &SharedRegistry,
-    text: &str,
-) -> Result<(u32, Receipt), Refusal>
-    ensures { IfOk result (λ r. IsReceiptOf shared.now r.1 × (r.1.id ≡ r.0)) }
-{
-    let subject = String::from_str(alloc, "s")?;
-    shared.register(rt, subject, String::from_str(alloc, text)?)
-}
-
-/// The text that is shown under an id, or `none`.
-fn found(shared: &SharedRegistry, id: u32) -> &str {
-    match shared.find(id) {
-        Some((schema, _)) => schema.text(),
-        None => "none",
-    }
-}
-
-/// The text that a receipt of an id shows, which agrees with one that is found.
-fn shown<'a>(shared: &'a SharedRegistry, id: u32, receipt: &mut Receipt) -> &'a str
-    requires { IsReceiptOf shared.now receipt.old × (receipt.old.id ≡ id) }
-{
-    if let Some((_, mut other)) = shared.find(id) {
-        shared.agree(receipt, &mut other);
-    }
-    shared.schema(receipt).text()
-}
-
-/// Registers a text, and tells the id with the text that its receipt shows.
-fn registered<R: Wait>(
-    rt: &R,
-    alloc: Global,
-    shared: &SharedRegistry,
-    text: &str,
-) -> Result<String, Refusal> {
-    let (id, mut receipt) = register(rt, alloc, shared, text)?;
-    let text = shown(shared, id, &mut receipt);
-    Ok(format!(in alloc; "{id} {text}")?)
-}
 
 /// Registers the eight texts, from one of them on and then those before it, and tells what the receipt of each shows.
 fn registered_all<R: Wait>(
@@ -158,66 +69,6 @@ fn found_of(alloc: Global, shared: &SharedRegistry, texts: &str) -> Result<Strin
         }
     }
     Ok(lines)
-}
-
-/// What a shared registry replies to a line: to a command, to `find` with the text under an id, to `receipt` with what
-/// is shown for a text.
-fn reply_to<R: Wait>(
-    rt: &R,
-    alloc: Global,
-    shared: &SharedRegistry,
-    line: &str,
-) -> Result<String, Refusal> {
-    if let Some(word) = line.strip_prefix("find ") {
-        let id = word.parse::<u32>().unwrap_or(0);
-        return Ok(String::from_str(alloc, found(shared, id))?);
-    }
-    if let Some(text) = line.strip_prefix("receipt ") {
-        return registered(rt, alloc, shared, text);
-    }
-    let reply = shared.apply(rt, command_of(alloc, line)?)?;
-    Ok(reply_line(alloc, reply)?)
-}
-
-/// What a shared registry answers to a line. Where it has no memory it is asked once more.
-fn answer_to<R: Wait>(
-    rt: &R,
-    alloc: Global,
-    shared: &SharedRegistry,
-    line: &str,
-) -> Result<String, AllocError> {
-    match answer_line(alloc, reply_to(rt, alloc, shared, line)) {
-        Err(_) => second_answer(alloc, answer_line(alloc, reply_to(rt, alloc, shared, line))),
-        answer => answer,
-    }
-}
-
-/// Rows with the answers that a shared registry gives to their lines.
-fn answered_by<R: Wait>(
-    rt: &R,
-    alloc: Global,
-    shared: &SharedRegistry,
-    rows: &str,
-) -> Result<String, AllocError> {
-    let mut answered = String::new(alloc);
-    for line in rows.lines().step_by(2) {
-        let answer = answer_to(rt, alloc, shared, line)?;
-        push_row(&mut answered, line, &answer)?;
-    }
-    Ok(answered)
-}
-
-/// Rows with the answers that a new shared registry gives to their lines.
-fn answered<R: Wait>(rt: &R, alloc: Global, rows: &str) -> Result<String, AllocError> {
-    let shared = SharedRegistry::new(alloc)?;
-    answered_by(rt, alloc, &shared, rows)
-}
-
-#[test]
-fn answers_as_a_registry_does(rt: HostRuntime) -> Result<(), Fail> {
-    let answered = answered(&rt, rt.alloc(), ROWS)?;
-    same(&rt, answered.as_str(), ROWS);
-    Ok(())
 }
 
 /// Which of the compact texts are found once four threads have registered the eight texts, each from another one on; or

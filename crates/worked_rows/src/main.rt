@@ -1,0 +1,150 @@
+//! Obeys commands of `avrogate`, one after another, each on its own part of standard input, and prints what they write.
+//!
+//! A line of `#`, a space and the words of a command begins a part, and the lines up to the next such line are its
+//! input, the last without its LF where a backslash ends it. In these, between backticks, `3*ab` is `ababab`, with 1, 2
+//! and 3 in place of `%` and an LF in place of `\n`, and `=ff` is the byte 255. Before its words `counted` lets the lines and bytes that a command writes be counted, in
+//! place of printing them.
+#![tactic(auto)]
+
+use commands::{RunError, Verb, run};
+use std::alloc::{AllocError, Global};
+use std::io::{Read, Write};
+use std::process::ExitCode;
+
+/// The command of these words.
+fn verb_of(words: &str) -> Option<Verb> {
+    match words {
+        "transcode" => Some(Verb::Transcode),
+        "compile" => Some(Verb::Compile { image: false }),
+        "compile --image" => Some(Verb::Compile { image: true }),
+        "debug" => Some(Verb::Debug),
+        "replay" => Some(Verb::Replay),
+        _ => {
+            let steps = words.strip_prefix("run --steps ")?.parse::<u64>().ok()?;
+            Some(Verb::Run { steps })
+        }
+    }
+}
+
+/// Appends so many times a text, with the numbers from 1 on in place of `%`.
+fn push_times(
+    alloc: Global,
+    input: &mut Vec<u8>,
+    times: usize,
+    text: &str,
+) -> Result<(), AllocError> {
+    if !text.contains('%') {
+        return input.extend_from_slice(text.repeat(alloc, times)?.as_bytes());
+    }
+    for number in 1..=times {
+        let digits = format!(in alloc; "{number}")?;
+        input.extend_from_slice(text.replace(alloc, '%', &digits)?.as_bytes())?;
+    }
+    Ok(())
+}
+
+/// Appends what stands between two backticks for: bytes in hexadecimal, or so many times a text.
+fn push_quoted(alloc: Global, input: &mut Vec<u8>, quoted: &str) -> Result<(), RunError> {
+    if let Some(digits) = quoted.strip_prefix('=') {
+        let bytes = hex::decode(alloc, digits).map_err(|_| RunError::Read)?;
+        return Ok(input.extend_from_slice(&bytes)?);
+    }
+    let (times, text) = quoted.split_once('*').ok_or(RunError::Read)?;
+    let times = times.parse::<usize>().map_err(|_| RunError::Read)?;
+    let text = text.replace(alloc, "\\n", "\n")?;
+    Ok(push_times(alloc, input, times, &text)?)
+}
+
+/// Appends a line of a command's input, with its LF but where it ends with a backslash.
+fn push_line(alloc: Global, input: &mut Vec<u8>, line: &str) -> Result<(), RunError> {
+    let (line, end) = match line.strip_suffix('\\') {
+        Some(line) => (line, ""),
+        None => (line, "\n"),
+    };
+    for (place, text) in line.split('`').enumerate() {
+        if place % 2 == 0 {
+            input.extend_from_slice(text.as_bytes())?;
+        } else {
+            push_quoted(alloc, input, text)?;
+        }
+    }
+    Ok(input.extend_from_slice(end.as_bytes())?)
+}
+
+/// Appends how many lines and bytes a text has.
+fn push_counts(alloc: Global, output: &mut Vec<u8>, text: &[u8]) -> Result<(), AllocError> {
+    let lines = text.iter().filter(|byte| **byte == b'\n').count();
+    let bytes = text.len();
+    let counts = format!(in alloc; "{lines} lines, {bytes} bytes\n")?;
+    output.extend_from_slice(counts.as_bytes())
+}
+
+/// Appends what a command writes for an input, or the counts of that, and the number that it ends with.
+fn push_written(
+    alloc: Global,
+    output: &mut Vec<u8>,
+    words: &str,
+    mut input: &[u8],
+) -> Result<(), RunError> {
+    let status = match words.strip_prefix("counted ") {
+        None => run(
+            alloc,
+            &verb_of(words).ok_or(RunError::Read)?,
+            &mut input,
+            output,
+        )?,
+        Some(words) => {
+            let mut written = Vec::new(alloc);
+            let status = run(
+                alloc,
+                &verb_of(words).ok_or(RunError::Read)?,
+                &mut input,
+                &mut written,
+            )?;
+            push_counts(alloc, output, &written)?;
+            status
+        }
+    };
+    let ended = format!(in alloc; "status {status}\n")?;
+    Ok(output.extend_from_slice(ended.as_bytes())?)
+}
+
+/// What the commands of some rows write, each after the line of its words.
+fn written(alloc: Global, rows: &str) -> Result<Vec<u8>, RunError> {
+    let (mut output, mut input) = (Vec::new(alloc), Vec::new(alloc));
+    let mut words = None;
+    for line in rows.lines().chain(Some("# ")) {
+        match (line.strip_prefix("# "), words) {
+            (None, _) => push_line(alloc, &mut input, line)?,
+            (Some(next), before) => {
+                if let Some(words) = before {
+                    push_written(alloc, &mut output, words, &input)?;
+                }
+                let header = format!(in alloc; "{line}\n")?;
+                output.extend_from_slice(header.as_bytes())?;
+                input.clear();
+                words = Some(next);
+            }
+        }
+    }
+    Ok(output)
+}
+
+/// Reads the rows, and prints what their commands write.
+fn answer(rt: &(impl Input + Print + AllocGlobal)) -> Result<(), RunError> {
+    let mut rows = String::new(rt.alloc());
+    rt.reader()
+        .read_to_string(&mut rows)
+        .map_err(|_| RunError::Read)?;
+    let output = written(rt.alloc(), &rows)?;
+    std::io::writer(rt)
+        .write_all(&output)
+        .map_err(|_| RunError::Write)
+}
+
+fn main(rt: HostRuntime) -> ExitCode {
+    match answer(&rt) {
+        Ok(()) => ExitCode::from(0),
+        Err(_) => ExitCode::from(1),
+    }
+}
