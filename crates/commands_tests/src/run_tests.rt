@@ -81,3 +81,12 @@ fn fails_at_each_write_in_turn(rt: HostRuntime) {
         assert_fails_at(&rt, call);
     }
 }
+
+#[test]
+fn a_run_that_may_take_no_row_takes_none(rt: HostRuntime) {
+    let mut reader: &[u8] = b"avro program 1\n0 JUMP 0\nend\n\n";
+    let mut written = Vec::new(rt.alloc());
+    let verb = Verb::Run { steps: 0 };
+    let done = run(rt.alloc(), &verb, &mut reader, &mut written);
+    assert!(rt; done == Ok(0) && written.as_slice() == b"running count 0\n".as_slice());
+}

@@ -1,30 +1,17 @@
 //! Obeys commands of `avrogate`, one after another, each on its own part of standard input, and prints what they write.
 //!
-//! A line of `#`, a space and the words of a command begins a part, and the lines up to the next such line are its
+//! A line of `# ` and a command as it is typed begins a part, and the lines up to the next such line are its
 //! input, the last without its LF where a backslash ends it. In these, between backticks, `3*ab` is `ababab`, with 1, 2
-//! and 3 in place of `%` and an LF in place of `\n`, and `=ff` is the byte 255. Before its words `counted` lets the lines and bytes that a command writes be counted, in
-//! place of printing them.
+//! and 3 in place of `%` and an LF in place of `\n`, and `=ff` is the byte 255. Before its words `counted` lets the lines
+//! and bytes that a command writes be counted, in place of printing them. Of words that ask for nothing, and of those
+//! that ask for help, the number that `avrogate` ends with is printed alone.
 #![tactic(auto)]
 
+use command_words::{command_line, verb_of};
 use commands::{RunError, Verb, run};
 use std::alloc::{AllocError, Global};
 use std::io::{Read, Write};
 use std::process::ExitCode;
-
-/// The command of these words.
-fn verb_of(words: &str) -> Option<Verb> {
-    match words {
-        "transcode" => Some(Verb::Transcode),
-        "compile" => Some(Verb::Compile { image: false }),
-        "compile --image" => Some(Verb::Compile { image: true }),
-        "debug" => Some(Verb::Debug),
-        "replay" => Some(Verb::Replay),
-        _ => {
-            let steps = words.strip_prefix("run --steps ")?.parse::<u64>().ok()?;
-            Some(Verb::Run { steps })
-        }
-    }
-}
 
 /// Appends so many times a text, with the numbers from 1 on in place of `%`.
 fn push_times(
@@ -79,31 +66,46 @@ fn push_counts(alloc: Global, output: &mut Vec<u8>, text: &[u8]) -> Result<(), A
     output.extend_from_slice(counts.as_bytes())
 }
 
-/// Appends what a command writes for an input, or the counts of that, and the number that it ends with.
+/// What words ask for, or else the number that the program ends with.
+fn asked(alloc: Global, words: &str) -> Result<Result<Verb, i32>, AllocError> {
+    let words: Vec<&str> = words.split(' ').collect(alloc)?;
+    match command_line(alloc)?.try_get_matches_from(words.as_slice()) {
+        Ok(matches) => Ok(verb_of(&matches).ok_or(2)),
+        Err(error) => Ok(Err(error.exit_code())),
+    }
+}
+
+/// Appends what a command writes for an input, or the counts of that, and answers the number that it ends with.
+fn obey(
+    alloc: Global,
+    output: &mut Vec<u8>,
+    is_counted: bool,
+    verb: &Verb,
+    mut input: &[u8],
+) -> Result<u8, RunError> {
+    if !is_counted {
+        return run(alloc, verb, &mut input, output);
+    }
+    let mut written = Vec::new(alloc);
+    let status = run(alloc, verb, &mut input, &mut written)?;
+    push_counts(alloc, output, &written)?;
+    Ok(status)
+}
+
+/// Appends what the command of some words writes for an input, and the number that it ends with.
 fn push_written(
     alloc: Global,
     output: &mut Vec<u8>,
     words: &str,
-    mut input: &[u8],
+    input: &[u8],
 ) -> Result<(), RunError> {
-    let status = match words.strip_prefix("counted ") {
-        None => run(
-            alloc,
-            &verb_of(words).ok_or(RunError::Read)?,
-            &mut input,
-            output,
-        )?,
-        Some(words) => {
-            let mut written = Vec::new(alloc);
-            let status = run(
-                alloc,
-                &verb_of(words).ok_or(RunError::Read)?,
-                &mut input,
-                &mut written,
-            )?;
-            push_counts(alloc, output, &written)?;
-            status
-        }
+    let (is_counted, words) = match words.strip_prefix("counted ") {
+        Some(words) => (true, words),
+        None => (false, words),
+    };
+    let status = match asked(alloc, words)? {
+        Ok(verb) => i32::from(obey(alloc, output, is_counted, &verb, input)?),
+        Err(status) => status,
     };
     let ended = format!(in alloc; "status {status}\n")?;
     Ok(output.extend_from_slice(ended.as_bytes())?)

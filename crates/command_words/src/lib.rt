@@ -1,0 +1,60 @@
+//! The words of the program's command line, and what they ask for.
+#![tactic(auto)]
+
+use clap::{Arg, ArgAction, ArgMatches, Command, value_parser};
+use commands::Verb;
+use std::alloc::{AllocError, Global};
+
+/// The command line: its subcommands, their flags and values, and their help.
+pub fn command_line<'a>(alloc: Global) -> Result<Command<'a>, AllocError> {
+    let transcode = Command::new(alloc, "transcode").about(
+        "Transcodes payloads from a writer's schema to a reader's",
+    );
+    let image = Arg::new(alloc, "image")
+        .long("image")
+        .action(ArgAction::SetTrue)
+        .help("Prints the image in one line of hexadecimal, in place of the listing");
+    let compile = Command::new(alloc, "compile")
+        .about("Prints the program that transcodes from a writer's schema to a reader's")
+        .arg(image)?;
+    let steps = Arg::new(alloc, "steps")
+        .long("steps")
+        .value_name("N")
+        .action(ArgAction::Set)
+        .value_parser(value_parser!(u64).range(1..=1_000_000_000))
+        .default_value("1000000")
+        .help("How many rows the run on a payload takes at most");
+    let run = Command::new(alloc, "run")
+        .about("Runs the program of a listing on payloads, whose pieces are parted by bars")
+        .arg(steps)?;
+    let debug = Command::new(alloc, "debug").about(
+        "Obeys the commands of a debugger on a payload, between two schemas",
+    );
+    let replay = Command::new(alloc, "replay").about(
+        "Replies to events of a registry and of sessions, one after another",
+    );
+    Command::new(alloc, "avrogate")
+        .about("Transcodes Avro data between standard input and standard output")
+        .subcommand_required(true)
+        .subcommand(transcode)?
+        .subcommand(compile)?
+        .subcommand(run)?
+        .subcommand(debug)?
+        .subcommand(replay)
+}
+
+/// What the words that were read ask for.
+pub fn verb_of(matches: &ArgMatches<'_>) -> Option<Verb> {
+    match matches.subcommand() {
+        Some(("transcode", _)) => Some(Verb::Transcode),
+        Some(("compile", words)) => Some(Verb::Compile {
+            image: words.get_flag("image"),
+        }),
+        Some(("run", words)) => Some(Verb::Run {
+            steps: words.get_one("steps")?,
+        }),
+        Some(("debug", _)) => Some(Verb::Debug),
+        Some(("replay", _)) => Some(Verb::Replay),
+        _ => None,
+    }
+}
