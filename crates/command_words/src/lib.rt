@@ -1,22 +1,25 @@
 //! The words of the program's command line, and what they ask for.
 #![tactic(auto)]
 
-use clap::{Arg, ArgAction, ArgMatches, Command, value_parser};
-use commands::Verb;
-use std::alloc::{AllocError, Global};
+mod verb;
 
-/// The command line: its subcommands, their flags and values, and their help.
-pub fn command_line<'a>(alloc: Global) -> Result<Command<'a>, AllocError> {
-    let transcode = Command::new(alloc, "transcode").about(
-        "Transcodes payloads from a writer's schema to a reader's",
-    );
+use clap::{Arg, ArgAction, ArgMatches, Command, value_parser};
+use std::alloc::{AllocError, Global};
+pub use verb::Verb;
+
+/// The subcommand that prints a program, with its flag.
+fn compile<'a>(alloc: Global) -> Result<Command<'a>, AllocError> {
     let image = Arg::new(alloc, "image")
         .long("image")
         .action(ArgAction::SetTrue)
         .help("Prints the image in one line of hexadecimal, in place of the listing");
-    let compile = Command::new(alloc, "compile")
+    Command::new(alloc, "compile")
         .about("Prints the program that transcodes from a writer's schema to a reader's")
-        .arg(image)?;
+        .arg(image)
+}
+
+/// The subcommand that runs a listed program, with its number of rows.
+fn run<'a>(alloc: Global) -> Result<Command<'a>, AllocError> {
     let steps = Arg::new(alloc, "steps")
         .long("steps")
         .value_name("N")
@@ -24,23 +27,24 @@ pub fn command_line<'a>(alloc: Global) -> Result<Command<'a>, AllocError> {
         .value_parser(value_parser!(u64).range(1..=1_000_000_000))
         .default_value("1000000")
         .help("How many rows the run on a payload takes at most");
-    let run = Command::new(alloc, "run")
+    Command::new(alloc, "run")
         .about("Runs the program of a listing on payloads, whose pieces are parted by bars")
-        .arg(steps)?;
-    let debug = Command::new(alloc, "debug").about(
-        "Obeys the commands of a debugger on a payload, between two schemas",
-    );
-    let replay = Command::new(alloc, "replay").about(
-        "Replies to events of a registry and of sessions, one after another",
-    );
+        .arg(steps)
+}
+
+/// The command line: its subcommands, their flags and values, and their help.
+pub fn command_line<'a>(alloc: Global) -> Result<Command<'a>, AllocError> {
+    let transcode = "Transcodes payloads from a writer's schema to a reader's";
+    let debug = "Obeys the commands of a debugger on a payload, between two schemas";
+    let replay = "Replies to events of a registry and of sessions, one after another";
     Command::new(alloc, "avrogate")
         .about("Transcodes Avro data between standard input and standard output")
         .subcommand_required(true)
-        .subcommand(transcode)?
-        .subcommand(compile)?
-        .subcommand(run)?
-        .subcommand(debug)?
-        .subcommand(replay)
+        .subcommand(Command::new(alloc, "transcode").about(transcode))?
+        .subcommand(compile(alloc)?)?
+        .subcommand(run(alloc)?)?
+        .subcommand(Command::new(alloc, "debug").about(debug))?
+        .subcommand(Command::new(alloc, "replay").about(replay))
 }
 
 /// What the words that were read ask for.

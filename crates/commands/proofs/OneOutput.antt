@@ -19,7 +19,7 @@ use Rattle.answer_lines.specs.Payload.{payload_of}
 use Rattle.commands.specs.Refusal.{IsRefused, text_of}
 use Rattle.commands.specs.Running.{IsRunAnswer, IsRunLine, StopsIn, pieces_of}
 use Rattle.commands.specs.Schemas.{schemas_of}
-use Rattle.commands.specs.declared.command.Verb.TheVariants.{Compile, Debug, Replay, Run, Transcode}
+use Rattle.command_words.specs.declared.verb.Verb.TheVariants.{Compile, Debug, Replay, Run, Transcode}
 use Rattle.commands.specs.declared.refusal.Refusal.{Refusal}
 use Rattle.commands.specs.declared.refusal.Refusal.TheVariants.{BadListing, ProgramTooLarge}
 use Rattle.commands.specs.declared.status.Status.{Status}

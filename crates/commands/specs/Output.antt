@@ -17,8 +17,8 @@ use Rattle.session_commands.specs.declared.debugging.DebugError.TheVariants as e
 use Rattle.commands.specs.Refusal.{IsRefused}
 use Rattle.commands.specs.Running.{IsRunLine}
 use Rattle.commands.specs.Schemas.{schemas_of}
-use Rattle.commands.specs.declared.command.Verb.{Verb}
-use Rattle.commands.specs.declared.command.Verb.TheVariants.{Compile, Debug, Replay, Run, Transcode}
+use Rattle.command_words.specs.declared.verb.Verb.{Verb}
+use Rattle.command_words.specs.declared.verb.Verb.TheVariants.{Compile, Debug, Replay, Run, Transcode}
 use Rattle.commands.specs.declared.refusal.Refusal.{Refusal}
 use Rattle.commands.specs.declared.refusal.Refusal.TheVariants.{BadHex, BadListing, NoMemory, ProgramTooLarge, TooLarge}
 use Rattle.commands.specs.declared.status.Status.{Status}

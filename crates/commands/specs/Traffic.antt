@@ -5,7 +5,7 @@ use Rattle.answer_lines.specs.Traffic.{Begins}
 use Rattle.commands.specs.Output.{IsOutput}
 use Rattle.commands.specs.Status.{exit_code_of}
 use Rattle.commands.specs.declared.status.Status.{Status}
-use Rattle.commands.specs.declared.command.Verb.{Verb}
+use Rattle.command_words.specs.declared.verb.Verb.{Verb}
 
 -- where the input was known, the writer's contents grew by an output for it whose status has this number
 abbrev pub Answers : Verb → Option (List ℕ) → Option (List ℕ) → Option (List ℕ) → ℕ → Type 0

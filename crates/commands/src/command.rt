@@ -13,24 +13,10 @@ use crate::schemas::schemas_of;
 use crate::status::Status;
 use crate::transcode::transcode;
 use answer_lines::{RunError, read_all, write_whole};
+use command_words::Verb;
 use session_commands::replay;
 use std::alloc::{AllocError, Global};
 use std::io::{Read, Write};
-
-/// What to do with the input.
-#[derive(Clone, Copy, Debug, PartialEq, Eq)]
-pub enum Verb {
-    /// Answers each payload with what the reader makes of it.
-    Transcode,
-    /// Answers the program of the schemas: its listing, or its image.
-    Compile { image: bool },
-    /// Answers each payload with how a run of a listed program on it stands after at most so many rows.
-    Run { steps: u64 },
-    /// Answers the commands of a debugger, which follow two schemas and a payload.
-    Debug,
-    /// Answers events of a world of sessions.
-    Replay,
-}
 
 /// The output for an input that is answered.
 fn answered(alloc: Global, verb: &Verb, input: &[u8]) -> Result<String, Refusal>

@@ -14,6 +14,7 @@ mod status;
 mod transcode;
 
 pub use answer_lines::{MOST_READS, MOST_WRITES, RunError};
-pub use command::{Verb, run};
+pub use command::run;
+pub use command_words::Verb;
 pub use laws::input_has_one_output;
 pub use status::Status;
