@@ -49,7 +49,7 @@ fn measure_block(many: usize, room: usize) -> Option<usize>
 
 /// What is left of some room after a datum, if it has room there.
 #[cycle(measure)]
-#[tactic(auto, using(crate::proofs::Written::record_written, crate::proofs::Written::array_len, crate::proofs::Written::map_len, crate::proofs::Written::written_from, crate::proofs::Written::pairs_len_from), unfolding(crate::specs::Writing::written))]
+#[tactic(auto, using(crate::proofs::Written::record_written, crate::proofs::Written::array_len, crate::proofs::Written::map_len), unfolding(crate::specs::Writing::written))]
 fn measure(datum: &Datum, room: usize) -> Option<usize>
     ensures { LeavesRoom result room (length (written (datum_of datum.now))) }
 {
@@ -71,7 +71,7 @@ fn measure(datum: &Datum, room: usize) -> Option<usize>
 
 /// What is left of some room after data.
 #[cycle(measure)]
-#[tactic(auto, using(crate::proofs::Written::record_written, crate::proofs::Written::array_len, crate::proofs::Written::map_len, crate::proofs::Written::written_from, crate::proofs::Written::pairs_len_from), unfolding(crate::specs::Writing::written))]
+#[tactic(auto, using(crate::proofs::Written::written_from), unfolding(crate::specs::Writing::written))]
 fn measure_each(each: &[Datum], room: usize) -> Option<usize>
     ensures { LeavesRoom result room (length (written_data (data_of each.now))) }
 {
@@ -84,7 +84,7 @@ fn measure_each(each: &[Datum], room: usize) -> Option<usize>
 
 /// What is left of some room after pairs.
 #[cycle(measure)]
-#[tactic(auto, using(crate::proofs::Written::record_written, crate::proofs::Written::array_len, crate::proofs::Written::map_len, crate::proofs::Written::written_from, crate::proofs::Written::pairs_len_from), unfolding(crate::specs::Writing::written))]
+#[tactic(auto, using(crate::proofs::Written::pairs_len_from), unfolding(crate::specs::Writing::written))]
 fn measure_pairs(pairs: &[(String, Datum)], room: usize) -> Option<usize>
     ensures { LeavesRoom result room (length (written_pairs (pairs_of pairs.now))) }
 {
@@ -119,7 +119,7 @@ fn put_count(out: &mut Vec<u8>, many: usize) -> Result<(), AllocError>
 
 /// Writes a datum at the end. An `Err` leaves a beginning of it.
 #[cycle(put)]
-#[tactic(auto, using(crate::proofs::Written::record_written, crate::proofs::Written::array_written, crate::proofs::Written::map_written, crate::proofs::Written::written_from, crate::proofs::Written::pairs_from), unfolding(crate::specs::Writing::written))]
+#[tactic(auto, using(crate::proofs::Written::record_written, crate::proofs::Written::array_written, crate::proofs::Written::map_written), unfolding(crate::specs::Writing::written))]
 fn put_datum(out: &mut Vec<u8>, datum: &Datum) -> Result<(), AllocError>
     ensures ok { OnOk result (out.new.items ≡ out.old.items ++ written (datum_of datum.now)) }
     ensures err { OnErr result (Extends out.old.items out.new.items) }
@@ -172,7 +172,7 @@ fn put_map(out: &mut Vec<u8>, pairs: &[(String, Datum)]) -> Result<(), AllocErro
 
 /// Writes data at the end, one after another. An `Err` leaves a beginning of them.
 #[cycle(put)]
-#[tactic(auto, using(crate::proofs::Written::record_written, crate::proofs::Written::array_written, crate::proofs::Written::map_written, crate::proofs::Written::written_from, crate::proofs::Written::pairs_from), unfolding(crate::specs::Writing::written))]
+#[tactic(auto, using(crate::proofs::Written::written_from), unfolding(crate::specs::Writing::written))]
 fn put_each(out: &mut Vec<u8>, each: &[Datum]) -> Result<(), AllocError>
     ensures ok { OnOk result (out.new.items ≡ out.old.items ++ written_data (data_of each.now)) }
     ensures err { OnErr result (Extends out.old.items out.new.items) }
@@ -185,7 +185,7 @@ fn put_each(out: &mut Vec<u8>, each: &[Datum]) -> Result<(), AllocError>
 
 /// Writes pairs at the end, one after another. An `Err` leaves a beginning of them.
 #[cycle(put)]
-#[tactic(auto, using(crate::proofs::Written::record_written, crate::proofs::Written::array_written, crate::proofs::Written::map_written, crate::proofs::Written::written_from, crate::proofs::Written::pairs_from), unfolding(crate::specs::Writing::written))]
+#[tactic(auto, using(crate::proofs::Written::pairs_from), unfolding(crate::specs::Writing::written))]
 fn put_pairs(out: &mut Vec<u8>, pairs: &[(String, Datum)]) -> Result<(), AllocError>
     ensures ok { OnOk result (out.new.items ≡ out.old.items ++ written_pairs (pairs_of pairs.now)) }
     ensures err { OnErr result (Extends out.old.items out.new.items) }

@@ -1,4 +1,4 @@
-ghost use Rattle.std.specs.Prelude.{◌≡◌, ℕ, IfOk, length, map};
+ghost use Rattle.std.specs.Prelude.{◌≡◌, [], ℕ, IfOk, OnOk, length, map};
 ghost use Rattle.session_core.specs.Ending.{SessionEndsWithOutcome};
 ghost use Rattle.session_core.specs.Event.{event_of};
 ghost use Rattle.session_core.specs.Happening.{Happened, steps_of};
@@ -11,6 +11,25 @@ use crate::programs::Programs;
 use crate::reply::EventReply;
 use crate::world::World;
 use std::alloc::{AllocError, Global};
+
+/// Events happen to a world, one after another, and a reply to each is kept.
+fn take_events<'p, P: Programs>(
+    programs: &'p P,
+    events: &[Event],
+    world: &mut World<'p>,
+    replies: &mut Vec<EventReply>,
+) -> Result<(), AllocError>
+    requires { replies.old.items ≡ [] }
+    ensures many { OnOk result (length replies.new.items ≡ length events.now) }
+    ensures happened { OnOk result
+        (Happened (steps_of (map event_of events.now) replies.new.items) world.old world.new) }
+{
+    for event in events {
+        let reply = world.event(programs, event);
+        replies.push(reply)?;
+    }
+    Ok(())
+}
 
 /// The world after events, one after another, with a reply to each. A session's machine ends with the outcome of its own
 /// bytes for its own pair, and each session is what its own events make of it.
@@ -28,10 +47,7 @@ pub fn run_events<'p, P: Programs>(
     sessions_are_their_own();
     let mut world = World::new(alloc);
     let mut replies = Vec::new(alloc);
-    for event in events {
-        let reply = world.event(programs, event);
-        replies.push(reply)?;
-    }
+    take_events(programs, events, &mut world, &mut replies)?;
     world.sessions_end_with_their_outcomes();
     Ok((world, replies))
 }
