@@ -4,10 +4,10 @@
 #[cfg(test)]
 mod again;
 #[cfg(test)]
-mod assembling_tests;
-#[cfg(test)]
 mod image_tests;
 #[cfg(test)]
 mod listing_tests;
 #[cfg(test)]
 mod program_tests;
+#[cfg(test)]
+mod rows;

@@ -1,83 +1,88 @@
-//! The listings of programs.
+//! Listings: which texts come back, and what is told of the others.
 
-use crate::assembling_tests::{LONG_LIST, is_listed};
-use isa::{Entry, Instr, Lists, Parts, Program};
-use outcome::{Mismatch, MismatchKind};
+use crate::again::again;
+use crate::rows::{Tried, assert_rows, is_answer, push_text};
+use assembler::{AsmError, assemble};
 use std::alloc::{AllocError, Global};
+use std::test::Fail;
 
-/// Parts without any thing.
-fn no_parts(alloc: Global) -> Parts {
-    Parts {
-        code: Vec::new(alloc),
-        constants: Lists::new(alloc),
-        maps: Lists::new(alloc),
-        jumps: Lists::new(alloc),
-        misses: Vec::new(alloc),
-    }
-}
+/// Those that come back are a halt, a list of longs, by a union of null and the list itself, and a thing of each kind.
+const LISTINGS: &str = "\
+|1 BadHeader
+avro program 2;0 HALT;|1 BadHeader
+avro program 1|1 BadLine
+@0 HALT;|comes back
+@const 0 00;const 1 02;jumps 0 7 9;0 CALL 2;1 HALT;2 RECORD 2;3 SLOT 0;4 LONG;5 SLOT 1;6 BRANCH 0;7 PUT 0;8 JUMP 11;\
+9 PUT 1;10 CALL 2;11 ENDREC;12 RET;|comes back
+@const 0 0a;map 0 10 !0;map 1;jumps 0 0 2;jumps 1;miss 0 NoSymbol 3 0;0 ENUM 0;1 SFIXED 16;2 HALT;|comes back
+@const 0 0A;|2 BadLine
+@const 0  00;0 HALT;|2 BadLine
+@const 0 ;0 HALT;|2 BadLine
+@const 00 00;0 HALT;|2 BadLine
+@map 0 01;0 HALT;|2 BadLine
+@map 0 !;0 HALT;|2 BadLine
+@map 0 ;0 HALT;|2 BadLine
+@map 0 1;const 0 00;0 HALT;|3 BadLine
+@miss 0 NoWord 1 1;0 HALT;|2 BadLine
+@miss 0 NoMatch 1;0 HALT;|2 BadLine
+@0 HALT 1;|2 BadLine
+@0 JUMP;|2 BadLine
+@0 HALT|2 BadLine
+@0 HALT;;|3 BadLine
+@0 HALT;const 0 00;|3 BadLine
+@const 1 00;0 HALT;|2 BadIndex
+@0 HALT;2 HALT;|3 BadIndex
+@99999999999999999999999999 HALT;|2 BadIndex
+@0 JUMP 1;|2 OutOfRange
+@0 JUMP 99999999999999999999999999;|2 OutOfRange
+@map 0 4095;map 1 4096;0 HALT;|3 OutOfRange
+@jumps 0 1;0 HALT;|2 OutOfRange
+@miss 0 NoMatch 0 1024;0 HALT;|2 OutOfRange
+@0 JUMP 9;1 HALT;2  HALT;|4 BadLine
+@0 JUMP 9;2 HALT;3  HALT;|3 BadIndex
+@|2 NoCode
+@const 0 00;map 0 5000;|4 NoCode
+";
 
-/// Adds the parts of a list of longs.
-fn push_long_list(parts: &mut Parts) -> Result<(), AllocError> {
-    let code = [
-        Instr::Call(2),
-        Instr::Halt,
-        Instr::Record(2),
-        Instr::Slot(0),
-        Instr::Long,
-        Instr::Slot(1),
-        Instr::Branch(0),
-        Instr::Put(0),
-        Instr::Jump(11),
-        Instr::Put(1),
-        Instr::Call(2),
-        Instr::EndRecord,
-        Instr::Return,
-    ];
-    parts.code.extend_from_slice(&code)?;
-    parts.constants.push(&[0])?;
-    parts.constants.push(&[2])?;
-    parts.jumps.push(&[7, 9])
-}
+/// The same at the limits. A number that is not the next one is told before the limit.
+const LIMITS: &str = "@map 0{4096: 1};0 HALT;|comes back
+@map 0{4097: 1};|2 TooLarge
+@map 1{4097: 1};|2 BadIndex
+@const 0 {1048576:07};|3 NoCode
+@const 0 {1048577:07};|2 TooLarge
+@{262144:# JUMP #;}|comes back
+@{262145:# JUMP #;}|262146 TooLarge
+";
 
-/// Adds the parts of an enum of which a symbol has no place.
-fn push_enum(parts: &mut Parts) -> Result<(), AllocError> {
-    let code = [Instr::Enum(0), Instr::SkipFixed(16), Instr::Halt];
-    parts.code.extend_from_slice(&code)?;
-    parts.maps.push(&[Entry::Position(10), Entry::Miss(0)])?;
-    parts.maps.push(&[])?;
-    let miss = Mismatch {
-        kind: MismatchKind::NoSymbol,
-        writer_node: 3,
-        reader_node: 0,
-    };
-    parts.misses.push(miss)?;
-    Ok(())
-}
-
-/// Whether that is the listing of the program of parts.
-fn are_listed(alloc: Global, parts: Parts, want: &str) -> Result<bool, AllocError> {
-    match Program::new(parts) {
-        Ok(program) => is_listed(alloc, &program, want),
-        Err(_) => Ok(false),
-    }
+/// Whether that is the answer of a text: its fault, or that it comes back.
+pub(crate) fn is_listing_answer(
+    alloc: Global,
+    lines: &str,
+    want: &str,
+) -> Result<bool, AllocError> {
+    let mut text = String::new(alloc);
+    push_text(&mut text, lines)?;
+    let want = if want == "comes back" { &text } else { want };
+    is_answer(
+        alloc,
+        again!(assemble(alloc, text.as_bytes()), AsmError::NoMemory),
+        want,
+    )
 }
 
 #[test]
-fn the_listing_of_a_list(rt: HostRuntime) -> Result<(), AllocError> {
-    let mut parts = no_parts(rt.alloc());
-    push_long_list(&mut parts)?;
-    let same = are_listed(rt.alloc(), parts, LONG_LIST)?;
-    assert!(rt; same);
-    Ok(())
+fn texts_come_back_or_a_fault_is_told(rt: HostRuntime) -> Result<(), Fail> {
+    assert_rows(&rt, Tried::Listing, LISTINGS)
 }
 
 #[test]
-fn the_listing_of_a_map_and_a_miss(rt: HostRuntime) -> Result<(), AllocError> {
-    let mut parts = no_parts(rt.alloc());
-    push_enum(&mut parts)?;
-    let want =
-        "avro program 1\nmap 0 10 !0\nmap 1\nmiss 0 NoSymbol 3 0\n0 ENUM 0\n1 SFIXED 16\n2 HALT\n";
-    let same = are_listed(rt.alloc(), parts, want)?;
-    assert!(rt; same);
+fn listings_have_limits(rt: HostRuntime) -> Result<(), Fail> {
+    assert_rows(&rt, Tried::Listing, LIMITS)
+}
+
+#[test]
+fn lines_that_are_no_utf_8_are_bad(rt: HostRuntime) -> Result<(), Fail> {
+    let made = assemble(rt.alloc(), b"avro program 1\n0 HALT \xff\n");
+    assert!(rt; is_answer(rt.alloc(), made, "2 BadLine")?);
     Ok(())
 }

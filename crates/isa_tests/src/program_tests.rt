@@ -1,31 +1,206 @@
 //! Which parts are a program, and what is the first thing that keeps others from being one.
 
-use isa::{Entry, Instr, Lists, Parts, Program, ProgramError};
+use crate::again::again;
+use crate::rows::{Tried, assert_rows, is_answer};
+use isa::{Entry, Instr, Lists, Parts, Program};
 use outcome::{Mismatch, MismatchKind};
 use std::alloc::{AllocError, Global};
-use std::process::Abort;
+use std::test::Fail;
 
-/// A node of the writer, which matches none of the reader's.
-fn miss(reader_node: usize) -> Mismatch {
-    Mismatch {
-        kind: MismatchKind::NoMatch,
-        writer_node: 1_023,
-        reader_node,
+/// Something of what parts are made of. A list has so many times these items, and stands there so many times.
+enum Thing {
+    Code(&'static [Instr], usize),
+    Constant(&'static [u8], usize, usize),
+    Map(&'static [Entry], usize),
+    Jumps(&'static [u32], usize, usize),
+    Miss(Mismatch),
+}
+
+/// Names of things and what they are as a program: its listing, or the first thing that keeps them from being one.
+const ROWS: &str = "\
+list zero two ways|@const 0 00;const 1 02;jumps 0 7 9;0 CALL 2;1 HALT;2 RECORD 2;3 SLOT 0;4 LONG;\
+5 SLOT 1;6 BRANCH 0;7 PUT 0;8 JUMP 11;9 PUT 1;10 CALL 2;11 ENDREC;12 RET;
+enum symbols none symbol|@map 0 10 !0;map 1;miss 0 NoSymbol 3 0;0 ENUM 0;1 SFIXED 16;2 HALT;
+greatest bytes map jumps node|@const 0 0204;map 0 4095 !0;jumps 0 0 1;miss 0 NoMatch 1023 0;\
+0 BYTESTEXT 0;1 FIXED 1048576;2 SFIXED 1048576;3 ENUM 0;4 SENUM 4096;5 PUT 0;6 RECORD 1024;7 SLOT 1023;8 NEXT 10;\
+9 SNEXT 12;10 BRANCH 0;11 MISS 0;12 TEXT;13 JUMP 13;
+jump halt bytes map jumps node far-node far-jumps far-map|entry 1 of map 1 is out of range
+jump halt bytes map jumps node far-node far-jumps|address 2 of jump table 1 is out of range
+jump halt bytes map jumps node far-node|miss 1 is out of range
+jump halt bytes map jumps node|the operand of instruction 0 is out of range
+bytes map jumps node|there is no instruction
+jump bytes empty places-1 jumps node|constant 1 is empty
+jump bytes empty places-65537 jumps node|a limit is passed
+";
+
+/// The same at the limits.
+const LIMITS: &str = "\
+halts zeros-1048576 places-65536 zeros-4096 node|@const 0 {1048576:00};{65536:map # 0;}\
+jumps 0{4096: 0};jumps 1{4096: 0};miss 0 NoMatch 1023 0;{262144:# HALT;}
+halts halt bytes map jumps node|a limit is passed
+halt zeros-524289 map jumps node|a limit is passed
+halt bytes map zeros-4097 node|a limit is passed
+";
+
+/// The code of a list of longs, by a union of null and the list itself.
+const LIST: [Instr; 13] = [
+    Instr::Call(2),
+    Instr::Halt,
+    Instr::Record(2),
+    Instr::Slot(0),
+    Instr::Long,
+    Instr::Slot(1),
+    Instr::Branch(0),
+    Instr::Put(0),
+    Instr::Jump(11),
+    Instr::Put(1),
+    Instr::Call(2),
+    Instr::EndRecord,
+    Instr::Return,
+];
+
+/// Operands that are the greatest of their ranges.
+const GREATEST: [Instr; 14] = [
+    Instr::BytesText(0),
+    Instr::Fixed(1_048_576),
+    Instr::SkipFixed(1_048_576),
+    Instr::Enum(0),
+    Instr::SkipEnum(4_096),
+    Instr::Put(0),
+    Instr::Record(1_024),
+    Instr::Slot(1_023),
+    Instr::Next(10),
+    Instr::SkipNext(12),
+    Instr::Branch(0),
+    Instr::Miss(0),
+    Instr::Text,
+    Instr::Jump(13),
+];
+
+/// A thing of a row.
+fn named(name: &str) -> Thing {
+    match name {
+        "list" => Thing::Code(&LIST, 1),
+        "enum" => Thing::Code(&[Instr::Enum(0), Instr::SkipFixed(16), Instr::Halt], 1),
+        "greatest" => Thing::Code(&GREATEST, 1),
+        "jump" => Thing::Code(&[Instr::Jump(7)], 1),
+        "halt" => Thing::Code(&[Instr::Halt], 1),
+        "halts" => Thing::Code(&[Instr::Halt], 262_144),
+        "zero" => Thing::Constant(&[0], 1, 1),
+        "two" => Thing::Constant(&[2], 1, 1),
+        "bytes" => Thing::Constant(&[2, 4], 1, 1),
+        "zeros-1048576" => Thing::Constant(&[0], 1_048_576, 1),
+        "zeros-524289" => Thing::Constant(&[0], 524_289, 2),
+        "symbols" => Thing::Map(&[Entry::Position(10), Entry::Miss(0)], 1),
+        "none" => Thing::Map(&[], 1),
+        "map" => Thing::Map(&[Entry::Position(4_095), Entry::Miss(0)], 1),
+        "far-map" => Thing::Map(&[Entry::Position(0), Entry::Position(4_096)], 1),
+        "places-1" => Thing::Map(&[Entry::Position(0)], 1),
+        "places-65536" => Thing::Map(&[Entry::Position(0)], 65_536),
+        "places-65537" => Thing::Map(&[Entry::Position(0)], 65_537),
+        "ways" => Thing::Jumps(&[7, 9], 1, 1),
+        "jumps" => Thing::Jumps(&[0, 1], 1, 1),
+        "far-jumps" => Thing::Jumps(&[1, 0, 2], 1, 1),
+        "zeros-4096" => Thing::Jumps(&[0], 4_096, 2),
+        "zeros-4097" => Thing::Jumps(&[0], 4_097, 1),
+        "node" => Thing::Miss(MISS),
+        "far-node" => Thing::Miss(FAR_MISS),
+        "symbol" => Thing::Miss(NO_SYMBOL),
+        _ => Thing::Constant(&[], 1, 1),
     }
 }
 
-/// Adds a code, a constant, a map, a jump table and a miss.
-fn fill(parts: &mut Parts, code: &[Instr]) -> Result<(), AllocError> {
-    parts.code.extend_from_slice(code)?;
-    parts.constants.push(&[2u8, 4])?;
-    parts.maps.push(&[Entry::Position(4_095), Entry::Miss(0)])?;
-    parts.jumps.push(&[0u32, 1])?;
-    parts.misses.push(miss(0))?;
+/// A node of the writer, which matches none of the reader's.
+const MISS: Mismatch = Mismatch {
+    kind: MismatchKind::NoMatch,
+    writer_node: 1_023,
+    reader_node: 0,
+};
+
+/// The same where the reader can have no such node.
+const FAR_MISS: Mismatch = Mismatch {
+    kind: MismatchKind::NoMatch,
+    writer_node: 1_023,
+    reader_node: 1_024,
+};
+
+/// A symbol that has no place.
+const NO_SYMBOL: Mismatch = Mismatch {
+    kind: MismatchKind::NoSymbol,
+    writer_node: 3,
+    reader_node: 0,
+};
+
+/// Adds the first list once more, again where memory ran out the first time.
+fn push_first<T: Copy>(lists: &mut Lists<T>) -> Result<(), AllocError> {
+    if lists.len() == 0 {
+        return Ok(());
+    }
+    again!(lists.push_again(0), AllocError)
+}
+
+/// So many times these items.
+fn repeated<T: Copy>(alloc: Global, items: &[T], times: usize) -> Result<Vec<T>, AllocError> {
+    let mut all = Vec::new(alloc);
+    for _time in 0..times {
+        all.extend_from_slice(items)?;
+    }
+    Ok(all)
+}
+
+/// Adds a list, and again the first one, so that it was added so many times where there was none before.
+fn push_times<T: Copy>(lists: &mut Lists<T>, list: &[T], times: usize) -> Result<(), AllocError> {
+    again!(lists.push(list), AllocError)?;
+    for _time in 1..times {
+        push_first(lists)?;
+    }
     Ok(())
 }
 
-/// The parts of a code with a constant, a map, a jump table and a miss.
-fn parts(alloc: Global, code: &[Instr]) -> Result<Parts, AllocError> {
+/// Adds a list of so many times these items, so many times.
+fn push<T: Copy>(
+    alloc: Global,
+    lists: &mut Lists<T>,
+    items: &[T],
+    long: usize,
+    times: usize,
+) -> Result<(), AllocError> {
+    let list = repeated(alloc, items, long)?;
+    push_times(lists, &list, times)
+}
+
+/// Adds a thing to parts.
+fn push_thing(alloc: Global, parts: &mut Parts, thing: Thing) -> Result<(), AllocError> {
+    match thing {
+        Thing::Code(items, long) => {
+            let code = repeated(alloc, items, long)?;
+            parts.code.extend_from_slice(&code)
+        }
+        Thing::Constant(items, long, times) => {
+            push(alloc, &mut parts.constants, items, long, times)
+        }
+        Thing::Map(items, times) => push(alloc, &mut parts.maps, items, 1, times),
+        Thing::Jumps(items, long, times) => push(alloc, &mut parts.jumps, items, long, times),
+        Thing::Miss(miss) => Ok(parts.misses.push(miss)?),
+    }
+}
+
+/// Adds a code and things to parts.
+fn push_things(
+    alloc: Global,
+    parts: &mut Parts,
+    code: &[Instr],
+    names: &str,
+) -> Result<(), AllocError> {
+    parts.code.extend_from_slice(code)?;
+    for name in names.split(' ') {
+        push_thing(alloc, parts, named(name))?;
+    }
+    Ok(())
+}
+
+/// The parts that a code and things make.
+fn parts_of(alloc: Global, code: &[Instr], names: &str) -> Result<Parts, AllocError> {
     let mut parts = Parts {
         code: Vec::new(alloc),
         constants: Lists::new(alloc),
@@ -33,150 +208,33 @@ fn parts(alloc: Global, code: &[Instr]) -> Result<Parts, AllocError> {
         jumps: Lists::new(alloc),
         misses: Vec::new(alloc),
     };
-    fill(&mut parts, code)?;
+    push_things(alloc, &mut parts, code, names)?;
     Ok(parts)
 }
 
-/// The first thing that keeps parts from being a program.
-fn fault(parts: Parts) -> Option<ProgramError> {
-    Program::new(parts).err()
-}
-
-/// The first thing that keeps a code from being a program.
-fn fault_of(alloc: Global, code: &[Instr]) -> Result<Option<ProgramError>, AllocError> {
-    Ok(fault(parts(alloc, code)?))
-}
-
-/// Adds a list, again where memory ran out the first time.
-fn push<T: Copy>(lists: &mut Lists<T>, list: &[T]) -> Result<(), AllocError> {
-    match lists.push(list) {
-        Err(AllocError) => lists.push(list),
-        answer => answer,
-    }
-}
-
-/// Adds the first list once more, again where memory ran out the first time.
-fn push_first<T: Copy>(lists: &mut Lists<T>) -> Result<(), AllocError> {
-    if lists.len() == 0 {
-        return Ok(());
-    }
-    match lists.push_again(0) {
-        Err(AllocError) => lists.push_again(0),
-        answer => answer,
-    }
-}
-
-/// As many times one list.
-fn lists<T: Copy>(alloc: Global, list: &[T], times: usize) -> Result<Lists<T>, AllocError> {
-    let mut lists = Lists::new(alloc);
-    lists.push(list)?;
-    for _time in 1..times {
-        push_first(&mut lists)?;
-    }
-    Ok(lists)
-}
-
-/// Adds two numbers, none, the same two and one.
-fn push_four(lists: &mut Lists<u8>) -> Result<(), AllocError> {
-    push(lists, &[1u8, 2])?;
-    push(lists, &[])?;
-    push_first(lists)?;
-    push(lists, &[3])
-}
-
-/// Whether the list at a position is this one.
-pub(crate) fn is_list<T: Copy + PartialEq>(lists: &Lists<T>, position: usize, list: &[T]) -> bool {
-    lists.get(position) == Some(list)
-}
-
-/// Whether lists are those four.
-fn are_four(lists: &Lists<u8>) -> bool {
-    lists.len() == 4
-        && is_list(lists, 0, &[1, 2])
-        && is_list(lists, 1, &[])
-        && is_list(lists, 2, &[1, 2])
-        && is_list(lists, 3, &[3])
-        && lists.get(4).is_none()
-}
-
-/// Whether lists tell what those four have.
-fn tell_of_four(lists: &Lists<u8>) -> bool {
-    lists.first_empty() == Some(1)
-        && lists.total_is_within(5)
-        && !lists.total_is_within(4)
-        && lists.are_within(2)
-        && !lists.are_within(1)
+/// Whether that is what a code and things are as a program.
+pub(crate) fn is_program_answer(
+    alloc: Global,
+    code: &[Instr],
+    names: &str,
+    want: &str,
+) -> Result<bool, AllocError> {
+    let parts = parts_of(alloc, code, names)?;
+    is_answer(alloc, Program::new(parts), want)
 }
 
 #[test]
-fn keeps_lists_and_shares_them(rt: HostRuntime) {
-    let mut lists = Lists::new(rt.alloc());
-    push_four(&mut lists).expect(&rt, "no memory");
-    assert!(rt; are_four(&lists));
-    assert!(rt; tell_of_four(&lists));
-}
-
-/// Whether a program has a code, which ends after two instructions.
-fn has_code(program: &Program, code: &[Instr]) -> bool {
-    program.len() == 2
-        && program.code() == code
-        && program.instr(1) == Some(Instr::Halt)
-        && program.instr(2).is_none()
-}
-
-/// Whether a program has one thing of each kind.
-fn has_tables(program: &Program) -> bool {
-    is_list(program.constants(), 0, &[2, 4])
-        && is_list(program.maps(), 0, &[Entry::Position(4_095), Entry::Miss(0)])
-        && is_list(program.jumps(), 0, &[0, 1])
-        && program.misses() == [miss(0)].as_slice()
-}
-
-/// Whether parts are a program that shows them.
-fn are_shown(parts: Parts, code: &[Instr]) -> bool {
-    match Program::new(parts) {
-        Ok(program) => {
-            program.is_in_range();
-            has_code(&program, code) && has_tables(&program)
-        }
-        Err(_) => false,
-    }
+fn parts_are_a_program_or_their_first_fault_is_told(rt: HostRuntime) -> Result<(), Fail> {
+    assert_rows(&rt, Tried::Parts, ROWS)
 }
 
 #[test]
-fn a_program_shows_its_parts(rt: HostRuntime) -> Result<(), AllocError> {
-    let code = [Instr::Call(1), Instr::Halt];
-    let parts = parts(rt.alloc(), &code)?;
-    assert!(rt; are_shown(parts, &code));
-    Ok(())
+fn programs_have_limits(rt: HostRuntime) -> Result<(), Fail> {
+    assert_rows(&rt, Tried::Parts, LIMITS)
 }
 
 #[test]
-fn operands_within_their_ranges_are_taken(rt: HostRuntime) {
-    let code = [
-        Instr::BytesText(0),
-        Instr::Fixed(1_048_576),
-        Instr::SkipFixed(1_048_576),
-        Instr::Enum(0),
-        Instr::SkipEnum(4_096),
-        Instr::Put(0),
-        Instr::Record(1_024),
-        Instr::Slot(1_023),
-        Instr::Next(10),
-        Instr::SkipNext(12),
-        Instr::Branch(0),
-        Instr::Miss(0),
-        Instr::Jump(12),
-    ];
-    assert!(rt;
-        fault_of(rt.alloc(), &code)
-            .expect(&rt, "no memory")
-            .is_none()
-    );
-}
-
-#[test]
-fn operands_out_of_range_are_told_by_their_address(rt: HostRuntime) {
+fn operands_out_of_range_are_told_by_their_address(rt: HostRuntime) -> Result<(), Fail> {
     let cases = [
         Instr::BytesText(1),
         Instr::Fixed(1_048_577),
@@ -193,148 +251,79 @@ fn operands_out_of_range_are_told_by_their_address(rt: HostRuntime) {
         Instr::Call(2),
         Instr::Jump(4_294_967_295),
     ];
+    let want = "the operand of instruction 1 is out of range";
     for instr in cases {
-        let code = [Instr::Return, instr];
-        let fault = fault_of(rt.alloc(), &code).expect(&rt, "no memory");
-        assert!(rt; fault == Some(ProgramError::Instr(1)));
-    }
-}
-
-/// Adds what is out of range to the first so many of three tables: the misses, the jump tables and the maps.
-fn push_out_of_range(parts: &mut Parts, tables: usize) -> Result<(), AllocError> {
-    if tables > 0 {
-        parts.misses.push(miss(1_024))?;
-    }
-    if tables > 1 {
-        parts.jumps.push(&[1, 0, 2])?;
-    }
-    if tables > 2 {
-        parts
-            .maps
-            .push(&[Entry::Position(0), Entry::Position(4_096)])?;
+        let is_so = is_program_answer(
+            rt.alloc(),
+            &[Instr::Return, instr],
+            "bytes map jumps node",
+            want,
+        )?;
+        assert!(rt; is_so, "{instr:?}");
     }
     Ok(())
 }
 
-/// What is told of a code with so many tables out of range.
-fn fault_of_tables(
-    alloc: Global,
-    code: &[Instr],
-    tables: usize,
-) -> Result<Option<ProgramError>, AllocError> {
-    let mut parts = parts(alloc, code)?;
-    push_out_of_range(&mut parts, tables)?;
-    Ok(fault(parts))
+/// Whether the list at a position is this one.
+fn is_list<T: Copy + PartialEq>(lists: &Lists<T>, position: usize, list: &[T]) -> bool {
+    lists.get(position) == Some(list)
 }
 
-/// Whether that is told.
-fn assert_fault_of_tables(rt: &(impl Abort + AllocGlobal), tables: usize, fault: ProgramError) {
-    let code = [Instr::Jump(7), Instr::Halt];
-    let found = fault_of_tables(rt.alloc(), &code, tables).expect(rt, "no memory");
-    assert!(rt; found == Some(fault));
+/// Whether lists are two numbers, none, the same two and one, and tell what these have.
+fn are_four(lists: &Lists<u8>) -> bool {
+    lists.len() == 4
+        && is_list(lists, 0, &[1, 2])
+        && is_list(lists, 1, &[])
+        && is_list(lists, 2, &[1, 2])
+        && is_list(lists, 3, &[3])
+        && lists.get(4).is_none()
+        && lists.first_empty() == Some(1)
+        && lists.total_is_within(5)
+        && !lists.total_is_within(4)
+        && lists.are_within(2)
+        && !lists.are_within(1)
+}
+
+/// Adds these four.
+fn push_four(lists: &mut Lists<u8>) -> Result<(), AllocError> {
+    push_times(lists, &[1, 2], 1)?;
+    push_times(lists, &[], 2)?;
+    push_times(lists, &[3], 1)
 }
 
 #[test]
-fn tells_what_tables_have_out_of_range(rt: HostRuntime) {
-    assert_fault_of_tables(&rt, 3, ProgramError::Entry(1, 1));
-    assert_fault_of_tables(&rt, 2, ProgramError::Address(1, 2));
-    assert_fault_of_tables(&rt, 1, ProgramError::Miss(1));
-    assert_fault_of_tables(&rt, 0, ProgramError::Instr(0));
-}
-
-/// Adds an empty constant, and as many maps of one entry.
-fn push_empty(alloc: Global, parts: &mut Parts, maps: usize) -> Result<(), AllocError> {
-    parts.constants.push(&[])?;
-    parts.maps = lists(alloc, &[Entry::Position(0)], maps)?;
+fn keeps_lists_and_shares_them(rt: HostRuntime) -> Result<(), Fail> {
+    let mut lists = Lists::new(rt.alloc());
+    push_four(&mut lists)?;
+    assert!(rt; are_four(&lists));
     Ok(())
 }
 
-/// What is told of a code that is out of range, with these.
-fn fault_of_empty(alloc: Global, maps: usize) -> Result<Option<ProgramError>, AllocError> {
-    let mut parts = parts(alloc, &[Instr::Jump(7)])?;
-    push_empty(alloc, &mut parts, maps)?;
-    Ok(fault(parts))
+/// Whether a program shows a code of two instructions, and one thing of each kind.
+fn is_shown(program: &Program, code: &[Instr]) -> bool {
+    program.is_in_range();
+    program.len() == 2
+        && program.code() == code
+        && program.instr(1) == Some(Instr::Halt)
+        && program.instr(2).is_none()
+        && is_list(program.constants(), 0, &[2, 4])
+        && is_list(program.maps(), 0, &[Entry::Position(4_095), Entry::Miss(0)])
+        && is_list(program.jumps(), 0, &[0, 1])
+        && program.misses() == [MISS].as_slice()
+}
+
+/// Whether parts are a program that shows a code of two instructions, and one thing of each kind.
+fn are_shown(parts: Parts, code: &[Instr]) -> bool {
+    match Program::new(parts) {
+        Ok(program) => is_shown(&program, code),
+        Err(_) => false,
+    }
 }
 
 #[test]
-fn tells_what_comes_before_ranges(rt: HostRuntime) {
-    let none = fault_of(rt.alloc(), &[]).expect(&rt, "no memory");
-    assert!(rt; none == Some(ProgramError::NoCode));
-    let empty = fault_of_empty(rt.alloc(), 1).expect(&rt, "no memory");
-    assert!(rt; empty == Some(ProgramError::EmptyConstant(1)));
-    let many = fault_of_empty(rt.alloc(), 65_537).expect(&rt, "no memory");
-    assert!(rt; many == Some(ProgramError::TooLarge));
-}
-
-/// As many times one list of so many equal values.
-fn long_lists<T: Copy>(
-    alloc: Global,
-    value: T,
-    len: usize,
-    times: usize,
-) -> Result<Lists<T>, AllocError> {
-    let list = vec![in alloc; value; len]?;
-    lists(alloc, &list, times)
-}
-
-/// The parts of a code of so many instructions.
-fn halts(alloc: Global, many: usize) -> Result<Parts, AllocError> {
-    let code = vec![in alloc; Instr::Halt; many]?;
-    parts(alloc, &code)
-}
-
-/// Replaces the tables of parts by ones at the limits.
-fn set_largest(alloc: Global, parts: &mut Parts) -> Result<(), AllocError> {
-    parts.maps = lists(alloc, &[Entry::Position(0)], 65_536)?;
-    parts.jumps = long_lists(alloc, 0u32, 4_096, 2)?;
-    parts.constants = long_lists(alloc, 0u8, 1_048_576, 1)?;
+fn a_program_shows_its_parts(rt: HostRuntime) -> Result<(), Fail> {
+    let code = [Instr::Call(1), Instr::Halt];
+    let parts = parts_of(rt.alloc(), &code, "bytes map jumps node")?;
+    assert!(rt; are_shown(parts, &code));
     Ok(())
-}
-
-/// What is told of the largest parts.
-fn fault_of_largest(alloc: Global) -> Result<Option<ProgramError>, AllocError> {
-    let mut parts = halts(alloc, 262_144)?;
-    set_largest(alloc, &mut parts)?;
-    Ok(fault(parts))
-}
-
-#[test]
-fn programs_are_taken_up_to_the_limits(rt: HostRuntime) {
-    let fault = fault_of_largest(rt.alloc()).expect(&rt, "no memory");
-    assert!(rt; fault.is_none());
-}
-
-/// What is told of a code with constants of so many bytes, so many, in place of its own.
-fn fault_of_constants(
-    alloc: Global,
-    len: usize,
-    times: usize,
-) -> Result<Option<ProgramError>, AllocError> {
-    let constants = long_lists(alloc, 0u8, len, times)?;
-    let mut parts = halts(alloc, 1)?;
-    parts.constants = constants;
-    Ok(fault(parts))
-}
-
-/// What is told of a code with a jump table of so many entries in place of its own.
-fn fault_of_jumps(alloc: Global, len: usize) -> Result<Option<ProgramError>, AllocError> {
-    let jumps = long_lists(alloc, 0u32, len, 1)?;
-    let mut parts = halts(alloc, 1)?;
-    parts.jumps = jumps;
-    Ok(fault(parts))
-}
-
-/// What is told of so many instructions.
-fn fault_of_halts(alloc: Global, many: usize) -> Result<Option<ProgramError>, AllocError> {
-    Ok(fault(halts(alloc, many)?))
-}
-
-#[test]
-fn programs_past_a_limit_are_too_large(rt: HostRuntime) {
-    let code = fault_of_halts(rt.alloc(), 262_145).expect(&rt, "no memory");
-    assert!(rt; code == Some(ProgramError::TooLarge));
-    let constants = fault_of_constants(rt.alloc(), 524_289, 2).expect(&rt, "no memory");
-    assert!(rt; constants == Some(ProgramError::TooLarge));
-    let jumps = fault_of_jumps(rt.alloc(), 4_097).expect(&rt, "no memory");
-    assert!(rt; jumps == Some(ProgramError::TooLarge));
 }
