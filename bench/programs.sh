@@ -1,7 +1,7 @@
 #!/usr/bin/env bash
 # Whether time is linear: `avrogate compile` on a writer's union of 100 and of 200 records and a reader's record of 100 fields with defaults, and
 # reading listings and images of 50,000 and of 100,000 instructions; beside the start of `avrogate transcode`. Not part of the gate.
-# Usage: bench/programs.sh AVROGATE BENCH_PROGRAMS
+# Usage: bench/programs.sh AVROGATE BENCH   (crates/bench/out/bench after `rt run`)
 set -euo pipefail
 exec python3 - "$(realpath "$1")" "$(realpath "$2")" <<'PYTHON'
 import subprocess, sys, time

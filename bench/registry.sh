@@ -2,7 +2,7 @@
 # Whether a registry's time is linear: registering 2,048 and 4,096 schemas under one subject, registering them again,
 # registering them under 16 other subjects in turn, and 10,000 times finding one of 2,048 and of 4,096 ids (by the
 # clock). Not part of the gate.
-# Usage: bench/registry.sh BENCH_REGISTRY
+# Usage: bench/registry.sh BENCH   (crates/bench/out/bench after `rt run`)
 set -euo pipefail
 exec python3 - "$(realpath "$1")" <<'PYTHON'
 import subprocess, sys
@@ -12,7 +12,7 @@ parts = {"register": "register", "again": "register again", "others": "register 
 
 # the milliseconds that each part took
 def milliseconds(count):
-    done = subprocess.run([program, str(count), str(finds)], capture_output=True, text=True)
+    done = subprocess.run([program, "registry", str(count), str(finds)], capture_output=True, text=True)
     came_to = "register %d\nagain %d\nothers %d\nfind %d\n" % (count, count, count, finds)
     assert done.returncode == 0 and done.stdout == came_to, done.stdout
     return {part: int(micros) / 1000 for part, micros in map(str.split, done.stderr.splitlines())}

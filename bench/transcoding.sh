@@ -2,7 +2,7 @@
 # Transcoding in process, by one transcoder after its start: processor time per message, beside Apache Avro for Python (Debian's
 # package python3-avro), which reads and writes the first of the same messages; and whether time is linear in the passes. Its
 # answers have to be the same. Not part of the gate.
-# Usage: bench/transcoding.sh BENCH_TRANSCODING   (crates/bench_transcoding/out/bench_transcoding after `rt run`)
+# Usage: bench/transcoding.sh BENCH   (crates/bench/out/bench after `rt run`)
 set -euo pipefail
 export PYTHONDONTWRITEBYTECODE=1 PYTHONPATH=$(dirname "$(realpath "$0")")
 exec /usr/bin/python3 - "$(realpath "$1")" <<'PYTHON'

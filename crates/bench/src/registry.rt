@@ -1,14 +1,11 @@
-//! Registers schemas in a shared registry, as `bench/registry.sh` measures it: so many as the first word says under one
-//! subject, then the same once more, then under 16 others in turn; and finds so many ids as the second word says.
-//! Prints the last id of each round and how many ids showed a schema, and to the standard error the microseconds of
-//! each.
-#![tactic(auto)]
+//! Registers schemas in a shared registry: so many under one subject, then the same once more, then under 16 others in
+//! turn; and finds so many ids. Prints the last id of each round and how many ids showed a schema, and to the standard
+//! error the microseconds of each.
 
 use schema_registry::{Refusal, SharedRegistry};
 use std::alloc::{AllocError, Global};
 use std::io;
-use std::process::ExitCode;
-use std::rt::{Clock, Env};
+use std::rt::Clock;
 use std::sync::Wait;
 use std::time::Instant;
 
@@ -49,14 +46,6 @@ fn find_all(shared: &SharedRegistry, count: u32, finds: u32) -> usize {
         .count()
 }
 
-/// The words of the command line as numbers.
-fn numbers(rt: &(impl Env + AllocGlobal)) -> Option<(u32, u32)> {
-    let mut words = std::env::args(rt).ok()?.skip(1);
-    let count = words.next()?.parse::<u32>().ok()?;
-    let finds = words.next()?.parse::<u32>().ok()?;
-    Some((count, finds))
-}
-
 /// Tells what a part came to, and how long it took.
 fn tell(
     rt: &(impl Print + Eprint + Clock + AllocGlobal),
@@ -70,7 +59,7 @@ fn tell(
 }
 
 /// Registers, registers again, registers under other subjects, and finds.
-fn measure<R: Wait + Print + Eprint + Clock + AllocGlobal>(
+pub(crate) fn measure<R: Wait + Print + Eprint + Clock + AllocGlobal>(
     rt: &R,
     count: u32,
     finds: u32,
@@ -84,15 +73,4 @@ fn measure<R: Wait + Print + Eprint + Clock + AllocGlobal>(
     let start = Instant::now(rt).ok()?;
     let found = find_all(&shared, count, finds);
     tell(rt, "find", found, &start).ok()
-}
-
-fn main(rt: HostRuntime) -> ExitCode {
-    let done = match numbers(&rt) {
-        Some((count, finds)) => measure(&rt, count, finds),
-        None => None,
-    };
-    match done {
-        Some(()) => ExitCode::from(0),
-        None => ExitCode::from(1),
-    }
 }

@@ -1,25 +1,18 @@
-//! Transcodes messages from standard input in process, for measurements: the writer's schema and the reader's stand in
-//! its first two lines, and then the container of the messages. With `--passes N` it transcodes all of them N times, by
-//! one transcoder, and prints how many were answered by bytes, and how many bytes; with `--dump`, once, and prints the
-//! container of the answers. It ends with status 1 where something else came.
-#![tactic(auto)]
+//! Transcodes messages in process: the writer's schema and the reader's stand in the first two lines of an input, and
+//! then the container of the messages. All of them are transcoded so many times by one transcoder, and it is told how
+//! many were answered by bytes, and how many bytes; or once, and the container of the answers is told.
 
-mod messages;
-
+use crate::messages::{Messages, put_number};
 use avro_schema::Schema;
 use avro_types::Nodes;
 use machine::Transcoder;
 use memchr::memchr;
-use messages::{Messages, put_number};
 use outcome::Outcome;
 use std::alloc::Global;
-use std::io::{self, Read, Write};
-use std::process::ExitCode;
-use std::rt::Env;
 
 /// What to do with the messages.
 #[derive(Drop)]
-enum Task {
+pub(crate) enum Task {
     Passes(u64),
     Dump,
 }
@@ -164,47 +157,9 @@ fn output_after(alloc: Global, task: &Task, writer: &Nodes, rest: &[u8]) -> Opti
 }
 
 /// What to print for an input.
-fn output_of(alloc: Global, task: &Task, input: &[u8]) -> Option<Vec<u8>> {
+pub(crate) fn output_of(alloc: Global, task: &Task, input: &[u8]) -> Option<Vec<u8>> {
     match split_schema(alloc, input) {
         Some((writer, rest)) => output_after(alloc, task, writer.nodes(), rest),
         None => None,
-    }
-}
-
-/// Reads the whole input.
-fn input(rt: &(impl Input + AllocGlobal)) -> io::Result<Vec<u8>> {
-    let mut input = Vec::new(rt.alloc());
-    rt.reader().read_to_end(&mut input)?;
-    Ok(input)
-}
-
-/// What the words of the command line ask for.
-fn task_of(words: &[String]) -> Option<Task> {
-    match (words.get(1)?.as_str(), words.get(2)) {
-        ("--dump", None) => Some(Task::Dump),
-        ("--passes", Some(count)) => Some(Task::Passes(count.parse().ok()?)),
-        _ => None,
-    }
-}
-
-/// The words of the command line.
-fn words_of(rt: &(impl Env + AllocGlobal)) -> io::Result<Vec<String>> {
-    let words = std::env::args(rt)?;
-    Ok(words.collect(rt.alloc())?)
-}
-
-fn main(rt: HostRuntime) -> ExitCode {
-    let (Ok(words), Ok(input)) = (words_of(&rt), input(&rt)) else {
-        return ExitCode::from(1);
-    };
-    let Some(task) = task_of(&words) else {
-        return ExitCode::from(1);
-    };
-    let Some(output) = output_of(rt.alloc(), &task, &input) else {
-        return ExitCode::from(1);
-    };
-    match io::writer(&rt).write_all(&output) {
-        Ok(()) => ExitCode::from(0),
-        Err(_) => ExitCode::from(1),
     }
 }
