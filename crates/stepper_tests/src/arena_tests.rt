@@ -3,16 +3,14 @@
 ghost use Rattle.std.specs.Prelude.{◌≡◌};
 ghost use Rattle.stepper.specs.Running.{IsOn, IsUnder, start};
 
-use crate::asked::{Asked, assert_told};
 use crate::programs::push_hex;
+use crate::rows::{assert_questions, assert_rows};
 use debugger::show;
 use isa::Program;
 use std::alloc::{AllocError, Global};
 use std::fmt::Write;
 use std::test::Fail;
 use stepper::{BufferAt, Machine, Step};
-
-const ARRAY: &str = "0 BLOCKS,1 NEXT 4,2 LONG,3 JUMP 1,4 HALT";
 
 /// More segments than any buffer of these tests has.
 const SEGMENTS: usize = 4;
@@ -21,29 +19,21 @@ const SEGMENTS: usize = 4;
 /// arena in the order in which they were read.
 const NOWHERE: u32 = u32::MAX;
 
-const SWAPPED: &str = "0 CALL 2,1 HALT,2 RECORD 2,3 SLOT 1,4 LONG,5 SLOT 0,6 TEXT,7 ENDREC,8 RET";
+/// A closed record adds nothing to the arena, and has its slots' segments. Slots are read by their numbers, gathered
+/// items are read, and a cut character is carried.
+const ROWS: &str = "\
+arena 8|swapped|3606666f6f|3606666f6f
+out 8|swapped|3606666f6f|(1 4)(0 1) ff06666f6f36
+slot 7 0|swapped|3606666f6f|(1 4) ff06666f6f
+slot 7 1|swapped|3606666f6f|(0 1) ff36
+slot 7 2|swapped|3606666f6f| none
+gathered 3|array|04060800|(0 1) ff06
+slot 3 0|array|04060800| none
+out 3|array|04060800| ff
+carry 2|0 TEXT,1 HALT|8201{63:61}c3a9|c3
+";
 
-/// Appends the arena of a machine after so many rows, with nothing looked for ahead.
-pub(crate) fn push_arena(
-    alloc: Global,
-    output: &mut String,
-    machine: &mut Machine,
-    program: &Program,
-    input: &[u8],
-    k: u64,
-) -> Result<(), AllocError>
-    requires { machine.old ≡ start }
-{
-    let _rows = machine.slice(program, input, true, &[NOWHERE], k);
-    push_hex(alloc, output, machine.arena())
-}
-
-#[test]
-fn a_closed_record_adds_nothing_to_the_arena(rt: HostRuntime) -> Result<(), Fail> {
-    assert_told(&rt, SWAPPED, &INPUT, Asked::Arena(8), "3606666f6f")
-}
-
-/// Appends what is carried of a cut character after so many rows.
+/// Appends what a machine carries of a cut character after so many rows.
 pub(crate) fn push_carry(
     alloc: Global,
     output: &mut String,
@@ -58,83 +48,55 @@ pub(crate) fn push_carry(
     push_hex(alloc, output, machine.carry())
 }
 
-#[test]
-fn a_cut_character_is_carried(rt: HostRuntime) -> Result<(), Fail> {
-    let mut input = [b'a'; 67];
-    input[..2].copy_from_slice(&[0x82, 0x01]);
-    input[65..].copy_from_slice(&[0xc3, 0xa9]);
-    assert_told(&rt, "0 TEXT,1 HALT", &input, Asked::Carry(2), "c3")
-}
-
 /// Appends the place and the length of each segment of a buffer.
 fn push_segments(output: &mut String, machine: &Machine, at: BufferAt) -> Result<(), AllocError> {
     for number in 0..SEGMENTS {
         if let Some((place, len)) = machine.segment(at, number) {
-            write!(output, "({place}, {len})")?;
+            write!(output, "({place} {len})")?;
         }
     }
     Ok(())
 }
 
-/// The bytes of a buffer after a byte that was there before, or nothing where there is no such buffer.
-fn buffer_bytes(alloc: Global, machine: &Machine, at: BufferAt) -> Result<Vec<u8>, AllocError> {
-    let mut bytes = Vec::new(alloc);
-    if machine.has_buffer(at) {
-        bytes.push(0xff)?;
-        machine.push_buffer(at, &mut bytes)?;
+/// Appends the segments of a buffer, and its bytes after a byte that was there before, where there is such a buffer.
+fn push_buffer(
+    alloc: Global,
+    output: &mut String,
+    machine: &Machine,
+    at: BufferAt,
+) -> Result<(), AllocError> {
+    push_segments(output, machine, at)?;
+    if !machine.has_buffer(at) {
+        return output.push_str(" none");
     }
-    Ok(bytes)
+    output.push_str(" ")?;
+    let mut bytes = Vec::from_slice(alloc, &[0xff])?;
+    machine.push_buffer(at, &mut bytes)?;
+    push_hex(alloc, output, &bytes)
 }
 
-/// Appends the segments and the bytes of a buffer after so many rows, with nothing looked for ahead.
-pub(crate) fn push_buffer_after(
+/// Appends a buffer, or else the arena, after so many rows, with nothing looked for ahead.
+pub(crate) fn push_after(
     alloc: Global,
     output: &mut String,
     machine: &mut Machine,
     program: &Program,
     input: &[u8],
     k: u64,
-    at: BufferAt,
+    at: Option<BufferAt>,
 ) -> Result<(), AllocError>
     requires { machine.old ≡ start }
 {
     let _rows = machine.slice(program, input, true, &[NOWHERE], k);
-    push_segments(output, machine, at)?;
-    output.push_str(" ")?;
-    let bytes = buffer_bytes(alloc, machine, at)?;
-    push_hex(alloc, output, &bytes)
-}
-
-/// The payload of the record of a long and a string.
-const INPUT: [u8; 5] = [0x36, 0x06, 0x66, 0x6f, 0x6f];
-
-/// A block of two longs.
-const ITEMS: [u8; 4] = [0x04, 0x06, 0x08, 0x00];
-
-#[test]
-fn a_closed_record_has_its_slots_segments(rt: HostRuntime) -> Result<(), Fail> {
-    let asked = Asked::Buffer(8, BufferAt::Out);
-    assert_told(&rt, SWAPPED, &INPUT, asked, "(1, 4)(0, 1) ff06666f6f36")
+    match at {
+        Some(at) => push_buffer(alloc, output, machine, at),
+        None => push_hex(alloc, output, machine.arena()),
+    }
 }
 
 #[test]
-fn slots_are_read_by_number(rt: HostRuntime) -> Result<(), Fail> {
-    let first = Asked::Buffer(7, BufferAt::Slot { frame: 0, slot: 0 });
-    let second = Asked::Buffer(7, BufferAt::Slot { frame: 0, slot: 1 });
-    let third = Asked::Buffer(7, BufferAt::Slot { frame: 0, slot: 2 });
-    assert_told(&rt, SWAPPED, &INPUT, first, "(1, 4) ff06666f6f")?;
-    assert_told(&rt, SWAPPED, &INPUT, second, "(0, 1) ff36")?;
-    assert_told(&rt, SWAPPED, &INPUT, third, " ")
-}
-
-#[test]
-fn gathered_items_are_read(rt: HostRuntime) -> Result<(), Fail> {
-    let gathered = Asked::Buffer(3, BufferAt::Gathered { frame: 0 });
-    let slot = Asked::Buffer(3, BufferAt::Slot { frame: 0, slot: 0 });
-    let output = Asked::Buffer(3, BufferAt::Out);
-    assert_told(&rt, ARRAY, &ITEMS, gathered, "(0, 1) ff06")?;
-    assert_told(&rt, ARRAY, &ITEMS, slot, " ")?;
-    assert_told(&rt, ARRAY, &ITEMS, output, " ff")
+fn bytes_lie_where_they_were_read(rt: HostRuntime) -> Result<(), Fail> {
+    assert_questions(&rt, ROWS)
 }
 
 /// What a machine shows, and its arena.
@@ -186,7 +148,7 @@ fn takes_rows(
     machine: &mut Machine,
     program: &Program,
     input: &[u8],
-    k: usize,
+    k: u64,
 ) -> Result<bool, AllocError>
     requires under { IsUnder program.now machine.old }
     requires on { IsOn input.now machine.old }
@@ -206,7 +168,7 @@ pub(crate) fn push_steps(
     machine: &mut Machine,
     program: &Program,
     input: &[u8],
-    k: usize,
+    k: u64,
 ) -> Result<(), AllocError>
     requires { machine.old ≡ start }
 {
@@ -220,6 +182,5 @@ pub(crate) fn push_steps(
 
 #[test]
 fn rows_are_taken_one_by_one(rt: HostRuntime) -> Result<(), Fail> {
-    let want = "3606666f6f (1, 4)(0, 1)";
-    assert_told(&rt, SWAPPED, &INPUT, Asked::Steps(8), want)
+    assert_rows(&rt, "steps 8", "swapped|3606666f6f|3606666f6f (1 4)(0 1)")
 }

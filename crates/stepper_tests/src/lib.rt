@@ -12,7 +12,7 @@ mod programs;
 #[cfg(test)]
 mod row_tests;
 #[cfg(test)]
-mod same;
+mod rows;
 #[cfg(test)]
 mod show_tests;
 #[cfg(test)]

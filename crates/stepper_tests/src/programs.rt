@@ -3,6 +3,7 @@
 ghost use Rattle.std.specs.Prelude.{◌≡◌, ◌≤◌, length, take, IfOk};
 ghost use Rattle.stepper.specs.Running.{IsOn, IsUnder, start};
 
+use crate::rows::push_text;
 use assembler::{AsmError, assemble};
 use hex::FromHexError;
 use isa::{End, Program, Trap};
@@ -14,36 +15,19 @@ use stepper::{Machine, Why};
 /// More turns than any test takes.
 const TURNS: usize = 20_000;
 
-/// More rows than any test takes.
-pub(crate) const ALL: u64 = 1_000_000_000;
-
-/// Appends these lines, where a comma stands for each LF but the last.
-pub(crate) fn push_lines(text: &mut Vec<u8>, lines: &str) -> Result<(), AllocError> {
-    for byte in lines.as_bytes() {
-        text.push(if *byte == b',' { b'\n' } else { *byte })?;
-    }
-    text.push(b'\n')?;
-    Ok(())
-}
-
-/// The listing of these lines: the header, and then they.
-pub(crate) fn listing(alloc: Global, lines: &str) -> Result<Vec<u8>, AllocError> {
-    let mut text = Vec::from_slice(alloc, b"avro program 1\n")?;
-    push_lines(&mut text, lines)?;
-    Ok(text)
-}
-
 /// The program of these lines under the header. It is assembled again where memory ran out the first time.
 pub(crate) fn program(alloc: Global, lines: &str) -> Result<Program, AsmError> {
-    let text = listing(alloc, lines)?;
-    match assemble(alloc, text.as_slice()) {
-        Err(AsmError::NoMemory) => assemble(alloc, text.as_slice()),
+    let mut text = String::from_str(alloc, "avro program 1\n")?;
+    push_text(&mut text, lines)?;
+    text.push_str("\n")?;
+    match assemble(alloc, text.as_bytes()) {
+        Err(AsmError::NoMemory) => assemble(alloc, text.as_bytes()),
         answer => answer,
     }
 }
 
 /// A run on an input that comes in pieces, in slices of so many rows.
-fn run(machine: &mut Machine, program: &Program, input: &[u8], piece: usize, k: u64)
+pub(crate) fn run(machine: &mut Machine, program: &Program, input: &[u8], piece: usize, k: u64)
     requires { machine.old ≡ start }
 {
     let mut end = 0;
@@ -133,23 +117,9 @@ pub(crate) fn push_words(
     write!(output, " count {count}")
 }
 
-/// Appends what a run on an input answers that comes in pieces, in slices of so many rows.
-pub(crate) fn push_run(
-    alloc: Global,
-    output: &mut String,
-    machine: &mut Machine,
-    program: &Program,
-    input: &[u8],
-    piece: usize,
-    k: u64,
-) -> Result<(), AllocError>
-    requires { machine.old ≡ start }
-{
-    run(machine, program, input, piece, k);
-    push_words(alloc, output, machine)
-}
-
 /// The bytes of a row of hexadecimal digits.
-pub(crate) fn bytes(alloc: Global, hex: &str) -> Result<Vec<u8>, FromHexError> {
-    hex::decode(alloc, hex)
+pub(crate) fn input(alloc: Global, hex: &str) -> Result<Vec<u8>, FromHexError> {
+    let mut digits = String::new(alloc);
+    push_text(&mut digits, hex)?;
+    hex::decode(alloc, digits)
 }

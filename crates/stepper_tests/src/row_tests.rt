@@ -1,24 +1,22 @@
 //! Worked rows: what programs answer, and after how many rows. Each line of a table is a program, its input and the
 //! answer.
 
-use crate::asked::{Asked, told};
-use crate::programs::{ALL, bytes};
-use crate::same::holds;
-use std::alloc::Global;
-use std::process::Abort;
+use crate::rows::assert_rows;
 use std::test::Fail;
 
-const ROWS: &str =
-    "0 CALL 2,1 HALT,2 RECORD 2,3 SLOT 0,4 LONG,5 SLOT 1,6 TEXT,7 ENDREC,8 RET|3606666f6f|done 3606666f6f count 10
-0 CALL 2,1 HALT,2 RECORD 2,3 SLOT 1,4 LONG,5 SLOT 0,6 TEXT,7 ENDREC,8 RET|3606666f6f|done 06666f6f36 count 10
-const 0 0e,0 CALL 2,1 HALT,2 RECORD 2,3 SLONG,4 SLOT 0,5 TEXT,6 SLOT 1,7 PUT 0,8 ENDREC,9 RET|3606666f6f|done 06666f6f0e count 11
-0 CALL 2,1 HALT,2 RECORD 2,3 SLOT 0,4 LONG,5 SLOT 1,6 TEXT,7 ENDREC,8 RET||malformed Truncated at 0 count 4
-0 CALL 2,1 HALT,2 RECORD 2,3 SLOT 0,4 LONG,5 SLOT 1,6 TEXT,7 ENDREC,8 RET|360666|malformed Truncated at 3 count 7
-0 CALL 2,1 HALT,2 RECORD 2,3 SLOT 0,4 LONG,5 SLOT 1,6 TEXT,7 ENDREC,8 RET|3606666f6f00|malformed Trailing at 5 count 10
-const 0 00,const 1 02,jumps 0 7 9,0 CALL 2,1 HALT,2 RECORD 2,3 SLOT 0,4 LONG,5 SLOT 1,6 BRANCH 0,7 PUT 0,8 JUMP 11,9 PUT 1,10 CALL 2,11 ENDREC,12 RET|02020400|done 02020400 count 20
-0 BLOCKS,1 NEXT 4,2 LONG,3 JUMP 1,4 HALT|010206023600|done 04063600 count 9
-0 BLOCKS,1 NEXT 4,2 LONG,3 JUMP 1,4 HALT|01040600|malformed BadBlock at 0 count 5
-0 BLOCKS,1 NEXT 4,2 LONG,3 JUMP 1,4 HALT|00|done 00 count 3
+const ROWS: &str = "\
+record|3606666f6f|done 3606666f6f count 10
+swapped|3606666f6f|done 06666f6f36 count 10
+const 0 0e,0 CALL 2,1 HALT,2 RECORD 2,3 SLONG,4 SLOT 0,5 TEXT,6 SLOT 1,7 PUT 0,8 ENDREC,9 RET|3606666f6f|\
+done 06666f6f0e count 11
+record||malformed Truncated at 0 count 4
+record|360666|malformed Truncated at 3 count 7
+record|3606666f6f00|malformed Trailing at 5 count 10
+const 0 00,const 1 02,jumps 0 7 9,0 CALL 2,1 HALT,2 RECORD 2,3 SLOT 0,4 LONG,5 SLOT 1,6 BRANCH 0,\
+7 PUT 0,8 JUMP 11,9 PUT 1,10 CALL 2,11 ENDREC,12 RET|02020400|done 02020400 count 20
+array|010206023600|done 04063600 count 9
+array|01040600|malformed BadBlock at 0 count 5
+array|00|done 00 count 3
 const 0 61,0 BLOCKS,1 PUT 0,2 NEXT 3,3 HALT|00|done 00 count 4
 const 0 61,0 BLOCKS,1 PUT 0,2 NEXT 5,3 LONG,4 JUMP 2,5 HALT|020200|done 02610200 count 7
 const 0 61,0 PUT 0,1 BLOCKS,2 PUT 0,3 BLOCKS,4 PUT 0,5 NEXT 6,6 PUT 0,7 NEXT 8,8 PUT 0,9 HALT|0000|done 610061 count 10
@@ -32,7 +30,8 @@ jumps 0 1,0 BRANCH 0,1 HALT|02|malformed BadBranch at 0 count 1
 0 SBLOCKS,1 SNEXT 4,2 SBYTES,3 JUMP 1,4 HALT|0202ff00|done - count 7
 ";
 
-const TRAPS: &str = "0 ENDREC||trap NoFrame count 1
+const TRAPS: &str = "\
+0 ENDREC||trap NoFrame count 1
 0 LEAVE||trap NoFrame count 1
 0 NEXT 0||trap NoFrame count 1
 0 SNEXT 0||trap NoFrame count 1
@@ -48,59 +47,30 @@ const TRAPS: &str = "0 ENDREC||trap NoFrame count 1
 0 JUMP 1,1 ENTER,2 LEAVE||trap OffEnd count 4
 ";
 
-const LIMITS: &str = "0 ENTER,1 JUMP 0||malformed TooDeep at 0 count 2001
+const LIMITS: &str = "\
+0 ENTER,1 JUMP 0||malformed TooDeep at 0 count 2001
 0 BLOCKS,1 JUMP 0||malformed TooDeep at 0 count 2001
 0 RECORD 0,1 ENDREC,2 JUMP 0||malformed TooMany at 0 count 3145729
 ";
 
-/// What a run of this program on these bytes answers, in pieces and slices of so many.
-fn answer(alloc: Global, lines: &str, hex: &str, piece: usize, k: u64) -> Result<String, Fail> {
-    let input = bytes(alloc, hex)?;
-    told(alloc, lines, &input, Asked::End { piece, k })
-}
-
-/// Whether the program of this line answers so, in pieces and slices of so many.
-fn is_true(alloc: Global, line: &str, piece: usize, k: u64) -> Result<bool, Fail> {
-    let Some((lines, rest)) = line.split_once('|') else {
-        return Ok(false);
-    };
-    let Some((hex, want)) = rest.split_once('|') else {
-        return Ok(false);
-    };
-    Ok(answer(alloc, lines, hex, piece, k)?.as_str() == want)
-}
-
-/// The programs of these lines answer so, in pieces and slices of so many.
-fn assert_rows(
-    rt: &(impl Abort + AllocGlobal),
-    rows: &str,
-    piece: usize,
-    k: u64,
-) -> Result<(), Fail> {
-    for line in rows.lines() {
-        holds(rt, is_true(rt.alloc(), line, piece, k)?, line);
-    }
-    Ok(())
-}
-
 #[test]
 fn worked_rows_come_out(rt: HostRuntime) -> Result<(), Fail> {
-    assert_rows(&rt, ROWS, 1_000_000, ALL)?;
-    assert_rows(&rt, ROWS, 1, ALL)
+    assert_rows(&rt, "end 1000000 1000000000", ROWS)?;
+    assert_rows(&rt, "end 1 1000000000", ROWS)
 }
 
 #[test]
 fn slices_change_nothing(rt: HostRuntime) -> Result<(), Fail> {
-    assert_rows(&rt, ROWS, 1, 1)?;
-    assert_rows(&rt, ROWS, 3, 2)
+    assert_rows(&rt, "end 1 1", ROWS)?;
+    assert_rows(&rt, "end 3 2", ROWS)
 }
 
 #[test]
 fn traps_are_told(rt: HostRuntime) -> Result<(), Fail> {
-    assert_rows(&rt, TRAPS, 1, ALL)
+    assert_rows(&rt, "end 1 1000000000", TRAPS)
 }
 
 #[test]
 fn depth_and_units_have_limits(rt: HostRuntime) -> Result<(), Fail> {
-    assert_rows(&rt, LIMITS, 1, ALL)
+    assert_rows(&rt, "end 1 1000000000", LIMITS)
 }

@@ -2,18 +2,21 @@
 
 ghost use Rattle.stepper.specs.Running.{IsOn, IsUnder};
 
-use crate::asked::{Asked, assert_told};
 use crate::programs::push_words;
+use crate::rows::assert_questions;
 use isa::Program;
 use std::alloc::{AllocError, Global};
 use std::fmt::Write;
 use std::test::Fail;
 use stepper::{Machine, Why};
 
-const SAME: &str = "0 CALL 2,1 HALT,2 RECORD 2,3 SLOT 0,4 LONG,5 SLOT 1,6 TEXT,7 ENDREC,8 RET";
-
-/// The payload of the record of a long and a string.
-const INPUT: [u8; 5] = [0x36, 0x06, 0x66, 0x6f, 0x6f];
+/// After six rows a content is begun: the breakpoint at its instruction does not stop it. A slice waits for bytes, and
+/// a machine that is reset takes its message again.
+const ROWS: &str = "\
+turns|record|3606666f6f|4 broke,0 broke,2 spent,4 ended,0 ended,done 3606666f6f count 10
+waiting|record||3 waits,running count 3
+messages|record|3606666f6f|10 ended taken,10 ended taken,10 ended taken,
+";
 
 /// What is asked of a slice.
 #[derive(Clone, Copy)]
@@ -21,6 +24,35 @@ pub(crate) struct Turn {
     breaks: &'static [u32],
     rows: u64,
 }
+
+/// Breakpoints and rows of slices one after another.
+pub(crate) const TURNS: [Turn; 5] = [
+    Turn {
+        breaks: &[5],
+        rows: 100,
+    },
+    Turn {
+        breaks: &[5],
+        rows: 100,
+    },
+    Turn {
+        breaks: &[],
+        rows: 2,
+    },
+    Turn {
+        breaks: &[6],
+        rows: 100,
+    },
+    Turn {
+        breaks: &[],
+        rows: 100,
+    },
+];
+
+pub(crate) const WAITING: [Turn; 1] = [Turn {
+    breaks: &[],
+    rows: 100,
+}];
 
 fn why_name(why: Why) -> &'static str {
     match why {
@@ -66,55 +98,9 @@ pub(crate) fn push_turns(
 {
     'each: for turn in turns {
         push_slice(output, machine, program, input, ended, turn)?;
-        output.push_str(", ")?;
+        output.push_str("\n")?;
     }
     push_words(alloc, output, machine)
-}
-
-#[test]
-fn slices_say_why_they_stop(rt: HostRuntime) -> Result<(), Fail> {
-    // After six rows a content is begun: the breakpoint at its instruction does not stop it.
-    let turns = [
-        Turn {
-            breaks: &[5],
-            rows: 100,
-        },
-        Turn {
-            breaks: &[5],
-            rows: 100,
-        },
-        Turn {
-            breaks: &[],
-            rows: 2,
-        },
-        Turn {
-            breaks: &[6],
-            rows: 100,
-        },
-        Turn {
-            breaks: &[],
-            rows: 100,
-        },
-    ];
-    let asked = Asked::Slices {
-        turns: &turns,
-        ended: true,
-    };
-    let want = "4 broke, 0 broke, 2 spent, 4 ended, 0 ended, done 3606666f6f count 10";
-    assert_told(&rt, SAME, &INPUT, asked, want)
-}
-
-#[test]
-fn slices_wait_for_bytes(rt: HostRuntime) -> Result<(), Fail> {
-    let turns = [Turn {
-        breaks: &[],
-        rows: 100,
-    }];
-    let asked = Asked::Slices {
-        turns: &turns,
-        ended: false,
-    };
-    assert_told(&rt, SAME, &[], asked, "3 waits, running count 3")
 }
 
 /// Appends what a machine takes of each of three messages, reset before it.
@@ -132,16 +118,15 @@ pub(crate) fn push_messages(
         machine.reset();
         push_slice(output, machine, program, input, true, &turn)?;
         output.push_str(if machine.take_end().is_some() {
-            " taken, "
+            " taken\n"
         } else {
-            " lost, "
+            " lost\n"
         })?;
     }
     Ok(())
 }
 
 #[test]
-fn a_machine_is_reset(rt: HostRuntime) -> Result<(), Fail> {
-    let want = "10 ended taken, 10 ended taken, 10 ended taken, ";
-    assert_told(&rt, SAME, &INPUT, Asked::Messages, want)
+fn slices_say_why_they_stop(rt: HostRuntime) -> Result<(), Fail> {
+    assert_questions(&rt, ROWS)
 }
