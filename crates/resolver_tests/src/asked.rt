@@ -36,15 +36,22 @@ pub(crate) enum Asked {
     Order,
 }
 
-/// Appends a piece so many times, each time with its number where a `#` stands for it.
+/// Appends a piece with a number in place of each `#`.
+fn push_numbered(text: &mut String, piece: &str, number: u32) -> Result<(), AllocError> {
+    for (place, part) in piece.split('#').enumerate() {
+        if place > 0 {
+            write!(text, "{number}")?;
+        }
+        text.push_str(part)?;
+    }
+    Ok(())
+}
+
+/// Appends a piece so many times, each time with its number.
 fn push_repeated(text: &mut String, row: &str) -> Result<(), AllocError> {
     let (times, piece) = row.split_once(' ').unwrap_or(("", row));
-    let numbered = piece.split_once('#');
     for number in 0..times.parse::<u32>().unwrap_or(0) {
-        match numbered {
-            Some((before, after)) => write!(text, "{before}{number}{after}")?,
-            None => text.push_str(piece)?,
-        }
+        push_numbered(text, piece, number)?;
     }
     Ok(())
 }

@@ -1,5 +1,5 @@
 //! Worked rows, parted by empty lines: schemas, a line each, a payload in hexadecimal, or `-`, and what is answered.
-//! What stands between tildes is told so many times, each time with its number where there is a `#`.
+//! What stands between tildes is told so many times, each time with its number in place of each `#`.
 
 /// A schema, a payload, and what its datum is written as, or the first fault.
 pub(crate) const DATA: &str =
