@@ -98,11 +98,9 @@ ask_again() {
   done
   echo "$(basename "$tests"): $runs allocations refused in turn"
 }
-ask_again resolver_tests bytes_tests::{a_text_is_read_and_skipped,bytes_after_their_length,a_fixed_is_so_many_bytes}
-ask_again avro_schema_tests schema_tests::{reads_primitives,reads_a_record,keeps_the_last_of_a_repeated_key,tells_the_first_fault}
-ask_again avro_schema_tests schema_tests::{numbers_nodes_in_order_of_appearance,names_stand_in_their_namespaces,reads_defaults_by_type,refuses_defaults_of_other_types}
-ask_again avro_schema_tests schema_tests::{a_name_is_one_however_it_is_told,names_of_other_namespaces_are_others}
-ask_again resolver_tests data_tests::payloads_are_read_and_written outcome_tests::{outcomes_of_pairs,readers_that_are_safe} resolving_tests::{fields_go_by_name,a_lacking_default_and_another_type_are_mismatches}
+ask_again resolver_tests bytes_tests::forms_are_read_and_skipped
+ask_again avro_schema_tests schema_tests::{reads_texts,tells_the_first_fault,numbers_nodes_and_reads_their_parts}
+ask_again resolver_tests pair_tests::{payloads_are_read_and_written,outcomes_of_pairs,what_readers_make_of_data}
 ask_again session_core_tests registry::command_tests::{answers_each_question,levels_compare_what_they_name,refuses_in_order,maps_grow,a_growth_without_memory_changes_nothing}
 ask_again session_core_tests pair_row_tests::{one_cell_holds_one_pair,each_pair_has_its_own_cell}
 ask_again isa_tests program_tests::{keeps_lists_and_shares_them,a_program_shows_its_parts}

@@ -1,12 +1,10 @@
 //! Calls that are made again where memory ran out the first time.
 
-use crate::same::same;
+use crate::lines::in_order;
 use avro_datum::{PayloadError, WriteError, read_all, write};
 use avro_schema::{Datum, Nodes, Schema, SchemaError};
-use resolver::{Outcome, TranscodeError, can_read, transcode_tree};
+use resolver::{Outcome, ResolveError, TranscodeError, can_read, resolve, transcode_tree};
 use std::alloc::{AllocError, Global};
-use std::process::Abort;
-use std::test::Fail;
 
 /// A schema, parsed again where memory ran out the first time.
 pub(crate) fn parsed(alloc: Global, text: &str) -> Result<Schema, SchemaError> {
@@ -28,20 +26,18 @@ pub(crate) fn read_again(
     }
 }
 
-/// A datum after a byte that was there, written again where memory ran out the first time.
-pub(crate) fn written(rt: &(impl Abort + AllocGlobal), datum: &Datum) -> Result<Vec<u8>, Fail> {
-    let mut out = vec![in rt.alloc(); 9u8]?;
-    if write(datum, &mut out) == Err(WriteError::NoMemory) {
-        same(rt, out.as_slice(), [9].as_slice());
-        write(datum, &mut out)?;
+/// Appends a datum, again where memory ran out the first time.
+pub(crate) fn written(datum: &Datum, out: &mut Vec<u8>) -> Result<(), WriteError> {
+    match write(datum, out) {
+        Err(WriteError::NoMemory) => write(datum, out),
+        answer => answer,
     }
-    Ok(out)
 }
 
 /// Whether a reader is safe with a writer, asked again where memory ran out the first time.
-pub(crate) fn readable(alloc: Global, w: &Schema, r: &Schema) -> Result<bool, AllocError> {
-    match can_read(alloc, w.nodes(), r.nodes()) {
-        Err(AllocError) => can_read(alloc, w.nodes(), r.nodes()),
+pub(crate) fn readable(alloc: Global, w: &Nodes, r: &Nodes) -> Result<bool, AllocError> {
+    match can_read(alloc, w, r) {
+        Err(AllocError) => can_read(alloc, w, r),
         answer => answer,
     }
 }
@@ -49,12 +45,47 @@ pub(crate) fn readable(alloc: Global, w: &Schema, r: &Schema) -> Result<bool, Al
 /// An outcome, asked again where memory ran out the first time.
 pub(crate) fn outcome(
     alloc: Global,
-    w: &Schema,
-    r: &Schema,
+    w: &Nodes,
+    r: &Nodes,
     payload: &[u8],
 ) -> Result<Outcome, TranscodeError> {
-    match transcode_tree(alloc, w.nodes(), r.nodes(), payload) {
-        Err(TranscodeError::NoMemory) => transcode_tree(alloc, w.nodes(), r.nodes(), payload),
+    match transcode_tree(alloc, w, r, payload) {
+        Err(TranscodeError::NoMemory) => transcode_tree(alloc, w, r, payload),
+        answer => answer,
+    }
+}
+
+/// What a reader makes of a payload's datum, or of none where that is not read.
+fn resolved_once(
+    alloc: Global,
+    w: &Nodes,
+    r: &Nodes,
+    payload: &[u8],
+) -> Result<Datum, ResolveError> {
+    match read_again(alloc, w, payload) {
+        Ok(datum) => resolve(alloc, w, r, datum),
+        Err(_) => resolve(alloc, w, r, Datum::Null),
+    }
+}
+
+/// The same, asked again where memory ran out the first time.
+pub(crate) fn resolved(
+    alloc: Global,
+    w: &Nodes,
+    r: &Nodes,
+    payload: &[u8],
+) -> Result<Datum, ResolveError> {
+    match resolved_once(alloc, w, r, payload) {
+        Err(ResolveError::NoMemory) => resolved_once(alloc, w, r, payload),
+        answer => answer,
+    }
+}
+
+/// Whether all of a writer's fields go to the reader's of the same positions, asked again where memory ran out the
+/// first time.
+pub(crate) fn ordered(alloc: Global, w: &Nodes, r: &Nodes) -> Result<bool, AllocError> {
+    match in_order(alloc, w, r) {
+        Err(AllocError) => in_order(alloc, w, r),
         answer => answer,
     }
 }

@@ -1,476 +1,279 @@
 //! Worked spellings of the Avro 1.11 Specification ("Binary Encoding"), and each fault from outside data.
 
-ghost use Rattle.std.specs.Prelude.{◌≡◌};
+ghost use Rattle.std.specs.Prelude.{◌≤◌, length};
 
-use crate::same::same;
+use crate::asked::assert_rows;
+use crate::lines::{bytes_of, debug_line, words_line};
 use avro_bytes::{
-    Blob, BlockWalk, Bool, Fault, FixedBytes, Int, Long, MOST_CONTENT, MOST_DEPTH, MOST_UNITS,
-    MalformedKind, Meter, Position, Text, WireForm, long_len, put_long, read_and_skip,
-    read_boolean, read_int, read_length, read_long, read_position,
+    Blob, BlockWalk, Bool, Fault, FixedBytes, Int, Long, MalformedKind, Meter, Position, Text,
+    WireForm, long_len, put_long, read_and_skip, read_boolean, read_int, read_length, read_long,
+    read_position,
 };
-use std::alloc::AllocError;
-use std::process::Abort;
-use std::test::Fail;
+use std::alloc::{AllocError, Global};
+use std::fmt::Debug;
 
-const START: Meter = Meter { depth: 0, units: 0 };
+/// Numbers, how many bytes they are told to take, and the bytes that they are put as.
+const PUT: &str = "put 0 -> 1 00
+put -1 -> 1 01
+put 1 -> 1 02
+put -2 -> 1 03
+put 2 -> 1 04
+put -64 -> 1 7f
+put 64 -> 2 8001
+put 27 -> 1 36
+put 9223372036854775807 -> 10 feffffffffffffffff01
+put -9223372036854775808 -> 10 ffffffffffffffffff01";
 
-fn malformed(kind: MalformedKind, at: usize) -> Fault {
-    Fault::Malformed { kind, at }
-}
+/// A form that is read and skipped, or a call that reads, where it begins, how many units are before it, and the bytes.
+/// Then the value, the place after it and the meter there, or the first fault.
+const NUMBERS: &str = "long 0 0 00 -> Ok((0, 1, Meter { depth: 0, units: 0 }))
+long 0 0 01 -> Ok((-1, 1, Meter { depth: 0, units: 0 }))
+long 0 0 02 -> Ok((1, 1, Meter { depth: 0, units: 0 }))
+long 0 0 03 -> Ok((-2, 1, Meter { depth: 0, units: 0 }))
+long 0 0 04 -> Ok((2, 1, Meter { depth: 0, units: 0 }))
+long 0 0 7f -> Ok((-64, 1, Meter { depth: 0, units: 0 }))
+long 0 0 8001 -> Ok((64, 2, Meter { depth: 0, units: 0 }))
+long 0 0 36 -> Ok((27, 1, Meter { depth: 0, units: 0 }))
+long 0 0 feffffffffffffffff01 -> Ok((9223372036854775807, 10, Meter { depth: 0, units: 0 }))
+long 0 0 ffffffffffffffffff01 -> Ok((-9223372036854775808, 10, Meter { depth: 0, units: 0 }))
+int 0 0 8000 -> Ok((0, 2, Meter { depth: 0, units: 0 }))
+int 0 0 ffffffff0f -> Ok((-2147483648, 5, Meter { depth: 0, units: 0 }))
+int 0 0 828000 -> Ok((1, 3, Meter { depth: 0, units: 0 }))
+read_int 1 0 ff8100 -> Ok((-1, 3, Meter { depth: 0, units: 0 }))
+long 1 0 ff36 -> Ok((27, 2, Meter { depth: 0, units: 0 }))
+read_long 1 0 ff36 -> Ok((27, 2, Meter { depth: 0, units: 0 }))
+int 0 0 ffffffff1f -> Err(Malformed { kind: BadNumber, at: 0 })
+long 0 0 ffffffffffffffffff02 -> Err(Malformed { kind: BadNumber, at: 0 })
+int 0 0 80808080 -> Err(Need)
+long 0 0 - -> Err(Need)
+long 0 0 80 -> Err(Need)
+read_length 1 0 ff04 -> Ok((2, 2, Meter { depth: 0, units: 0 }))
+read_length 1 0 ff01 -> Err(Malformed { kind: BadLength, at: 1 })
+read_length 0 0 80 -> Err(Need)
+branch_of_2 0 0 02 -> Ok((1, 1, Meter { depth: 0, units: 0 }))
+branch_of_2 0 0 04 -> Err(Malformed { kind: BadBranch, at: 0 })
+branch_of_2 0 0 01 -> Err(Malformed { kind: BadBranch, at: 0 })
+read_symbol_of_1 0 0 02 -> Err(Malformed { kind: BadEnum, at: 0 })
+read_boolean 0 0 01 -> Ok((true, 1, Meter { depth: 0, units: 0 }))
+boolean 0 0 00 -> Ok((false, 1, Meter { depth: 0, units: 0 }))
+boolean 0 0 01 -> Ok((true, 1, Meter { depth: 0, units: 0 }))
+boolean 0 0 02 -> Err(Malformed { kind: BadBoolean, at: 0 })
+boolean 0 0 8000 -> Err(Malformed { kind: BadBoolean, at: 0 })
+boolean 0 0 - -> Err(Need)";
 
-/// Whether a number is spelled by these bytes.
-fn assert_spelled(rt: &(impl Abort + AllocGlobal), n: i64, bytes: &[u8]) -> Result<(), AllocError> {
-    let mut out = Vec::new(rt.alloc());
-    put_long(&mut out, n)?;
-    assert_eq!(rt; out.as_slice(), bytes, "{n}");
-    Ok(())
-}
+/// The same of texts, whose lengths are at most 16,777,216, of bytes and of fixed ones.
+const CONTENTS: &str = r#"text 0 0 06666f6f00 -> Ok(("foo", 4, Meter { depth: 0, units: 0 }))
+text 0 0 02ff -> Err(Malformed { kind: BadText, at: 1 })
+text 0 0 04c328 -> Err(Malformed { kind: BadText, at: 1 })
+text 0 0 04ff -> Err(Need)
+text 0 0 01 -> Err(Malformed { kind: BadLength, at: 0 })
+text 0 0 82808010 -> Err(Malformed { kind: BadLength, at: 0 })
+text 0 0 80 -> Err(Need)
+text 0 0 - -> Err(Need)
+bytes 0 0 04010200 -> Ok(([1, 2], 3, Meter { depth: 0, units: 0 }))
+bytes 0 0 02ff -> Ok(([255], 2, Meter { depth: 0, units: 0 }))
+bytes 0 0 040102 -> Ok(([1, 2], 3, Meter { depth: 0, units: 0 }))
+bytes 0 0 00 -> Ok(([], 1, Meter { depth: 0, units: 0 }))
+bytes 0 0 0401 -> Err(Need)
+bytes 0 0 01 -> Err(Malformed { kind: BadLength, at: 0 })
+bytes 0 0 - -> Err(Need)
+fixed_of_3 0 0 01020304 -> Ok(([1, 2, 3], 3, Meter { depth: 0, units: 0 }))
+fixed_of_3 0 0 010203 -> Ok(([1, 2, 3], 3, Meter { depth: 0, units: 0 }))
+fixed_of_3 0 0 0102 -> Err(Need)"#;
 
-/// Whether bytes are read as a number, which needs as many.
-fn assert_number(rt: &impl Abort, n: i64, bytes: &[u8]) {
-    same(rt, long_len(n), bytes.len());
-    let (read, skip) = read_and_skip(&Long, bytes, 0, START);
-    same(rt, read, Ok((n, bytes.len(), START)));
-    same(rt, skip, Ok((bytes.len(), START)));
-}
+/// What is entered, where, and after how many units and levels, of which there are 1,048,576 and 1,000. Then the meter
+/// inside it, or what is too deep or too many.
+const METERS: &str = "record 5 0 0 -> Ok(Meter { depth: 1, units: 1 })
+record 5 1048576 1000 -> Err(Malformed { kind: TooDeep, at: 5 })
+record 5 1048576 0 -> Err(Malformed { kind: TooMany, at: 5 })
+blocks 5 1048575 999 -> Ok(Meter { depth: 1000, units: 1048575 })
+item 5 1048575 999 -> Ok(Meter { depth: 999, units: 1048576 })
+blocks 5 1048575 1000 -> Err(Malformed { kind: TooDeep, at: 5 })
+item 5 1048576 999 -> Err(Malformed { kind: TooMany, at: 5 })
+blocks 5 0 0 -> Ok(Meter { depth: 1, units: 0 })
+item 5 0 0 -> Ok(Meter { depth: 0, units: 1 })
+begin 5 0 1000 -> malformed TooDeep at 5";
 
-#[test]
-fn numbers_of_the_specification(rt: HostRuntime) -> Result<(), AllocError> {
-    let table: [(i64, &[u8]); 10] = [
-        (0, &[0x00]),
-        (-1, &[0x01]),
-        (1, &[0x02]),
-        (-2, &[0x03]),
-        (2, &[0x04]),
-        (-64, &[0x7f]),
-        (64, &[0x80, 0x01]),
-        (27, &[0x36]),
-        (
-            i64::MAX,
-            &[0xfe, 0xff, 0xff, 0xff, 0xff, 0xff, 0xff, 0xff, 0xff, 0x01],
-        ),
-        (
-            i64::MIN,
-            &[0xff, 0xff, 0xff, 0xff, 0xff, 0xff, 0xff, 0xff, 0xff, 0x01],
-        ),
-    ];
-    for (n, bytes) in table {
-        assert_spelled(&rt, n, bytes)?;
-        assert_number(&rt, n, bytes);
+/// Walks over blocks: where each begins, after how many units and levels, and where it goes on, inside one level and
+/// after so many units, and the bytes. Then the next item or the end and the meter there, or the first fault. A walk
+/// that tells its parts goes on from them.
+const WALKS: &str = "begin 0 0 0 -> Meter { depth: 1, units: 0 }
+next 0 0 023600 -> Ok((true, 1, Meter { depth: 1, units: 1 }))
+next 2 1 023600 -> Ok((false, 3, Meter { depth: 0, units: 1 }))
+begin 0 0 0 -> Meter { depth: 1, units: 0 }
+next 0 0 01023600 -> Ok((true, 2, Meter { depth: 1, units: 1 }))
+next 3 1 01023600 -> Ok((false, 4, Meter { depth: 0, units: 1 }))
+begin 0 0 0 -> Meter { depth: 1, units: 0 }
+next 0 0 00 -> Ok((false, 1, Meter { depth: 0, units: 0 }))
+begin 0 0 0 -> Meter { depth: 1, units: 0 }
+next 0 0 0304363600 -> Ok((true, 2, Meter { depth: 1, units: 1 }))
+parts -> (1, 0, 2, Some(2))
+next 3 1 0304363600 -> Ok((true, 3, Meter { depth: 1, units: 2 }))
+next 4 2 0304363600 -> Ok((false, 5, Meter { depth: 0, units: 2 }))
+begin 0 0 0 -> Meter { depth: 1, units: 0 }
+next 0 0 0436360304363600 -> Ok((true, 1, Meter { depth: 1, units: 1 }))
+next 2 1 0436360304363600 -> Ok((true, 2, Meter { depth: 1, units: 2 }))
+next 3 2 0436360304363600 -> Ok((true, 5, Meter { depth: 1, units: 3 }))
+next 6 3 0436360304363600 -> Ok((true, 6, Meter { depth: 1, units: 4 }))
+next 7 4 0436360304363600 -> Ok((false, 8, Meter { depth: 0, units: 4 }))
+begin 0 0 0 -> Meter { depth: 1, units: 0 }
+next 0 0 01043600 -> Ok((true, 2, Meter { depth: 1, units: 1 }))
+next 3 1 01043600 -> Err(Malformed { kind: BadBlock, at: 0 })
+next 3 1 01043600 -> Err(Malformed { kind: BadBlock, at: 0 })
+begin 0 0 0 -> Meter { depth: 1, units: 0 }
+next 0 0 0180 -> Err(Need)
+next 0 0 - -> Err(Need)
+next 0 1048576 0236 -> Err(Malformed { kind: TooMany, at: 1 })";
+
+/// What is read of a form, again where memory ran out the first time, and skipped, in words.
+pub(crate) fn both<F: WireForm>(
+    alloc: Global,
+    form: &F,
+    bytes: &[u8],
+    at: usize,
+    m: Meter,
+) -> Result<String, AllocError>
+where
+    F::Value: Debug + Drop,
+    requires { at ≤ length bytes.now }
+{
+    let (mut read, skip) = read_and_skip(form, bytes, at, m);
+    if matches!(&read, Err(Fault::NoMemory)) {
+        read = form.read(bytes, at, m);
     }
-    Ok(())
+    let as_read = match &read {
+        Ok((_, to, after)) => Ok((*to, *after)),
+        Err(fault) => Err(*fault),
+    };
+    if skip != as_read {
+        return format!(in alloc; "skipped as {skip:?}");
+    }
+    debug_line(alloc, read)
 }
 
-#[test]
-fn longer_spellings_are_numbers_too(rt: HostRuntime) {
-    same(&rt, Int.read(&[0x80, 0x00], 0, START), Ok((0, 2, START)));
-    same(
-        &rt,
-        Int.read(&[0xff, 0xff, 0xff, 0xff, 0x0f], 0, START),
-        Ok((i32::MIN, 5, START)),
-    );
-    same(&rt, Int.skip(&[0x82, 0x80, 0x00], 0, START), Ok((3, START)));
-    same(
-        &rt,
-        read_int(&[0xff, 0x81, 0x00], 1, START),
-        Ok((-1, 3, START)),
-    );
-    same(&rt, Long.read(&[0xff, 0x36], 1, START), Ok((27, 2, START)));
-}
-
-#[test]
-fn numbers_too_long_or_too_great(rt: HostRuntime) {
-    let bad = malformed(MalformedKind::BadNumber, 0);
-    let int = [0xff, 0xff, 0xff, 0xff, 0x1f];
-    same(&rt, Int.read(&int, 0, START), Err(bad));
-    same(&rt, Int.skip(&int, 0, START), Err(bad));
-    let long = [0xff, 0xff, 0xff, 0xff, 0xff, 0xff, 0xff, 0xff, 0xff, 0x02];
-    same(&rt, Long.read(&long, 0, START), Err(bad));
-    same(&rt, Long.skip(&long, 0, START), Err(bad));
-}
-
-#[test]
-fn numbers_cut_short(rt: HostRuntime) {
-    same(
-        &rt,
-        Int.read(&[0x80, 0x80, 0x80, 0x80], 0, START),
-        Err(Fault::Need),
-    );
-    same(&rt, Long.read(&[], 0, START), Err(Fault::Need));
-    same(&rt, Long.skip(&[0x80], 0, START), Err(Fault::Need));
-}
-
-/// Whether lengths are read, and none is less than 0.
-fn assert_lengths(rt: &impl Abort) {
-    let length = malformed(MalformedKind::BadLength, 1);
-    same(rt, read_length(&[0xff, 0x04], 1, START), Ok((2, 2, START)));
-    same(rt, read_length(&[0xff, 0x01], 1, START), Err(length));
-    same(rt, read_length(&[0x80], 0, START), Err(Fault::Need));
-}
-
-/// Whether positions are read and skipped, and none passes the last one.
-fn assert_positions(rt: &impl Abort) {
-    let branch = malformed(MalformedKind::BadBranch, 0);
-    let position = Position {
+/// What a form or a call reads, in words.
+fn read_line(
+    alloc: Global,
+    form: &str,
+    bytes: &[u8],
+    at: usize,
+    m: Meter,
+) -> Result<String, AllocError>
+    requires { at ≤ length bytes.now }
+{
+    let branch = Position {
         bad: MalformedKind::BadBranch,
         many: 2,
     };
-    same(rt, position.read(&[0x02], 0, START), Ok((1, 1, START)));
-    same(rt, position.skip(&[0x02], 0, START), Ok((1, START)));
-    same(rt, position.read(&[0x04], 0, START), Err(branch));
-    same(rt, position.skip(&[0x01], 0, START), Err(branch));
+    match form {
+        "int" => both(alloc, &Int, bytes, at, m),
+        "long" => both(alloc, &Long, bytes, at, m),
+        "branch_of_2" => both(alloc, &branch, bytes, at, m),
+        "boolean" => both(alloc, &Bool, bytes, at, m),
+        "text" => both(alloc, &Text { alloc }, bytes, at, m),
+        "bytes" => both(alloc, &Blob { alloc }, bytes, at, m),
+        "fixed_of_3" => both(alloc, &FixedBytes { alloc, size: 3 }, bytes, at, m),
+        "read_int" => debug_line(alloc, read_int(bytes, at, m)),
+        "read_long" => debug_line(alloc, read_long(bytes, at, m)),
+        "read_length" => debug_line(alloc, read_length(bytes, at, m)),
+        "read_symbol_of_1" => debug_line(
+            alloc,
+            read_position(MalformedKind::BadEnum, 1, bytes, at, m),
+        ),
+        "read_boolean" => debug_line(alloc, read_boolean(bytes, at, m)),
+        _ => words_line(alloc, "no such form"),
+    }
 }
 
-#[test]
-fn lengths_and_positions(rt: HostRuntime) {
-    assert_lengths(&rt);
-    assert_positions(&rt);
-    let symbol = read_position(MalformedKind::BadEnum, 1, &[0x02], 0, START);
-    same(&rt, symbol, Err(malformed(MalformedKind::BadEnum, 0)));
-    same(&rt, read_long(&[0xff, 0x36], 1, START), Ok((27, 2, START)));
-    same(&rt, read_boolean(&[0x01], 0, START), Ok((true, 1, START)));
+/// What a number is put as, and how many bytes it is told to take.
+fn put_line(alloc: Global, n: i64) -> Result<String, AllocError> {
+    let mut out = Vec::new(alloc);
+    put_long(&mut out, n)?;
+    let digits = hex::encode(alloc, &out)?;
+    format!(in alloc; "{} {digits}", long_len(n))
 }
 
-/// Whether bytes are read and skipped as this boolean or fault.
-fn assert_boolean(rt: &impl Abort, bytes: &[u8], answer: Result<bool, Fault>) {
-    let (read, skip) = read_and_skip(&Bool, bytes, 0, START);
-    same(rt, read, answer.map(|value| (value, 1, START)));
-    same(rt, skip, answer.map(|_| (1, START)));
+/// The meter inside the blocks over which a walk begins, or the fault in words.
+fn begun_line(
+    alloc: Global,
+    walk: &mut BlockWalk,
+    at: usize,
+    m: Meter,
+) -> Result<String, AllocError> {
+    match BlockWalk::begin(at, m) {
+        Ok((new, inside)) => {
+            *walk = new;
+            debug_line(alloc, inside)
+        }
+        Err(fault) => format!(in alloc; "{fault}"),
+    }
 }
 
-#[test]
-fn a_boolean_is_one_byte(rt: HostRuntime) {
-    assert_boolean(&rt, &[0x00], Ok(false));
-    assert_boolean(&rt, &[0x01], Ok(true));
-    let bad = malformed(MalformedKind::BadBoolean, 0);
-    assert_boolean(&rt, &[0x02], Err(bad));
-    assert_boolean(&rt, &[0x80, 0x00], Err(bad));
-    assert_boolean(&rt, &[], Err(Fault::Need));
+/// The parts of a walk: how many items are left, where the count and the items stand, and the size. The walk goes on
+/// from them.
+fn parts(walk: &mut BlockWalk) -> (u64, usize, usize, Option<i64>) {
+    let (left, count_at) = (walk.left(), walk.count_at());
+    let (items_at, size) = (walk.items_at(), walk.size());
+    *walk = BlockWalk::walk_of(left, count_at, items_at, size);
+    (left, count_at, items_at, size)
 }
 
-/// What a text answers, read again where memory ran out the first time.
-fn read_text(rt: &impl AllocGlobal, bytes: &[u8]) -> Result<(String, usize, Meter), Fault> {
-    let form = Text { alloc: rt.alloc() };
-    match form.read(bytes, 0, START) {
-        Err(Fault::NoMemory) => form.read(bytes, 0, START),
-        answer => answer,
+/// A number of a row.
+fn number(word: &str) -> u32 {
+    word.parse::<u32>().unwrap_or(u32::MAX)
+}
+
+/// What is read at a place of bytes, or where a walk goes on, after so many units, in words.
+fn bytes_line(
+    alloc: Global,
+    walk: &mut BlockWalk,
+    call: &str,
+    at: usize,
+    units: u32,
+    digits: &str,
+) -> Result<String, AllocError> {
+    let bytes = bytes_of(alloc, digits)?;
+    let at = at.min(bytes.len());
+    match call {
+        "next" => debug_line(alloc, walk.next(&bytes, at, Meter { depth: 1, units })),
+        _ => read_line(alloc, call, &bytes, at, Meter { depth: 0, units }),
+    }
+}
+
+/// What the call of a row answers, in words.
+pub(crate) fn call_line(
+    alloc: Global,
+    walk: &mut BlockWalk,
+    row: &str,
+) -> Result<String, AllocError> {
+    let (call, rest) = row.split_once(' ').unwrap_or((row, ""));
+    let (first, rest) = rest.split_once(' ').unwrap_or((rest, ""));
+    let (units, last) = rest.split_once(' ').unwrap_or((rest, ""));
+    let (at, units) = (number(first) as usize, number(units));
+    let m = Meter {
+        depth: number(last),
+        units,
+    };
+    match call {
+        "put" => put_line(alloc, first.parse::<i64>().unwrap_or(0)),
+        "record" => debug_line(alloc, m.enter_record(at)),
+        "item" => debug_line(alloc, m.enter_item(at)),
+        "blocks" => debug_line(alloc, m.enter_blocks(at)),
+        "begin" => begun_line(alloc, walk, at, m),
+        "parts" => debug_line(alloc, parts(walk)),
+        _ => bytes_line(alloc, walk, call, at, units, last),
     }
 }
 
 #[test]
-fn a_text_is_read_and_skipped(rt: HostRuntime) -> Result<(), Fail> {
-    let (text, to, after) = read_text(&rt, &[0x06, 0x66, 0x6f, 0x6f, 0x00])?;
-    assert_eq!(rt; text.as_str(), "foo");
-    same(&rt, (to, after), (4, START));
-    let form = Text { alloc: rt.alloc() };
-    same(
-        &rt,
-        form.skip(&[0x06, 0x66, 0x6f, 0x6f, 0x00], 0, START),
-        Ok((4, START)),
-    );
-    Ok(())
-}
-
-/// Whether a text has this fault, where it is skipped and where it is read.
-fn assert_no_text(rt: &(impl Abort + AllocGlobal), bytes: &[u8], fault: Fault) {
-    let form = Text { alloc: rt.alloc() };
-    same(rt, form.skip(bytes, 0, START), Err(fault));
-    same(rt, read_text(rt, bytes).err(), Some(fault));
+fn forms_are_read_and_skipped(rt: HostRuntime) -> Result<(), AllocError> {
+    assert_rows(&rt, None, PUT)?;
+    assert_rows(&rt, None, NUMBERS)?;
+    assert_rows(&rt, None, CONTENTS)
 }
 
 #[test]
-fn faults_of_texts_are_told(rt: HostRuntime) {
-    let too_long = (MOST_CONTENT as i64 + 1) * 2;
-    let groups = [
-        (too_long % 128) as u8 + 128,
-        (too_long / 128 % 128) as u8 + 128,
-        (too_long / 16384 % 128) as u8 + 128,
-        (too_long / 2097152) as u8,
-    ];
-    let text = malformed(MalformedKind::BadText, 1);
-    assert_no_text(&rt, &[0x02, 0xff], text);
-    assert_no_text(&rt, &[0x04, 0xc3, 0x28], text);
-    assert_no_text(&rt, &[0x04, 0xff], Fault::Need);
-    let length = malformed(MalformedKind::BadLength, 0);
-    assert_no_text(&rt, &[0x01], length);
-    assert_no_text(&rt, &groups, length);
-    assert_no_text(&rt, &[0x80], Fault::Need);
-    assert_no_text(&rt, &[], Fault::Need);
-}
-
-/// What a form of bytes answers, read again where memory ran out the first time.
-fn read_bytes<F: WireForm<Value = Vec<u8>>>(
-    form: &F,
-    bytes: &[u8],
-) -> Result<(Vec<u8>, usize, Meter), Fault> {
-    match form.read(bytes, 0, START) {
-        Err(Fault::NoMemory) => form.read(bytes, 0, START),
-        answer => answer,
-    }
-}
-
-/// Whether a form of bytes reads these, up to a place.
-fn assert_reads<F: WireForm<Value = Vec<u8>>>(
-    rt: &impl Abort,
-    form: &F,
-    bytes: &[u8],
-    (value, to): (&[u8], usize),
-) {
-    let (found, end, after) = read_bytes(form, bytes).expect(rt, "bytes");
-    assert_eq!(rt; found.as_slice(), value);
-    same(rt, (end, after), (to, START));
-}
-
-/// Whether a form of bytes skips so, and reads with the same fault or none.
-fn assert_skips<F: WireForm<Value = Vec<u8>>>(
-    rt: &impl Abort,
-    form: &F,
-    bytes: &[u8],
-    answer: Result<(usize, Meter), Fault>,
-) {
-    same(rt, form.skip(bytes, 0, START), answer);
-    same(rt, read_bytes(form, bytes).err(), answer.err());
-}
-
-#[test]
-fn bytes_after_their_length(rt: HostRuntime) {
-    let form = Blob { alloc: rt.alloc() };
-    assert_reads(&rt, &form, &[0x04, 0x01, 0x02, 0x00], (&[0x01, 0x02], 3));
-    assert_reads(&rt, &form, &[0x02, 0xff], (&[0xff], 2));
-    assert_skips(&rt, &form, &[0x04, 0x01, 0x02], Ok((3, START)));
-    assert_skips(&rt, &form, &[0x00], Ok((1, START)));
-    assert_skips(&rt, &form, &[0x04, 0x01], Err(Fault::Need));
-    let length = malformed(MalformedKind::BadLength, 0);
-    assert_skips(&rt, &form, &[0x01], Err(length));
-    assert_skips(&rt, &form, &[], Err(Fault::Need));
-}
-
-#[test]
-fn a_fixed_is_so_many_bytes(rt: HostRuntime) {
-    let form = FixedBytes {
-        alloc: rt.alloc(),
-        size: 3,
-    };
-    let three = [0x01, 0x02, 0x03];
-    assert_reads(&rt, &form, &[0x01, 0x02, 0x03, 0x04], (&three, 3));
-    assert_skips(&rt, &form, &three, Ok((3, START)));
-    assert_skips(&rt, &form, &[0x01, 0x02], Err(Fault::Need));
-}
-
-/// Whether a meter is this, or a fault.
-fn assert_meter(rt: &impl Abort, found: Result<Meter, Fault>, want: Result<Meter, Fault>) {
-    same(rt, found, want);
-}
-
-#[test]
-fn records_too_deep_or_too_many(rt: HostRuntime) {
-    same(&rt, START.enter_record(5), Ok(Meter { depth: 1, units: 1 }));
-    let deep = Meter {
-        depth: MOST_DEPTH,
-        units: MOST_UNITS,
-    };
-    same(
-        &rt,
-        deep.enter_record(5),
-        Err(malformed(MalformedKind::TooDeep, 5)),
-    );
-    let many = Meter {
-        depth: 0,
-        units: MOST_UNITS,
-    };
-    same(
-        &rt,
-        many.enter_record(5),
-        Err(malformed(MalformedKind::TooMany, 5)),
-    );
-}
-
-#[test]
-fn items_too_many_and_blocks_too_deep(rt: HostRuntime) {
-    let last = Meter {
-        depth: MOST_DEPTH - 1,
-        units: MOST_UNITS - 1,
-    };
-    let deep = Meter {
-        depth: MOST_DEPTH,
-        units: MOST_UNITS - 1,
-    };
-    let many = Meter {
-        depth: MOST_DEPTH - 1,
-        units: MOST_UNITS,
-    };
-    assert_meter(&rt, last.enter_blocks(5), Ok(deep));
-    assert_meter(&rt, last.enter_item(5), Ok(many));
-    let too_deep = malformed(MalformedKind::TooDeep, 5);
-    assert_meter(&rt, deep.enter_blocks(5), Err(too_deep));
-    let too_many = malformed(MalformedKind::TooMany, 5);
-    assert_meter(&rt, many.enter_item(5), Err(too_many));
-    assert_meter(&rt, START.enter_blocks(5), Ok(Meter { depth: 1, units: 0 }));
-    assert_meter(&rt, START.enter_item(5), Ok(Meter { depth: 0, units: 1 }));
-}
-
-/// The meter inside an array in a message's root, with so many units.
-fn inside(units: u32) -> Meter
-    ensures { result ≡ record { depth = 1; units = units } }
-{
-    Meter { depth: 1, units }
-}
-
-/// Whether a block of one item is walked.
-fn assert_block(rt: &impl Abort) -> Result<(), Fault> {
-    let outside = Meter { depth: 0, units: 1 };
-    let (mut walk, m) = BlockWalk::begin(0, START)?;
-    same(rt, m, inside(0));
-    let bytes = [0x02, 0x36, 0x00];
-    same(
-        rt,
-        walk.next(&bytes, 0, inside(0)),
-        Ok((true, 1, inside(1))),
-    );
-    same(rt, walk.next(&bytes, 2, inside(1)), Ok((false, 3, outside)));
-    Ok(())
-}
-
-/// The same of a block that tells its size.
-fn assert_sized_block(rt: &impl Abort) -> Result<(), Fault> {
-    let outside = Meter { depth: 0, units: 1 };
-    let (mut walk, _) = BlockWalk::begin(0, START)?;
-    let bytes = [0x01, 0x02, 0x36, 0x00];
-    same(
-        rt,
-        walk.next(&bytes, 0, inside(0)),
-        Ok((true, 2, inside(1))),
-    );
-    same(rt, walk.next(&bytes, 3, inside(1)), Ok((false, 4, outside)));
-    Ok(())
-}
-
-/// The same of no block.
-fn assert_no_block(rt: &impl Abort) -> Result<(), Fault> {
-    let (mut walk, _) = BlockWalk::begin(0, START)?;
-    same(rt, walk.next(&[0x00], 0, inside(0)), Ok((false, 1, START)));
-    Ok(())
-}
-
-#[test]
-fn blocks_with_and_without_a_size(rt: HostRuntime) -> Result<(), Fault> {
-    assert_block(&rt)?;
-    assert_sized_block(&rt)?;
-    assert_no_block(&rt)
-}
-
-#[test]
-fn walks_go_on_from_their_parts(rt: HostRuntime) -> Result<(), Fail> {
-    let (mut walk, _) = BlockWalk::begin(0, START)?;
-    let bytes = [0x03, 0x04, 0x36, 0x36, 0x00];
-    same(
-        &rt,
-        walk.next(&bytes, 0, inside(0)),
-        Ok((true, 2, inside(1))),
-    );
-    same(
-        &rt,
-        (walk.left(), walk.count_at(), walk.items_at()),
-        (1, 0, 2),
-    );
-    same(&rt, walk.size(), Some(2));
-    let mut again = BlockWalk::walk_of(1, 0, 2, Some(2));
-    same(
-        &rt,
-        again.next(&bytes, 3, inside(1)),
-        Ok((true, 3, inside(2))),
-    );
-    let outside = Meter { depth: 0, units: 2 };
-    same(
-        &rt,
-        again.next(&bytes, 4, inside(2)),
-        Ok((false, 5, outside)),
-    );
-    Ok(())
-}
-
-#[test]
-fn several_blocks_of_several_items(rt: HostRuntime) -> Result<(), Fail> {
-    let bytes = [0x04, 0x36, 0x36, 0x03, 0x04, 0x36, 0x36, 0x00];
-    let (mut walk, _) = BlockWalk::begin(0, START)?;
-    same(
-        &rt,
-        walk.next(&bytes, 0, inside(0)),
-        Ok((true, 1, inside(1))),
-    );
-    same(
-        &rt,
-        walk.next(&bytes, 2, inside(1)),
-        Ok((true, 2, inside(2))),
-    );
-    same(
-        &rt,
-        walk.next(&bytes, 3, inside(2)),
-        Ok((true, 5, inside(3))),
-    );
-    same(
-        &rt,
-        walk.next(&bytes, 6, inside(3)),
-        Ok((true, 6, inside(4))),
-    );
-    let outside = Meter { depth: 0, units: 4 };
-    same(
-        &rt,
-        walk.next(&bytes, 7, inside(4)),
-        Ok((false, 8, outside)),
-    );
-    Ok(())
-}
-
-/// Whether a block whose size is not its items' is told each time.
-fn assert_bad_block(rt: &impl Abort) -> Result<(), Fault> {
-    let (mut walk, _) = BlockWalk::begin(0, START)?;
-    let bytes = [0x01, 0x04, 0x36, 0x00];
-    same(
-        rt,
-        walk.next(&bytes, 0, inside(0)),
-        Ok((true, 2, inside(1))),
-    );
-    let bad = malformed(MalformedKind::BadBlock, 0);
-    same(rt, walk.next(&bytes, 3, inside(1)), Err(bad));
-    same(rt, walk.next(&bytes, 3, inside(1)), Err(bad));
-    Ok(())
-}
-
-/// Whether a walk that lacks bytes goes on, to an item too many.
-fn assert_full_block(rt: &impl Abort) -> Result<(), Fault> {
-    let (mut walk, _) = BlockWalk::begin(0, START)?;
-    same(rt, walk.next(&[0x01, 0x80], 0, inside(0)), Err(Fault::Need));
-    same(rt, walk.next(&[], 0, inside(0)), Err(Fault::Need));
-    let full = malformed(MalformedKind::TooMany, 1);
-    same(
-        rt,
-        walk.next(&[0x02, 0x36], 0, inside(MOST_UNITS)),
-        Err(full),
-    );
-    Ok(())
-}
-
-#[test]
-fn faults_of_blocks_are_told(rt: HostRuntime) -> Result<(), Fault> {
-    assert_bad_block(&rt)?;
-    assert_full_block(&rt)?;
-    let deep = Meter {
-        depth: MOST_DEPTH,
-        units: 0,
-    };
-    same(
-        &rt,
-        BlockWalk::begin(5, deep).err(),
-        Some(malformed(MalformedKind::TooDeep, 5)),
-    );
-    Ok(())
-}
-
-#[test]
-fn faults_are_told_in_words(rt: HostRuntime) -> Result<(), Fail> {
-    assert_eq!(rt; MalformedKind::BadText.name(), "BadText");
-    let text = format!(in rt.alloc(); "{}", malformed(MalformedKind::TooDeep, 7))?;
-    assert_eq!(rt; text.as_str(), "malformed TooDeep at 7");
-    Ok(())
+fn blocks_are_walked_within_the_limits(rt: HostRuntime) -> Result<(), AllocError> {
+    assert_rows(&rt, None, METERS)?;
+    assert_rows(&rt, None, WALKS)
 }

@@ -4,17 +4,13 @@
 #[cfg(test)]
 mod again;
 #[cfg(test)]
-mod alias_tests;
+mod asked;
 #[cfg(test)]
 mod bytes_tests;
 #[cfg(test)]
-mod data_tests;
-#[cfg(test)]
 mod lines;
 #[cfg(test)]
-mod outcome_tests;
-#[cfg(test)]
-mod resolving_tests;
+mod pair_tests;
 #[cfg(test)]
 mod rows;
 #[cfg(test)]

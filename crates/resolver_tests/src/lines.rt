@@ -1,52 +1,119 @@
 //! Answers as lines, as the rows have them.
 
-use avro_bytes::MalformedKind;
-use hex::FromHexError;
-use resolver::Outcome;
+use crate::again::{outcome, read_again, written};
+use avro_datum::PayloadError;
+use avro_schema::{Datum, Kind, Nodes};
+use resolver::{MOST_OUTPUT, Outcome, Route, partners, routes};
 use std::alloc::{AllocError, Global};
+use std::fmt::Debug;
 
-/// Bytes from hexadecimal.
-pub(crate) fn bytes_of(alloc: Global, line: &str) -> Result<Vec<u8>, FromHexError> {
-    hex::decode(alloc, line)
+/// These words.
+pub(crate) fn words_line(alloc: Global, words: &str) -> Result<String, AllocError> {
+    String::from_str(alloc, words)
 }
 
-/// Bytes that were written, or `-` where there are none.
-pub(crate) fn written_line(alloc: Global, bytes: &[u8]) -> Result<String, AllocError> {
-    if bytes.is_empty() {
-        return String::from_str(alloc, "written -");
-    }
+/// A value as it is told where something goes wrong.
+pub(crate) fn debug_line<T: Debug + Drop>(alloc: Global, value: T) -> Result<String, AllocError> {
+    format!(in alloc; "{value:?}")
+}
+
+/// Bytes in hexadecimal after a word, or `-` where there are none.
+fn hex_line(alloc: Global, word: &str, bytes: &[u8]) -> Result<String, AllocError> {
     let digits = hex::encode(alloc, bytes)?;
-    format!(in alloc; "written {digits}")
+    let none = if bytes.is_empty() { "-" } else { "" };
+    format!(in alloc; "{word} {none}{digits}")
 }
 
-/// The first fault of a payload.
-pub(crate) fn malformed_line(
+/// The bytes of a row, in hexadecimal, where `-` stands for none.
+pub(crate) fn bytes_of(alloc: Global, digits: &str) -> Result<Vec<u8>, AllocError> {
+    match hex::decode(alloc, digits.trim_start_matches('-')) {
+        Ok(bytes) => Ok(bytes),
+        Err(_) => Err(AllocError),
+    }
+}
+
+/// What a datum is written as after a byte that was there.
+fn written_line(alloc: Global, datum: &Datum) -> Result<String, AllocError> {
+    let mut out = vec![in alloc; 9u8]?;
+    let done = written(datum, &mut out);
+    match (done, out.strip_prefix(&[9])) {
+        (Ok(()), Some(bytes)) => hex_line(alloc, "written", bytes),
+        (Err(error), Some([])) => format!(in alloc; "{error}"),
+        _ => words_line(alloc, "written over"),
+    }
+}
+
+/// What is told of a text that would be written too large.
+pub(crate) fn longest_line(alloc: Global) -> Result<String, AllocError> {
+    let piece = "0123456789abcdef0123456789abcdef0123456789abcdef0123456789abcdef";
+    let longest = Datum::Text(piece.repeat(alloc, MOST_OUTPUT / 64)?);
+    written_line(alloc, &longest)
+}
+
+/// What a payload's datum is written as, or the first fault.
+pub(crate) fn payload_line(
     alloc: Global,
-    kind: MalformedKind,
-    at: usize,
+    nodes: &Nodes,
+    payload: &[u8],
 ) -> Result<String, AllocError> {
-    let name = kind.name();
-    format!(in alloc; "malformed {name} at {at}")
+    match read_again(alloc, nodes, payload) {
+        Ok(datum) => written_line(alloc, &datum),
+        Err(error) => format!(in alloc; "{error}"),
+    }
 }
 
 /// The outcome of a payload.
-pub(crate) fn outcome_line(alloc: Global, outcome: &Outcome) -> Result<String, AllocError> {
-    match outcome {
-        Outcome::Done(bytes) => {
-            let digits = hex::encode(alloc, bytes)?;
-            format!(in alloc; "done {digits}")
-        }
-        Outcome::Mismatch(found) => {
-            let kind = found.kind.name();
+pub(crate) fn outcome_line(
+    alloc: Global,
+    w: &Nodes,
+    r: &Nodes,
+    payload: &[u8],
+) -> Result<String, AllocError> {
+    match outcome(alloc, w, r, payload) {
+        Ok(Outcome::Done(bytes)) => hex_line(alloc, "done", &bytes),
+        Ok(Outcome::Mismatch(found)) => {
             let (writer, reader) = (found.writer_node, found.reader_node);
-            format!(in alloc; "mismatch {kind} {writer} {reader}")
+            format!(in alloc; "mismatch {} {writer} {reader}", found.kind.name())
         }
-        Outcome::Malformed { kind, at } => malformed_line(alloc, *kind, *at),
-        Outcome::OutputTooLarge => String::from_str(alloc, "output too large"),
+        Ok(Outcome::Malformed { kind, at }) => {
+            format!(in alloc; "malformed {} at {at}", kind.name())
+        }
+        Ok(Outcome::OutputTooLarge) => words_line(alloc, "output too large"),
+        Err(error) => format!(in alloc; "{error}"),
     }
 }
 
-/// Whether an answer is the one of its row.
-pub(crate) fn is_answer(found: &str, answer: &str) -> bool {
-    found == answer
+/// Whether a payload that is read twice is one datum, which is written as it.
+pub(crate) fn alike(alloc: Global, nodes: &Nodes, payload: &[u8]) -> Result<bool, PayloadError> {
+    let datum = read_again(alloc, nodes, payload)?;
+    let mut out = Vec::new(alloc);
+    let done = written(&datum, &mut out);
+    let again = read_again(alloc, nodes, payload);
+    Ok(done == Ok(()) && out.as_slice() == payload && again == Ok(datum))
+}
+
+/// Whether all of a writer's fields go to the reader's of the same positions.
+fn are_in_order(partners: &[Option<usize>], routes: &[Route]) -> bool {
+    if partners.len() != routes.len() {
+        return false;
+    }
+    for position in 0..routes.len() {
+        if partners[position] != Some(position) || routes[position].partner.is_none() {
+            return false;
+        }
+    }
+    true
+}
+
+/// Whether two first nodes are records, and all of the writer's fields go to the reader's of the same positions.
+pub(crate) fn in_order(alloc: Global, w: &Nodes, r: &Nodes) -> Result<bool, AllocError> {
+    w.is_well_formed();
+    r.is_well_formed();
+    let (Kind::Record { fields: ws, .. }, Kind::Record { fields: rs, .. }) = (w.kind(0), r.kind(0))
+    else {
+        return Ok(false);
+    };
+    let partners = partners(alloc, ws, rs)?;
+    let routes = routes(alloc, ws, rs)?;
+    Ok(are_in_order(&partners, &routes) && partners.len() == ws.len())
 }

@@ -1,15 +1,9 @@
 //! Comparisons with what is wanted.
 
-use std::fmt::Debug;
 use std::process::Abort;
 
-/// What was found is what is wanted. All is compared here: what an assertion does where it fails is then looked at
-/// once.
-pub(crate) fn same<T: PartialEq + Debug + Copy>(rt: &impl Abort, found: T, want: T) {
-    assert_eq!(rt; found, want);
-}
-
-/// What is tested of a row holds.
-pub(crate) fn holds(rt: &impl Abort, is_so: bool, row: &str) {
-    assert!(rt; is_so, "{row}");
+/// What was answered to a row is what is wanted. All is compared here: what an assertion does where it fails is then
+/// looked at once.
+pub(crate) fn same(rt: &impl Abort, row: &str, found: &str, want: &str) {
+    assert!(rt; found == want, "{row} -> {found}");
 }
