@@ -1,4 +1,5 @@
-ghost use Rattle.std.specs.Prelude.{◌≡◌, length};
+ghost use Rattle.std.specs.Prelude.{◌≡◌, ◌≢◌, length};
+ghost use Rattle.avro_bytes.specs.declared.fault.Fault.TheVariants.{NoMemory};
 ghost use Rattle.isa.specs.Program.{miss_of};
 ghost use Rattle.isa.specs.State.{State};
 ghost use Rattle.isa.specs.Table.{finished, halt};
@@ -49,17 +50,19 @@ pub struct Ending<'a> {
 }
 
 impl Ending<'_> {
-    /// At a fault: it is told, whatever was told before, unless more bytes may come.
+    /// At a fault of what was read: it is told, whatever was told before, unless more bytes may come.
     pub fn refused(&self, fault: Fault) -> Verdict
+        requires { fault ≢ NoMemory }
         ensures { (s : State) → told result s ≡ refused self.now.program.now self.now.input.now self.now.ended fault s }
     {
         match fault {
             Fault::Malformed { kind, at } => Verdict::Malformed { kind, at },
-            _ if self.ended => Verdict::Malformed {
+            Fault::Need if self.ended => Verdict::Malformed {
                 kind: MalformedKind::Truncated,
                 at: self.input.len(),
             },
-            _ => Verdict::Waits,
+            Fault::Need => Verdict::Waits,
+            Fault::NoMemory => unreachable!(),
         }
     }
 

@@ -1,6 +1,7 @@
 #![tactic(auto, using(crate::proofs::Appending::goes_on, crate::proofs::Appending::same_arena))]
 
 ghost use Rattle.std.specs.Prelude.{◌≡◌, ◌≢◌, ◌≤◌, ◌<◌, ◌+◌, ℕ, [], ◌∷◌, ◌++◌, length, is_some, option_to_list, OnOk, OnErr, Some, None, false, true};
+ghost use Rattle.avro_bytes.specs.declared.fault.Fault.TheVariants.{NoMemory};
 ghost use Rattle.avro_bytes.specs.declared.meter.Meter.{Meter};
 ghost use Rattle.isa.specs.declared.limits.TheConstants.{MOST_INSTRS};
 ghost use Rattle.isa.specs.State.{has_current, meter_of};
@@ -189,6 +190,7 @@ impl Machine {
         input: &[u8],
         ended: bool,
     ) -> Step
+        requires { fault ≢ NoMemory }
         ensures takes { Takes (refused program.now input.now ended fault self.old.state) result self.old self.new }
         ensures layout { self.new.layout ≡ self.old.layout }
         ensures pos { self.new.state.pos ≡ self.old.state.pos }
