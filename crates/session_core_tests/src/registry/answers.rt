@@ -1,7 +1,7 @@
 //! What a shared registry answers to rows: lines, each with the line of its answer behind it. A line is a command, or
 //! `find` with an id for the text under it, or `receipt` with a text for what its receipt shows.
 
-ghost use Rattle.std.specs.Prelude.{◌≡◌, IfOk};
+ghost use Rattle.std.specs.Prelude.{◌≡◌, ◌<◌, IfOk};
 ghost use Rattle.schema_registry.specs.Shared.{IsReceiptOf};
 
 use crate::registry::lines::{answer_line, command_of, reply_line, second_answer};
@@ -90,7 +90,9 @@ pub(crate) fn answered_by<R: Wait>(
     shared: &SharedRegistry,
     rows: &str,
     step: usize,
-) -> Result<String, AllocError> {
+) -> Result<String, AllocError>
+    requires { 0 < step }
+{
     let mut answered = String::new(alloc);
     for line in rows.lines().step_by(step) {
         let answer = answer_to(rt, alloc, shared, line)?;
