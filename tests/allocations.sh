@@ -1,7 +1,7 @@
 #!/usr/bin/env bash
 # Refuses each allocation in turn, which no proof can see. It is not part of the gate; it needs a C compiler.
 # The program, on inputs to each of its words but `replay`: status 4 and nothing written, or the whole answer where a
-# buffer could stay as it was, or, of `debug`, a state that tells want of memory. The tests that ask again for what was
+# buffer could stay as it was, or, of `debug`, an answer that tells want of memory. The tests that ask again for what was
 # refused: they pass, or end because what they build themselves was refused (an output that is a vector refuses a write
 # then); an answer that changed fails its assertion.
 # Usage, after `rt run` in crates/avrogate and `rt test` in each crate of tests: tests/allocations.sh
@@ -60,7 +60,7 @@ each() {
     refused $n "$program" "$@" <"$input" || break
     if [ $status = 4 ] && [ ! -s "$folder/out" ] && [ ! -s "$folder/err" ]; then
       count ok
-    elif [ $status = 0 ] && { cmp -s "$folder/out" "$folder/whole" || grep -q ' state memory$' "$folder/out"; }; then
+    elif [ $status = 0 ] && { cmp -s "$folder/out" "$folder/whole" || grep -qE ' state memory$|^refused NoMemory$' "$folder/out"; }; then
       count ok
     else
       count bad "avrogate $*, allocation $n: status $status"
