@@ -100,7 +100,8 @@ with_jumps at P ws = do
 
 unfoldable pub with_miss : ℕ → Program → List (List ℕ) → Result Program AsmFault
 with_miss at P ws = do
-  miss ← placed at (is_before_code P) (length P.misses) (λ _. nat_lt (length P.misses) MOST_TABLES) (numbered miss_in ws)
+  miss ← placed at (is_before_code P) (length P.misses) (λ _. nat_lt (length P.misses) MOST_TABLES)
+      (numbered miss_in ws)
   Ok (record P { misses = P.misses ++ miss ∷ [] })
 
 unfoldable pub with_instr : ℕ → Program → List (List ℕ) → Result Program AsmFault

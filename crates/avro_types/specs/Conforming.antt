@@ -18,12 +18,21 @@ abbrev mutual
   Conforms nodes node (LongDatum n) = (slice_get nodes node ≡ Some LongNode) × HasBits 63 n
   Conforms nodes node (BytesDatum bytes) = slice_get nodes node ≡ Some BytesNode
   Conforms nodes node (TextDatum text) = (slice_get nodes node ≡ Some TextNode) × IsUtf8 text
-  Conforms nodes node (FixedDatum bytes) = (names : Names) × (slice_get nodes node ≡ Some (FixedNode names (length bytes)))
-  Conforms nodes node (EnumDatum n) = (names : Names) × (symbols : List (List ℕ)) × (default : Option ℕ) × (slice_get nodes node ≡ Some (EnumNode names symbols default)) × (n < length symbols)
-  Conforms nodes node (ArrayDatum ds) = (inner : ℕ) × (slice_get nodes node ≡ Some (ArrayNode inner)) × ConformAll nodes inner ds
-  Conforms nodes node (MapDatum ps) = (inner : ℕ) × (slice_get nodes node ≡ Some (MapNode inner)) × ConformPairs nodes inner ps
-  Conforms nodes node (UnionDatum n d) = (members : List ℕ) × (slice_get nodes node ≡ Some (UnionNode members)) × (member : ℕ) × (slice_get members n ≡ Some member) × Conforms nodes member d
-  Conforms nodes node (RecordDatum ds) = (names : Names) × (fields : List FieldNode) × (slice_get nodes node ≡ Some (RecordNode names fields)) × ConformsEach nodes fields ds
+  Conforms nodes node (FixedDatum bytes) =
+      (names : Names) × (slice_get nodes node ≡ Some (FixedNode names (length bytes)))
+  Conforms nodes node (EnumDatum n) =
+      (names : Names) × (symbols : List (List ℕ)) × (default : Option ℕ)
+      × (slice_get nodes node ≡ Some (EnumNode names symbols default)) × (n < length symbols)
+  Conforms nodes node (ArrayDatum ds) =
+      (inner : ℕ) × (slice_get nodes node ≡ Some (ArrayNode inner)) × ConformAll nodes inner ds
+  Conforms nodes node (MapDatum ps) =
+      (inner : ℕ) × (slice_get nodes node ≡ Some (MapNode inner)) × ConformPairs nodes inner ps
+  Conforms nodes node (UnionDatum n d) =
+      (members : List ℕ) × (slice_get nodes node ≡ Some (UnionNode members)) × (member : ℕ)
+      × (slice_get members n ≡ Some member) × Conforms nodes member d
+  Conforms nodes node (RecordDatum ds) =
+      (names : Names) × (fields : List FieldNode) × (slice_get nodes node ≡ Some (RecordNode names fields))
+      × ConformsEach nodes fields ds
 
   -- the data are all of one type
   pub ConformAll : List Node → ℕ → Data → Type 0
@@ -44,4 +53,6 @@ abbrev mutual
 
 -- the default of each record's field is of the field's type
 abbrev pub DefaultsConform : List Node → Type 0
-DefaultsConform nodes = (node : ℕ) (names : Names) (fields : List FieldNode) → slice_get nodes node ≡ Some (RecordNode names fields) → AllByRecursion (λ f. IfSome f.default (Conforms nodes f.node)) fields
+DefaultsConform nodes =
+    (node : ℕ) (names : Names) (fields : List FieldNode) → slice_get nodes node ≡ Some (RecordNode names fields)
+    → AllByRecursion (λ f. IfSome f.default (Conforms nodes f.node)) fields

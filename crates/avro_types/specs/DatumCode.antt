@@ -118,7 +118,8 @@ mutual
 
   data_same : (ds : Data) → data_back (code_data ds) ≡ ds
   data_same no_more = refl
-  data_same (more d ds) = ap (λ (x : Datum). more x (data_back (code_data ds))) (datum_same d) ∙ ap (more d) (data_same ds)
+  data_same (more d ds) =
+      ap (λ (x : Datum). more x (data_back (code_data ds))) (datum_same d) ∙ ap (more d) (data_same ds)
 
   pairs_same : (ps : Pairs) → pairs_back (code_pairs ps) ≡ ps
   pairs_same no_pairs = refl

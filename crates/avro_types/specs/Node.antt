@@ -10,7 +10,8 @@ pub record Names : Type 0 where
   pub full : List ℕ
   pub aliases : List (List ℕ)
 
--- a field of a record, its aliases, the node that is its type, and what a reader takes where the writer has no such field
+-- a field of a record, its aliases, the node that is its type, and what a reader takes where the writer has no such
+-- field
 pub record FieldNode : Type 0 where
   pub name : List ℕ
   pub aliases : List (List ℕ)
@@ -39,7 +40,13 @@ pub data Node : Type 0 where
   RecordNode : Names → List FieldNode → Node
 
 abbrev pub field_of : Field → FieldNode
-field_of f = record { name = string_bytes f.name; aliases = map string_bytes f.aliases.items; node = f.node; default = option_map datum_of f.default }
+field_of f =
+    record {
+      name = string_bytes f.name;
+      aliases = map string_bytes f.aliases.items;
+      node = f.node;
+      default = option_map datum_of f.default;
+    }
 
 abbrev pub fields_of : List Field → List FieldNode
 fields_of fs = map field_of fs

@@ -4,7 +4,8 @@ use Rattle.std.specs.List.{AllByRecursion}
 use Rattle.avro_types.specs.Datum.{Datum, Data, Pairs, NullDatum, BooleanDatum, IntDatum, LongDatum, BytesDatum, TextDatum, FixedDatum, EnumDatum, ArrayDatum, MapDatum, UnionDatum, RecordDatum, no_more, more, no_pairs, pair, how_many, how_many_pairs}
 use Rattle.avro_types.specs.Node.{Node, Names, FieldNode, RecordNode}
 
--- No text, byte string or key is longer than `text` (a fixed has no length that is written), and no array or map has more than `items` items.
+-- No text, byte string or key is longer than `text` (a fixed has no length that is written), and no array or map has
+-- more than `items` items.
 abbrev mutual
   pub HasSizesWithin : (text items : ℕ) → Datum → Type 0
   HasSizesWithin text items NullDatum = Unit {0}
@@ -26,8 +27,11 @@ abbrev mutual
 
   pub HavePairsWithin : (text items : ℕ) → Pairs → Type 0
   HavePairsWithin text items no_pairs = Unit {0}
-  HavePairsWithin text items (pair key d ps) = (length key ≤ text) × HasSizesWithin text items d × HavePairsWithin text items ps
+  HavePairsWithin text items (pair key d ps) =
+      (length key ≤ text) × HasSizesWithin text items d × HavePairsWithin text items ps
 
 -- so in the default of each record's field
 abbrev pub DefaultsHaveSizesWithin : (text items : ℕ) → List Node → Type 0
-DefaultsHaveSizesWithin text items nodes = (node : ℕ) (names : Names) (fields : List FieldNode) → slice_get nodes node ≡ Some (RecordNode names fields) → AllByRecursion (λ f. IfSome f.default (HasSizesWithin text items)) fields
+DefaultsHaveSizesWithin text items nodes =
+    (node : ℕ) (names : Names) (fields : List FieldNode) → slice_get nodes node ≡ Some (RecordNode names fields)
+    → AllByRecursion (λ f. IfSome f.default (HasSizesWithin text items)) fields

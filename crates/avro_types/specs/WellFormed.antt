@@ -27,7 +27,8 @@ full_name_of _ = None
 abbrev pub is_named : Option Node → Bool
 is_named node = is_some (full_name_of node)
 
--- "Unions may not contain more than one schema with the same type, except for the named types record, fixed and enum", of which none has another's name
+-- "Unions may not contain more than one schema with the same type, except for the named types record, fixed and
+-- enum", of which none has another's name
 abbrev pub are_of_one_type : Option Node → Option Node → Bool
 are_of_one_type (Some NullNode) (Some NullNode) = true
 are_of_one_type (Some BooleanNode) (Some BooleanNode) = true
@@ -43,7 +44,8 @@ are_of_one_type w r = have_one_name (full_name_of w) (full_name_of r)
     have_one_name (Some full) (Some other) = bytes_eq full other
     have_one_name _ _ = false
 
--- the node of items, values or a member of the node own: it comes later, or is of a named type, so that each recursion goes by a name
+-- the node of items, values or a member of the node own: it comes later, or is of a named type, so that each
+-- recursion goes by a name
 abbrev pub IsPartOf : List Node → ℕ → ℕ → Type 0
 IsPartOf nodes own part = (own < part) ⊎ (is_named (slice_get nodes part) ≡ true)
 
@@ -62,19 +64,25 @@ pub record IsMember (nodes : List Node) (own member : ℕ) : Type 0 where
 abbrev pub AreApart : List Node → List ℕ → Type 0
 AreApart nodes members = IsDistinct are_of_one_type (map (slice_get nodes) members)
 
--- the node own names nodes of the same schema, its fields, symbols and members apart; how many there may be is this project's own
+-- the node own names nodes of the same schema, its fields, symbols and members apart; how many there may be is this
+-- project's own
 abbrev pub NodeIsWellFormed : List Node → ℕ → Node → Type 0
 NodeIsWellFormed nodes own (FixedNode names size) = size ≤ MOST_FIXED
-NodeIsWellFormed nodes own (EnumNode names symbols default) = IsDistinct bytes_eq symbols × (length symbols ≤ MOST_SYMBOLS) × IfSome default (λ n. n < length symbols)
+NodeIsWellFormed nodes own (EnumNode names symbols default) =
+    IsDistinct bytes_eq symbols × (length symbols ≤ MOST_SYMBOLS) × IfSome default (λ n. n < length symbols)
 NodeIsWellFormed nodes own (ArrayNode item) = HoldsItem nodes own item
 NodeIsWellFormed nodes own (MapNode value) = HoldsItem nodes own value
-NodeIsWellFormed nodes own (UnionNode members) = AllByRecursion (IsMember nodes own) members × (length members ≤ MOST_NODES) × AreApart nodes members
-NodeIsWellFormed nodes own (RecordNode names fs) = FieldsBelow (length nodes) fs × HaveDistinctNames fs × (length fs ≤ MOST_FIELDS)
+NodeIsWellFormed nodes own (UnionNode members) =
+    AllByRecursion (IsMember nodes own) members × (length members ≤ MOST_NODES) × AreApart nodes members
+NodeIsWellFormed nodes own (RecordNode names fs) =
+    FieldsBelow (length nodes) fs × HaveDistinctNames fs × (length fs ≤ MOST_FIELDS)
 NodeIsWellFormed nodes own _ = Unit {0}
 
--- there is a root, and each node is well formed; "a schema or protocol may not contain multiple definitions of a fullname"
+-- there is a root, and each node is well formed; "a schema or protocol may not contain multiple definitions of a
+-- fullname"
 pub record IsWellFormed (nodes : List Node) : Type 0 where
   pub root : 0 < length nodes
   pub few : length nodes ≤ MOST_NODES
   pub each : (own : ℕ) (node : Node) → slice_get nodes own ≡ Some node → NodeIsWellFormed nodes own node
-  pub named_once : (m n : ℕ) (full : List ℕ) → full_name_of (slice_get nodes m) ≡ Some full → full_name_of (slice_get nodes n) ≡ Some full → m ≡ n
+  pub named_once : (m n : ℕ) (full : List ℕ) → full_name_of (slice_get nodes m) ≡ Some full
+      → full_name_of (slice_get nodes n) ≡ Some full → m ≡ n

@@ -10,7 +10,8 @@ use Rattle.commands.specs.declared.status.Status.TheVariants.{Refused}
 
 abbrev pub text_of : Refusal → List ℕ
 text_of (refusals.BadSchema line error) = codes "bad schema " ++ decimal line ++ codes " " ++ name_of error
-text_of (refusals.BadListing fault) = codes "bad listing " ++ decimal fault.line ++ codes " " ++ name_of_fault fault.kind
+text_of (refusals.BadListing fault) =
+    codes "bad listing " ++ decimal fault.line ++ codes " " ++ name_of_fault fault.kind
 text_of refusals.ProgramTooLarge = codes "program too large"
 text_of refusals.BadHex = codes "bad hex"
 text_of refusals.TooLarge = codes "too large"

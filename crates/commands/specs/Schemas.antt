@@ -14,7 +14,8 @@ abbrev pub schema_of_line : List ℕ → Result (List Node) SchemaError
 schema_of_line line = if is_utf8 line then schema_of line else Err NotJson
 
 -- where either may be bad, the writer's is told first
-abbrev pub both : Result (List Node) SchemaError → Result (List Node) SchemaError → Result (List Node × List Node) Refusal
+abbrev pub both : Result (List Node) SchemaError → Result (List Node) SchemaError
+    → Result (List Node × List Node) Refusal
 both (Err error) reader = Err (BadSchema 1 error)
 both (Ok W) (Err error) = Err (BadSchema 2 error)
 both (Ok W) (Ok R) = Ok (W, R)

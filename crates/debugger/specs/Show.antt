@@ -24,11 +24,14 @@ name_of_state false end = name_of_end end
 -- how far a run came
 abbrev pub places : State → List ℕ
 places s =
-    codes "count" ++ number s.count ++ codes " pc" ++ number s.pc ++ codes " pos" ++ number s.pos ++ codes " units" ++ number s.units
+    codes "count" ++ number s.count ++ codes " pc" ++ number s.pc ++ codes " pos" ++ number s.pos
+    ++ codes " units" ++ number s.units
 
 -- what stands open, and what was told
 abbrev pub told : State → List ℕ
-told s = codes " part" ++ part s.part ++ codes " mark" ++ number_or_none s.store.mark ++ codes " over" ++ truth s.store.over
+told s =
+    codes " part" ++ part s.part ++ codes " mark" ++ number_or_none s.store.mark
+    ++ codes " over" ++ truth s.store.over
 
 abbrev pub first_line : State → Bool → List ℕ
 first_line s no_memory = places s ++ (told s ++ (codes " state " ++ name_of_state no_memory s.end ++ 10 ∷ []))

@@ -1,4 +1,5 @@
--- What no row passes: how much is open, how many units there are, and how many bytes are held. All of this is this project's own.
+-- What no row passes: how much is open, how many units there are, and how many bytes are held. All of this is this
+-- project's own.
 use Rattle.std.specs.Prelude.{◌≤◌, ℕ, length}
 use Rattle.avro_bytes.specs.declared.limits.TheConstants.{MOST_DEPTH, MOST_UNITS}
 use Rattle.outcome.specs.declared.limits.TheConstants.{MOST_OUTPUT}

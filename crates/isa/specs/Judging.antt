@@ -76,8 +76,10 @@ are_within most (list ∷ lists) = nat_le (length list) most && are_within most 
 
 abbrev pub is_within_limits : Program → Bool
 is_within_limits P =
-    nat_le (length P.code) MOST_INSTRS && nat_le (length P.constants) MOST_TABLES && nat_le (total_length P.constants) MOST_CONSTANT_BYTES
-    && nat_le (length P.maps) MOST_TABLES && are_within MOST_ENTRIES P.maps && nat_le (length P.jumps) MOST_TABLES && are_within MOST_ENTRIES P.jumps
+    nat_le (length P.code) MOST_INSTRS
+    && nat_le (length P.constants) MOST_TABLES && nat_le (total_length P.constants) MOST_CONSTANT_BYTES
+    && nat_le (length P.maps) MOST_TABLES && are_within MOST_ENTRIES P.maps
+    && nat_le (length P.jumps) MOST_TABLES && are_within MOST_ENTRIES P.jumps
     && nat_le (length P.misses) MOST_TABLES
 
 -- ---- the first of each kind
@@ -97,7 +99,8 @@ instr_out_of_range n P = option_map errors.Instr (first_out (instr_is_in_range n
 abbrev pub first_out_of_range : Program → Option ProgramError
 first_out_of_range P =
     let n = sizes_of P in
-    option_or (option_or (option_or (entry_out_of_range n P) (address_out_of_range n P)) (miss_out_of_range n P)) (instr_out_of_range n P)
+    option_or (option_or (option_or (entry_out_of_range n P) (address_out_of_range n P)) (miss_out_of_range n P))
+    (instr_out_of_range n P)
 
 abbrev pub first_error : Program → Option ProgramError
 first_error P =

@@ -15,7 +15,14 @@ use Rattle.isa.specs.Program.{Program}
 
 -- how many things of each kind a program has
 abbrev pub sizes_of : Program → Sizes
-sizes_of P = record { code = length P.code; constants = length P.constants; maps = length P.maps; jumps = length P.jumps; misses = length P.misses }
+sizes_of P =
+    record {
+      code = length P.code;
+      constants = length P.constants;
+      maps = length P.maps;
+      jumps = length P.jumps;
+      misses = length P.misses;
+    }
 
 -- an address of an instruction
 abbrev pub IsAddress : Sizes → ℕ → Type 0

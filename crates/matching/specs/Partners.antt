@@ -68,8 +68,8 @@ OthersGoByAlias = (ws rs : List FieldNode) (i j : ℕ) (f : FieldNode) → slice
     → (g : FieldNode) × (slice_get rs j ≡ Some g) × (is_used f.name g.aliases ≡ true)
     × (place_of g.name (field_names ws) ≡ None)
 
--- A field stays without a partner only where each reader's field that has its name among its aliases, and whose own name
--- is no writer's, is another's partner.
+-- A field stays without a partner only where each reader's field that has its name among its aliases, and whose own
+-- name is no writer's, is another's partner.
 abbrev pub AliasesAreTaken : Type 0
 AliasesAreTaken = (ws rs : List FieldNode) (i j : ℕ) (f g : FieldNode) → HaveDistinctNames ws
     → slice_get ws i ≡ Some f → slice_get (partners ws rs) i ≡ Some None

@@ -77,7 +77,8 @@ view_in (Some found) = view_at found.0 found.1
 view_in None = None
 
 abbrev pub slot_place : ℕ → Option (Frame × ℕ) → Option Place
-slot_place slot (Some (frames.Record first selected, end)) = if nat_lt slot (end - first) then Some (places.Slot (first + slot)) else None
+slot_place slot (Some (frames.Record first selected, end)) =
+    if nat_lt slot (end - first) then Some (places.Slot (first + slot)) else None
 slot_place slot found = None
 
 abbrev pub gathered_place : Option (Frame × ℕ) → Option Place

@@ -1,4 +1,5 @@
--- The program of a pair of schemas: X(0, 0) and HALT, then the routines in the order in which they were first called for. This project's own.
+-- The program of a pair of schemas: X(0, 0) and HALT, then the routines in the order in which they were first called
+-- for. This project's own.
 use Rattle.std.specs.Prelude.{ℕ, zero, suc, ◌+◌, Bool, true, false, ◌&&◌, List, [], ◌∷◌, ◌++◌, length, Option, Some, None, if◌then◌else◌, slice_get}
 use Rattle.avro_types.specs.Node.{Node}
 use Rattle.matching.specs.Options.{given}
@@ -25,7 +26,11 @@ module _ (section : Section → List Line) where
   -- the sections that are called for, from section i on; none where so many rounds do not find all
   abbrev pub reached : ℕ → ℕ → List Section → Option (List Section)
   reached zero i sections = given (slice_get sections i) (Some sections) (λ s. None)
-  reached (suc n) i sections = elim (slice_get sections i) [ None ↦ Some sections | Some s ↦ reached n (i + 1) (adding same_section sections (named_in calls_of (section s))) ]
+  reached (suc n) i sections =
+      elim (slice_get sections i) [
+        | None ↦ Some sections
+        | Some s ↦ reached n (i + 1) (adding same_section sections (named_in calls_of (section s)))
+      ]
 
   abbrev pub lines_of : List Section → List Line
   lines_of [] = []

@@ -1,4 +1,5 @@
--- Lines of a program's code: instructions whose numbers and addresses the whole program decides. All of this is this project's own.
+-- Lines of a program's code: instructions whose numbers and addresses the whole program decides. All of this is this
+-- project's own.
 use Rattle.std.specs.Prelude.{ℕ, ◌+◌, List, [], ◌∷◌, ◌++◌, length}
 use Rattle.outcome.specs.declared.mismatch.Mismatch.{Mismatch}
 use Rattle.outcome.specs.declared.mismatch.MismatchKind.{MismatchKind}

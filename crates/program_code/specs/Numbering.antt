@@ -1,4 +1,5 @@
--- Numbers and addresses: constants and misses are numbered as the code first names them, and shared where equal. This project's own.
+-- Numbers and addresses: constants and misses are numbered as the code first names them, and shared where equal. This
+-- project's own.
 use Rattle.std.specs.Prelude.{ℕ, suc, ◌+◌, ◌-◌, ◌==◌, Bool, true, false, ◌&&◌, List, [], ◌∷◌, ◌++◌, length, map, if◌then◌else◌}
 use Rattle.std.specs.Str.{bytes_eq}
 use Rattle.outcome.specs.declared.mismatch.Mismatch.{Mismatch}
@@ -71,7 +72,8 @@ same_section (Skip w) (Skip v) = w == v
 same_section _ _ = false
 
 abbrev pub same_miss : Mismatch → Mismatch → Bool
-same_miss a b = code_of_kind a.kind == code_of_kind b.kind && a.writer_node == b.writer_node && a.reader_node == b.reader_node
+same_miss a b =
+    code_of_kind a.kind == code_of_kind b.kind && a.writer_node == b.writer_node && a.reader_node == b.reader_node
 
 -- ---- lines become instructions
 
@@ -95,7 +97,9 @@ module _ (starts : Section → ℕ) (constants : List (List ℕ)) (misses : List
 
   abbrev pub code_from : ℕ → ℕ → ℕ → List Line → List Instr
   code_from pc maps jumps [] = []
-  code_from pc maps jumps (line ∷ lines) = linked pc maps jumps line ∷ code_from (pc + 1) (maps + length (maps_of line)) (jumps + length (jumps_of pc line)) lines
+  code_from pc maps jumps (line ∷ lines) =
+      linked pc maps jumps line ∷ code_from (pc + 1) (maps + length (maps_of line))
+      (jumps + length (jumps_of pc line)) lines
 
 abbrev pub constants_in : List Line → List (List ℕ)
 constants_in lines = adding bytes_eq [] (named_in constants_of lines)

@@ -1,4 +1,5 @@
--- X(w, r): the code that reads a datum of the writer's node w and writes what the reader's node r makes of it. This project's own.
+-- X(w, r): the code that reads a datum of the writer's node w and writes what the reader's node r makes of it. This
+-- project's own.
 use Rattle.std.specs.Prelude.{ℕ, zero, suc, pos, Bool, true, false, List, [], ◌∷◌, ◌++◌, length, map, Option, Some, None, if◌then◌else◌, slice_get}
 use Rattle.avro_bytes.specs.Shortest.{shortest}
 use Rattle.avro_types.specs.Node.{Node, FieldNode, NullNode, BooleanNode, IntNode, LongNode, BytesNode, TextNode, FixedNode, EnumNode, ArrayNode, MapNode, UnionNode, RecordNode}
@@ -23,7 +24,8 @@ abbrev pub is_text : Option Node → Bool
 is_text (Some TextNode) = true
 is_text _ = false
 
--- ---- defaults: SLOT j and PUT for each of the reader's fields without a partner, whose default's written form is not empty
+-- ---- defaults: SLOT j and PUT for each of the reader's fields without a partner, whose default's written form is
+-- not empty
 
 abbrev pub put_in : ℕ → List ℕ → List Line
 put_in j [] = []
@@ -48,20 +50,26 @@ module _ (W R : List Node) where
   straight_node X w r (Some BooleanNode) reader = Op op.Bool ∷ []
   straight_node X w r (Some IntNode) reader = Op op.Int ∷ []
   straight_node X w r (Some LongNode) reader = Op op.Long ∷ []
-  straight_node X w r (Some BytesNode) reader = (if is_text reader then BytesText (miss kinds.BytesNotText w r) else Op op.Bytes) ∷ []
+  straight_node X w r (Some BytesNode) reader =
+      (if is_text reader then BytesText (miss kinds.BytesNotText w r) else Op op.Bytes) ∷ []
   straight_node X w r (Some TextNode) reader = Op op.Text ∷ []
   straight_node X w r (Some (FixedNode names size)) reader = Op (op.Fixed size) ∷ []
   straight_node X w r (Some (EnumNode names symbols default)) reader = Enum (map (target w r reader) symbols) ∷ []
-  straight_node X w r (Some (ArrayNode item)) reader = given (both_items (Some (ArrayNode item)) reader) (Lost ∷ []) (λ p. Op op.Blocks ∷ looped op.Next (X p.0 p.1))
-  straight_node X w r (Some (MapNode value)) reader = given (both_values (Some (MapNode value)) reader) (Lost ∷ []) (λ p. Op op.Blocks ∷ looped op.Next (Op op.Text ∷ X p.0 p.1))
-  straight_node X w r (Some (RecordNode names fields)) reader = given (field_lists (Some (RecordNode names fields)) reader) (Lost ∷ []) (λ p. record_code w r (lacking p.0 p.1))
+  straight_node X w r (Some (ArrayNode item)) reader =
+      given (both_items (Some (ArrayNode item)) reader) (Lost ∷ []) (λ p. Op op.Blocks ∷ looped op.Next (X p.0 p.1))
+  straight_node X w r (Some (MapNode value)) reader =
+      given (both_values (Some (MapNode value)) reader) (Lost ∷ [])
+      (λ p. Op op.Blocks ∷ looped op.Next (Op op.Text ∷ X p.0 p.1))
+  straight_node X w r (Some (RecordNode names fields)) reader =
+      given (field_lists (Some (RecordNode names fields)) reader) (Lost ∷ []) (λ p. record_code w r (lacking p.0 p.1))
   straight_node X w r (Some (UnionNode members)) reader = Lost ∷ []
   straight_node X w r None reader = Lost ∷ []
 
   -- r is a union: where member j is the first that matches, PUT of its position and X(w, j); where none matches, MISS
   -- NoBranch and K(w); no union and no match: MISS NoMatch and K(w)
   abbrev pub placed_node : (ℕ → ℕ → List Line) → ℕ → ℕ → Place → List Line
-  placed_node X w r (IntoMember j member) = Put (shortest (pos j)) ∷ straight_node X w member (slice_get W w) (slice_get R member)
+  placed_node X w r (IntoMember j member) =
+      Put (shortest (pos j)) ∷ straight_node X w member (slice_get W w) (slice_get R member)
   placed_node X w r Nowhere = Miss (miss kinds.NoBranch w r) ∷ K W w
   placed_node X w r Unmatched = Miss (miss kinds.NoMatch w r) ∷ K W w
   placed_node X w r Straight = straight_node X w r (slice_get W w) (slice_get R r)
@@ -91,7 +99,9 @@ module _ (W R : List Node) where
 
   -- RECORD with the number of r's fields, the fields, the defaults, ENDREC and RET
   abbrev pub write_routine : List FieldNode → List FieldNode → List Line
-  write_routine fs gs = Op (op.Record (length gs)) ∷ (fields_code (routes fs gs) ++ (defaults_code (routes fs gs) 0 gs ++ Op op.EndRecord ∷ Op op.Return ∷ []))
+  write_routine fs gs =
+      Op (op.Record (length gs)) ∷ (fields_code (routes fs gs)
+      ++ (defaults_code (routes fs gs) 0 gs ++ Op op.EndRecord ∷ Op op.Return ∷ []))
 
   unfoldable pub section : Section → List Line
   section Main = X 0 0 ++ Op op.Halt ∷ []

@@ -24,7 +24,8 @@ start_at l s = given (place s l.sections) (length l.lines) (λ n. slice_index_or
 
 pub record AreSectionLines (W R : List Node) (l : SectionLines) : Type 0 where
   pub starts : (s : Section) → start_at l s ≡ start_in (section W R) 0 l.sections s
-  pub code : code_of W R ≡ checked (lines_in W R l.lines) (numbered (start_in (section W R) 0 l.sections) (lines_in W R l.lines))
+  pub code : code_of W R ≡ checked (lines_in W R l.lines)
+      (numbered (start_in (section W R) 0 l.sections) (lines_in W R l.lines))
 
 -- the walk's answer: an error only where there is no program, or memory ran out
 abbrev pub Walks : List Node → List Node → Result SectionLines CompileError → Type 0

@@ -16,4 +16,5 @@ ResolutionIsWhole W R = (w r : ℕ) (d e : Datum) → Conforms W w d → resolve
 -- an answer spells the datum of the reader's root that comes of the payload's
 abbrev pub AnswersAreSpelled : List Node → List Node → Type 0
 AnswersAreSpelled W R = (payload bytes : List ℕ) → IsOutcome W R payload (Done bytes) →
-    (d : Datum) × (e : Datum) × IsPayload W d payload × (resolved W R 0 0 d ≡ Ok e) × Conforms R 0 e × Spells R 0 e bytes
+    (d : Datum) × (e : Datum) × IsPayload W d payload × (resolved W R 0 0 d ≡ Ok e) × Conforms R 0 e
+    × Spells R 0 e bytes

@@ -24,7 +24,8 @@ partner_pairs (r ∷ routes) = given r.partner (partner_pairs routes) (λ p. (r.
 -- items, values and fields of two nodes
 abbrev pub part_pairs : Option Node → Option Node → List Pair
 part_pairs w r =
-    option_to_list (both_items w r) ++ option_to_list (both_values w r) ++ given (field_lists w r) [] (λ p. partner_pairs (routes p.0 p.1))
+    option_to_list (both_items w r) ++ option_to_list (both_values w r)
+    ++ given (field_lists w r) [] (λ p. partner_pairs (routes p.0 p.1))
 
 -- where a datum goes straight into the reader's node, its parts; where it goes into a member, that member
 abbrev pub placed_pairs : Place → Option Node → Option Node → ℕ → List Pair

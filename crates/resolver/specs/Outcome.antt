@@ -18,8 +18,12 @@ use Rattle.resolver.specs.Resolution.{resolved}
 abbrev pub IsOutcome : List Node → List Node → List ℕ → Outcome → Type 0
 IsOutcome W R payload (Malformed kind at) = FirstFault W payload kind at
 IsOutcome W R payload (Mismatched m) = (d : Datum) × IsPayload W d payload × (resolved W R 0 0 d ≡ Err m)
-IsOutcome W R payload OutputTooLarge = (d : Datum) × (e : Datum) × IsPayload W d payload × (resolved W R 0 0 d ≡ Ok e) × (MOST_OUTPUT < length (written e))
-IsOutcome W R payload (Done bytes) = (d : Datum) × (e : Datum) × IsPayload W d payload × (resolved W R 0 0 d ≡ Ok e) × (bytes ≡ written e) × (length (written e) ≤ MOST_OUTPUT)
+IsOutcome W R payload OutputTooLarge =
+    (d : Datum) × (e : Datum) × IsPayload W d payload × (resolved W R 0 0 d ≡ Ok e)
+    × (MOST_OUTPUT < length (written e))
+IsOutcome W R payload (Done bytes) =
+    (d : Datum) × (e : Datum) × IsPayload W d payload × (resolved W R 0 0 d ≡ Ok e) × (bytes ≡ written e)
+    × (length (written e) ≤ MOST_OUTPUT)
 
 -- why a payload has no outcome
 abbrev pub refusal : List ℕ → Option TranscodeError

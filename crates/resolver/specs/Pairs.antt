@@ -44,4 +44,5 @@ pub record AreMarked (s : Inside) : Type 0 where
   pub all : length s.seen.items ≡ s.writers * s.readers
   pub counted : marks s.seen.items ≡ length s.pairs.items
   pub within : AreWithin s.writers s.readers s.pairs.items
-  pub marked : (p : Pair) → p.1 < s.readers → slice_index_or s.seen.items (p.0 * s.readers + p.1) false ≡ true → Among p s.pairs.items
+  pub marked : (p : Pair) → p.1 < s.readers → slice_index_or s.seen.items (p.0 * s.readers + p.1) false ≡ true
+      → Among p s.pairs.items

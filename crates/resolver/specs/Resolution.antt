@@ -135,7 +135,8 @@ module _ (W R : List Node) where
         resolved_values p.0 p.1 ps >>= λ qs. Ok (MapDatum qs)))
     resolved w r (RecordDatum ds) = placed (place W R w r) w r (λ node.
         given (field_lists (slice_get W w) (slice_get R node)) (mismatch NoMatch w node) (λ p.
-        unless_lacking (lacking p.0 p.1) w (resolved_fields (no_slots p.1) (routes p.0 p.1) ds >>= λ slots. Ok (RecordDatum (filled p.1 slots)))))
+        unless_lacking (lacking p.0 p.1) w
+        (resolved_fields (no_slots p.1) (routes p.0 p.1) ds >>= λ slots. Ok (RecordDatum (filled p.1 slots)))))
     -- the writer's union goes first: "the selected writer's schema" is resolved, whose place is its own
     resolved w r (UnionDatum n d) =
         given (member_at (slice_get W w) n) (mismatch NoMatch w r) (λ member. resolved member r d)

@@ -49,7 +49,8 @@ inside W R w r (MapDatum ps) =
     resolved_values W R p.0 p.1 ps >>= λ qs. Ok (MapDatum qs))
 inside W R w r (RecordDatum ds) =
     given (field_lists (slice_get W w) (slice_get R r)) (mismatch NoMatch w r) (λ p.
-    unless_lacking (lacking p.0 p.1) w (resolved_fields W R (no_slots p.1) (routes p.0 p.1) ds >>= λ slots. Ok (RecordDatum (filled p.1 slots))))
+    unless_lacking (lacking p.0 p.1) w
+    (resolved_fields W R (no_slots p.1) (routes p.0 p.1) ds >>= λ slots. Ok (RecordDatum (filled p.1 slots))))
 inside W R w r (UnionDatum n d) = mismatch NoMatch w r
 
 -- what comes of a field of the writer's, with the position of its partner, where it has one

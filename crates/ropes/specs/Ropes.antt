@@ -33,7 +33,8 @@ counted rope = min (length rope) (2 ^ 64 - 1)
 -- each joint says how many there are in its rope, after earlier ropes
 abbrev pub AreCounted : List (List Segment) → List Joint → Type 0
 AreCounted ropes [] = Unit {0}
-AreCounted ropes (j ∷ joints) = (j.len ≡ counted (joined_by ropes j)) × AreCounted (ropes ++ joined_by ropes j ∷ []) joints
+AreCounted ropes (j ∷ joints) =
+    (j.len ≡ counted (joined_by ropes j)) × AreCounted (ropes ++ joined_by ropes j ∷ []) joints
 
 pub record IsRoped (joints : List Joint) : Type 0 where
   pub ordered : AreJoints 0 joints

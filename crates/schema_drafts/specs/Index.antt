@@ -59,7 +59,8 @@ HasOnly {A = A} text n map = (empty : BTreeMap (String A) ℕ) × ((other : List
 -- one map more, which has a number under one text alone
 abbrev pub HasOnlyScope : {A : Type 0} → List ℕ → ℕ → List (BTreeMap (String A) ℕ) → List (BTreeMap (String A) ℕ)
     → Type 0
-HasOnlyScope {A = A} text n before after = (map : BTreeMap (String A) ℕ) × HasOnly text n map × (after ≡ before ++ map ∷ [])
+HasOnlyScope {A = A} text n before after =
+    (map : BTreeMap (String A) ℕ) × HasOnly text n map × (after ≡ before ++ map ∷ [])
 
 -- Under each namespace stands its number, and under that, by the last part of a full name, the node that defines it.
 pub record IsIndexOf {A : Type 0} (numbers : BTreeMap (String A) ℕ) (scopes : List (BTreeMap (String A) ℕ))

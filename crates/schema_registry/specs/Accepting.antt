@@ -31,7 +31,8 @@ with_schema schema schemas = if is_some (id_of schema.text schemas) then schemas
 
 -- the next version of a subject
 abbrev pub next_version : List ℕ → ℕ → List Entry → Entry
-next_version subject id entries = record { subject = subject; version = length (versions_of subject entries) + 1; id = id }
+next_version subject id entries =
+    record { subject = subject; version = length (versions_of subject entries) + 1; id = id }
 
 abbrev pub with_version : Lists → List ℕ → Declaration → Lists
 with_version lists subject schema = record lists {

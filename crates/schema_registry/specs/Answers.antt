@@ -22,7 +22,8 @@ use Rattle.schema_registry.specs.Accepting.{declaration_of, id_for, registry_aft
 abbrev pub Pair : Type 0
 Pair = Declaration × Declaration
 
--- what is answered: this; or the first of two where each reader can read all that its writer writes, and else the second
+-- what is answered: this; or the first of two where each reader can read all that its writer writes, and else the
+-- second
 pub data Answer : Type 0 where
   Told : Result Reply Refusal → Answer
   WhereSafe : List Pair → Result Reply Refusal → Result Reply Refusal → Answer
@@ -70,7 +71,8 @@ where_schema (Err e) answer = Told (Err (BadSchema e))
 
 -- the subject is named by the rule, and the text declares a schema
 abbrev pub where_declared : List ℕ → List ℕ → (Declaration → Answer) → Answer
-where_declared subject text answer = where_true (is_subject subject) BadSubject (where_schema (declaration_of text) answer)
+where_declared subject text answer =
+    where_true (is_subject subject) BadSubject (where_schema (declaration_of text) answer)
 
 -- a subject that is named has to be named by the rule
 abbrev pub is_subject_or_none : Option (List ℕ) → Bool
@@ -109,11 +111,13 @@ module _ (lists : Lists) where
 
   -- there is no room for one more schema, or for one more subject
   abbrev pub is_full : Declaration → List ℕ → Bool
-  is_full schema subject = has_no_id lists.schemas schema.text || has_no_room (subjects_of lists.entries) subject MOST_SUBJECTS
+  is_full schema subject =
+      has_no_id lists.schemas schema.text || has_no_room (subjects_of lists.entries) subject MOST_SUBJECTS
 
   -- that there is no such schema is never told, since the id of each version is a schema's (`Holds.ids_known`)
   abbrev pub entry_answer : Entry → Answer
-  entry_answer e = where_some (numbered lists.schemas e.id) NoSchema (λ s. Told (Ok (EntryReply e.subject e.version e.id s.text)))
+  entry_answer e =
+      where_some (numbered lists.schemas e.id) NoSchema (λ s. Told (Ok (EntryReply e.subject e.version e.id s.text)))
 
   -- a schema that the subject has answers its id again, whatever its level
   abbrev pub register_answer : List ℕ → List Entry → Declaration → Option Entry → Answer
@@ -125,7 +129,8 @@ module _ (lists : Lists) where
 
   abbrev pub registration : List ℕ → Declaration → Answer
   registration subject schema =
-      register_answer subject (versions_of subject lists.entries) schema (with_text schema.text lists.schemas (versions_of subject lists.entries))
+      register_answer subject (versions_of subject lists.entries) schema
+      (with_text schema.text lists.schemas (versions_of subject lists.entries))
 
   -- the id of the code is that of the answer, unless memory ran out
   abbrev pub GivesId : List ℕ → Declaration → Result ℕ Refusal → Type 0
@@ -135,25 +140,29 @@ module _ (lists : Lists) where
   -- at NONE every schema is compatible (our own rule)
   abbrev pub check_answer : List ℕ → Declaration → Declaration → Answer
   check_answer subject new old =
-      WhereSafe (pairs_with (level_of (Some subject) lists.levels) new old) (Ok (CompatibleReply true)) (Ok (CompatibleReply false))
+      WhereSafe (pairs_with (level_of (Some subject) lists.levels) new old) (Ok (CompatibleReply true))
+      (Ok (CompatibleReply false))
 
   abbrev pub set_level_answer : Option (List ℕ) → Level → Answer
   set_level_answer None level = Told (Ok (LevelReply level))
   set_level_answer (Some subject) level =
-      if has_no_room (subjects_with_level lists.levels) subject MOST_LEVELS then Told (Err Full) else Told (Ok (LevelReply level))
+      if has_no_room (subjects_with_level lists.levels) subject MOST_LEVELS then Told (Err Full)
+      else Told (Ok (LevelReply level))
 
   -- of a version to check, too, it is never told that there is no such schema
   abbrev pub answer_to : Command → Answer
   answer_to (RegisterCommand subject text) =
       where_true (is_subject subject) BadSubject (where_schema (declaration_of text)
       (registration subject))
-  answer_to (SetLevelCommand subject level) = where_true (is_subject_or_none subject) BadSubject (set_level_answer subject level)
+  answer_to (SetLevelCommand subject level) =
+      where_true (is_subject_or_none subject) BadSubject (set_level_answer subject level)
   answer_to (LookupCommand subject text) =
       where_true (is_subject subject) BadSubject (where_schema (declaration_of text)
       (λ schema. where_versions (versions_of subject lists.entries)
       (λ versions. where_some (with_text schema.text lists.schemas versions) NoSchema entry_answer)))
   answer_to (CheckCommand subject version text) =
-      where_true (is_subject subject) BadSubject (where_true (is_version version) BadVersion (where_schema (declaration_of text)
+      where_true (is_subject subject) BadSubject
+      (where_true (is_version version) BadVersion (where_schema (declaration_of text)
       (λ schema. where_versions (versions_of subject lists.entries)
       (λ versions. where_some (version_at version versions) NoVersion
       (λ e. where_some (numbered lists.schemas e.id) NoSchema (check_answer subject schema))))))

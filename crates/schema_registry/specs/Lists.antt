@@ -1,5 +1,5 @@
--- What a registry holds, as three lists, and what is found in them (Confluent Schema Registry API, "Schemas", "Subjects", "Config").
--- That ids and versions have no gaps, and what is marked below, is ours.
+-- What a registry holds, as three lists, and what is found in them (Confluent Schema Registry API, "Schemas",
+-- "Subjects", "Config"). That ids and versions have no gaps, and what is marked below, is ours.
 use Rattle.std.specs.Prelude.{ℕ, ◌==◌, List, [], map, filter, find, length, Bool, true, false, Option, Some, None, option_map, unwrap_or}
 use Rattle.std.specs.List.{filter_map, position_from}
 use Rattle.std.specs.Ordering.{nat_cmp}

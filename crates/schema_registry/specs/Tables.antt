@@ -35,7 +35,8 @@ number_for (Number n) ids = n
 abbrev pub IsId : List Declaration → ℕ → Type 0
 IsId schemas id = (0 < id) × (id ≤ length schemas)
 
-pub record Holds (schemas : List Declaration) (subjects : BTreeMap (String Global) (List ℕ)) (levels : BTreeMap (String Global) Level) (global : Level)
+pub record Holds (schemas : List Declaration) (subjects : BTreeMap (String Global) (List ℕ))
+    (levels : BTreeMap (String Global) Level) (global : Level)
     (lists : Lists) : Type 0 where
   pub schemas_are : schemas ≡ lists.schemas
   pub few_schemas : length schemas ≤ MOST_SCHEMAS

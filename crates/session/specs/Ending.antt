@@ -20,7 +20,9 @@ EndIsOutcome W R s = (end : state.End) → machine_end s ≡ Some end → IsOutc
 
 -- one that comes while more bytes may follow is the outcome with every continuation
 abbrev pub EarlyEndIsOutcome : List Node → List Node → Session → Type 0
-EarlyEndIsOutcome W R s = (more : List ℕ) (end : state.End) → s.closed ≡ false → machine_end s ≡ Some end → IsOutcomeOf W R (s.bytes ++ more) end
+EarlyEndIsOutcome W R s =
+    (more : List ℕ) (end : state.End) → s.closed ≡ false → machine_end s ≡ Some end
+    → IsOutcomeOf W R (s.bytes ++ more) end
 
 -- Where all bytes came, some number of rows, within the row bound, leads to their outcome; a session whose machine has
 -- not ended has taken fewer.

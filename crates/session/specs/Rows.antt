@@ -13,7 +13,8 @@ abbrev pub is_counted_out : State → Bool
 is_counted_out s = s.count == 2 ^ 64 - 1
 
 module _ (P : Program) (input : List ℕ) (ended : Bool) where
-  -- the rows from a state on: at most so many, none at a breakpoint at which no content is begun, and none that cannot be counted
+  -- the rows from a state on: at most so many, none at a breakpoint at which no content is begun, and none that
+  -- cannot be counted
   unfoldable pub slice_from : List ℕ → ℕ → State → ℕ
   slice_from breaks zero s = 0
   slice_from breaks (suc k) s = if is_counted_out s || stops_at breaks s then 0

@@ -98,8 +98,8 @@ impl<'p> Session<'p> {
         self.run.close();
     }
 
-    /// Sets a breakpoint. One that is there is not set again. `BadAddress` where the address is none of the program's, and
-    /// then `TooManyBreaks` where `MOST_BREAKS` others are set.
+    /// Sets a breakpoint. One that is there is not set again. `BadAddress` where the address is none of the program's,
+    /// and then `TooManyBreaks` where `MOST_BREAKS` others are set.
     pub fn set_break(&mut self, address: u32) -> Result<(), SessionRefusal>
         ensures set { Maybe (break_refusal address self.old) (set_at address self.old) result self.old self.new }
         ensures memory { IfErr result

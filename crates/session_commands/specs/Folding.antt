@@ -10,4 +10,5 @@ module _ {S : Type 0} (Answers : List ℕ → List ℕ → S → S → Type 0) w
   unfoldable pub AnswersAll : List (List ℕ) → List ℕ → S → S → Type 0
   AnswersAll [] output old new = (output ≡ []) × (new ≡ old)
   AnswersAll (line ∷ later) output old new =
-      (answer : List ℕ) × (rest : List ℕ) × (next : S) × Answers line answer old next × AnswersAll later rest next new × (output ≡ answer ++ rest)
+      (answer : List ℕ) × (rest : List ℕ) × (next : S) × Answers line answer old next × AnswersAll later rest next new
+      × (output ≡ answer ++ rest)

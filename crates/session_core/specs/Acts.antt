@@ -65,7 +65,8 @@ Acts Finish reply old new = Surely None (finished old.session) reply old new
 Acts (Slice worker k) reply old new = Slices worker k reply old new
 Acts (Steal worker) reply old new = (reply ≡ Done) × (new ≡ record old { holder = worker })
 Acts (Break address) reply old new = SetsBreak address reply old new
-Acts (Clear address) reply old new = Surely (clear_refusal address old.session) (cleared_at address old.session) reply old new
+Acts (Clear address) reply old new =
+    Surely (clear_refusal address old.session) (cleared_at address old.session) reply old new
 Acts (Walk n) reply old new = Takes (walk_rows n old.session) reply old new
 Acts (Go n) reply old new = Takes (go_rows n old.session) reply old new
 Acts Refuse reply old new = Surely None (refused old.session) reply old new

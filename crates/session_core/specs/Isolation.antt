@@ -25,4 +25,5 @@ abbrev pub IsItsOwn : ℕ → List Step → World → Type 0
 IsItsOwn s steps world = (alone : World) × Happened (own_steps s steps) no_world alone × IsLike s world alone
 
 abbrev pub SessionsAreTheirOwn : Type 0
-SessionsAreTheirOwn = (s : ℕ) (steps : List Step) (world : World) → Happened steps no_world world → IsItsOwn s steps world
+SessionsAreTheirOwn =
+    (s : ℕ) (steps : List Step) (world : World) → Happened steps no_world world → IsItsOwn s steps world

@@ -7,7 +7,8 @@ use Rattle.program_code.specs.Code.{code_of}
 use Rattle.session_core.specs.declared.publish_error.PublishError.{PublishError}
 use Rattle.session_core.specs.declared.publish_error.PublishError.TheVariants.{Clash, NoMemory, ProgramTooLarge}
 
--- the program of the pair, or that it passes a limit; else memory ran out, or the store holds something else in its place
+-- the program of the pair, or that it passes a limit; else memory ran out, or the store holds something else in its
+-- place
 abbrev pub IsPublished : List Node → List Node → Result (Bor Program) PublishError → Type 0
 IsPublished W R (Ok P) = code_of W R ≡ Some P.now
 IsPublished W R (Err ProgramTooLarge) = code_of W R ≡ None
