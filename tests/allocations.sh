@@ -100,16 +100,16 @@ ask_again() {
   echo "$(basename "$tests"): $runs allocations refused in turn"
 }
 ask_again resolver_tests bytes_tests::forms_are_read_and_skipped
-ask_again avro_schema_tests schema_tests::{reads_texts,tells_the_first_fault,numbers_nodes_and_reads_their_parts}
+ask_again resolver_tests schema_tests::{reads_texts,tells_the_first_fault,numbers_nodes_and_reads_their_parts}
 ask_again resolver_tests pair_tests::{payloads_are_read_and_written,outcomes_of_pairs,what_readers_make_of_data}
 ask_again session_core_tests registry::command_tests::{answers_each_question,levels_compare_what_they_name,refuses_in_order,maps_grow,a_growth_without_memory_changes_nothing}
 ask_again session_core_tests pair_row_tests::{one_cell_holds_one_pair,each_pair_has_its_own_cell}
-ask_again isa_tests program_tests::{keeps_lists_and_shares_them,a_program_shows_its_parts}
-ask_again isa_tests program_tests::parts_are_a_program_or_their_first_fault_is_told
-ask_again isa_tests listing_tests::texts_come_back_or_a_fault_is_told image_tests::images_have_a_listing_or_a_first_fault
+ask_again stepper_tests forms::program_tests::{keeps_lists_and_shares_them,a_program_shows_its_parts}
+ask_again stepper_tests forms::program_tests::parts_are_a_program_or_their_first_fault_is_told
+ask_again stepper_tests forms::listing_tests::texts_come_back_or_a_fault_is_told forms::image_tests::images_have_a_listing_or_a_first_fault
 ask_again stepper_tests row_tests::{worked_rows_come_out,slices_change_nothing,traps_are_told} text_tests::{texts_take_a_row_for_64_bytes,bytes_that_are_no_text_are_a_miss}
 ask_again stepper_tests show_tests::programs_are_listed arena_tests::rows_are_taken_one_by_one
-ask_again machine_tests run_tests::cuts_and_slices_change_nothing pair_tests::payloads_by_themselves
+ask_again commands_tests run_tests::cuts_and_slices_change_nothing pair_tests::payloads_by_themselves
 ask_again commands_tests replay_tests::a_refused_growth_ends_one_session
 echo "$passed passed, $failed failed"
 [ $failed = 0 ]

@@ -1,10 +1,22 @@
-//! Tests of `session_commands` and `commands` for what no row of `worked_rows` can show, in one crate over them, so that
-//! each library is proved once.
+//! Tests of `program_compiler`, `machine`, `session_commands` and `commands` for what no row of `worked_rows` can show,
+//! in one crate over them, so that each library is proved once.
 #![tactic(auto)]
 
 #[cfg(test)]
+mod again;
+#[cfg(test)]
+mod device_tests;
+#[cfg(test)]
 mod devices;
+#[cfg(test)]
+mod pair_tests;
 #[cfg(test)]
 mod replay_tests;
 #[cfg(test)]
+mod rows;
+#[cfg(test)]
 mod run_tests;
+#[cfg(test)]
+mod text_tests;
+#[cfg(test)]
+mod words;

@@ -1,92 +1,187 @@
-//! Devices that fail.
+//! Runs in pieces and slices: neither changes the end or the count.
 
-use crate::devices::{Drip, NEVER, Trickle};
-use commands::{RunError, Verb, run};
-use std::alloc::Global;
+use crate::again::{program_of, pushed};
+use crate::rows::{BOTH, COUNTS, SWAPPED};
+use crate::words::end_words;
+use isa::Program;
+use machine::{Run, Slice, Why};
+use std::alloc::{AllocError, Global};
 use std::process::Abort;
+use std::test::Fail;
 
-/// Two payloads of a long.
-const EXAMPLE: &[u8] = b"\"long\"\n\"long\"\n02\n7f\n";
+/// More slices than any row takes.
+const TURNS: usize = 20_000;
 
-const EXAMPLE_OUTPUT: &[u8] = b"done 02\ndone 7f\n";
-
-/// Whether a run that is read by a device ends so and writes an output, and how often the device is called.
-fn assert_reads(
-    rt: &(impl Abort + AllocGlobal),
-    fails_at: usize,
-    end: Result<u8, RunError>,
-    output: &[u8],
-) -> usize {
-    let mut reader = Trickle::new(EXAMPLE, fails_at);
-    let mut written = Vec::new(rt.alloc());
-    let done = run(rt.alloc(), &Verb::Transcode, &mut reader, &mut written);
-    assert!(rt;
-        done == end && written.as_slice() == output,
-        "at {fails_at}"
-    );
-    reader.calls
-}
-
-#[test]
-fn fails_at_each_read_in_turn(rt: HostRuntime) {
-    let calls = assert_reads(&rt, NEVER, Ok(0), EXAMPLE_OUTPUT);
-    for call in 0..calls {
-        if call % 3 != 1 {
-            assert_reads(&rt, call, Err(RunError::Read), b"");
+/// Rows until the run ends or waits, in slices of so many.
+fn advance(run: &mut Run<'_>, k: u64) {
+    for _turn in 0..TURNS {
+        if matches!(run.slice(&[], k).why, Why::Ended | Why::Waits) {
+            return;
         }
     }
 }
 
-/// How a run ends that is written to a device.
-fn drips(alloc: Global, writer: &mut Drip) -> Result<u8, RunError> {
-    let mut reader = EXAMPLE;
-    run(alloc, &Verb::Transcode, &mut reader, writer)
+/// Whether a run has taken no more rows than as many as its program has instructions for each unit and for the whole,
+/// and one for each byte.
+fn is_within_bound(run: &Run<'_>) -> bool {
+    let parts = run.machine().units() as u64 + 1;
+    let most = parts.saturating_mul(run.program().len() as u64);
+    run.machine().count() <= most.saturating_add(run.input().len() as u64)
 }
 
-/// Whether a device took all, and it was passed on.
-fn has_all(writer: &Drip) -> bool {
-    writer.taken.as_slice() == EXAMPLE_OUTPUT && writer.passed_on == EXAMPLE_OUTPUT.len()
-}
-
-/// Whether a run to a device that never fails writes all, and how often the device is called.
-fn assert_writes_all(rt: &(impl Abort + AllocGlobal)) -> usize {
-    let mut writer = Drip::new(rt.alloc(), NEVER);
-    let done = drips(rt.alloc(), &mut writer);
-    assert!(rt; done == Ok(0) && has_all(&writer));
-    writer.calls
-}
-
-/// Whether a device took what comes before a call, at which it failed, and nothing was passed on.
-fn is_cut(writer: &Drip, call: usize) -> bool {
-    let interrupted = call.wrapping_add(1) / 3;
-    writer.passed_on == 0
-        && EXAMPLE_OUTPUT.starts_with(&writer.taken)
-        && writer.taken.len() + interrupted == call
-}
-
-/// Whether a run to a device that fails at a call ends so.
-fn assert_fails_at(rt: &(impl Abort + AllocGlobal), call: usize) {
-    let mut writer = Drip::new(rt.alloc(), call);
-    let done = drips(rt.alloc(), &mut writer);
-    assert!(rt;
-        done == Err(RunError::Write) && is_cut(&writer, call),
-        "at {call}"
-    );
-}
-
-#[test]
-fn fails_at_each_write_in_turn(rt: HostRuntime) {
-    let calls = assert_writes_all(&rt);
-    for call in 0..calls {
-        assert_fails_at(&rt, call);
+/// What a run shows, in words.
+fn words(alloc: Global, run: &Run<'_>) -> Result<String, AllocError> {
+    if !is_within_bound(run) {
+        return String::from_str(alloc, "past the row bound");
     }
+    let end = end_words(alloc, run.machine().end())?;
+    format!(in alloc; "{end} count {}", run.machine().count())
+}
+
+/// Takes a payload in pieces and slices of so many, to its end.
+fn drive(run: &mut Run<'_>, payload: &[u8], size: usize, k: u64) -> Result<(), AllocError> {
+    for piece in payload.chunks(size.max(1)) {
+        advance(run, k);
+        pushed(run, piece)?;
+    }
+    advance(run, k);
+    run.close();
+    advance(run, k);
+    Ok(())
+}
+
+/// What a run shows on a payload in pieces and slices of so many.
+pub(crate) fn cut_run(
+    alloc: Global,
+    program: &Program,
+    payload: &[u8],
+    size: usize,
+    k: u64,
+) -> Result<String, AllocError> {
+    let mut run = Run::new(alloc, program);
+    drive(&mut run, payload, size, k)?;
+    words(alloc, &run)
+}
+
+/// Whether one way to cut a payload and its rows comes to that answer.
+fn is_cut_answer(
+    alloc: Global,
+    program: &Program,
+    payload: &[u8],
+    (size, k): (usize, u64),
+    answer: &str,
+) -> Result<bool, AllocError> {
+    let found = cut_run(alloc, program, payload, size, k)?;
+    Ok(found.as_str() == answer)
+}
+
+/// Whether each way comes to that answer.
+fn is_answer(
+    alloc: Global,
+    program: &Program,
+    payload: &[u8],
+    answer: &str,
+) -> Result<bool, AllocError> {
+    for way in [(payload.len(), u64::MAX), (1, u64::MAX), (3, 2), (1, 1)] {
+        if !is_cut_answer(alloc, program, payload, way, answer)? {
+            return Ok(false);
+        }
+    }
+    Ok(true)
+}
+
+/// The same of a payload in hexadecimal.
+fn is_hex_answer(alloc: Global, program: &Program, hex: &str, answer: &str) -> Result<bool, Fail> {
+    let payload = hex::decode(alloc, hex)?;
+    Ok(is_answer(alloc, program, &payload, answer)?)
+}
+
+/// Whether each way to cut a payload of a pair comes to that answer.
+fn is_texts_answer(
+    rt: &(impl Abort + AllocGlobal),
+    writer: &str,
+    reader: &str,
+    hex: &str,
+    answer: &str,
+) -> Result<bool, Fail> {
+    let program = program_of(rt, writer, reader);
+    is_hex_answer(rt.alloc(), &program, hex, answer)
+}
+
+/// Whether a row is true.
+fn is_true(rt: &(impl Abort + AllocGlobal), row: &str) -> Result<bool, Fail> {
+    let mut parts = row.split('|');
+    let (Some(writer), Some(reader), Some(hex), Some(answer)) = (
+        parts.next(),
+        parts.next(),
+        parts.next(),
+        parts.next(),
+    ) else {
+        return Ok(false);
+    };
+    is_texts_answer(rt, writer, reader, hex, answer)
 }
 
 #[test]
-fn a_run_that_may_take_no_row_takes_none(rt: HostRuntime) {
-    let mut reader: &[u8] = b"avro program 1\n0 JUMP 0\nend\n\n";
-    let mut written = Vec::new(rt.alloc());
-    let verb = Verb::Run { steps: 0 };
-    let done = run(rt.alloc(), &verb, &mut reader, &mut written);
-    assert!(rt; done == Ok(0) && written.as_slice() == b"running count 0\n".as_slice());
+fn cuts_and_slices_change_nothing(rt: HostRuntime) -> Result<(), Fail> {
+    for row in COUNTS.lines() {
+        assert!(rt; is_true(&rt, row)?, "{row}");
+    }
+    Ok(())
+}
+
+/// Whether a new run takes one row, waits, and ends with another one once it is closed, and can be used again.
+fn assert_waits(rt: &impl Abort, run: &mut Run<'_>) {
+    let waits = Slice {
+        rows: 1,
+        why: Why::Waits,
+    };
+    assert!(rt; run.slice(&[], 100) == waits);
+    run.close();
+    let ended = Slice {
+        rows: 1,
+        why: Why::Ended,
+    };
+    assert!(rt; run.slice(&[], 100) == ended);
+    run.reset();
+    assert!(rt; run.input().is_empty() && !run.is_closed());
+    assert!(rt; run.machine().count() == 0);
+}
+
+/// The same for a run of a program.
+fn assert_run_waits(rt: &(impl Abort + AllocGlobal), program: &Program) {
+    let mut run = Run::new(rt.alloc(), program);
+    assert_waits(rt, &mut run);
+}
+
+#[test]
+fn a_run_waits_for_bytes(rt: HostRuntime) {
+    let list = "{\"type\":\"array\",\"items\":\"long\"}";
+    let program = program_of(&rt, list, list);
+    assert_run_waits(&rt, &program);
+}
+
+/// A breakpoint where no instruction stands. Where there is one, nothing is looked for ahead, and contents lie in the
+/// arena in the order in which they were read.
+const NOWHERE: u32 = u32::MAX;
+
+/// Whether the arena of a run on a payload is the payload, after so many rows, with nothing looked for ahead.
+fn has_arena(run: &mut Run<'_>, payload: &[u8], k: u64) -> Result<bool, AllocError> {
+    pushed(run, payload)?;
+    run.close();
+    let _rows = run.slice(&[NOWHERE], k);
+    Ok(run.machine().arena() == payload)
+}
+
+/// The same for a run of a program.
+fn is_arena(alloc: Global, program: &Program, payload: &[u8], k: u64) -> Result<bool, AllocError> {
+    let mut run = Run::new(alloc, program);
+    has_arena(&mut run, payload, k)
+}
+
+#[test]
+fn the_arena_of_a_record_whose_fields_are_swapped(rt: HostRuntime) {
+    let program = program_of(&rt, BOTH, SWAPPED);
+    let payload = [0x36, 0x06, 0x66, 0x6f, 0x6f];
+    assert!(rt; is_arena(rt.alloc(), &program, &payload, 8).expect(&rt, "no memory"));
 }

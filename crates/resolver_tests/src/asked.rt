@@ -5,6 +5,7 @@ use crate::bytes_tests::{both, call_line};
 use crate::lines::{
     alike, bytes_of, debug_line, longest_line, outcome_line, payload_line, words_line,
 };
+use crate::repeated::push_text;
 use crate::same::same;
 use avro_bytes::{BlockWalk, Meter};
 use avro_datum::NodeForm;
@@ -34,38 +35,6 @@ pub(crate) enum Asked {
     Place,
     /// Whether the writer's fields go to the reader's at the same positions.
     Order,
-}
-
-/// Appends a piece with a number in place of each `#`.
-fn push_numbered(text: &mut String, piece: &str, number: u32) -> Result<(), AllocError> {
-    for (place, part) in piece.split('#').enumerate() {
-        if place > 0 {
-            write!(text, "{number}")?;
-        }
-        text.push_str(part)?;
-    }
-    Ok(())
-}
-
-/// Appends a piece so many times, each time with its number.
-fn push_repeated(text: &mut String, row: &str) -> Result<(), AllocError> {
-    let (times, piece) = row.split_once(' ').unwrap_or(("", row));
-    for number in 0..times.parse::<u32>().unwrap_or(0) {
-        push_numbered(text, piece, number)?;
-    }
-    Ok(())
-}
-
-/// Appends the text of a row, in which what stands between tildes is repeated.
-fn push_text(text: &mut String, row: &str) -> Result<(), AllocError> {
-    for (number, piece) in row.split('~').enumerate() {
-        if number % 2 == 0 {
-            text.push_str(piece)?;
-        } else {
-            push_repeated(text, piece)?;
-        }
-    }
-    Ok(())
 }
 
 /// What is answered of the nodes of a writer and a reader and of a payload.

@@ -1,4 +1,5 @@
-//! Tests of `avro_bytes`, `avro_datum` and `resolver`, in a crate of their own, so that the libraries are proved once.
+//! Tests of `avro_bytes`, `avro_schema`, `avro_datum` and `resolver`, in a crate of their own, so that the libraries are
+//! proved once.
 #![tactic(auto)]
 
 #[cfg(test)]
@@ -12,6 +13,12 @@ mod lines;
 #[cfg(test)]
 mod pair_tests;
 #[cfg(test)]
+mod repeated;
+#[cfg(test)]
 mod rows;
 #[cfg(test)]
 mod same;
+#[cfg(test)]
+mod schema_rows;
+#[cfg(test)]
+mod schema_tests;

@@ -12,13 +12,13 @@ use stepper::Machine;
 /// default, from the second time on; the same where a slot's bytes stand in neither the payload nor a constant. What is
 /// skipped may be an array, before the first slot too, or a record that a routine skips.
 const ROWS: &str = "\
-ahead 1|record|3606666f6f|3606666f6f,
-ahead 3|const 0 046575,0 CALL 2,1 HALT,2 RECORD 3,3 SLONG,4 SLOT 2,5 TEXT,6 SLOT 0,7 INT,8 SBOOL,9 SLOT 1,10 PUT 0,\
-11 ENDREC,12 RET|3606666f6f0a01|none,0a04657506666f6f,0a04657506666f6f,
-ahead 2|const 0 02,0 CALL 2,1 HALT,2 RECORD 2,3 SLOT 1,4 PUT 0,5 TEXT,6 SLOT 0,7 LONG,8 ENDREC,9 RET|06666f6f36|\
-none,360206666f6f,
-ahead 2|0 CALL 2,1 HALT,2 RECORD 1,3 SBLOCKS,4 SNEXT 7,5 SLONG,6 JUMP 4,7 SLOT 0,8 BOOL,9 CALL 12,10 ENDREC,11 RET,\
-12 ENTER,13 STEXT,14 LEAVE,15 RET|040204000106666f6f|none,01,
+ahead 1|record|3606666f6f|3606666f6f;
+ahead 3|const 0 046575;0 CALL 2;1 HALT;2 RECORD 3;3 SLONG;4 SLOT 2;5 TEXT;6 SLOT 0;7 INT;8 SBOOL;9 SLOT 1;10 PUT 0;\
+11 ENDREC;12 RET|3606666f6f0a01|none;0a04657506666f6f;0a04657506666f6f;
+ahead 2|const 0 02;0 CALL 2;1 HALT;2 RECORD 2;3 SLOT 1;4 PUT 0;5 TEXT;6 SLOT 0;7 LONG;8 ENDREC;9 RET|06666f6f36|\
+none;360206666f6f;
+ahead 2|0 CALL 2;1 HALT;2 RECORD 1;3 SBLOCKS;4 SNEXT 7;5 SLONG;6 JUMP 4;7 SLOT 0;8 BOOL;9 CALL 12;10 ENDREC;11 RET;\
+12 ENTER;13 STEXT;14 LEAVE;15 RET|040204000106666f6f|none;01;
 ";
 
 /// Appends what a machine finds of a payload, as often as it is asked, with room for it.

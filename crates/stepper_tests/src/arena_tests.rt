@@ -30,7 +30,7 @@ slot 7 2|swapped|3606666f6f| none
 gathered 3|array|04060800|(0 1) ff06
 slot 3 0|array|04060800| none
 out 3|array|04060800| ff
-carry 2|0 TEXT,1 HALT|8201{63:61}c3a9|c3
+carry 2|0 TEXT;1 HALT|8201{63:61}c3a9|c3
 ";
 
 /// Appends what a machine carries of a cut character after so many rows.

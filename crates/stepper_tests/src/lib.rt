@@ -1,12 +1,17 @@
-//! Tests of `stepper` and `debugger`, in a crate of their own, so that the libraries are proved once.
+//! Tests of `isa`, `assembler`, `avro_loader`, `stepper` and `debugger`, in a crate of their own, so that the libraries are
+//! proved once.
 #![tactic(auto)]
 
+#[cfg(test)]
+mod again;
 #[cfg(test)]
 mod ahead_tests;
 #[cfg(test)]
 mod arena_tests;
 #[cfg(test)]
 mod asked;
+#[cfg(test)]
+mod forms;
 #[cfg(test)]
 mod programs;
 #[cfg(test)]
@@ -19,3 +24,5 @@ mod show_tests;
 mod slice_tests;
 #[cfg(test)]
 mod text_tests;
+#[cfg(test)]
+mod texts;

@@ -3,7 +3,8 @@
 ghost use Rattle.std.specs.Prelude.{◌≡◌, ◌≤◌, length, take, IfOk};
 ghost use Rattle.stepper.specs.Running.{IsOn, IsUnder, start};
 
-use crate::rows::push_text;
+use crate::again::again;
+use crate::texts::push_text;
 use assembler::{AsmError, assemble};
 use hex::FromHexError;
 use isa::{End, Program, Trap};
@@ -20,10 +21,7 @@ pub(crate) fn program(alloc: Global, lines: &str) -> Result<Program, AsmError> {
     let mut text = String::from_str(alloc, "avro program 1\n")?;
     push_text(&mut text, lines)?;
     text.push_str("\n")?;
-    match assemble(alloc, text.as_bytes()) {
-        Err(AsmError::NoMemory) => assemble(alloc, text.as_bytes()),
-        answer => answer,
-    }
+    again!(assemble(alloc, text.as_bytes()), AsmError::NoMemory)
 }
 
 /// A run on an input that comes in pieces, in slices of so many rows.

@@ -1,8 +1,8 @@
-//! Tables of rows: a program, its input, and what is answered. A comma stands for LF, and `{N:LINES}` for so many times
-//! these lines.
+//! Tables of rows: a program, its input, and what is answered, parted by bars.
 
 use crate::asked::push_new;
 use crate::programs::{input, program};
+use crate::texts::{holds, push_text};
 use isa::Program;
 use std::alloc::{AllocError, Global};
 use std::process::Abort;
@@ -11,40 +11,13 @@ use std::test::Fail;
 /// The lines of a program by its name in a row, or those that stand there themselves.
 fn lines_of(name: &str) -> &str {
     match name {
-        "record" => "0 CALL 2,1 HALT,2 RECORD 2,3 SLOT 0,4 LONG,5 SLOT 1,6 TEXT,7 ENDREC,8 RET",
-        "swapped" => "0 CALL 2,1 HALT,2 RECORD 2,3 SLOT 1,4 LONG,5 SLOT 0,6 TEXT,7 ENDREC,8 RET",
-        "array" => "0 BLOCKS,1 NEXT 4,2 LONG,3 JUMP 1,4 HALT",
-        "skipped" => "0 SBLOCKS,1 SNEXT 5,2 ENTER,3 LEAVE,4 JUMP 1,5 HALT",
-        "missed" => "miss 0 NoSymbol 3 4,0 MISS 0,1 HALT",
+        "record" => "0 CALL 2;1 HALT;2 RECORD 2;3 SLOT 0;4 LONG;5 SLOT 1;6 TEXT;7 ENDREC;8 RET",
+        "swapped" => "0 CALL 2;1 HALT;2 RECORD 2;3 SLOT 1;4 LONG;5 SLOT 0;6 TEXT;7 ENDREC;8 RET",
+        "array" => "0 BLOCKS;1 NEXT 4;2 LONG;3 JUMP 1;4 HALT",
+        "skipped" => "0 SBLOCKS;1 SNEXT 5;2 ENTER;3 LEAVE;4 JUMP 1;5 HALT",
+        "missed" => "miss 0 NoSymbol 3 4;0 MISS 0;1 HALT",
         _ => name,
     }
-}
-
-/// Appends lines.
-fn push_lines(text: &mut String, lines: &str) -> Result<(), AllocError> {
-    for byte in lines.as_bytes() {
-        text.push(if *byte == b',' { '\n' } else { *byte as char })?;
-    }
-    Ok(())
-}
-
-/// Appends so many times the lines that stand behind their number.
-fn push_turns(text: &mut String, turns: &str) -> Result<(), AllocError> {
-    let (many, lines) = turns.split_once(':').unwrap_or(("0", turns));
-    for _turn in 0..many.parse::<usize>().unwrap_or(0) {
-        push_lines(text, lines)?;
-    }
-    Ok(())
-}
-
-/// Appends what a part of a row stands for.
-pub(crate) fn push_text(text: &mut String, row: &str) -> Result<(), AllocError> {
-    for part in row.split('{') {
-        let (turns, lines) = part.split_once('}').unwrap_or(("", part));
-        push_turns(text, turns)?;
-        push_lines(text, lines)?;
-    }
-    Ok(())
 }
 
 /// Appends what a new machine answers with a program on an input.
@@ -107,9 +80,4 @@ pub(crate) fn assert_rows(
         holds(rt, is_true(rt.alloc(), question, row)?, row);
     }
     Ok(())
-}
-
-/// What is tested of a row holds.
-fn holds(rt: &impl Abort, is_so: bool, row: &str) {
-    assert!(rt; is_so, "{row}");
 }

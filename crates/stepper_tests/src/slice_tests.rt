@@ -13,9 +13,9 @@ use stepper::{Machine, Why};
 /// After six rows a content is begun: the breakpoint at its instruction does not stop it. A slice waits for bytes, and
 /// a machine that is reset takes its message again.
 const ROWS: &str = "\
-turns|record|3606666f6f|4 broke,0 broke,2 spent,4 ended,0 ended,done 3606666f6f count 10
-waiting|record||3 waits,running count 3
-messages|record|3606666f6f|10 ended taken,10 ended taken,10 ended taken,
+turns|record|3606666f6f|4 broke;0 broke;2 spent;4 ended;0 ended;done 3606666f6f count 10
+waiting|record||3 waits;running count 3
+messages|record|3606666f6f|10 ended taken;10 ended taken;10 ended taken;
 ";
 
 /// What is asked of a slice.

@@ -1,7 +1,8 @@
 //! Images of both versions: those of a program, and what is told of bytes that are no image.
 
 use crate::again::again;
-use crate::rows::{Tried, assert_rows, holds, is_answer};
+use crate::forms::rows::{Tried, assert_rows, is_answer};
+use crate::texts::holds;
 use avro_loader::{LoadError, load, migrate, save};
 use hex::FromHexError;
 use isa::Program;

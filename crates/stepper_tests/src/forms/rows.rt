@@ -1,15 +1,15 @@
-//! Tables of rows: what is tried, a bar, and what is answered. A semicolon stands for LF, `@` for the first line of a
-//! listing, and `{N:LINES}` for so many times these lines, in which `#` is the number of each turn.
+//! Tables of rows: what is tried, a bar, and what is answered.
 
 use crate::again::again;
-use crate::image_tests::is_image_answer;
-use crate::listing_tests::is_listing_answer;
-use crate::program_tests::is_program_answer;
+use crate::forms::image_tests::is_image_answer;
+use crate::forms::listing_tests::is_listing_answer;
+use crate::forms::program_tests::is_program_answer;
+use crate::texts::{holds, push_text};
 use assembler::disassemble;
 use hex::FromHexError;
 use isa::Program;
 use std::alloc::{AllocError, Global};
-use std::fmt::{Display, Write};
+use std::fmt::Display;
 use std::process::Abort;
 use std::test::Fail;
 
@@ -19,38 +19,6 @@ pub(crate) enum Tried {
     Listing,
     Image,
     Parts,
-}
-
-/// Appends lines, with a number where it is called for.
-fn push_lines(text: &mut String, lines: &str, number: usize) -> Result<(), AllocError> {
-    for byte in lines.as_bytes() {
-        match byte {
-            b';' => text.push_str("\n")?,
-            b'@' => text.push_str("avro program 1\n")?,
-            b'#' => write!(text, "{number}")?,
-            _ => text.push(*byte as char)?,
-        }
-    }
-    Ok(())
-}
-
-/// Appends so many times the lines that stand behind their number.
-fn push_turns(text: &mut String, turns: &str) -> Result<(), AllocError> {
-    let (many, lines) = turns.split_once(':').unwrap_or(("0", turns));
-    for number in 0..many.parse::<usize>().unwrap_or(0) {
-        push_lines(text, lines, number)?;
-    }
-    Ok(())
-}
-
-/// Appends what a part of a row stands for.
-pub(crate) fn push_text(text: &mut String, row: &str) -> Result<(), AllocError> {
-    for part in row.split('{') {
-        let (turns, lines) = part.split_once('}').unwrap_or(("", part));
-        push_turns(text, turns)?;
-        push_lines(text, lines, 0)?;
-    }
-    Ok(())
 }
 
 /// Whether that is the listing of a program.
@@ -99,9 +67,4 @@ pub(crate) fn assert_rows(
         holds(rt, is_true(rt.alloc(), tried, row)?, row);
     }
     Ok(())
-}
-
-/// What is tried of a row holds.
-pub(crate) fn holds(rt: &impl Abort, is_so: bool, row: &str) {
-    assert!(rt; is_so, "{row}");
 }

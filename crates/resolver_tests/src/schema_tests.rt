@@ -1,6 +1,9 @@
 //! What texts declare, and each of their faults.
 
-use crate::rows::{
+use crate::again::parsed;
+use crate::repeated::push_text;
+use crate::same::same;
+use crate::schema_rows::{
     ALIAS_FAULTS, BAD_DEFAULTS, BOUNDS, COPIED, DEFAULTS, FAULTS, FURTHER_FAULTS, FURTHER_NAMES,
     KINDS, MARKS, TEXTS, WITH_DEFAULT, WITH_FURTHER,
 };
@@ -23,31 +26,6 @@ enum Asked {
     Marks,
 }
 
-/// Appends a piece so many times, each time with its number where a `#` stands for it.
-fn push_repeated(text: &mut String, row: &str) -> Result<(), AllocError> {
-    let (times, piece) = row.split_once(' ').unwrap_or(("", row));
-    let numbered = piece.split_once('#');
-    for number in 0..times.parse::<u32>().unwrap_or(0) {
-        match numbered {
-            Some((before, after)) => write!(text, "{before}{}{after}", number + 1)?,
-            None => text.push_str(piece)?,
-        }
-    }
-    Ok(())
-}
-
-/// Appends the text of a row, in which what stands between tildes is repeated.
-fn push_text(text: &mut String, row: &str) -> Result<(), AllocError> {
-    for (number, piece) in row.split('~').enumerate() {
-        if number % 2 == 0 {
-            text.push_str(piece)?;
-        } else {
-            push_repeated(text, piece)?;
-        }
-    }
-    Ok(())
-}
-
 /// The text of a row, in its place in a frame.
 fn framed(alloc: Global, frame: &str, row: &str) -> Result<String, AllocError> {
     let (before, after) = frame.split_once('$').unwrap_or(("", frame));
@@ -55,14 +33,6 @@ fn framed(alloc: Global, frame: &str, row: &str) -> Result<String, AllocError> {
     push_text(&mut text, row)?;
     text.push_str(after)?;
     Ok(text)
-}
-
-/// What a text is parsed to, asked again where memory ran out the first time.
-fn parsed(alloc: Global, text: &str) -> Result<Schema, SchemaError> {
-    match Schema::parse(alloc, text) {
-        Err(SchemaError::NoMemory) => Schema::parse(alloc, text),
-        answer => answer,
-    }
 }
 
 /// A copy of the schema of a text, which is left when the schema itself is let go.
@@ -209,11 +179,6 @@ fn answer(alloc: Global, asked: Asked, frame: &str, row: &str) -> Result<String,
     let mut out = String::new(alloc);
     push_answer(alloc, &mut out, asked, &text)?;
     Ok(out)
-}
-
-/// What was answered to a row is what is wanted.
-fn same(rt: &impl Abort, row: &str, found: &str, want: &str) {
-    assert!(rt; found == want, "{row} -> {found}");
 }
 
 /// Whether each row is answered so, where its text stands in a frame. Rows are lines, or, where there are empty ones,

@@ -1,7 +1,7 @@
 //! Which parts are a program, and what is the first thing that keeps others from being one.
 
 use crate::again::again;
-use crate::rows::{Tried, assert_rows, is_answer};
+use crate::forms::rows::{Tried, assert_rows, is_answer};
 use isa::{Entry, Instr, Lists, Parts, Program};
 use outcome::{Mismatch, MismatchKind};
 use std::alloc::{AllocError, Global};

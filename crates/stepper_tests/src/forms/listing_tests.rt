@@ -1,7 +1,8 @@
 //! Listings: which texts come back, and what is told of the others.
 
 use crate::again::again;
-use crate::rows::{Tried, assert_rows, is_answer, push_text};
+use crate::forms::rows::{Tried, assert_rows, is_answer};
+use crate::texts::push_text;
 use assembler::{AsmError, assemble};
 use std::alloc::{AllocError, Global};
 use std::test::Fail;
