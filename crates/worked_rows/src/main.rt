@@ -75,59 +75,67 @@ fn asked(alloc: Global, words: &str) -> Result<Result<Verb, i32>, AllocError> {
     }
 }
 
-/// Appends what a command writes for an input, or the counts of that, and answers the number that it ends with.
+/// Appends what the command of some words writes for an input, and answers the number that it ends with.
 fn obey(
     alloc: Global,
     output: &mut Vec<u8>,
-    is_counted: bool,
-    verb: &Verb,
+    words: &str,
     mut input: &[u8],
-) -> Result<u8, RunError> {
-    if !is_counted {
-        return run(alloc, verb, &mut input, output);
+) -> Result<i32, RunError> {
+    match asked(alloc, words)? {
+        Ok(verb) => Ok(i32::from(run(alloc, &verb, &mut input, output)?)),
+        Err(status) => Ok(status),
     }
-    let mut written = Vec::new(alloc);
-    let status = run(alloc, verb, &mut input, &mut written)?;
-    push_counts(alloc, output, &written)?;
-    Ok(status)
 }
 
-/// Appends what the command of some words writes for an input, and the number that it ends with.
+/// Appends what a command writes for an input, or the counts of that, and answers the number that it ends with.
 fn push_written(
     alloc: Global,
     output: &mut Vec<u8>,
     words: &str,
     input: &[u8],
-) -> Result<(), RunError> {
-    let (is_counted, words) = match words.strip_prefix("counted ") {
-        Some(words) => (true, words),
-        None => (false, words),
+) -> Result<i32, RunError> {
+    let Some(words) = words.strip_prefix("counted ") else {
+        return obey(alloc, output, words, input);
     };
-    let status = match asked(alloc, words)? {
-        Ok(verb) => i32::from(obey(alloc, output, is_counted, &verb, input)?),
-        Err(status) => status,
+    let mut written = Vec::new(alloc);
+    let status = obey(alloc, &mut written, words, input)?;
+    push_counts(alloc, output, &written)?;
+    Ok(status)
+}
+
+/// Appends the input of a command, whose lines these are.
+fn push_input(alloc: Global, input: &mut Vec<u8>, lines: &str) -> Result<(), RunError> {
+    for line in lines.split('\n') {
+        push_line(alloc, input, line)?;
+    }
+    Ok(())
+}
+
+/// Appends the words of a part, what their command writes for the lines under them, and the number that it ends with.
+fn push_part(alloc: Global, output: &mut Vec<u8>, part: &str) -> Result<(), RunError> {
+    let mut input = Vec::new(alloc);
+    let words = match part.split_once('\n') {
+        Some((words, lines)) => {
+            push_input(alloc, &mut input, lines)?;
+            words
+        }
+        None => part,
     };
-    let ended = format!(in alloc; "status {status}\n")?;
-    Ok(output.extend_from_slice(ended.as_bytes())?)
+    let header = format!(in alloc; "# {words}\n")?;
+    output.extend_from_slice(header.as_bytes())?;
+    let status = push_written(alloc, output, words, &input)?;
+    let end = format!(in alloc; "status {status}\n")?;
+    Ok(output.extend_from_slice(end.as_bytes())?)
 }
 
 /// What the commands of some rows write, each after the line of its words.
 fn written(alloc: Global, rows: &str) -> Result<Vec<u8>, RunError> {
-    let (mut output, mut input) = (Vec::new(alloc), Vec::new(alloc));
-    let mut words = None;
-    for line in rows.lines().chain(Some("# ")) {
-        match (line.strip_prefix("# "), words) {
-            (None, _) => push_line(alloc, &mut input, line)?,
-            (Some(next), before) => {
-                if let Some(words) = before {
-                    push_written(alloc, &mut output, words, &input)?;
-                }
-                let header = format!(in alloc; "{line}\n")?;
-                output.extend_from_slice(header.as_bytes())?;
-                input.clear();
-                words = Some(next);
-            }
-        }
+    let rows = rows.strip_prefix("# ").unwrap_or(rows);
+    let rows = rows.strip_suffix('\n').unwrap_or(rows);
+    let mut output = Vec::new(alloc);
+    for part in rows.split("\n# ") {
+        push_part(alloc, &mut output, part)?;
     }
     Ok(output)
 }
