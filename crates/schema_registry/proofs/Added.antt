@@ -11,7 +11,8 @@ use Rattle.avro_schema.specs.Schema.{Declaration}
 use Rattle.schema_registry.specs.declared.level.Level.{Level}
 use Rattle.schema_registry.specs.declared.limits.TheConstants.{MOST_SCHEMAS}
 use Rattle.schema_registry.specs.Accepting.{id_for, registered, with_schema, with_version}
-use Rattle.schema_registry.specs.Answers.{AreSafe, GivesId, IsAnswer, Pair, has_no_id, is_full, pairs_of, registration}
+use Rattle.schema_registry.specs.Answer.{AreSafe, IsAnswer, Pair}
+use Rattle.schema_registry.specs.Answers.{GivesId, has_no_id, is_full, pairs_of, registration}
 use Rattle.schema_registry.specs.Lists.{Entry, Lists, id_of, level_of, versions_of, with_text}
 use Rattle.schema_registry.specs.Reply.{IdReply}
 use Rattle.schema_names.specs.declared.error.SchemaError.{SchemaError}

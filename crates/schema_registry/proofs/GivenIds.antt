@@ -11,7 +11,8 @@ use Rattle.schema_names.specs.declared.error.SchemaError.{SchemaError}
 use Rattle.schema_registry.specs.declared.refusal.Refusal.{Refusal}
 use Rattle.schema_registry.specs.declared.refusal.Refusal.TheVariants.{Full}
 use Rattle.schema_registry.specs.Accepting.{compacted, declaration_of, declared_as, id_for}
-use Rattle.schema_registry.specs.Answers.{GivesId, IsAnswer, has_no_id, has_no_room, is_full, register_answer, registration}
+use Rattle.schema_registry.specs.Answer.{IsAnswer}
+use Rattle.schema_registry.specs.Answers.{GivesId, has_no_id, has_no_room, is_full, register_answer, registration}
 use Rattle.schema_registry.specs.declared.limits.TheConstants.{MOST_SUBJECTS}
 use Rattle.schema_registry.specs.Lists.{Entry, Lists, id_of, subjects_of, versions_of, with_id, with_text}
 use Rattle.schema_registry.specs.Reply.{IdReply}

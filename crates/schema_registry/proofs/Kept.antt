@@ -20,7 +20,8 @@ use Rattle.schema_registry.specs.Command.{Command, CheckCommand, IsQuestion, Lev
 use Rattle.schema_registry.specs.Accepting.{registry_after, taken, taken_all}
 use Rattle.schema_registry.specs.Lists.{Entry, Lists, id_of, is_same, level_set, no_lists, subjects_of, subjects_with_level, versions_of, with_id, with_text}
 use Rattle.schema_registry.specs.Reply.{Reply}
-use Rattle.schema_registry.specs.Answers.{AreAccepted, IsAnswer, answer_to, one_more}
+use Rattle.schema_registry.specs.Answer.{IsAnswer}
+use Rattle.schema_registry.specs.Answers.{AreAccepted, answer_to, one_more}
 use Rattle.registry_tables.specs.Maps.{AreSame, ids_in, number_of}
 use Rattle.schema_registry.specs.Tables.{Holds, IsId, entry_of, versions_from}
 use Rattle.schema_registry.proofs.Entries.{with_id-from}

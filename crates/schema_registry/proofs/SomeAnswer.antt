@@ -5,7 +5,8 @@ use Rattle.schema_registry.specs.declared.refusal.Refusal.{Refusal}
 use Rattle.schema_registry.specs.declared.refusal.Refusal.TheVariants.{NoMemory}
 use Rattle.schema_registry.specs.declared.reply.Reply.{Reply}
 use Rattle.schema_registry.specs.Accepting.{registry_after}
-use Rattle.schema_registry.specs.Answers.{AreAccepted, Gives, Grows, answer_to, no_command}
+use Rattle.schema_registry.specs.Answer.{Gives}
+use Rattle.schema_registry.specs.Answers.{AreAccepted, Grows, answer_to, no_command}
 use Rattle.schema_registry.specs.Command.{Command, RegisterCommand}
 use Rattle.schema_registry.specs.Reply.{answer_of}
 use Rattle.schema_registry.specs.Shared.{IsSomeAnswer, IsSomeShownOf, MayGrow}

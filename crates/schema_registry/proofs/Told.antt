@@ -8,9 +8,10 @@ use Rattle.schema_registry.specs.declared.refusal.Refusal.{Refusal}
 use Rattle.schema_registry.specs.declared.level.Level.{Level}
 use Rattle.schema_registry.specs.declared.limits.TheConstants.{MOST_LEVELS}
 use Rattle.schema_registry.specs.Accepting.{declaration_of}
-use Rattle.schema_registry.specs.Answers.{Answer, IsAnswer, Told, answer_to, check_answer, entry_answer, has_no_room, registration, where_some, where_versions}
-use Rattle.schema_registry.specs.Command.{LookupCommand, CheckCommand, RegisterCommand, SetLevelCommand, VersionsCommand, VersionCommand}
-use Rattle.schema_registry.specs.Lists.{Entry, Lists, numbered, subjects_with_level, version_at, versions_of, with_text}
+use Rattle.schema_registry.specs.Answer.{Answer, IsAnswer, Told, where_schema, where_some, where_version, where_versions}
+use Rattle.schema_registry.specs.Answers.{answer_to, comparison, entry_answer, has_no_room, registration, version_answer}
+use Rattle.schema_registry.specs.Command.{CheckCommand, RegisterCommand, SetLevelCommand, VersionsCommand, VersionCommand}
+use Rattle.schema_registry.specs.Lists.{Entry, Lists, subjects_with_level, version_at, versions_of, with_text}
 use Rattle.schema_registry.specs.Reply.{Reply, LevelReply, NumbersReply}
 use Rattle.schema_registry.specs.Subject.{is_subject, is_version}
 use Rattle.schema_registry.specs.Tables.{numbers_from, versions_from}
@@ -20,23 +21,25 @@ where-there : (s ids : List ℕ) (answer : List Entry → Answer) → ids ≢ []
 where-there s [] answer some = absurd (some refl)
 where-there s (i ∷ ids) answer some = refl
 
-module _ (lists : Lists) (s ids : List ℕ) (named : is_subject s ≡ true) (some : ids ≢ []) (known : versions_of s lists.entries ≡ versions_from s 1 ids) where
-  pub versions-is : answer_to lists (VersionsCommand s) ≡ Told (Ok (NumbersReply (numbers_from 1 (length ids))))
-  versions-is = rw (named, known, where-there s ids (λ versions. Told (Ok (NumbersReply (map (λ (e : Entry). e.version) versions)))) some)
+module _ (lists : Lists) (s ids : List ℕ) (some : ids ≢ []) (known : versions_of s lists.entries ≡ versions_from s 1 ids) where
+  pub versions-is : is_subject s ≡ true → answer_to lists (VersionsCommand s) ≡ Told (Ok (NumbersReply (numbers_from 1 (length ids))))
+  versions-is named = rw (named, known, where-there s ids (λ versions. Told (Ok (NumbersReply (map (λ (e : Entry). e.version) versions)))) some)
       (ap (λ ns. Told (Ok (NumbersReply ns))) (numbers-from s 1 ids))
 
-  pub version-is : (version : Version) → is_version version ≡ true
-      → answer_to lists (VersionCommand s version) ≡ where_some (version_at version (versions_from s 1 ids)) NoVersion (entry_answer lists)
-  version-is version right = rw (named, right, known, where-there s ids (λ versions. where_some (version_at version versions) NoVersion (entry_answer lists)) some) refl
+  pub asked-is : (version : Version) (answer : Entry → Answer)
+      → where_version (versions_of s lists.entries) version answer ≡ where_some (version_at version (versions_from s 1 ids)) NoVersion answer
+  asked-is version answer = rw known (where-there s ids (λ vs. where_some (version_at version vs) NoVersion answer) some)
 
-  module _ (text : List ℕ) (schema : Declaration) (is : declaration_of text ≡ Ok schema) where
-    pub lookup-is : answer_to lists (LookupCommand s text) ≡ where_some (with_text schema.text lists.schemas (versions_of s lists.entries)) NoSchema (entry_answer lists)
-    lookup-is = rw (named, is, known, where-there s ids (λ versions. where_some (with_text schema.text lists.schemas versions) NoSchema (entry_answer lists)) some) refl
+  pub has-is : (schema : Declaration) → version_answer lists s schema ≡ where_some (with_text schema.text lists.schemas (versions_of s lists.entries)) NoSchema (entry_answer lists)
+  has-is schema = rw known (where-there s ids (λ vs. where_some (with_text schema.text lists.schemas vs) NoSchema (entry_answer lists)) some)
 
-    pub check-is : (version : Version) → is_version version ≡ true → answer_to lists (CheckCommand s version text)
-        ≡ where_some (version_at version (versions_from s 1 ids)) NoVersion (λ e. where_some (numbered lists.schemas e.id) NoSchema (check_answer lists s schema))
-    check-is version right =
-        rw (named, right, is, known, where-there s ids (λ versions. where_some (version_at version versions) NoVersion (λ e. where_some (numbered lists.schemas e.id) NoSchema (check_answer lists s schema))) some) refl
+-- a version is looked up, or a schema is put beside one, where the subject and the version may be asked for
+module _ (lists : Lists) (s : List ℕ) (named : is_subject s ≡ true) (version : Version) (right : is_version version ≡ true) where
+  pub version-is : answer_to lists (VersionCommand s version) ≡ where_version (versions_of s lists.entries) version (entry_answer lists)
+  version-is = rw (named, right) refl
+
+  pub check-is : (text : List ℕ) → answer_to lists (CheckCommand s version text) ≡ where_schema (declaration_of text) (comparison lists s version)
+  check-is text = rw (named, right) refl
 
 -- a level is set where there is room for its subject
 pub level-is : (lists : Lists) (s : List ℕ) (level : Level) (b : Bool) → is_subject s ≡ true → has_no_room (subjects_with_level lists.levels) s MOST_LEVELS ≡ b

@@ -7,6 +7,7 @@ pub mod Refusal
 pub mod Subject
 pub mod Lists
 pub mod Accepting
+pub mod Answer
 pub mod Answers
 pub mod Tables
 pub mod Shared

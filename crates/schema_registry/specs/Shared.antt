@@ -7,7 +7,8 @@ use Rattle.schema_registry.specs.declared.refusal.Refusal.TheVariants.{Clash, No
 use Rattle.schema_registry.specs.Command.{Command, RegisterCommand}
 use Rattle.schema_registry.specs.Reply.{Reply, IdReply}
 use Rattle.schema_registry.specs.Accepting.{registry_after}
-use Rattle.schema_registry.specs.Answers.{AreAccepted, Grows, IsAnswer, answer_to}
+use Rattle.schema_registry.specs.Answer.{IsAnswer}
+use Rattle.schema_registry.specs.Answers.{AreAccepted, Grows, answer_to}
 
 -- what a receipt stands for: an id, the name of its cell, and the schema that the cell shows, once it was seen
 pub record Shown : Type 0 where

@@ -3,7 +3,8 @@
 ghost use Rattle.std.specs.Prelude.{◌↔◌, IfOk, IsTrue, MatchOption};
 ghost use Rattle.std.specs.List.{filter_map, flat_map};
 ghost use Rattle.resolver.specs.Safety.{IsSafe};
-ghost use Rattle.schema_registry.specs.Answers.{AreSafe, pairs_with};
+ghost use Rattle.schema_registry.specs.Answer.{AreSafe};
+ghost use Rattle.schema_registry.specs.Answers.{pairs_with};
 ghost use Rattle.schema_registry.specs.Lists.{numbered};
 
 use crate::level::Level;

@@ -1,6 +1,7 @@
 ghost use Rattle.std.specs.Prelude.{◌≡◌, ℕ, List, [], ◌∷◌, ◌++◌, length, map, OnOk, OnErr, IfErr, option_map};
 ghost use Rattle.schema_registry.specs.Accepting.{registry_after};
-ghost use Rattle.schema_registry.specs.Answers.{AreAccepted, Gives, Grows, answer_to};
+ghost use Rattle.schema_registry.specs.Answer.{Gives};
+ghost use Rattle.schema_registry.specs.Answers.{AreAccepted, Grows, answer_to};
 ghost use Rattle.schema_registry.specs.Command.{IsQuestion, command_of};
 ghost use Rattle.schema_registry.specs.Lists.{numbered, versions_of};
 ghost use Rattle.schema_registry.specs.Tables.{numbers_from};

@@ -64,8 +64,18 @@ fn boxed_copy(alloc: Global, schema: &Schema) -> Result<Box<Schema>, AllocError>
     Ok(Box::new(alloc, schema.copy()?)?)
 }
 
-/// What stands for the value that a cell shows, which is this one where it showed none. Generic, so that a proof sees
-/// nothing of the value.
+/// So many cells that show nothing. Generic, as the next is, so that a proof sees nothing of the value.
+fn empty_cells<T: Drop>(alloc: Global, count: usize) -> Result<Vec<OnceBox<T>>, AllocError>
+    ensures { IfOk result (λ cells. length cells.items ≡ count) }
+{
+    let mut cells = Vec::new(alloc);
+    for _ in 0..count {
+        cells.push(OnceBox::new(alloc))?;
+    }
+    Ok(cells)
+}
+
+/// What stands for the value that a cell shows, which is this one where it showed none.
 fn seen_in<T: Drop>(cell: &OnceBox<T>, shown: Box<T>) -> Note<T>
     ensures cell { result.cell ≡ cell_name cell.now }
     ensures known { IsSome result.known }
@@ -89,10 +99,7 @@ impl SharedRegistry {
     pub fn new(alloc: Global) -> Result<SharedRegistry, AllocError>
         ensures { IfOk result (λ names. length names ≡ MOST_SCHEMAS) }
     {
-        let mut cells = Vec::new(alloc);
-        for _ in 0..MOST_SCHEMAS {
-            cells.push(OnceBox::new(alloc))?;
-        }
+        let cells = empty_cells(alloc, MOST_SCHEMAS)?;
         Ok(SharedRegistry {
             alloc,
             registry: Mutex::new(Registry::new(alloc)),

@@ -8,7 +8,8 @@ use Rattle.schema_registry.specs.declared.refusal.Refusal.{Refusal}
 use Rattle.schema_registry.specs.declared.refusal.Refusal.TheVariants.{Full}
 use Rattle.schema_registry.specs.declared.refusal.Refusal.TheVariants as refusals
 use Rattle.schema_registry.specs.Accepting.{declaration_of, id_for, registry_after}
-use Rattle.schema_registry.specs.Answers.{Answer, Gives, Grows, IsAnswer, IsReply, Told, answer_to, has_no_room, is_full, is_subject_or_none, register_answer, registration, set_level_answer, where_schema, where_true}
+use Rattle.schema_registry.specs.Answer.{Answer, Gives, IsAnswer, IsReply, Told, is_subject_or_none, where_schema, where_true}
+use Rattle.schema_registry.specs.Answers.{Grows, answer_to, has_no_room, is_full, register_answer, registration, set_level_answer}
 use Rattle.schema_registry.specs.Command.{Command, RegisterCommand, SetLevelCommand}
 use Rattle.schema_registry.specs.Lists.{Entry, Lists, versions_of, with_text, subjects_with_level}
 use Rattle.schema_registry.specs.Reply.{IdReply, LevelReply, Reply, reply_of}

@@ -7,7 +7,8 @@ use Rattle.schema_registry.specs.declared.refusal.Refusal.{Refusal}
 use Rattle.schema_registry.specs.declared.refusal.Refusal.TheVariants as registry
 use Rattle.schema_registry.specs.declared.reply.Reply as rust
 use Rattle.schema_registry.specs.Accepting.{registry_after}
-use Rattle.schema_registry.specs.Answers.{Grows, IsAnswer, answer_to}
+use Rattle.schema_registry.specs.Answer.{IsAnswer}
+use Rattle.schema_registry.specs.Answers.{Grows, answer_to}
 use Rattle.schema_registry.specs.Command.{Command, RegisterCommand, SetLevelCommand}
 use Rattle.schema_registry.specs.Reply as replies
 use Rattle.session.specs.Session.{begun}

@@ -1,6 +1,7 @@
 ghost use Rattle.std.specs.Prelude.{◌≡◌, ◌≢◌, ℕ, IfOk, IfSome, IsSome, OnErr, option_map, slice_get, string_bytes};
 ghost use Rattle.schema_registry.specs.Accepting.{registry_after};
-ghost use Rattle.schema_registry.specs.Answers.{answer_to, unless_refused};
+ghost use Rattle.schema_registry.specs.Answer.{unless_refused};
+ghost use Rattle.schema_registry.specs.Answers.{answer_to};
 ghost use Rattle.schema_registry.specs.Command.{RegisterCommand, SetLevelCommand, command_of};
 ghost use Rattle.schema_registry.specs.Reply.{LevelReply};
 ghost use Rattle.session_core.specs.Ending.{SessionEndsWithOutcome};

@@ -1,19 +1,22 @@
-ghost use Rattle.std.specs.Prelude.{◌≡◌, ◌≢◌, ◌+◌, ◌≤◌, ◌<◌, ◌^◌, [], ◌∷◌, List, ℕ, Ok, Err, Some, None, true, false, IfErr, IfOk, MatchResult, length, map, option_map, string_bytes};
+ghost use Rattle.std.specs.Prelude.{◌≡◌, ◌≢◌, ◌+◌, ◌≤◌, ◌<◌, ◌^◌, [], ◌∷◌, List, ℕ, Ok, Err, Some, None, true, false, IfErr, IfOk, MatchResult, OnOk, length, map, option_map, string_bytes};
 ghost use Rattle.schema_registry.specs.Accepting.{registry_after};
-ghost use Rattle.schema_registry.specs.Answers.{Gives, Grows, IsReply, answer_to, entry_answer, where_versions};
+ghost use Rattle.schema_registry.specs.Answer.{Answer, Gives, IsAnswer, IsReply, Told, where_askable, where_version};
+ghost use Rattle.schema_registry.specs.Answers.{Grows, answer_to, comparison, entry_answer, version_answer};
 ghost use Rattle.schema_registry.specs.Command.{LookupCommand, CheckCommand, VersionsCommand, VersionCommand, SubjectsCommand, SchemaCommand, LevelCommand};
-ghost use Rattle.schema_registry.specs.Lists.{version_at, versions_of};
-ghost use Rattle.schema_registry.specs.Subject.{is_version};
+ghost use Rattle.schema_registry.specs.Lists.{Entry, numbered, version_at, versions_of};
+ghost use Rattle.schema_registry.specs.Reply.{CompatibleReply};
+ghost use Rattle.schema_registry.specs.Subject.{is_subject, is_version};
 ghost use Rattle.schema_registry.specs.Tables.{entry_of, number_for, numbers_from, versions_from};
 
 use super::Registry;
-use super::registering::parse_schema;
+use super::registering::{parse_schema, schema_for};
 use crate::command::Version;
 use crate::compatible::goes_with;
 use crate::limits::MOST_VERSION;
 use crate::refusal::Refusal;
 use crate::reply::Reply;
 use crate::subject::is_subject;
+use avro_schema::Schema;
 use registry_tables::Versions;
 use std::alloc::{AllocError, Global};
 
@@ -25,6 +28,21 @@ fn is_version(version: Version) -> bool
         Version::Latest => true,
         Version::Number(number) => 1 <= number && number <= MOST_VERSION,
     }
+}
+
+/// Nothing where a version of a subject may be asked for, or else why not.
+fn askable(subject: &str, version: Version) -> Result<(), Refusal>
+    ensures ok { OnOk result ((is_subject subject.now ≡ true) × (is_version version ≡ true)) }
+    ensures err { IfErr result (λ e. (e ≢ Refusal.NoMemory)
+        × ((answer : Answer) → where_askable subject.now version answer ≡ Told (Err e))) }
+{
+    if !is_subject(subject) {
+        return Err(Refusal::BadSubject);
+    }
+    if !is_version(version) {
+        return Err(Refusal::BadVersion);
+    }
+    Ok(())
 }
 
 /// The number of the version that is asked for.
@@ -72,6 +90,47 @@ impl Registry {
         }
     }
 
+    /// The number of the version of a subject that is asked for, and the id of its schema.
+    fn version_asked(&self, subject: &str, version: Version) -> Result<(u32, u32), Refusal>
+        ensures ok { IfOk result (λ p. (answer : Entry → Answer)
+            → where_version (versions_of subject.now (registry_after self.now).entries) version answer
+            ≡ answer (entry_of subject.now p.0 p.1)) }
+        ensures err { IfErr result (λ e. (e ≢ Refusal.NoMemory) × ((answer : Entry → Answer)
+            → where_version (versions_of subject.now (registry_after self.now).entries) version answer
+            ≡ Told (Err e))) }
+    {
+        let versions = self.versions_of(subject)?;
+        match version_at(versions, version) {
+            Some(found) => Ok(found),
+            None => Err(Refusal::NoVersion),
+        }
+    }
+
+    /// The number of the version of a subject that has a schema, and the schema's id.
+    fn version_that_has(&self, subject: &str, schema: &Schema) -> Result<(u32, u32), Refusal>
+        ensures ok { IfOk result (λ p. version_answer (registry_after self.now) subject.now schema.now
+            ≡ entry_answer (registry_after self.now) (entry_of subject.now p.0 p.1)) }
+        ensures err { IfErr result (λ e. (e ≢ Refusal.NoMemory)
+            × (version_answer (registry_after self.now) subject.now schema.now ≡ Told (Err e))) }
+    {
+        self.versions_of(subject)?;
+        match self.version_with(subject, schema) {
+            Some(found) => Ok(found),
+            None => Err(Refusal::NoSchema),
+        }
+    }
+
+    /// The schema of an id.
+    fn schema_of(&self, id: u32) -> Result<&Schema, Refusal>
+        ensures { MatchResult result (λ s. numbered (registry_after self.now).schemas id ≡ Some s.now)
+            (λ e. (e ≡ Refusal.NoSchema) × (numbered (registry_after self.now).schemas id ≡ None)) }
+    {
+        match self.schemas.get(id) {
+            Some(schema) => Ok(schema),
+            None => Err(Refusal::NoSchema),
+        }
+    }
+
     /// A version of a subject, with the text of its schema.
     fn entry(&self, subject: String, number: u32, id: u32) -> Result<Reply, Refusal>
         ensures answer { Gives (entry_answer (registry_after self.now)
@@ -79,10 +138,7 @@ impl Registry {
         ensures memory { IfErr result (λ e. e ≡ Refusal.NoMemory
             → IsReply (entry_answer (registry_after self.now) (entry_of (string_bytes subject) number id))) }
     {
-        let Some(schema) = self.schemas.get(id) else {
-            return Err(Refusal::NoSchema);
-        };
-        let text = String::from_str(self.alloc, schema.text())?;
+        let text = String::from_str(self.alloc, self.schema_of(id)?.text())?;
         Ok(Reply::Entry {
             subject,
             version: number,
@@ -98,15 +154,27 @@ impl Registry {
         ensures memory { IfErr result (λ e. e ≡ Refusal.NoMemory
             → Grows (registry_after self.now) (LookupCommand (string_bytes subject) text.now)) }
     {
-        if !is_subject(&subject) {
-            return Err(Refusal::BadSubject);
-        }
-        let schema = parse_schema(self.alloc, text)?;
-        self.versions_of(&subject)?;
-        let Some((number, id)) = self.version_with(&subject, &schema) else {
-            return Err(Refusal::NoSchema);
-        };
+        let schema = schema_for(self.alloc, &subject, text)?;
+        let (number, id) = self.version_that_has(&subject, &schema)?;
         self.entry(subject, number, id)
+    }
+
+    /// Whether a schema goes with the version of a subject that is asked for.
+    fn goes_with_version(
+        &self,
+        subject: &str,
+        version: Version,
+        schema: &Schema,
+    ) -> Result<bool, Refusal>
+        ensures ok { IfOk result (λ b. IsAnswer (comparison (registry_after self.now) subject.now version schema.now)
+            (Ok (CompatibleReply b))) }
+        ensures err { IfErr result (λ e. e ≢ Refusal.NoMemory
+            → IsAnswer (comparison (registry_after self.now) subject.now version schema.now) (Err e)) }
+    {
+        let (_, id) = self.version_asked(subject, version)?;
+        let old = self.schema_of(id)?;
+        let level = self.level_of(Some(subject));
+        Ok(goes_with(self.alloc, level, schema, old)?)
     }
 
     /// Whether the schema of a text goes with a version of a subject.
@@ -121,22 +189,10 @@ impl Registry {
         ensures memory { IfErr result (λ e. e ≡ Refusal.NoMemory
             → Grows (registry_after self.now) (CheckCommand subject.now version text.now)) }
     {
-        if !is_subject(subject) {
-            return Err(Refusal::BadSubject);
-        }
-        if !is_version(version) {
-            return Err(Refusal::BadVersion);
-        }
+        askable(subject, version)?;
         let schema = parse_schema(self.alloc, text)?;
-        let versions = self.versions_of(subject)?;
-        let Some((_, id)) = version_at(versions, version) else {
-            return Err(Refusal::NoVersion);
-        };
-        let Some(old) = self.schemas.get(id) else {
-            return Err(Refusal::NoSchema);
-        };
-        let level = self.level_of(Some(subject));
-        Ok(Reply::Compatible(goes_with(self.alloc, level, &schema, old)?))
+        let is_compatible = self.goes_with_version(subject, version, &schema)?;
+        Ok(Reply::Compatible(is_compatible))
     }
 
     /// The numbers of a subject's versions.
@@ -159,16 +215,8 @@ impl Registry {
         ensures memory { IfErr result (λ e. e ≡ Refusal.NoMemory
             → Grows (registry_after self.now) (VersionCommand (string_bytes subject) version)) }
     {
-        if !is_subject(&subject) {
-            return Err(Refusal::BadSubject);
-        }
-        if !is_version(version) {
-            return Err(Refusal::BadVersion);
-        }
-        let versions = self.versions_of(&subject)?;
-        let Some((number, id)) = version_at(versions, version) else {
-            return Err(Refusal::NoVersion);
-        };
+        askable(&subject, version)?;
+        let (number, id) = self.version_asked(&subject, version)?;
         self.entry(subject, number, id)
     }
 
@@ -189,10 +237,8 @@ impl Registry {
         ensures memory { IfErr result (λ e. e ≡ Refusal.NoMemory
             → Grows (registry_after self.now) (SchemaCommand id)) }
     {
-        match self.schemas.get(id) {
-            Some(schema) => Ok(Reply::Text(String::from_str(self.alloc, schema.text())?)),
-            None => Err(Refusal::NoSchema),
-        }
+        let text = String::from_str(self.alloc, self.schema_of(id)?.text())?;
+        Ok(Reply::Text(text))
     }
 
     /// The level of a subject, or the global one.

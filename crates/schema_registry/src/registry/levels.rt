@@ -1,6 +1,7 @@
 ghost use Rattle.std.specs.Prelude.{◌≡◌, ◌≢◌, ◌∷◌, [], ◌++◌, Some, IfErr, IfSome, OnOk, OnErr, option_map, string_bytes};
 ghost use Rattle.schema_registry.specs.Accepting.{registry_after};
-ghost use Rattle.schema_registry.specs.Answers.{Gives, Grows, answer_to, unless_refused};
+ghost use Rattle.schema_registry.specs.Answer.{Gives, unless_refused};
+ghost use Rattle.schema_registry.specs.Answers.{Grows, answer_to};
 ghost use Rattle.schema_registry.specs.Command.{SetLevelCommand};
 ghost use Rattle.schema_registry.specs.Lists.{level_of};
 ghost use Rattle.schema_registry.specs.Reply.{LevelReply};

@@ -1,7 +1,8 @@
 use Rattle.std.proofs.Common.{refl, subst, sym, Err, string_bytes}
 use Rattle.std.proofs.lemmas.Result.{err_from_is_err_and}
 use Rattle.schema_registry.specs.Accepting.{registry_after}
-use Rattle.schema_registry.specs.Answers.{IsAnswer, answer_to}
+use Rattle.schema_registry.specs.Answer.{IsAnswer}
+use Rattle.schema_registry.specs.Answers.{answer_to}
 use Rattle.schema_registry.specs.Command.{RegisterCommand}
 use Rattle.schema_registry.proofs.SomeAnswer.{memory-refused, registration-grows}
 use Rattle.schema_registry.proofs.Told.{registered-refusal}
