@@ -6,7 +6,7 @@ use outcome::Outcome;
 use std::alloc::{AllocError, Global};
 use std::fmt::Write;
 
-/// Appends bytes in hexadecimal.
+/// Appends bytes in hexadecimal, or `-` where there are none.
 fn push_hex(alloc: Global, output: &mut String, bytes: &[u8]) -> Result<(), AllocError>
     ensures { OnOk result (string_bytes output.new ≡ string_bytes output.old ++ hex_of bytes.now) }
 {

@@ -82,9 +82,9 @@ impl BlockWalk {
         self.size
     }
 
-    /// Whether there is a further item, and where it begins, or else the place after the blocks. After an `Err` the walk
-    /// is where it was: `Need` where bytes are missing, `BadNumber` of a count or a size, `BadBlock` of a block that
-    /// ends, `TooMany` of an item.
+    /// Goes to the next item: `true` and the offset where it begins, or `false` and the offset after the last block.
+    /// After an `Err` the walk is where it was: `Need` where bytes are missing, `BadNumber` of a count or a size,
+    /// `BadBlock` of a block that ends, `TooMany` of an item.
     #[tactic(auto, using(crate::specs::Laws::Walks::item_meter, crate::specs::Laws::Walks::end_meter, crate::specs::Laws::Walks::head_places, crate::specs::Laws::Walks::inside_keeps, crate::specs::Laws::Walks::end_takes))]
     pub fn next(&mut self, bytes: &[u8], at: usize, m: Meter) -> Result<(bool, usize, Meter), Fault>
         requires in_bounds { at ≤ length bytes.now }

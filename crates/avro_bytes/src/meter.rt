@@ -12,7 +12,7 @@ pub struct Meter {
 }
 
 impl Meter {
-    ghost use Rattle.avro_bytes.specs.Meter.{start, opened_blocks, opened_item, opened_record};
+    ghost use Rattle.avro_bytes.specs.Meter.{opened_blocks, opened_item, opened_record};
 
     /// The meter before a message.
     pub const START: Meter = Meter { depth: 0, units: 0 };

@@ -1,6 +1,6 @@
 ghost use Rattle.std.specs.Prelude.{◌≡◌, ◌≤◌, ◌<◌, ◌+◌, ◌-◌, ◌*◌, ◌^◌, ℤ, length, drop, IfOk};
 ghost use Rattle.std.proofs.Common.{lit<};
-ghost use Rattle.avro_bytes.specs.Contract.{Finds, Never, Reads};
+ghost use Rattle.avro_bytes.specs.Contract.{Finds, Never};
 ghost use Rattle.avro_bytes.specs.Fault.{FaultyNumber};
 ghost use Rattle.avro_bytes.specs.Number.{IsNumber32, IsNumber64, int_limit, long_limit};
 ghost use Rattle.avro_bytes.specs.NumberDecoding.{GivesGroups, from_zigzag, number_at, number_front};

@@ -1,4 +1,4 @@
-ghost use Rattle.std.specs.Prelude.{◌≡◌, ◌<◌, ◌≤◌, ◌-◌, ◌+◌, length, slice_get, string_bytes, false, IfOk};
+ghost use Rattle.std.specs.Prelude.{◌≡◌, ◌<◌, ◌≤◌, ◌-◌, ◌+◌, length, slice_get, false, IfOk};
 ghost use Rattle.avro_bytes.specs.Contract.{Gathers, Reads};
 ghost use Rattle.avro_types.specs.Datum.{data_of, datum_of};
 ghost use Rattle.avro_types.specs.Node.{fields_of};

@@ -1,4 +1,4 @@
-ghost use Rattle.std.specs.Prelude.{◌≡◌, ◌++◌, ◌+◌, ◌<◌, ◌^◌, [], length, MatchOption, OnOk, OnErr};
+ghost use Rattle.std.specs.Prelude.{◌≡◌, ◌++◌, ◌+◌, ◌<◌, ◌^◌, [], length, OnOk, OnErr};
 ghost use Rattle.avro_bytes.specs.Shortest.{Extends};
 ghost use Rattle.avro_types.specs.Datum.{data_of, datum_of, pairs_of};
 ghost use Rattle.avro_bytes.specs.Written.{after_length, block_count, in_block};

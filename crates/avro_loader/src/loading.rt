@@ -1,4 +1,4 @@
-ghost use Rattle.std.specs.Prelude.{◌≡◌, ℕ, List, length, IfOk, IsErrOf, IsOk, Ok};
+ghost use Rattle.std.specs.Prelude.{◌≡◌, IfOk, IsErrOf, IsOk, Ok};
 ghost use Rattle.isa.specs.Program.{Program as Parted, program_of};
 ghost use Rattle.isa.specs.Range.{IsProgram};
 ghost use Rattle.image_words.specs.Reading.{opened};
@@ -15,7 +15,7 @@ use crate::reading::{
 };
 use crate::saving::save;
 use image_words::{Format, ImageFault, ended, open};
-use isa::{Lists, MOST_TABLES, Parts, Program, ProgramError};
+use isa::{Lists, MOST_TABLES, Parts, Program};
 use std::alloc::Global;
 
 /// Adds what the sections hold to parts that hold nothing. Where they begin, and the bytes after them.

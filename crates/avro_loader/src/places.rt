@@ -1,4 +1,3 @@
-ghost use Rattle.std.specs.Prelude.{◌≡◌};
 ghost use Rattle.isa.specs.declared.limits.TheConstants.{MOST_ENTRIES};
 ghost use Rattle.avro_loader.specs.Loading.{after, from_wrong, starts_of};
 ghost use Rattle.avro_loader.specs.Reading.{Gives, section_at};

@@ -1,4 +1,4 @@
-ghost use Rattle.std.specs.Prelude.{◌≡◌, List, [], length, Ok};
+ghost use Rattle.std.specs.Prelude.{◌≡◌, [], Ok};
 ghost use Rattle.image_words.specs.Reading.{Tells};
 ghost use Rattle.avro_loader.specs.Reading.{Gives, count_at, things_at, section_at, constant_at, constants_at, constants_section_at, code_at};
 

@@ -1,4 +1,4 @@
-ghost use Rattle.std.specs.Prelude.{◌≡◌, ◌++◌, ℕ, List, OnOk, IfSome, Some, None};
+ghost use Rattle.std.specs.Prelude.{◌≡◌, ◌++◌, ℕ, List, OnOk, Some, None};
 ghost use Rattle.image_words.specs.declared.version.Format.{Format};
 ghost use Rattle.image_words.specs.declared.version.Version.TheVariants.{Two};
 ghost use Rattle.image_words.specs.Spelling.{address};

@@ -117,7 +117,7 @@ impl Schema {
         &self.parts.nodes
     }
 
-    /// The law that its text is the compact one of a JSON value, and that its nodes are those which that value declares.
+    /// The law that its text is the compact one of a JSON value, and that its nodes are those that the value declares.
     pub fn is_declared(&self)
         ensures compact { (value : Data) × IsCompact self.now.text value }
         ensures nodes { ReadsAsSchema self.now.text self.now.nodes }

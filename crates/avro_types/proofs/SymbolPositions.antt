@@ -6,7 +6,6 @@ use Rattle.std.specs.Cmp.Lexicographic.{slice_cmp}
 use Rattle.std.specs.Str.{bytes_eq}
 use Rattle.std.specs.String.{string_cmp}
 use Rattle.std.proofs.Math.Seq.{drop-cons}
-use Rattle.std.proofs.Math.ListN.{drop_of_length-le}
 use Rattle.std.proofs.lemmas.List.{length-map, length-take}
 use Rattle.std.proofs.lemmas.Map.Text.{btree_map_updates_text}
 use Rattle.std.proofs.lemmas.Slice.Eq.{bytes_eq-Decides}
@@ -34,9 +33,6 @@ names-take ts i t lt is = rw add-one (ap names (take-one ts i t lt is) ∙ map-o
 pub new-step : (before : List (List ℕ)) (ts : List (String Global)) (i : ℕ) (t : String Global) → i < length ts → t ≡ get_or ts i t
     → are_new before (names (drop i ts)) ≡ (not (is_used (string_bytes t) before) && are_new (before ++ string_bytes t ∷ []) (names (drop (i + 1) ts)))
 new-step before ts i t lt is = rw (drop-cons ts i t lt, ← is, add-one i) refl
-
-pub new-end : (before : List (List ℕ)) (ts : List (String Global)) (i : ℕ) → length ts ≤ i → are_new before (names (drop i ts)) ≡ true
-new-end before ts i le = rw (drop_of_length-le ts le) refl
 
 -- ---- where each stands
 

@@ -3,5 +3,4 @@ pub mod DatumOf
 pub mod Dots
 pub mod LargerSizes
 pub mod NameParts
-pub mod Positions
 pub mod Placed

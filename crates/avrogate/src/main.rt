@@ -8,7 +8,7 @@ ghost use Rattle.commands.specs.declared.status.Status.TheVariants.{BadTraffic, 
 use clap::error::ErrorKind;
 use command_words::{command_line, verb_of};
 use commands::{RunError, Status, Verb, run};
-use std::alloc::{AllocError, Global};
+use std::alloc::AllocError;
 use std::io;
 use std::process::ExitCode;
 use std::rt::Env;

@@ -2,8 +2,8 @@
 //! else came.
 //!
 //! - `--passes N`, `--dump`: transcodes the messages of standard input N times, or once (`bench/transcoding.sh`).
-//! - `assemble`, `load`: reads a program from standard input, a listing or an image, and prints how many instructions it
-//!   has (`bench/programs.sh`).
+//! - `assemble`, `load`: reads a program from standard input, a listing or an image, and prints how many instructions
+//!   it has (`bench/programs.sh`).
 //! - `registry COUNT FINDS`: registers so many schemas, and finds so many ids (`bench/registry.sh`).
 #![tactic(auto)]
 

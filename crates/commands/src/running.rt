@@ -1,4 +1,4 @@
-ghost use Rattle.std.specs.Prelude.{◌≡◌, ◌≤◌, ◌<◌, ◌++◌, ◌⊎◌, ℕ, List, length, string_bytes, true, is_some, IfErr, IfOk, OnOk, Err, Ok};
+ghost use Rattle.std.specs.Prelude.{◌≡◌, ◌≤◌, ◌<◌, ◌++◌, ◌⊎◌, ℕ, List, string_bytes, true, is_some, IfErr, IfOk, OnOk, Err, Ok};
 ghost use Rattle.std.specs.List.{concat};
 ghost use Rattle.assembler.specs.Assembling.{assembled};
 ghost use Rattle.assembler.specs.declared.fault.AsmFault.{AsmFault};

@@ -74,7 +74,7 @@ fn push_out(alloc: Global, output: &mut String, machine: &Machine) -> Result<(),
     output.push_str("\n")
 }
 
-/// The text of a machine, whose last step may have found no memory.
+/// The text of a machine's state, with `no_memory` where memory was refused for the last row.
 pub fn show(alloc: Global, machine: &Machine, no_memory: bool) -> Result<String, AllocError>
     ensures { IfOk result (λ text. string_bytes text ≡ shown machine.now.state no_memory) }
 {

@@ -30,15 +30,7 @@ lists_more : {A : Type 0} (items : List A) (ss : List Stretch) (s : Stretch) →
 lists_more items [] s = refl
 lists_more items (t ∷ ss) s = ap (λ x. items_of items t ∷ x) (lists_more items ss s)
 
-within_more : {A : Type 0} (items : List A) (ss : List Stretch) (s : Stretch) → AreWithin items ss → IsWithin (length items) s → AreWithin items (ss ++ s ∷ [])
-within_more items [] s h w = (w, tt)
-within_more items (t ∷ ss) s h w = (h.0, within_more items ss s h.1 w)
-
 -- one list more
 pub pushed : {A : Type 0} (items more : List A) (ss : List Stretch) (s : Stretch) → AreWithin items ss → s.from ≡ length items → s.to ≡ length (items ++ more)
     → lists_in (items ++ more) (ss ++ s ∷ []) ≡ lists_in items ss ++ more ∷ []
 pushed items more ss s h f t = rw (lists_more (items ++ more) ss s, lists_kept items more ss h, new_list items more s f t) refl
-
-pub pushed_within : {A : Type 0} (items more : List A) (ss : List Stretch) (s : Stretch) → AreWithin items ss → s.from ≡ length items → s.to ≡ length (items ++ more)
-    → AreWithin (items ++ more) (ss ++ s ∷ [])
-pushed_within items more ss s h f t = within_more (items ++ more) ss s (within_kept items more ss h) (new_within items more s f t)

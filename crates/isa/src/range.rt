@@ -1,4 +1,4 @@
-ghost use Rattle.std.specs.Prelude.{◌≡◌, Bool, option_map};
+ghost use Rattle.std.specs.Prelude.{◌≡◌, Bool};
 ghost use Rattle.isa.specs.declared.range.Sizes.{Sizes};
 ghost use Rattle.isa.specs.Judging.{entry_is_in_range, first_out, first_out_in, instr_is_in_range, is_address, miss_is_in_range};
 

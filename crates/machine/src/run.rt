@@ -52,7 +52,7 @@ impl<'p> Run<'p> {
         }
     }
 
-    /// What `new` gives for the same program, in the same room.
+    /// Goes back to what `new` gives for the same program, and keeps the memory.
     pub fn reset(&mut self)
         ensures { self.new ≡ begun self.old.program }
     {
@@ -62,7 +62,7 @@ impl<'p> Run<'p> {
         self.machine.reset();
     }
 
-    /// More bytes, behind those that came. No bytes take no memory.
+    /// Appends bytes to the input. No bytes take no memory.
     pub fn push(&mut self, piece: &[u8]) -> Result<(), AllocError>
         requires { self.old.ended ≡ false }
         ensures pushed { OnOk result (self.new ≡ record self.old { input = self.old.input ++ piece.now }) }
@@ -77,7 +77,7 @@ impl<'p> Run<'p> {
         self.input.extend_from_slice(piece)
     }
 
-    /// No more bytes come.
+    /// Ends the input.
     pub fn close(&mut self)
         ensures { self.new ≡ record self.old { ended = true } }
     {
@@ -85,7 +85,7 @@ impl<'p> Run<'p> {
         self.ended = true;
     }
 
-    /// Rows, at most so many, none at a breakpoint at which no content is begun, and none that cannot be counted.
+    /// Takes rows: at most `k`, none at a breakpoint at which no content is begun, and none that cannot be counted.
     pub fn slice(&mut self, breaks: &[u32], k: u64) -> Slice
         ensures rows { Rows self.old.program self.old.input self.old.ended breaks.now result.rows
             self.old.machine.state self.new.machine.state }

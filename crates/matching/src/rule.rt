@@ -1,7 +1,6 @@
 ghost use Rattle.std.specs.Prelude.{◌≡◌, ◌<◌, Some, false, length, slice_get, suc, IfSome};
 ghost use Rattle.avro_types.specs.Node.{node_of};
 ghost use Rattle.avro_types.specs.WellFormed.{is_union};
-ghost use Rattle.matching.specs.Options.{given};
 ghost use Rattle.matching.specs.Matching.{ArePair, both_items, both_values, kinds_match, matches, matches_within, names_match, primitives_match};
 
 use crate::full_names::have_matching_names;

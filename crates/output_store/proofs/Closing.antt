@@ -90,13 +90,6 @@ left-empty : (fs : List state.Frame) → leave (map empty_buffers fs) ≡ map em
 left-empty [] = refl
 left-empty (frame ∷ fs) = refl
 
-pub holds-empty : (fs : List state.Frame) → HoldsBuffers fs → HoldsBuffers (map empty_buffers fs)
-holds-empty [] f = f
-holds-empty (state.Rec cur slots ∷ below) f = tt
-holds-empty (state.Skip ∷ below) f = f
-holds-empty (state.Blocks walk items buffer ∷ below) f = tt
-holds-empty (state.SkipBlocks walk ∷ below) f = f
-
 -- nothing is held any more, and the newest frame goes
 pub dropped-empty : (s : Store) (x : List ℕ) → is_done s.mark s.over ≡ false → MOST_OUTPUT < total (with_frames (leave s.frames) s) + length x → with_frames (leave (map empty_buffers s.frames)) (emptied (record s { over = true })) ≡ add x (with_frames (leave s.frames) s)
 dropped-empty s x d lt =
@@ -207,9 +200,6 @@ module _ (top : Frame) (rest : List Frame) (laid : Laid) (lost units : ℕ) (mar
         ∙ sym shown
 
 -- ---- records, and blocks
-
-pub no-around : (slots : List (List ℕ)) → between [] 0 slots ≡ joined slots
-no-around slots = append-nil (joined slots)
 
 zero-spelled : shortest (pos 0) ≡ 0 ∷ []
 unfolding shortest shortest_groups

@@ -6,7 +6,7 @@ use Rattle.std.proofs.Math.Seq.{take-set-lt}
 use Rattle.outcome.specs.declared.limits.TheConstants.{MOST_OUTPUT}
 use Rattle.isa.specs.Lists.{total_length}
 use Rattle.isa.specs.State as state
-use Rattle.isa.specs.State.{Store, add, emptied, empty_buffers, is_done, total}
+use Rattle.isa.specs.State.{Store, add, emptied, is_done, total}
 use Rattle.output_store.specs.declared.buffers.Place.{Place}
 use Rattle.output_store.specs.declared.buffers.Place.TheVariants as places
 use Rattle.ropes.specs.declared.segment.Segment.{Segment}

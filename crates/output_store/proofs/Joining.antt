@@ -3,7 +3,7 @@ use Rattle.std.proofs.Common.{◌≡◌, ◌≢◌, ◌≤◌, ◌<◌, ℕ, zer
 use Rattle.std.proofs.Math.Seq.{take-add}
 use Rattle.std.proofs.lemmas.Bool.{eq-eqb}
 use Rattle.std.proofs.lemmas.Bool.Decides.{eqb_tells}
-use Rattle.std.proofs.lemmas.List.{append-nil, drop-drop, drop_all, get_or_append_left, get_or_at, length-map}
+use Rattle.std.proofs.lemmas.List.{append-nil, drop-drop, get_or_append_left, get_or_at}
 use Rattle.output_store.specs.declared.buffers.Buffer.{Buffer}
 use Rattle.output_store.specs.declared.buffers.Buffer.TheVariants as buffers
 use Rattle.ropes.specs.declared.segment.Segment.{Segment}
@@ -38,12 +38,6 @@ rope-later old new i l lt = ap (λ (x : List (List Segment)). rope_at x i) l.is 
 
 pub longer : (old new : List (List Segment)) → IsLater old new → length old ≤ length new
 longer old new l = omega (arith, ap length l.is, length-append old l.more)
-
-pub same-later : (old new : List (List Segment)) → new ≡ old → IsLater old new
-same-later old new e = record { more = []; is = e ∙ sym (append-nil old) }
-
-pub later-join : (old new : List (List Segment)) (r : List Segment) → new ≡ old ++ r ∷ [] → IsLater old new
-later-join old new r e = record { more = r ∷ []; is = e }
 
 pub later-later : (a b c : List (List Segment)) → IsLater a b → IsLater b c → IsLater a c
 later-later a b c l m = record { more = l.more ++ m.more; is = m.is ∙ ap (λ (x : List (List Segment)). x ++ m.more) l.is ∙ append_assoc a l.more m.more }
@@ -82,23 +76,6 @@ after-last old new first last s middle i f ne n e =
     ap (λ (x : List Segment). first ∷ (x ++ s ∷ [])) (last-rope old new (rope_at old middle ++ last ∷ rope_at old 0) i n e ∙ ap (λ (x : List Segment). rope_at old middle ++ last ∷ x) f.none)
     ∙ sym (comes_after (first ∷ rope_at old middle) last s ne)
 
--- a buffer of one segment before the others of another buffer
-pub one-first : (a b : List (List Segment)) (front : List Segment) (f first last : Segment) (middle : ℕ) → IsLater a b → middle < length a → f ∷ [] ≡ with_segment front first →
-    segments_of b (buffers.More f middle last) ≡ with_segments front (segments_of a (buffers.More first middle last))
-one-first a b front f first last middle l lt e =
-    ap (λ (x : List Segment). f ∷ (x ++ last ∷ [])) (rope-later a b middle l lt) ∙ ap (λ (x : List Segment). x ++ (rope_at a middle ++ last ∷ [])) e
-
--- a buffer of more segments before the others of another buffer
-pub more-first : (a b c : List (List Segment)) (front : List Segment) (f s first last : Segment) (m middle i : ℕ) → IsLater a b → middle < length a → segments_of b (buffers.More f m s) ≡ with_segment front first → i ≡ length b → c ≡ b ++ (rope_at b m ++ s ∷ rope_at b middle) ∷ [] →
-    segments_of c (buffers.More f i last) ≡ with_segments front (segments_of a (buffers.More first middle last))
-more-first a b c front f s first last m middle i l lt e n is =
-    ap (λ (x : List Segment). f ∷ (x ++ last ∷ [])) (last-rope b c (rope_at b m ++ s ∷ rope_at b middle) i n is ∙ ap (λ (x : List Segment). rope_at b m ++ s ∷ x) (rope-later a b middle l lt))
-    ∙ regroup (rope_at b m) (rope_at a middle)
-    ∙ ap (λ (x : List Segment). x ++ (rope_at a middle ++ last ∷ [])) e
-  where
-    regroup : (x y : List Segment) → f ∷ ((x ++ s ∷ y) ++ last ∷ []) ≡ (f ∷ (x ++ s ∷ [])) ++ (y ++ last ∷ [])
-    regroup x y = simp append_assoc refl
-
 -- ---- bytes
 
 run-on : (arena : List ℕ) (p e m : ℕ) → p ≤ e → e ≤ m → bytes_at arena (record { place = p; end = m }) ≡ bytes_at arena (record { place = p; end = e }) ++ bytes_at arena (record { place = e; end = m })
@@ -131,9 +108,6 @@ pub record HasJoined (old new : List (List Segment)) (buffer joined : Buffer) (o
   pub held : IsHeld new joined
   pub rest : with_lists (segments_of new joined) (drop index (map (segments_of old) others)) ≡ with_lists (segments_of old buffer) (map (segments_of old) others)
 
-pub none-joined : (old : List (List Segment)) (buffer : Buffer) (others : List Buffer) → IsHeld old buffer → HasJoined old old buffer buffer others 0
-none-joined old buffer others h = record { later = same-later old old refl; held = h; rest = refl }
-
 pub held-at : (ropes : List (List Segment)) (bs : List Buffer) (i : ℕ) (d : Buffer) → AllHeld ropes bs → i < length bs → IsHeld ropes (get_or bs i d)
 held-at ropes [] i d h lt = absurd (omega (arith, lt))
 held-at ropes (b ∷ bs) zero d h lt = h.0
@@ -158,7 +132,3 @@ one-joined old new next buffer joined more others index d all has lt e held late
           ∙ ap (with_lists (segments_of new joined)) (sym (next-list old others index d lt))
           ∙ has.rest;
     }
-
-pub all-joined : (old new : List (List Segment)) (buffer joined : Buffer) (others : List Buffer) (index : ℕ) → HasJoined old new buffer joined others index → length others ≤ index → segments_of new joined ≡ with_lists (segments_of old buffer) (map (segments_of old) others)
-all-joined old new buffer joined others index has end =
-    ap (with_lists (segments_of new joined)) (sym (drop_all index (map (segments_of old) others) (omega (arith, length-map others (segments_of old), end)))) ∙ has.rest

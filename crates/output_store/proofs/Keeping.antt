@@ -7,7 +7,7 @@ use Rattle.avro_bytes.specs.declared.limits.TheConstants.{MOST_DEPTH}
 use Rattle.outcome.specs.declared.limits.TheConstants.{MOST_OUTPUT}
 use Rattle.isa.specs.Lists.{total_length}
 use Rattle.isa.specs.State as state
-use Rattle.isa.specs.State.{Store, add, append, empty_buffers, emptied, has_current, is_done, marked, miss, total}
+use Rattle.isa.specs.State.{Store, add, append, emptied, is_done, marked, miss, total}
 use Rattle.output_store.specs.declared.buffers.Place.{Place}
 use Rattle.output_store.specs.declared.buffers.Place.TheVariants as places
 use Rattle.output_store.specs.declared.store.Frame.{Frame}

@@ -7,7 +7,6 @@ use Rattle.std.proofs.Math.Seq.{drop-cons}
 use Rattle.avro_bytes.specs.Walk.{Walk}
 use Rattle.isa.specs.Lists.{total_length}
 use Rattle.isa.specs.State as state
-use Rattle.isa.specs.State.{Store}
 use Rattle.output_store.specs.declared.buffers.Place.{Place}
 use Rattle.output_store.specs.declared.buffers.Place.TheVariants as places
 use Rattle.ropes.specs.declared.segment.Segment.{Segment}

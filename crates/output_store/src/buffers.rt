@@ -1,8 +1,8 @@
-ghost use Rattle.std.specs.Prelude.{◌≡◌, ◌≢◌, ℕ, ◌+◌, ◌-◌, ◌^◌, ◌<◌, ◌≤◌, List, [], ◌∷◌, ◌++◌, length, map, slice_get, OnErr, OnOk, IfOk};
+ghost use Rattle.std.specs.Prelude.{◌≡◌, ◌≢◌, ◌+◌, ◌-◌, ◌^◌, ◌<◌, ◌≤◌, [], ◌++◌, length, map, slice_get, OnErr, OnOk, IfOk};
 ghost use Rattle.isa.specs.declared.limits.TheConstants.{MOST_SLOTS};
 ghost use Rattle.output_store.specs.declared.buffers.Buffer.TheVariants.{Empty};
 ghost use Rattle.output_store.specs.Buffers.{AreLaid, AreRopes, IsHeld, AllHeld, IsLater, IsPlace, buffer_at, segments_at, segments_of, with_added, with_closed, with_fewer, with_none, with_opened};
-ghost use Rattle.ropes.specs.Segments.{AreSegments, bytes_of, with_bytes, with_lists, with_segment, with_segments};
+ghost use Rattle.ropes.specs.Segments.{bytes_of, with_bytes, with_lists, with_segment, with_segments};
 
 use ropes::{Ropes, Segment};
 use std::alloc::{AllocError, Global};
@@ -213,7 +213,7 @@ impl Buffers {
         }
     }
 
-    /// What `new` gives, in the same room.
+    /// Goes back to what `new` gives, and keeps the memory.
     pub fn clear(&mut self)
         ensures { self.new ≡ record { arena = []; out = []; slots = [] } }
     {
@@ -245,7 +245,7 @@ impl Buffers {
         let _opened = &self.arena;
     }
 
-    /// Bytes at the end of one.
+    /// Appends bytes to a buffer.
     pub fn add(&mut self, place: Place, bytes: &[u8]) -> Result<(), AllocError>
         requires { IsPlace (length self.old.slots) place }
         ensures added { OnOk result (self.new ≡ with_added place bytes.now self.old) }
@@ -266,7 +266,7 @@ impl Buffers {
         Ok(())
     }
 
-    /// Further slots, empty.
+    /// Appends empty slots.
     pub fn open(&mut self, more: usize) -> Result<(), AllocError>
         requires { more ≤ MOST_SLOTS }
         ensures opened { OnOk result (self.new ≡ with_opened more self.old) }
@@ -276,8 +276,8 @@ impl Buffers {
         self.slots.resize(len + more, Buffer::Empty)
     }
 
-    /// The slots from a first one on go to the end of another one, in order, between bytes of which so many stand
-    /// before them.
+    /// Takes away the slots from a first one on, and appends them, in order, to a buffer, with so many of the bytes
+    /// around them before and the others behind.
     pub fn close(
         &mut self,
         first: usize,
@@ -313,14 +313,14 @@ impl Buffers {
         Ok(())
     }
 
-    /// The slots from a first one on are no more.
+    /// Takes away the slots from a first one on.
     pub fn shorten(&mut self, first: usize)
         ensures { self.new ≡ with_fewer first self.old }
     {
         self.slots.truncate(first);
     }
 
-    /// All of them empty.
+    /// Empties the output and each slot.
     pub fn empty_all(&mut self)
         ensures { self.new ≡ with_none self.old }
     {
@@ -330,7 +330,7 @@ impl Buffers {
         self.slots.fill(Buffer::Empty);
     }
 
-    /// The bytes of one after others. What stands behind those after an `Err` is not said.
+    /// Appends the bytes of a buffer to others. What stands behind those after an `Err` is not said.
     pub fn write(&self, alloc: Global, place: Place, out: &mut Vec<u8>) -> Result<(), AllocError>
         requires { IsPlace (length self.now.slots) place }
         ensures { OnOk result (out.new.items ≡ out.old.items ++ bytes_of self.now.arena (segments_at self.now place)) }
@@ -350,7 +350,7 @@ impl Buffers {
         }
     }
 
-    /// A segment of one, by its number, where there are so many. It takes no memory.
+    /// A segment of a buffer, by its number, where there are so many. It takes no memory.
     pub fn segment(&self, place: Place, number: usize) -> Option<Segment>
         requires there { IsPlace (length self.now.slots) place }
         requires few { number < 2 ^ 64 - 1 }

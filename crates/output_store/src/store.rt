@@ -1,4 +1,4 @@
-ghost use Rattle.std.specs.Prelude.{◌≡◌, ◌≢◌, ℕ, ◌+◌, ◌-◌, ◌<◌, ◌≤◌, Bool, true, false, List, [], ◌∷◌, ◌++◌, length, is_some, option_map, reverse, vec_len, Some, None, OnErr, OnOk, IfOk, IsTrue};
+ghost use Rattle.std.specs.Prelude.{◌≡◌, ◌+◌, ◌-◌, ◌<◌, ◌≤◌, true, false, [], ◌∷◌, length, is_some, reverse, vec_len, Some, None, OnErr, OnOk, IfOk};
 ghost use Rattle.avro_bytes.specs.declared.limits.TheConstants.{MOST_DEPTH};
 ghost use Rattle.outcome.specs.declared.limits.TheConstants.{MOST_OUTPUT};
 ghost use Rattle.isa.specs.State.{add, emptied, has_current, is_done, total};
@@ -165,7 +165,7 @@ impl Store {
         }
     }
 
-    /// What `new` gives, in the same room.
+    /// Goes back to what `new` gives, and keeps the memory.
     pub fn reset(&mut self)
         ensures { self.new ≡ start }
     {

@@ -1,12 +1,12 @@
 -- Numbers stay as they are while the tables grow, so that code can be linked in one pass.
-use Rattle.std.proofs.Common.{◌≡◌, ℕ, suc, ◌+◌, Bool, true, false, List, [], ◌∷◌, ◌++◌, length, refl, ap, ◌∙◌, arith, length-append}
+use Rattle.std.proofs.Common.{◌≡◌, ℕ, suc, ◌+◌, Bool, true, false, List, [], ◌∷◌, ◌++◌, length, refl, ap, ◌∙◌}
 use Rattle.std.specs.Prelude.{if◌then◌else◌}
 use Rattle.std.specs.List.{AllByRecursion}
 use Rattle.std.specs.Str.{bytes_eq}
 use Rattle.outcome.specs.declared.mismatch.Mismatch.{Mismatch}
 use Rattle.isa.specs.declared.instr.Instr.TheVariants as op
 use Rattle.program_code.specs.Lines.{Section, Line, Op, Put, Miss, BytesText, Enum, Call, Ahead, Back, Branch, Lost}
-use Rattle.program_code.specs.Numbering.{code_from, constants_of, has, jumps_from, jumps_of, linked, maps_of, misses_of, named_in, number, same_miss}
+use Rattle.program_code.specs.Numbering.{code_from, constants_of, has, jumps_of, linked, maps_of, misses_of, named_in, number, same_miss}
 use Rattle.program_code.proofs.Numbering.{all_front, all_back}
 
 pub number_more : {A : Type 0} (same : A → A → Bool) (a : A) (xs more : List A) → has same a xs ≡ true → number same a (xs ++ more) ≡ number same a xs
@@ -41,22 +41,3 @@ module _ (starts : Section → ℕ) (cs more : List (List ℕ)) (ms others : Lis
   code_more pc m j (l ∷ ls) c x =
       ap (λ i. i ∷ code_from starts (cs ++ more) (ms ++ others) (pc + 1) (m + length (maps_of l)) (j + length (jumps_of pc l)) ls) (linked_more pc m j l (all_front _ (constants_of l) (named_in constants_of ls) c) (all_front _ (misses_of l) (named_in misses_of ls) x))
       ∙ ap (λ is. linked starts cs ms pc m j l ∷ is) (code_more (pc + 1) (m + length (maps_of l)) (j + length (jumps_of pc l)) ls (all_back _ (constants_of l) (named_in constants_of ls) c) (all_back _ (misses_of l) (named_in misses_of ls) x))
-
--- one line more
-pub code_push : (starts : Section → ℕ) (cs : List (List ℕ)) (ms : List Mismatch) (pc m j : ℕ) (ls : List Line) (l : Line) → code_from starts cs ms pc m j (ls ++ l ∷ []) ≡ code_from starts cs ms pc m j ls ++ linked starts cs ms (pc + length ls) (m + length (named_in maps_of ls)) (j + length (jumps_from pc ls)) l ∷ []
-code_push starts cs ms pc m j [] l =
-    let e1 : pc ≡ pc + 0 = omega arith in
-    let e2 : m ≡ m + 0 = omega arith in
-    let e3 : j ≡ j + 0 = omega arith in
-    ap (λ p. linked starts cs ms p m j l ∷ []) e1 ∙ ap (λ n. linked starts cs ms (pc + 0) n j l ∷ []) e2 ∙ ap (λ n. linked starts cs ms (pc + 0) (m + 0) n l ∷ []) e3
-code_push starts cs ms pc m j (k ∷ ls) l =
-    let n = m + length (maps_of k) in
-    let t = j + length (jumps_of pc k) in
-    let e1 : pc + 1 + length ls ≡ pc + length (k ∷ ls) = omega arith in
-    let e2 : n + length (named_in maps_of ls) ≡ m + length (named_in maps_of (k ∷ ls)) = omega (arith, length-append (maps_of k) (named_in maps_of ls)) in
-    let e3 : t + length (jumps_from (pc + 1) ls) ≡ j + length (jumps_from pc (k ∷ ls)) = omega (arith, length-append (jumps_of pc k) (jumps_from (pc + 1) ls)) in
-    let front = linked starts cs ms pc m j k ∷ code_from starts cs ms (pc + 1) n t ls in
-    ap (λ is. linked starts cs ms pc m j k ∷ is) (code_push starts cs ms (pc + 1) n t ls l)
-    ∙ ap (λ p. front ++ linked starts cs ms p (n + length (named_in maps_of ls)) (t + length (jumps_from (pc + 1) ls)) l ∷ []) e1
-    ∙ ap (λ p. front ++ linked starts cs ms (pc + length (k ∷ ls)) p (t + length (jumps_from (pc + 1) ls)) l ∷ []) e2
-    ∙ ap (λ p. front ++ linked starts cs ms (pc + length (k ∷ ls)) (m + length (named_in maps_of (k ∷ ls))) p l ∷ []) e3

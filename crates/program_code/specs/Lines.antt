@@ -35,7 +35,8 @@ pub data Line : Type 0 where
   Back : (far : ℕ) → Line
   -- BRANCH to addresses so far ahead
   Branch : (fars : List ℕ) → Line
-  -- no code: a node that is none of the schema's, or whose arrays, maps and unions hold each other without end
+  -- no code: a node that is none of the schema's, or whose arrays, maps and unions hold each other without end, or nodes
+  -- that do not go together
   Lost : Line
 
 abbrev pub miss : MismatchKind → ℕ → ℕ → Mismatch

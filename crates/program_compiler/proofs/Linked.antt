@@ -1,44 +1,21 @@
 -- Code, a line at a time.
-use Rattle.std.proofs.Common.{◌≡◌, ℕ, zero, suc, ◌+◌, ◌^◌, ◌<◌, ◌≤◌, drop, get_or, List, [], ◌∷◌, ◌++◌, length, Option, Some, Result, Err, sym, ap, subst, ◌∙◌, arith, append_assoc}
+use Rattle.std.proofs.Common.{◌≡◌, ℕ, zero, suc, ◌+◌, ◌<◌, ◌≤◌, drop, get_or, List, [], ◌∷◌, ◌++◌, length, Option, Some, Result, Err, sym, ap, subst, ◌∙◌, append_assoc}
 use Rattle.std.specs.Prelude.{MatchOption}
 use Rattle.program_lines.specs.declared.error.CompileError.{CompileError}
 use Rattle.program_lines.specs.declared.error.CompileError.TheVariants.{ProgramTooLarge, NoMemory}
 use Rattle.std.specs.List.{AllByRecursion}
 use Rattle.avro_types.specs.Node.{Node}
 use Rattle.isa.specs.declared.instr.Instr.{Instr}
-use Rattle.isa.specs.Program.{Program}
-use Rattle.isa.specs.Range.{InstrIsInRange, IsWithinLimits, sizes_of}
+use Rattle.isa.specs.Range.{InstrIsInRange, sizes_of}
 use Rattle.outcome.specs.declared.limits.TheConstants.{MOST_OUTPUT}
 use Rattle.outcome.specs.declared.mismatch.Mismatch.{Mismatch}
 use Rattle.program_code.specs.Lines.{Section}
 use Rattle.program_code.specs.Numbering.{code_from, constants_of, jumps_of, linked, maps_of, named_in}
 use Rattle.program_code.proofs.Numbering.{all_front, all_back}
-use Rattle.program_tables.specs.declared.lines.Go.TheVariants as goes
 use Rattle.program_tables.specs.declared.lines.Line as rust
 use Rattle.program_tables.specs.Lines.{line_of, lines_in}
-use Rattle.program_compiler.specs.declared.linking.Numbered.{Numbered}
-use Rattle.program_compiler.specs.declared.linking.Numbered.TheVariants as kinds
-use Rattle.program_compiler.specs.Linking.{instr_with}
 use Rattle.program_compiler.specs.Parts.{FitNowhere, IsLong, Links, LinksAll, LinksTo}
 use Rattle.program_compiler.proofs.Jumps.{lines_left}
-
--- a number of more than 32 bits is in range of no program within the limits
-number_is_narrow : (kind : Numbered) (n : ℕ) (P : Program) → IsWithinLimits P → InstrIsInRange (sizes_of P) (instr_with kind n) → n < 2 ^ 32
-number_is_narrow kinds.Put n P within h = let le = within.constants in omega (arith, h, le)
-number_is_narrow kinds.Miss n P within h = let le = within.misses in omega (arith, h, le)
-number_is_narrow kinds.BytesText n P within h = let le = within.misses in omega (arith, h, le)
-number_is_narrow kinds.Enum n P within h = let le = within.maps.many in omega (arith, h, le)
-number_is_narrow kinds.Call n P within h = let le = within.code in omega (arith, h, le)
-number_is_narrow kinds.Branch n P within h = let le = within.jumps.many in omega (arith, h, le)
-number_is_narrow (kinds.Go goes.Next) n P within h = let le = within.code in omega (arith, h, le)
-number_is_narrow (kinds.Go goes.SkipNext) n P within h = let le = within.code in omega (arith, h, le)
-number_is_narrow (kinds.Go goes.Jump) n P within h = let le = within.code in omega (arith, h, le)
-
-pub wide_number : (kind : Numbered) (constants : List (List ℕ)) (n : ℕ) → 2 ^ 32 ≤ n → FitNowhere constants (instr_with kind n ∷ [])
-wide_number kind constants n wide P within h short = let narrow = number_is_narrow kind n P within h.0 in omega (arith, wide, narrow)
-
-pub long_constant : (bytes : List ℕ) (instr : Instr) → MOST_OUTPUT < length bytes → FitNowhere (bytes ∷ []) (instr ∷ [])
-long_constant bytes instr long P within h short = let le : length bytes ≤ MOST_OUTPUT = short.0 in omega (arith, long, le)
 
 module _ (W R : List Node) where
   named_drop : (Q : List ℕ → Type 0) (ls : List rust.Line) (i : ℕ) → AllByRecursion Q (named_in constants_of (lines_in W R ls)) → AllByRecursion Q (named_in constants_of (lines_in W R (drop i ls)))

@@ -1,4 +1,3 @@
-ghost use Rattle.std.specs.Prelude.{◌≡◌};
 ghost use Rattle.program_compiler.specs.Compiling.{Compiles};
 
 use crate::assembling::parts_of_lines;

@@ -13,7 +13,7 @@ ghost use Rattle.program_tables.specs.Lines.{bytes_of as bytes_of_constant};
 use avro_bytes::put_long;
 use avro_datum::{WriteError, write};
 use avro_types::{Datum, Kind, Nodes};
-use program_lines::{CompileError, Constant, Line};
+use program_lines::{Constant, Line};
 use program_tables::Constants;
 use std::alloc::{AllocError, Global};
 use std::collections::BTreeMap;

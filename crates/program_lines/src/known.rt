@@ -1,4 +1,4 @@
-ghost use Rattle.std.specs.Prelude.{◌≡◌, ◌<◌, ◌≤◌, ℕ, List, Some, length, option_map, slice_get, IfOk, IfSome};
+ghost use Rattle.std.specs.Prelude.{◌≡◌, ◌<◌, List, Some, length, slice_get, IfOk};
 ghost use Rattle.avro_types.specs.Node.{Node, UnionNode};
 ghost use Rattle.avro_types.specs.WellFormed.{full_name_of};
 ghost use Rattle.matching.specs.Matching.{IsNodeOf, place};

@@ -11,7 +11,7 @@ ghost use Rattle.program_code.specs.Writing.{default_bytes, defaults_code, field
 ghost use Rattle.resolver.specs.Resolution.{field_lists};
 ghost use Rattle.program_lines.specs.Fields.{read_code};
 ghost use Rattle.program_lines.specs.Known.{AreKnown};
-ghost use Rattle.program_tables.specs.Lines.{default_of, fields_of_record, lines_in, routine_lines, section_of};
+ghost use Rattle.program_tables.specs.Lines.{fields_of_record, lines_in, routine_lines, section_of};
 
 use crate::blank::is_blank;
 use crate::known::Known;

@@ -1,4 +1,4 @@
-ghost use Rattle.std.specs.Prelude.{◌≡◌, ◌++◌, ◌∷◌, ◌-◌, ◌<◌, ℕ, List, [], IfSome, OnOk, length, slice_get, slice_set};
+ghost use Rattle.std.specs.Prelude.{◌≡◌, ◌++◌, ◌∷◌, ◌-◌, ◌<◌, List, [], IfSome, OnOk, length, slice_get, slice_set};
 ghost use Rattle.avro_types.specs.Node.{Node};
 ghost use Rattle.isa.specs.declared.instr.Instr.TheVariants as op;
 ghost use Rattle.program_code.specs.Lines.{Ahead, looped, miss};
@@ -53,7 +53,7 @@ pub enum Line {
     Back(usize),
     /// How far ahead the code of each member is.
     Branch(Vec<usize>),
-    /// No code.
+    /// No code. It is not among the lines of any pair of well-formed schemas.
     Lost,
 }
 

@@ -57,13 +57,6 @@ all_at P [] i p a lt e = absurd (omega arith)
 all_at P (x ∷ ps) zero p a lt e = subst P (sym e) a.0
 all_at P (x ∷ ps) (suc i) p a lt e = all_at P ps i p a.1 (omega arith) e
 
-all_in_front : (P : Pair → Type 0) (ps more : List Pair) → AllByRecursion P (ps ++ more) → AllByRecursion P ps
-all_in_front P [] more a = tt
-all_in_front P (p ∷ ps) more a = (a.0, all_in_front P ps more a.1)
-
-among_front : (q : Pair) (extra ps more : List Pair) → AllByRecursion (λ q. Among q ps) extra → AllByRecursion (λ q. Among q (ps ++ more)) extra
-among_front q extra ps more a = all_among_more extra ps more a
-
 pub adds_more : (qs : List Pair) (q : Pair) (old mid new : Listed) → AddsAll qs old mid → Adds q mid new → AddsAll (qs ++ q ∷ []) old new
 adds_more qs q old mid new a b = elim b.added as (λ _. AddsAll (qs ++ q ∷ []) old new) [
   | inl s ↦ record {

@@ -25,7 +25,7 @@ IsOutcome W R payload (Done bytes) =
     (d : Datum) × (e : Datum) × IsPayload W d payload × (resolved W R 0 0 d ≡ Ok e) × (bytes ≡ written e)
     × (length (written e) ≤ MOST_OUTPUT)
 
--- why a payload has no outcome
+-- why transcoding answers no outcome
 abbrev pub refusal : List ℕ → Option TranscodeError
 refusal payload = if nat_lt MOST_PAYLOAD (length payload) then Some TooLarge else None
 

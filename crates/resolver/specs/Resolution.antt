@@ -45,7 +45,7 @@ abbrev pub text_for : Option Node → List ℕ → Datum
 text_for (Some BytesNode) text = BytesDatum text
 text_for _ text = TextDatum text
 
--- "bytes is promotable to string", where they are UTF-8
+-- "bytes is promotable to string", where they are UTF-8 (this project's own rule)
 abbrev pub bytes_for : Option Node → ℕ → ℕ → List ℕ → Resolved Datum
 bytes_for (Some TextNode) w r bytes = if is_utf8 bytes then Ok (TextDatum bytes) else mismatch BytesNotText w r
 bytes_for _ w r bytes = Ok (BytesDatum bytes)

@@ -1,4 +1,5 @@
--- When every datum of a writer can be read (Avro 1.11, "Schema Resolution", by the schemas alone).
+-- When the schemas alone tell that every datum of a writer can be read: where no bad pair is reached (Avro 1.11,
+-- "Schema Resolution").
 use Rattle.std.specs.Prelude.{◌≡◌, ℕ, Bool, true, false, List, Option, Some, None, Ok, Err, slice_get}
 use Rattle.avro_types.specs.Node.{Node, FieldNode, EnumNode, UnionNode}
 use Rattle.avro_types.specs.WellFormed.{IsWellFormed, is_union}

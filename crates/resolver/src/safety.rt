@@ -168,7 +168,8 @@ fn add_all(pairs: &mut PairList, more: &[(usize, usize)]) -> Result<(), AllocErr
     Ok(())
 }
 
-/// Whether each datum of the writer can be read, but for bytes that are no UTF-8.
+/// Whether no bad pair of nodes is reached, so that each datum of the writer can be read, but for bytes that are no
+/// UTF-8.
 pub fn can_read(alloc: Global, w: &Nodes, r: &Nodes) -> Result<bool, AllocError>
     ensures { IfOk result (λ yes. IsTrue yes ↔ IsSafe w.now r.now) }
 {

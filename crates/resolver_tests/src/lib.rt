@@ -1,5 +1,5 @@
-//! Tests of `avro_bytes`, `avro_schema`, `avro_datum` and `resolver`, in a crate of their own, so that the libraries are
-//! proved once.
+//! Tests of `avro_bytes`, `avro_schema`, `avro_datum` and `resolver`, in a crate of their own, so that the libraries
+//! are proved once.
 #![tactic(auto)]
 
 #[cfg(test)]

@@ -214,8 +214,8 @@ pub(crate) const BOUNDS: &str = r#"{"type":"enum","name":"E","symbols":["S0"~409
 
 "int"~262140  ~ -> TooLarge"#;
 
-/// Two texts, parted by a bar, and for each node of the one which names of the other's fixed types are its aliases: `+`,
-/// or `-`.
+/// Two texts, parted by a bar, and for each node of the one which names of the other's fixed types are its aliases:
+/// `+`, or `-`.
 pub(crate) const MARKS: &str = r#"{"type":"record","name":"a.b","aliases":["c","x.y","c"],"fields":[
         {"name":"d","aliases":["e","e","int"],"type":{"type":"fixed","name":"F","namespace":"","size":1,"aliases":["int","n.long","G"]}},
         {"name":"g","type":{"type":"enum","name":"m.E","symbols":[],"aliases":["F"]}},

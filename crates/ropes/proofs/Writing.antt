@@ -11,10 +11,6 @@ pub bytes_of-append : (arena : List ℕ) (a b : List Segment) → bytes_of arena
 bytes_of-append arena [] b = refl
 bytes_of-append arena (s ∷ a) b = ap (λ (x : List ℕ). bytes_at arena s ++ x) (bytes_of-append arena a b) ∙ sym (append_assoc (bytes_at arena s) (bytes_of arena a) (bytes_of arena b))
 
-pub AreWithin-append : (len : ℕ) (a b : List Segment) → AreWithin len a → AreWithin len b → AreWithin len (a ++ b)
-AreWithin-append len [] b f g = g
-AreWithin-append len (s ∷ a) b f g = (f.0, AreWithin-append len a b f.1 g)
-
 abbrev joint_of : List Joint → ℕ → Joint
 joint_of js number = get_or js (number - 1) (record { before = 0; segment = record { place = 0; end = 0 }; behind = 0; len = 0 })
 

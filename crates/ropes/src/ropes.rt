@@ -1,4 +1,4 @@
-ghost use Rattle.std.specs.Prelude.{◌≡◌, ℕ, ◌<◌, ◌-◌, ◌^◌, List, [], ◌∷◌, ◌++◌, length, slice_get, OnOk, OnErr, IfOk};
+ghost use Rattle.std.specs.Prelude.{◌≡◌, ◌<◌, ◌-◌, ◌^◌, List, [], ◌∷◌, ◌++◌, length, slice_get, OnOk, OnErr, IfOk};
 ghost use Rattle.ropes.specs.Ropes.{counted, rope_at};
 ghost use Rattle.ropes.specs.Segments.{AreWithin, bytes_of};
 
@@ -45,7 +45,7 @@ impl Ropes {
         }
     }
 
-    /// What `new` gives, in the same room.
+    /// Goes back to what `new` gives, and keeps the memory.
     pub fn clear(&mut self)
         ensures { self.new ≡ [] ∷ [] }
     {

@@ -1,4 +1,4 @@
-ghost use Rattle.std.specs.Prelude.{◌≡◌, ◌≢◌, length};
+ghost use Rattle.std.specs.Prelude.{◌≡◌, ◌≢◌};
 ghost use Rattle.avro_bytes.specs.declared.fault.Fault.TheVariants.{NoMemory};
 ghost use Rattle.isa.specs.Program.{miss_of};
 ghost use Rattle.isa.specs.State.{State};

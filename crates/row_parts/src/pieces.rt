@@ -1,4 +1,4 @@
-ghost use Rattle.std.specs.Prelude.{◌≡◌, ◌≤◌, length};
+ghost use Rattle.std.specs.Prelude.{◌≤◌, length};
 ghost use Rattle.row_parts.specs.Pieces.{HasMoved, IsPiece, part_of};
 ghost use Rattle.row_parts.specs.Text.{check_of};
 

@@ -1,6 +1,5 @@
 ghost use Rattle.std.specs.Prelude.{◌≡◌, ◌≤◌, ◌-◌, length, take, drop, true, []};
-ghost use Rattle.std.specs.Str.{is_utf8, StartsWithNoChar};
-ghost use Rattle.std.specs.Str.Lossy.{utf8_error_len};
+ghost use Rattle.std.specs.Str.{is_utf8};
 
 /// The bytes of a cut character, or none.
 #[derive(Clone, Copy)]

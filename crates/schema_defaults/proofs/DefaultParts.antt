@@ -9,7 +9,7 @@ use Rattle.std.specs.declared.cmp.Ordering.TheVariants.{Less, Equal, Greater}
 use Rattle.std.proofs.lemmas.Option.{slice_get-map, slice_get_read}
 use Rattle.std.proofs.Math.ListN.{drop_of_length-le}
 use Rattle.serde_json.specs.Data as json
-use Rattle.serde_json.specs.Data.{null, boolean, number, string, array, object, Items, Members, no_members, member, depth, members_depth}
+use Rattle.serde_json.specs.Data.{array, object, Items, Members, no_members, member, depth, members_depth}
 use Rattle.serde_json.specs.Find.{get, get_member, as_array, as_object}
 use Rattle.serde_json.specs.View.{view, items_view, members_view}
 use Rattle.serde_json.specs.declared.value.Value.{Value}
@@ -194,10 +194,6 @@ pub map-other : (v : json.Data) → None ≡ as_object v → (ds : List Draft) (
 unfolding value_of
 map-other (object ms) not ds n = absurd (let no : ⊥ = cc in no)
 map-other v not ds n = refl
-
-pub object-depth : (v : json.Data) (ms : Members) → Some ms ≡ as_object v → suc (members_depth ms) ≤ depth v
-object-depth (object ns) ms is = let same : ms ≡ ns = cc in rw same (omega arith)
-object-depth v ms is = absurd (let no : ⊥ = cc in no)
 
 pub members-depth : (whole : List (String Global × Value)) (m : String Global × Value) (rest : List (String Global × Value)) → whole ≡ m ∷ rest → (members_depth (members_view rest) ≤ members_depth (members_view whole)) × (depth (view m.1) ≤ members_depth (members_view whole))
 members-depth whole m rest is = rw is (omega arith, omega arith)

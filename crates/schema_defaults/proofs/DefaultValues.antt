@@ -1,7 +1,6 @@
 -- The data of default values, read one after another.
-use Rattle.std.proofs.Common.{◌≡◌, ℕ, ◌+◌, ◌<◌, ◌≤◌, List, [], ◌∷◌, ◌++◌, length, drop, get_or, map, Bool, true, false, not, ltb, cond, String, string_bytes, Option, Some, None, option_map, refl, sym, ap, ◌∙◌, append_assoc, append-nil, add-one}
-use Rattle.std.proofs.lemmas.List.{length-map}
-use Rattle.std.specs.List.{list_all, position, position_or_len}
+use Rattle.std.proofs.Common.{◌≡◌, ℕ, ◌+◌, ◌<◌, ◌≤◌, List, [], ◌∷◌, ◌++◌, length, drop, get_or, Bool, true, false, ltb, cond, String, string_bytes, Option, Some, None, option_map, refl, sym, ap, ◌∙◌, append_assoc, append-nil, add-one}
+use Rattle.std.specs.List.{list_all}
 use Rattle.std.proofs.lemmas.Bool.{lt-ltb, le-ltb}
 use Rattle.std.specs.Global.{Global}
 use Rattle.std.proofs.Math.Seq.{drop-cons}
@@ -35,15 +34,6 @@ module _ (cs : List ℕ) (n c : ℕ) (lt : n < length cs) (is : c ≡ get_or cs 
 
 pub bytes-end : (cs : List ℕ) (n : ℕ) → length cs ≤ n → (front : List ℕ) → bytes_after front (bytes_from (drop n cs)) ≡ Some front
 bytes-end cs n le front = rw (drop_of_length-le cs le) (ap Some (append-nil front))
-
--- ---- the place of a symbol
-
-position_or_len-map : {A B : Type 0} (f : A → B) (test : B → Bool) (xs : List A) → position_or_len test (map f xs) ≡ position_or_len (λ x. test (f x)) xs
-position_or_len-map f test [] = refl
-position_or_len-map f test (x ∷ xs) = ap (λ (n : ℕ). cond (not (test (f x))) (1 + n) 0) (position_or_len-map f test xs)
-
-pub position-map : {A B : Type 0} (f : A → B) (test : B → Bool) (xs : List A) → position test (map f xs) ≡ position (λ x. test (f x)) xs
-position-map f test xs = rw (position_or_len-map f test xs, length-map) refl
 
 -- ---- data and pairs in a row
 

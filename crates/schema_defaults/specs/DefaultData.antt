@@ -57,7 +57,7 @@ module _ (nodes : List Draft) where
       one_item : {n : ℕ} {d : json.Data} {ds : Items} {datum : Datum} {rest : Data}
           → IsDefaultAt n d datum → AreItems n ds rest → AreItems n (item d ds) (more datum rest)
 
-    -- the members, in the order of their keys
+    -- the members, in the order of their keys (this project's own rule)
     pub data ArePairs : ℕ → Members → Pairs → Type 0 where
       no_pair : {n : ℕ} → ArePairs n no_members no_pairs
       one_pair : {n : ℕ} {k : List ℕ} {d : json.Data} {ms : Members} {datum : Datum} {rest : Pairs}

@@ -4,8 +4,8 @@ use Rattle.std.specs.Ordering.{nat_cmp, match_ordering}
 use Rattle.std.specs.Cmp.Lexicographic.{slice_cmp}
 use Rattle.std.specs.declared.cmp.Ordering.{Ordering}
 use Rattle.std.specs.declared.cmp.Ordering.TheVariants.{Less, Equal, Greater}
-use Rattle.serde_json.specs.Data.{Data, null, boolean, number, string, array, object, Items, Members, no_members, member, depth, items_depth, members_depth}
-use Rattle.serde_json.specs.Find.{get, get_member, as_array}
+use Rattle.serde_json.specs.Data.{Data, null, boolean, number, string, array, object, Members, no_members, member, depth, items_depth, members_depth}
+use Rattle.serde_json.specs.Find.{get, get_member}
 use Rattle.serde_json.specs.View.{view, items_view}
 use Rattle.serde_json.specs.declared.value.Value.{Value}
 
@@ -39,7 +39,3 @@ pub item-depth : (vs : List Value) (i : ℕ) (v : Value) → i < length vs → d
 item-depth [] i v lt = absurd (omega arith)
 item-depth (x ∷ vs) zero v lt = omega arith
 item-depth (x ∷ vs) (suc i) v lt = omega (arith, item-depth vs i v (omega arith))
-
-pub listed-depth : (d : Data) (ds : Items) → Some ds ≡ as_array d → suc (items_depth ds) ≤ depth d
-listed-depth (array es) ds e = let same : es ≡ ds = cc in rw same (omega arith)
-listed-depth d ds e = absurd (let h : ⊥ = cc in h)

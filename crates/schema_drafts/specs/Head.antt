@@ -73,7 +73,7 @@ is_same_type _ _ = false
 unfoldable pub defined_at : List ℕ → List Head → Option ℕ
 defined_at full heads = position_from (defines full) 0 heads
 
--- the head of a node; that of no node is a union's, which nothing is a member of
+-- the head of a node; that of no node is a union's, which is no union's member
 abbrev pub head_at : List Head → ℕ → Head
 head_at heads n = slice_index_or heads n UnionHead
 

@@ -1,5 +1,5 @@
-ghost use Rattle.std.specs.Prelude.{◌≡◌, [], ◌∷◌, ◌++◌, length, set, slice_get, string_bytes, Some, None, false, map, IfOk, OnErr, OnOk};
-ghost use Rattle.avro_types.specs.FullNames.{has_dot, inside, namespace_of, unqualified};
+ghost use Rattle.std.specs.Prelude.{◌≡◌, [], ◌∷◌, ◌++◌, length, set, slice_get, Some, None, false, map, IfOk, OnErr, OnOk};
+ghost use Rattle.avro_types.specs.FullNames.{has_dot, inside, namespace_of};
 ghost use Rattle.avro_types.specs.Node.{node_of};
 ghost use Rattle.avro_types.specs.Symbols.{is_used, place_of};
 ghost use Rattle.schema_drafts.specs.Draft.{Whole, draft_field_of, draft_of, drafts_of, field_names};

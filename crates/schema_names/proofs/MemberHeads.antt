@@ -5,7 +5,7 @@ use Rattle.std.proofs.Math.Seq.{drop-cons}
 use Rattle.std.proofs.Math.ListN.{drop_of_length-le}
 use Rattle.schema_drafts.specs.declared.draft.Draft as rust
 use Rattle.schema_drafts.specs.Draft.{draft_of, drafts_of}
-use Rattle.schema_drafts.specs.Head.{Head, UnionHead, head_of, heads_of, is_same_type, is_union_head}
+use Rattle.schema_drafts.specs.Head.{Head, head_of, heads_of, is_same_type, is_union_head}
 use Rattle.schema_drafts.specs.Head.{head_at}
 use Rattle.schema_drafts.specs.Head.{are_apart}
 
@@ -16,11 +16,6 @@ at_place (x ∷ ds) (suc n) d lt = at_place ds n d (omega arith)
 
 pub head_here : (ds : List rust.Draft) (n : ℕ) (d : rust.Draft) → n < length ds → d ≡ get_or ds n d → head_at (heads_of (drafts_of ds)) n ≡ head_of (draft_of d)
 head_here ds n d lt is = at_place ds n d lt ∙ ap (λ x. head_of (draft_of x)) (sym is)
-
-pub head_nowhere : (ds : List rust.Draft) (n : ℕ) → length ds ≤ n → head_at (heads_of (drafts_of ds)) n ≡ UnionHead
-head_nowhere [] n le = refl
-head_nowhere (x ∷ ds) zero le = absurd (omega arith)
-head_nowhere (x ∷ ds) (suc n) le = head_nowhere ds n (omega arith)
 
 pub any_mapped : {A B : Type 0} (p : B → Bool) (f : A → B) (xs : List A) → list_any p (map f xs) ≡ list_any (λ a. p (f a)) xs
 any_mapped p f [] = refl

@@ -18,7 +18,3 @@ name-starts (c ∷ cs) le = refl
 pub none-some : {A B : Type 0} (f : A → B) (o : Option A) → is_some o ≡ true → is_none (option_map f o) ≡ false
 none-some f None e = sym e
 none-some f (Some a) e = refl
-
-pub none-none : {A B : Type 0} (f : A → B) (o : Option A) → is_some o ≡ false → is_none (option_map f o) ≡ true
-none-none f None e = refl
-none-none f (Some a) e = sym e

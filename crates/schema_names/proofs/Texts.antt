@@ -1,8 +1,7 @@
 -- Texts one after another: which are listed, and whether each is new.
-use Rattle.std.proofs.Common.{◌≡◌, ℕ, ◌+◌, ◌<◌, ◌≤◌, List, [], ◌∷◌, ◌++◌, length, map, drop, get_or, Some, Bool, true, false, not, ◌&&◌, Result, Ok, Err, refl, sym, ap, ◌∙◌, add-one, string_bytes, String, Global, append_assoc, append-nil}
+use Rattle.std.proofs.Common.{◌≡◌, ℕ, ◌+◌, ◌<◌, List, [], ◌∷◌, ◌++◌, length, map, drop, get_or, Some, ◌&&◌, Result, Ok, Err, refl, sym, ap, ◌∙◌, add-one, string_bytes, String, Global, append_assoc}
 use Rattle.std.specs.List.{list_all}
 use Rattle.std.proofs.Math.Seq.{drop-cons}
-use Rattle.std.proofs.Math.ListN.{drop_of_length-le}
 use Rattle.serde_json.specs.View.{view, items_view}
 use Rattle.serde_json.specs.declared.value.Value.{Value}
 use Rattle.schema_names.specs.declared.error.SchemaError.{SchemaError}
@@ -34,13 +33,6 @@ module _ (vs : List Value) (i : ℕ) (v : Value) (lt : i < length vs) (is : v �
 
   pub texts-fail : (e : SchemaError) → text_of (Some (view v)) ≡ Err e → listed front (texts_in (items_view (drop i vs))) ≡ Err e
   texts-fail e is_err = rw (here, is_err) refl
-
-pub texts-end : (vs : List Value) (i : ℕ) → length vs ≤ i → (front : List (List ℕ)) → listed front (texts_in (items_view (drop i vs))) ≡ Ok front
-texts-end vs i le front = rw (drop_of_length-le vs le) (ap (λ xs. Ok xs) (append-nil front))
-
-pub not_not : (b : Bool) → not b ≡ true → b ≡ false
-not_not true e = absurd (let wrong : ⊥ = cc in wrong)
-not_not false e = refl
 
 pub all_names : (ts : List (String Global)) → list_all is_name (map string_bytes ts) ≡ list_all (λ s. is_name (string_bytes s)) ts
 all_names [] = refl

@@ -1,5 +1,5 @@
 -- Aliases of a type, each by the rule for full names.
-use Rattle.std.proofs.Common.{◌≡◌, ℕ, List, [], ◌∷◌, Bool, true, false, ◌&&◌, refl, ap, ◌∙◌, string_bytes, String, Global}
+use Rattle.std.proofs.Common.{◌≡◌, ℕ, List, [], ◌∷◌, Bool, true, false, refl, ◌∙◌, string_bytes, String, Global}
 use Rattle.std.specs.List.{list_all}
 use Rattle.avro_types.specs.Aliases.{full_names}
 use Rattle.avro_types.specs.FullNames.{full_name, has_dot, is_full_name, is_name, is_namespace}

@@ -68,8 +68,8 @@ pub struct NewNames {
     pub number: Option<usize>,
 }
 
-/// The new name that the attributes of a type define, and its aliases. Errors of the name (`new_name`) come before those
-/// of the aliases: `Unknown` where they are no list of texts, `BadName` where one of them is no full name.
+/// The new name that the attributes of a type define, and its aliases. Errors of the name (`new_name`) come before
+/// those of the aliases: `Unknown` where they are no list of texts, `BadName` where one of them is no full name.
 #[tactic(auto, unfolding(crate::specs::Aliases::new_names))]
 pub fn new_names(
     alloc: Global,

@@ -1,6 +1,5 @@
-//! Names, attributes and aliases of a schema's parts, which members of a union are apart, whose data its
-//! defaults are, and what is wrong with them (Avro
-//! 1.11 Specification, "Names", "Aliases", "Complex Types" and "Unions").
+//! Names, attributes and aliases of a schema's parts; which members of a union are apart, and which member its defaults
+//! are of; and what is wrong with a schema (Avro 1.11 Specification, "Names", "Aliases", "Complex Types", "Unions").
 #![tactic(auto)]
 
 mod aliases;

@@ -66,7 +66,8 @@ fn is_union(one: Unnamed) -> bool
     matches!(one, Unnamed::Union)
 }
 
-/// Whether the node of a number, which is that of a member, is of a type that has no name.
+/// Whether the node of a number, which is that of a member, is of a type that has no name. A number of no node counts
+/// as a union's.
 fn is_of_type(member: usize, one: Unnamed, drafts: &[Draft]) -> bool
     ensures { result ≡ is_same_type (unnamed_head one) (head_at (heads_of (drafts_of drafts.now)) member) }
 {

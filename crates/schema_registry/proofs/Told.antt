@@ -1,9 +1,8 @@
 -- Answers, where the refusals before them do not come.
-use Rattle.std.proofs.Common.{◌≡◌, ◌≢◌, ℕ, List, [], ◌∷◌, length, map, Bool, true, false, Some, Ok, Err, cond, refl, ap}
-use Rattle.schema_names.specs.declared.error.SchemaError.{SchemaError}
+use Rattle.std.proofs.Common.{◌≡◌, ◌≢◌, ℕ, List, [], ◌∷◌, length, map, Bool, true, Some, Ok, Err, cond, refl, ap}
 use Rattle.avro_schema.specs.Schema.{Declaration}
 use Rattle.schema_registry.specs.declared.command.Version.{Version}
-use Rattle.schema_registry.specs.declared.refusal.Refusal.TheVariants.{BadSchema, BadSubject, Full, NoVersion, NoSchema}
+use Rattle.schema_registry.specs.declared.refusal.Refusal.TheVariants.{Full, NoVersion, NoSchema}
 use Rattle.schema_registry.specs.declared.refusal.Refusal.{Refusal}
 use Rattle.schema_registry.specs.declared.level.Level.{Level}
 use Rattle.schema_registry.specs.declared.limits.TheConstants.{MOST_LEVELS}
@@ -54,10 +53,3 @@ registered-answer lists s text schema named is reply answer = rw (named, is) ans
 pub registered-refusal : (lists : Lists) (s text : List ℕ) (schema : Declaration) → is_subject s ≡ true → declaration_of text ≡ Ok schema → (refusal : Refusal)
     → IsAnswer (registration lists s schema) (Err refusal) → IsAnswer (answer_to lists (RegisterCommand s text)) (Err refusal)
 registered-refusal lists s text schema named is refusal answer = rw (named, is) answer
-
-pub subject-refused : (lists : Lists) (s text : List ℕ) → is_subject s ≡ false → IsAnswer (answer_to lists (RegisterCommand s text)) (Err BadSubject)
-subject-refused lists s text named = rw named refl
-
-pub schema-refused : (lists : Lists) (s text : List ℕ) (fault : SchemaError) (refusal : Refusal) → is_subject s ≡ true → declaration_of text ≡ Err fault → refusal ≡ BadSchema fault
-    → IsAnswer (answer_to lists (RegisterCommand s text)) (Err refusal)
-schema-refused lists s text fault refusal named bad is = rw (named, bad, is) refl

@@ -17,8 +17,8 @@ use Rattle.schema_registry.specs.Accepting.{declaration_of}
 abbrev pub Pair : Type 0
 Pair = Declaration × Declaration
 
--- what is answered: this; or the first of two where each reader can read all that its writer writes, and else the
--- second
+-- what is answered: this; or the first of two where each reader is safe to read all that its writer writes, and else
+-- the second
 pub data Answer : Type 0 where
   Told : Result Reply Refusal → Answer
   WhereSafe : List Pair → Result Reply Refusal → Result Reply Refusal → Answer

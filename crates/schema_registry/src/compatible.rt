@@ -14,7 +14,7 @@ use registry_tables::{newer_reads, older_reads};
 use resolver::can_read;
 use std::alloc::{AllocError, Global};
 
-/// Whether a reader, if there is one, can read all that its writer writes.
+/// Whether a reader, if there is one, is safe to read all that its writer writes.
 fn reads(alloc: Global, pair: Option<(&Schema, &Schema)>) -> Result<bool, AllocError>
     ensures { IfOk result (λ b. MatchOption pair.entry (IsTrue b)
         (λ p. IsTrue b ↔ IsSafe p.0.now.nodes p.1.now.nodes)) }

@@ -1,6 +1,6 @@
 -- Walks run behind nodes that are already there.
 use Rattle.schema_drafts.proofs.DraftLists.{length-heads_of, heads_of-append}
-use Rattle.std.proofs.Common.{◌≡◌, ℕ, ◌<◌, ◌≤◌, List, [], ◌∷◌, ◌++◌, length, Some, Result, Ok, Err, slice_get, refl, sym, ap, subst, ◌∙◌, arith, append_assoc, append-nil, length-append, set}
+use Rattle.std.proofs.Common.{◌≡◌, ℕ, ◌<◌, ◌≤◌, List, [], ◌∷◌, ◌++◌, length, Some, Result, Ok, Err, slice_get, refl, sym, ap, subst, ◌∙◌, append_assoc, append-nil, set}
 use Rattle.std.proofs.lemmas.Bool.{lt-ltb, le-ltb}
 use Rattle.std.proofs.Math.Seq.{set-append_seam}
 use Rattle.avro_types.specs.declared.limits.TheConstants.{MOST_NODES}
@@ -53,7 +53,7 @@ mapped_at f enclosing (Err e) = refl
 pub run-mapped : {A B : Type 0} (w : Walk A) (f : A → B) (enclosing : List ℕ) (ns : List Draft) → run (followed_by w (λ a. done (f a))) enclosing ns ≡ (run w enclosing ns >>= λ p. Ok (f p.0, p.1))
 run-mapped w f enclosing ns = run-followed_by w _ enclosing ns ∙ mapped_at f enclosing (run w enclosing ns)
 
--- ---- nodes only grow
+-- ---- nodes stay
 
 ok_err : {A : Type 0} (x : SchemaError) (a : A) → Err x ≡ Ok a → ⊥
 ok_err x a e = cc
@@ -61,14 +61,6 @@ ok_err x a e = cc
 abbrev all_of : {A : Type 0} → Result (A × List Draft) SchemaError → List Draft
 all_of (Ok p) = p.1
 all_of (Err e) = []
-
-grows_at : {A : Type 0} (ns : List Draft) (r : Result (A × List Draft) SchemaError) (a : A) (ms : List Draft) → added ns r ≡ Ok (a, ms) → length ns ≤ length ms
-grows_at ns (Ok p) a ms e = omega (arith, ap length (ap all_of e), length-append ns p.1)
-grows_at ns (Err x) a ms e = absurd (ok_err x (a, ms) e)
-
-pub run-grows : {A : Type 0} (w : Walk A) (enclosing : List ℕ) (ns : List Draft) (a : A) (ms : List Draft) → run w enclosing ns ≡ Ok (a, ms) → length ns ≤ length ms
-unfolding run
-run-grows w enclosing ns a ms e = grows_at ns (w enclosing (heads_of ns)) a ms e
 
 -- a node that was put there before is there after
 head-kept : (ns : List Draft) (held : Draft) (more : List Draft) → slice_get (heads_of ((ns ++ held ∷ []) ++ more)) (length ns) ≡ Some (head_of held)

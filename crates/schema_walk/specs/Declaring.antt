@@ -93,7 +93,7 @@ mutual
     a_reference : {s enclosing : List ℕ} {before : List Draft} {n : ℕ}
         → IsNoPrimitive s → IsDefinedAt (full_name enclosing s) before n
         → Declares (string s) enclosing before n []
-    -- "Unions"
+    -- "Unions"; that there may be no member is this project's own rule
     a_union : {ds : Items} {enclosing : List ℕ} {before added : List Draft} {ns : List ℕ}
         → HasRoom before
         → DeclareMembers ds enclosing (before ++ Whole (UnionNode ns) ∷ []) ns added
@@ -129,7 +129,7 @@ mutual
         → IsOf (codes "fixed") ms → HasRoom before → DefinesNames ms enclosing before names
         → IsSize (get_member (codes "size") ms) size
         → Declares (object ms) enclosing before (length before) (Whole (FixedNode names size) ∷ [])
-    -- an object that stands for another schema
+    -- an object that stands for another schema, whatever that is (this project's own rule)
     another : {ms : Members} {d : Data} {enclosing : List ℕ} {before added : List Draft} {n : ℕ}
         → get_member (codes "type") ms ≡ Some d → IsNoWord d → Declares d enclosing before n added
         → Declares (object ms) enclosing before n added

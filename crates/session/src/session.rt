@@ -1,5 +1,4 @@
-ghost use Rattle.std.specs.Prelude.{◌≡◌, ◌≤◌, ◌<◌, ◌+◌, ◌^◌, false, length, is_some, option_map, Some, IfErr};
-ghost use Rattle.isa.specs.State.{State};
+ghost use Rattle.std.specs.Prelude.{◌≡◌, ◌≤◌, ◌<◌, ◌+◌, false, length, is_some, option_map, Some, IfErr};
 ghost use Rattle.outcome.specs.declared.limits.TheConstants.{MOST_PAYLOAD};
 ghost use Rattle.program_code.specs.Code.{code_of};
 ghost use Rattle.session.specs.declared.limits.TheConstants.{MOST_BREAKS};
@@ -74,7 +73,7 @@ impl<'p> Session<'p> {
         }
     }
 
-    /// More bytes. `TooLarge` where all bytes would pass `MOST_PAYLOAD`, and then `Ended` where no more were to come. A
+    /// Appends bytes to the payload. `TooLarge` where all bytes would pass `MOST_PAYLOAD`, and then `Ended` where no more were to come. A
     /// session that has ended takes them too. No bytes take no memory.
     pub fn piece(&mut self, bytes: &[u8]) -> Result<(), SessionRefusal>
         ensures taken { Maybe (piece_refusal bytes.now self.old) (with_piece bytes.now self.old) result
@@ -91,7 +90,7 @@ impl<'p> Session<'p> {
         Ok(())
     }
 
-    /// No more bytes come. A second time changes nothing.
+    /// Ends the payload. A second time changes nothing.
     pub fn finish(&mut self)
         ensures { self.new ≡ finished self.old }
     {
@@ -129,7 +128,7 @@ impl<'p> Session<'p> {
         Ok(())
     }
 
-    /// Memory is refused to it: it ends so, where it has not ended.
+    /// Ends it for want of memory, where it has not ended.
     pub fn refuse(&mut self)
         ensures { self.new ≡ refused self.old }
     {
@@ -139,7 +138,7 @@ impl<'p> Session<'p> {
         }
     }
 
-    /// Rows, at most so many, none at a breakpoint at which no content is begun.
+    /// Takes rows: at most `k`, and none at a breakpoint at which no content is begun.
     pub fn slice(&mut self, k: u64) -> u64
         ensures rows { TakesRows (slice_rows k self.old) self.old result self.new }
         ensures most { result ≤ k }
@@ -155,7 +154,7 @@ impl<'p> Session<'p> {
         taken.rows
     }
 
-    /// Rows, at most so many, whatever breakpoints are set.
+    /// Takes rows: at most `n`, whatever breakpoints are set.
     pub fn step(&mut self, n: u64) -> u64
         ensures rows { TakesRows (walk_rows n self.old) self.old result self.new }
         ensures most { result ≤ n }
@@ -171,7 +170,7 @@ impl<'p> Session<'p> {
         taken.rows
     }
 
-    /// Rows, at most so many, of which the first alone may be at a breakpoint at which no content is begun.
+    /// Takes rows: at most `n`, of which the first alone may be at a breakpoint at which no content is begun.
     pub fn go(&mut self, n: u64) -> u64
         ensures rows { TakesRows (go_rows n self.old) self.old result self.new }
         ensures most { result ≤ n }

@@ -2,7 +2,7 @@
 use Rattle.std.specs.Prelude.{ℕ}
 use Rattle.event_lines.specs.ReplayLine.{ReplayLine}
 use Rattle.event_lines.specs.ReplayLine as lines
-use Rattle.session_core.specs.Event.{Act, Event, On}
+use Rattle.session_core.specs.Event.{Event, On}
 use Rattle.session_core.specs.Event as events
 use Rattle.session_commands.specs.declared.request.Request as rust
 use Rattle.session_commands.specs.declared.request.Request.TheVariants as requests

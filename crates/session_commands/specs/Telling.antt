@@ -1,5 +1,5 @@
 -- What is told of a session, and of a refusal. All of this is this project's own.
-use Rattle.std.specs.Prelude.{◌≡◌, ℕ, List, [], ◌∷◌, ◌++◌, codes, is_some, Option, Some, None, if◌then◌else◌}
+use Rattle.std.specs.Prelude.{◌≡◌, ℕ, List, [], ◌∷◌, ◌++◌, codes, is_some, Some, if◌then◌else◌}
 use Rattle.std.specs.Fmt.{decimal}
 use Rattle.answer_lines.specs.RunLine.{line_of_run}
 use Rattle.assembler.specs.Listing.{listing_of}

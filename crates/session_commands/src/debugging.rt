@@ -1,4 +1,4 @@
-ghost use Rattle.std.specs.Prelude.{◌≡◌, ◌≢◌, ◌++◌, ℕ, List, drop, length, nat_lt, string_bytes, true, Err, Ok, IfErr, IfOk, OnOk};
+ghost use Rattle.std.specs.Prelude.{◌≡◌, ◌≢◌, ◌++◌, ℕ, List, drop, string_bytes, Err, Ok, IfErr, IfOk, OnOk};
 ghost use Rattle.answer_lines.specs.Lines.{line_at, lines};
 ghost use Rattle.isa.specs.Program.{Program as Parted};
 ghost use Rattle.session_commands.specs.Debugging.{AnswersCommand, IsDebugged, Obeys, debugged, done_line, given, within_limit};

@@ -1,9 +1,8 @@
 ghost use Rattle.std.specs.Prelude.{◌≡◌, ◌++◌, string_bytes, IfOk, OnOk};
 ghost use Rattle.answer_lines.specs.Lines.{lines};
 ghost use Rattle.session_commands.specs.Folding.{Grows};
-ghost use Rattle.session_commands.specs.Replaying.{AnswersLine, AnswersRequest, IsReplayed, TellsOf, reply_line};
+ghost use Rattle.session_commands.specs.Replaying.{AnswersLine, AnswersRequest, IsReplayed, reply_line};
 ghost use Rattle.session_commands.specs.Request.{request_of};
-ghost use Rattle.session_commands.specs.Telling.{code_text, end_text, state_text};
 
 use crate::request::Request;
 use crate::telling::{push_code, push_end, push_refusal, push_state};

@@ -87,12 +87,6 @@ all-at P (y ∷ ys) (suc i) x all e = all-at P ys i x all.1 e
 pub session-at : (world : World) (s : ℕ) (held : Held) → IsKept world → slice_get world.sessions s ≡ Some held → IsSession world.commands held
 session-at world s held kept e = all-at (IsSession world.commands) world.sessions s held kept.sessions e
 
-pub kept-by-act : (world : World) (s : ℕ) (act : Act) (reply : EventReply) (held after : Held) → IsKept world → slice_get world.sessions s ≡ Some held → Acts act reply held after → IsKept (record world { sessions = slice_set world.sessions s after })
-kept-by-act world s act reply held after kept at a = record {
-  publications = kept.publications;
-  sessions = all-set (IsSession world.commands) world.sessions s after kept.sessions (acts-keep world.commands act reply held after a (session-at world s held kept at));
-}
-
 -- ---- how a session ends
 
 pub same-held : (found : Option Held) (one other : Held) → found ≡ Some one → found ≡ Some other → one ≡ other

@@ -1,8 +1,7 @@
 -- One step more.
 use Rattle.std.proofs.Common.{◌≡◌, ◌<◌, ℕ, suc, ◌+◌, List, [], ◌∷◌, ◌++◌, length, map, take, get_or, refl, sym, ap, ◌∙◌, subst, arith, length-append}
 use Rattle.std.proofs.Math.Seq.{take-suc}
-use Rattle.std.proofs.lemmas.List.{length-take-le, map-append}
-use Rattle.avro_types.specs.Laws.Positions.{length-map}
+use Rattle.std.proofs.lemmas.List.{length-map, length-take-le, map-append}
 use Rattle.session_core.specs.declared.event.Event as rust
 use Rattle.session_core.specs.declared.reply.EventReply.{EventReply}
 use Rattle.session_core.specs.Event.{Event, event_of}
@@ -29,7 +28,7 @@ one-more es rs e r old last new same h s =
 -- ---- the events so far
 
 length-so-far : (es : List rust.Event) (i : ℕ) (n : ℕ) → i < length es → n ≡ i → n ≡ length (map event_of (take i es))
-length-so-far es i n lt e = e ∙ sym (length-map event_of (take i es) ∙ length-take-le i es (omega (arith, lt)))
+length-so-far es i n lt e = e ∙ sym (length-map (take i es) event_of ∙ length-take-le i es (omega (arith, lt)))
 
 events-and-one : (es : List rust.Event) (i : ℕ) (e : rust.Event) → i < length es → e ≡ get_or es i e → map event_of (take (i + 1) es) ≡ map event_of (take i es) ++ event_of e ∷ []
 events-and-one es i e lt is =

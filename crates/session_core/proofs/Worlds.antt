@@ -84,9 +84,6 @@ all-and-one : {X : Type 0} (P : X → Type 0) (xs : List X) (x : X) → AllByRec
 all-and-one P [] x all p = (p, tt)
 all-and-one P (y ∷ ys) x all p = (all.0, all-and-one P ys x all.1 p)
 
-pub kept-by-publication : (world : World) (p : Publication) → IsKept world → IsPublication world.commands p → IsKept (record world { published = world.published ++ p ∷ [] })
-kept-by-publication world p kept is = record { publications = all-and-one (IsPublication world.commands) world.published p kept.publications is; sessions = kept.sessions }
-
 pub kept-by-session : (world : World) (h : Held) → IsKept world → IsSession world.commands h → IsKept (record world { sessions = world.sessions ++ h ∷ [] })
 kept-by-session world h kept is = record { publications = kept.publications; sessions = all-and-one (IsSession world.commands) world.sessions h kept.sessions is }
 

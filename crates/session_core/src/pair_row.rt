@@ -12,7 +12,8 @@ use program_compiler::{CompileError, compile};
 use std::alloc::{AllocError, Global};
 use std::marker::Model;
 
-/// The programs of so many pairs of schemas, as which callers see it. A pair has its cell for good.
+/// A row with a cell for each of so many pairs of schemas, as which number callers see it. A cell that a pair has taken
+/// is that pair's for good.
 #[derive(Drop)]
 pub struct PairRow {
     alloc: Global,

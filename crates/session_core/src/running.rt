@@ -31,8 +31,8 @@ fn take_events<'p, P: Programs>(
     Ok(())
 }
 
-/// The world after events, one after another, with a reply to each. A session's machine ends with the outcome of its own
-/// bytes for its own pair, and each session is what its own events make of it.
+/// The world after events, one after another, with a reply to each. A session's machine ends with the outcome of its
+/// own bytes for its own pair, and each session is what its own events make of it.
 pub fn run_events<'p, P: Programs>(
     alloc: Global,
     programs: &'p P,

@@ -5,7 +5,7 @@ use crate::same::same;
 use crate::texts::{push_fields, push_rows};
 use avro_schema::Schema;
 use session_core::{PairRow, PublishError};
-use std::alloc::{AllocError, Global};
+use std::alloc::Global;
 use std::test::Fail;
 
 /// How many instructions the program of a pair has.

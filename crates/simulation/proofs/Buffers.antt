@@ -4,7 +4,7 @@ use Rattle.std.specs.Prelude.{nat_lt}
 use Rattle.std.proofs.lemmas.List.{length-map}
 use Rattle.avro_bytes.specs.Blocks.{joined}
 use Rattle.isa.specs.Lists.{total_length}
-use Rattle.isa.specs.State.{Blocks, Frame, Rec, Skip, SkipBlocks, add_to_slot, empty_buffers, frames_size, frames_with, has_current, out_with, size_of}
+use Rattle.isa.specs.State.{Blocks, Frame, Rec, Skip, SkipBlocks, add_to_slot, empty_buffers, frames_size, frames_with, has_current, out_with}
 
 -- ---- slots
 
@@ -14,10 +14,6 @@ no_bytes slots = map (λ (slot : List ℕ). []) slots
 pub no_bytes_twice : (slots : List (List ℕ)) → no_bytes (no_bytes slots) ≡ no_bytes slots
 no_bytes_twice [] = refl
 no_bytes_twice (slot ∷ slots) = ap (λ (l : List (List ℕ)). [] ∷ l) (no_bytes_twice slots)
-
-pub no_bytes_size : (slots : List (List ℕ)) → total_length (no_bytes slots) ≡ 0
-no_bytes_size [] = refl
-no_bytes_size (slot ∷ slots) = omega (arith, no_bytes_size slots)
 
 pub no_bytes_length : (slots : List (List ℕ)) → length (no_bytes slots) ≡ length slots
 no_bytes_length slots = length-map slots (λ (slot : List ℕ). [])
@@ -81,16 +77,6 @@ frame_twice (SkipBlocks walk) = refl
 pub emptied_twice : (frames : List Frame) → emptied_frames (emptied_frames frames) ≡ emptied_frames frames
 emptied_twice [] = refl
 emptied_twice (frame ∷ frames) = ap (λ (f : Frame). f ∷ emptied_frames (emptied_frames frames)) (frame_twice frame) ∙ ap (λ (l : List Frame). empty_buffers frame ∷ l) (emptied_twice frames)
-
-frame_size : (frame : Frame) → size_of (empty_buffers frame) ≡ 0
-frame_size (Rec cur slots) = no_bytes_size slots
-frame_size Skip = refl
-frame_size (Blocks walk items buffer) = refl
-frame_size (SkipBlocks walk) = refl
-
-pub emptied_size : (frames : List Frame) → frames_size (emptied_frames frames) ≡ 0
-emptied_size [] = refl
-emptied_size (frame ∷ frames) = omega (arith, frame_size frame, emptied_size frames)
 
 pub emptied_length : (frames : List Frame) → length (emptied_frames frames) ≡ length frames
 emptied_length frames = length-map frames empty_buffers

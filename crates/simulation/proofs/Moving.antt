@@ -16,7 +16,7 @@ use Rattle.isa.specs.Program.{Program}
 use Rattle.isa.specs.State.{Out, Part, State, Store}
 use Rattle.isa.specs.Table.{begun, content, fixed, moves, stop}
 use Rattle.simulation.proofs.Contents.{Anything, Check, OnlyText, OrMiss, Puts, checked, closed, closed_text, length_ahead, move_of, no_text, stretch, stretches, then_then, unless_of}
-use Rattle.simulation.proofs.Follow.{Follows, cost, end_row, follows_so, one_row, reads_then, row_then, stay}
+use Rattle.simulation.proofs.Follow.{Follows, end_row, follows_so, one_row, reads_then, row_then, stay}
 use Rattle.simulation.proofs.Numbers.{least_below, least_is_second, lt_false, lt_no, lt_true, lt_yes}
 use Rattle.simulation.proofs.Plain.{between, meter, moving, plain_row}
 

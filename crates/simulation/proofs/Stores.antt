@@ -4,7 +4,7 @@ use Rattle.std.specs.Prelude.{nat_lt}
 use Rattle.avro_bytes.specs.Walk.{Walk}
 use Rattle.outcome.specs.declared.limits.TheConstants.{MOST_OUTPUT}
 use Rattle.isa.specs.State.{Blocks, Frame, Rec, Store, add, add_to_slot, append, empty_buffers, emptied, frames_size, frames_with, has_current, is_done, out_with, size_of, total}
-use Rattle.simulation.proofs.Buffers.{current_emptied, current_with, emptied_added, emptied_frames, emptied_size, emptied_twice, out_nothing, out_twice, with_nothing, with_size, with_twice}
+use Rattle.simulation.proofs.Buffers.{current_emptied, current_with, emptied_added, emptied_frames, emptied_twice, out_nothing, out_twice, with_nothing, with_size, with_twice}
 use Rattle.simulation.proofs.Numbers.{past}
 
 abbrev pub store : List Frame → List ℕ → Option ℕ → Bool → Store
@@ -46,12 +46,6 @@ fit_grown frames_to out_to frames out None true g = ap (λ (l : List Frame). sto
 fit_grown frames_to out_to frames out None false g = fit_grown_by frames_to out_to frames out (nat_lt MOST_OUTPUT (frames_size frames + length out)) refl g
 
 -- ---- what is fit
-
-blank_few : (frames : List Frame) → nat_lt MOST_OUTPUT (frames_size (emptied_frames frames) + 0) ≡ false
-blank_few frames = let e : frames_size (emptied_frames frames) + 0 ≡ 0 = omega (arith, emptied_size frames) in rw e (none_past MOST_OUTPUT)
-  where
-    none_past : (m : ℕ) → nat_lt m 0 ≡ false
-    none_past m = grind arith
 
 fits_by : (frames : List Frame) (out : List ℕ) (b : Bool) → nat_lt MOST_OUTPUT (frames_size frames + length out) ≡ b → IsFit (fit (store frames out None false))
 fits_by frames out true e = rw e (record { nothing = λ h. ap (λ (l : List Frame). store l [] None true) (emptied_twice frames); few = λ h. cc })

@@ -1,6 +1,6 @@
 #![tactic(auto, using(crate::proofs::Appending::goes_on, crate::proofs::Appending::same_arena))]
 
-ghost use Rattle.std.specs.Prelude.{◌≡◌, ◌≤◌, ◌<◌, ◌+◌, ◌-◌, length, min, pos, take, drop, [], OnOk, OnErr, Some, None, true, false};
+ghost use Rattle.std.specs.Prelude.{◌≡◌, ◌≤◌, ◌<◌, ◌+◌, ◌-◌, length, pos, [], OnOk, OnErr, Some, None, false};
 ghost use Rattle.avro_bytes.specs.declared.limits.TheConstants.{MOST_CONTENT};
 ghost use Rattle.avro_bytes.specs.Shortest.{shortest};
 ghost use Rattle.isa.specs.declared.limits.TheConstants.{MOST_INSTRS, MOST_PIECE};

@@ -72,7 +72,7 @@ impl Machine {
         }
     }
 
-    /// What `new` gives, in the same room.
+    /// Goes back to what `new` gives, and keeps the memory.
     pub fn reset(&mut self)
         ensures { self.new ≡ start }
     {

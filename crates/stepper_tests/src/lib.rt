@@ -1,5 +1,5 @@
-//! Tests of `isa`, `assembler`, `avro_loader`, `stepper` and `debugger`, in a crate of their own, so that the libraries are
-//! proved once.
+//! Tests of `isa`, `assembler`, `avro_loader`, `stepper` and `debugger`, in a crate of their own, so that the libraries
+//! are proved once.
 #![tactic(auto)]
 
 #[cfg(test)]

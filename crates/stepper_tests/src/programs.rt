@@ -1,7 +1,7 @@
 //! Programs by their code lines, and what their runs answer.
 
-ghost use Rattle.std.specs.Prelude.{◌≡◌, ◌≤◌, length, take, IfOk};
-ghost use Rattle.stepper.specs.Running.{IsOn, IsUnder, start};
+ghost use Rattle.std.specs.Prelude.{◌≡◌, ◌≤◌};
+ghost use Rattle.stepper.specs.Running.{start};
 
 use crate::again::again;
 use crate::texts::push_text;

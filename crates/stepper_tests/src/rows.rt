@@ -4,7 +4,7 @@ use crate::asked::push_new;
 use crate::programs::{input, program};
 use crate::texts::{holds, push_text};
 use isa::Program;
-use std::alloc::{AllocError, Global};
+use std::alloc::Global;
 use std::process::Abort;
 use std::test::Fail;
 

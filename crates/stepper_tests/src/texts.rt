@@ -1,5 +1,5 @@
-//! What rows of tables stand for. A semicolon stands for LF, `@` for the first line of a listing, and `{N:LINES}` for so
-//! many times these lines, in which `#` is the number of each turn.
+//! What rows of tables stand for. A semicolon stands for LF, `@` for the first line of a listing, and `{N:LINES}` for
+//! so many times these lines, in which `#` is the number of each turn.
 
 use std::alloc::AllocError;
 use std::fmt::Write;

@@ -2,9 +2,9 @@
 //!
 //! A line of `# ` and a command as it is typed begins a part, and the lines up to the next such line are its
 //! input, the last without its LF where a backslash ends it. In these, between backticks, `3*ab` is `ababab`, with 1, 2
-//! and 3 in place of `%` and an LF in place of `\n`, and `=ff` is the byte 255. Before its words `counted` lets the lines
-//! and bytes that a command writes be counted, in place of printing them. Of words that ask for nothing, and of those
-//! that ask for help, the number that `avrogate` ends with is printed alone.
+//! and 3 in place of `%` and an LF in place of `\n`, and `=ff` is the byte 255. Before its words `counted` lets the
+//! lines and bytes that a command writes be counted, in place of printing them. Of words that ask for nothing, and of
+//! those that ask for help, the number that `avrogate` ends with is printed alone.
 #![tactic(auto)]
 
 use command_words::{command_line, verb_of};

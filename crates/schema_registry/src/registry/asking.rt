@@ -1,4 +1,4 @@
-ghost use Rattle.std.specs.Prelude.{◌≡◌, ◌≢◌, ◌+◌, ◌≤◌, ◌<◌, ◌^◌, [], ◌∷◌, List, ℕ, Ok, Err, Some, None, true, false, IfErr, IfOk, MatchResult, OnOk, length, map, option_map, string_bytes};
+ghost use Rattle.std.specs.Prelude.{◌≡◌, ◌≢◌, ◌+◌, ◌<◌, [], List, ℕ, Ok, Err, Some, None, true, IfErr, IfOk, MatchResult, OnOk, option_map, string_bytes};
 ghost use Rattle.schema_registry.specs.Accepting.{registry_after};
 ghost use Rattle.schema_registry.specs.Answer.{Answer, Gives, IsAnswer, IsReply, Told, where_askable, where_version};
 ghost use Rattle.schema_registry.specs.Answers.{Grows, answer_to, comparison, entry_answer, version_answer};

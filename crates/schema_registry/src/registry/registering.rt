@@ -1,10 +1,8 @@
-ghost use Rattle.std.specs.Prelude.{◌≡◌, ◌<◌, ◌≢◌, ◌↔◌, ◌≤◌, [], ◌∷◌, ◌++◌, ℕ, List, Ok, Err, Some, None, true, false, is_some, IfErr, IfOk, IsTrue, MatchResult, OnOk, OnErr, if◌then◌else◌, option_map, string_bytes};
-ghost use Rattle.std.specs.BTreeMap.{IsUnchanged, get_by_text};
-ghost use Rattle.std.specs.Str.{bytes_eq};
+ghost use Rattle.std.specs.Prelude.{◌≡◌, ◌<◌, ◌≢◌, ◌↔◌, ◌≤◌, [], ◌∷◌, ◌++◌, Ok, Err, Some, None, true, false, IfErr, IfOk, IsTrue, MatchResult, OnOk, OnErr, option_map, string_bytes};
 ghost use Rattle.schema_names.specs.declared.error.SchemaError.{SchemaError};
 ghost use Rattle.avro_schema.specs.Schema.{Declaration};
 ghost use Rattle.schema_registry.specs.declared.limits.TheConstants.{MOST_SCHEMAS};
-ghost use Rattle.schema_registry.specs.Accepting.{declaration_of, id_for, registry_after, with_schema};
+ghost use Rattle.schema_registry.specs.Accepting.{declaration_of, id_for, registry_after};
 ghost use Rattle.schema_registry.specs.Answer.{Answer, AreSafe, Gives, IsAnswer, where_declared};
 ghost use Rattle.schema_registry.specs.Answers.{AreAccepted, GivesId, Grows, answer_to, is_full, pairs_of};
 ghost use Rattle.schema_registry.specs.Command.{RegisterCommand, command_of, subject_in};
