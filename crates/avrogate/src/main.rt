@@ -2,7 +2,6 @@
 #![tactic(auto)]
 
 ghost use Rattle.std.specs.Prelude.{◌≡◌, ◌≢◌, IfErr, IfOk};
-ghost use Rattle.commands.specs.Status.{exit_code_of};
 ghost use Rattle.commands.specs.declared.status.Status.TheVariants.{BadTraffic, NoMemory};
 
 use clap::error::ErrorKind;
@@ -13,24 +12,24 @@ use std::io;
 use std::process::ExitCode;
 use std::rt::Env;
 
-/// The number that a run ends with.
-fn exit_code_of(done: Result<u8, RunError>) -> u8
-    ensures ended { IfOk done (λ code. result ≡ code) }
-    ensures memory { done ≡ Err RunError.NoMemory → result ≡ exit_code_of NoMemory }
-    ensures traffic { IfErr done (λ e. e ≢ RunError.NoMemory → result ≡ exit_code_of BadTraffic) }
+/// How the program ends after a run.
+fn status_of(done: Result<Status, RunError>) -> Status
+    ensures ended { IfOk done (λ status. result ≡ status) }
+    ensures memory { done ≡ Err RunError.NoMemory → result ≡ NoMemory }
+    ensures traffic { IfErr done (λ e. e ≢ RunError.NoMemory → result ≡ BadTraffic) }
 {
     match done {
-        Ok(code) => code,
-        Err(RunError::Read) | Err(RunError::Write) => Status::BadTraffic.code(),
-        Err(RunError::NoMemory) => Status::NoMemory.code(),
+        Ok(status) => status,
+        Err(RunError::Read) | Err(RunError::Write) => Status::BadTraffic,
+        Err(RunError::NoMemory) => Status::NoMemory,
     }
 }
 
-/// Does what the words ask for, and says the number to end with.
-fn obey(rt: &(impl Input + Print + AllocGlobal), verb: &Verb) -> u8 {
+/// Does what the words ask for.
+fn obey(rt: &(impl Input + Print + AllocGlobal), verb: &Verb) -> Status {
     let mut reader = rt.reader();
     let mut writer = std::io::writer(rt);
-    exit_code_of(run(rt.alloc(), verb, &mut reader, &mut writer))
+    status_of(run(rt.alloc(), verb, &mut reader, &mut writer))
 }
 
 /// Tells what is wrong with the words, or the help that they ask for.
@@ -57,17 +56,17 @@ fn refuse(rt: &impl Eprint, error: &io::Error) -> Status {
     Status::NoMemory
 }
 
-/// Does what the words ask for, or tells what is wrong with them, and says the number to end with.
+/// Does what the words ask for, or tells what is wrong with them.
 fn answer(
     rt: &(impl Input + Print + Eprint + AllocGlobal),
     words: &[String],
-) -> Result<u8, AllocError> {
+) -> Result<Status, AllocError> {
     match command_line(rt.alloc())?.try_get_matches_from(words) {
         Ok(matches) => match verb_of(&matches) {
             Some(verb) => Ok(obey(rt, &verb)),
-            None => Ok(Status::BadWords.code()),
+            None => Ok(Status::BadWords),
         },
-        Err(error) => Ok(explain(rt, &error).code()),
+        Err(error) => Ok(explain(rt, &error)),
     }
 }
 
@@ -77,14 +76,14 @@ fn words_of(rt: &(impl Env + AllocGlobal)) -> io::Result<Vec<String>> {
     Ok(words.collect(rt.alloc())?)
 }
 
+/// Reads the words of the command line, and does what they ask for.
+fn status(rt: &(impl Env + Input + Print + Eprint + AllocGlobal)) -> Status {
+    match words_of(rt) {
+        Ok(words) => answer(rt, words.as_slice()).unwrap_or(Status::NoMemory),
+        Err(error) => refuse(rt, &error),
+    }
+}
+
 fn main(rt: HostRuntime) -> ExitCode {
-    let words = match words_of(&rt) {
-        Ok(words) => words,
-        Err(error) => return ExitCode::from(refuse(&rt, &error).code()),
-    };
-    let code = match answer(&rt, words.as_slice()) {
-        Ok(code) => code,
-        Err(_) => Status::NoMemory.code(),
-    };
-    ExitCode::from(code)
+    ExitCode::from(status(&rt).code())
 }

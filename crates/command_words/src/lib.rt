@@ -7,6 +7,12 @@ use clap::{Arg, ArgAction, ArgMatches, Command, value_parser};
 use std::alloc::{AllocError, Global};
 pub use verb::Verb;
 
+/// How many rows the run on a payload may take at most.
+const MOST_STEPS: i64 = 1_000_000_000;
+
+/// How many rows it takes at most where the words do not say.
+const STEPS: &str = "1000000";
+
 /// The subcommand that prints a program, with its flag.
 fn compile<'a>(alloc: Global) -> Result<Command<'a>, AllocError> {
     let image = Arg::new(alloc, "image")
@@ -24,8 +30,8 @@ fn run<'a>(alloc: Global) -> Result<Command<'a>, AllocError> {
         .long("steps")
         .value_name("N")
         .action(ArgAction::Set)
-        .value_parser(value_parser!(u64).range(1..=1_000_000_000))
-        .default_value("1000000")
+        .value_parser(value_parser!(u64).range(1..=MOST_STEPS))
+        .default_value(STEPS)
         .help("How many rows the run on a payload takes at most");
     Command::new(alloc, "run")
         .about("Runs the program of a listing on payloads, whose pieces are parted by bars")

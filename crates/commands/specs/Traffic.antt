@@ -1,17 +1,15 @@
 -- What a run reads and writes. This project's own.
-use Rattle.std.specs.Prelude.{◌≡◌, ℕ, List, Option, IfSome}
+use Rattle.std.specs.Prelude.{ℕ, List, Option, IfSome}
 use Rattle.std.specs.Io.KnownBytes.{Appends}
 use Rattle.answer_lines.specs.Traffic.{Begins}
 use Rattle.commands.specs.Output.{IsOutput}
-use Rattle.commands.specs.Status.{exit_code_of}
 use Rattle.commands.specs.declared.status.Status.{Status}
 use Rattle.command_words.specs.declared.verb.Verb.{Verb}
 
--- where the input was known, the writer's contents grew by an output for it whose status has this number
-abbrev pub Answers : Verb → Option (List ℕ) → Option (List ℕ) → Option (List ℕ) → ℕ → Type 0
-Answers verb remaining old new code =
-    IfSome remaining (λ input. (output : List ℕ) × (status : Status) × IsOutput verb input output status
-    × (code ≡ exit_code_of status) × Appends old new output)
+-- where the input was known, the writer's contents grew by an output for it that has this status
+abbrev pub Answers : Verb → Option (List ℕ) → Option (List ℕ) → Option (List ℕ) → Status → Type 0
+Answers verb remaining old new status =
+    IfSome remaining (λ input. (output : List ℕ) × IsOutput verb input output status × Appends old new output)
 
 -- where the input was known, the writer's contents grew by a beginning of an output for it
 abbrev pub BeginsToAnswer : Verb → Option (List ℕ) → Option (List ℕ) → Option (List ℕ) → Type 0

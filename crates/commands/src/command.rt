@@ -55,7 +55,7 @@ fn output_of(alloc: Global, verb: &Verb, input: &[u8]) -> Result<(String, Status
     }
 }
 
-/// Reads the whole input, makes the whole output, and then writes it. Answers the number of the status.
+/// Reads the whole input, makes the whole output, and then writes it.
 ///
 /// After `Read` or `NoMemory` nothing is written, after `Write` a beginning of the output.
 pub fn run<R: Read, W: Write>(
@@ -63,7 +63,7 @@ pub fn run<R: Read, W: Write>(
     verb: &Verb,
     reader: &mut R,
     writer: &mut W,
-) -> Result<u8, RunError>
+) -> Result<Status, RunError>
     ensures ok { IfOk result (Answers verb.now (R.remaining reader.old) (W.contents writer.old)
         (W.contents writer.new)) }
     ensures read { result ≡ Err RunError.Read → Keeps (W.contents writer.old) (W.contents writer.new) }
@@ -74,5 +74,5 @@ pub fn run<R: Read, W: Write>(
     let input = read_all(alloc, reader)?;
     let (output, status) = output_of(alloc, verb, &input)?;
     write_whole(writer, output.as_bytes())?;
-    Ok(status.code())
+    Ok(status)
 }

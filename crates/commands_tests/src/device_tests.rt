@@ -1,7 +1,7 @@
 //! Devices that fail.
 
 use crate::devices::{Drip, NEVER, Trickle};
-use commands::{RunError, Verb, run};
+use commands::{RunError, Status, Verb, run};
 use std::alloc::Global;
 use std::process::Abort;
 
@@ -14,7 +14,7 @@ const EXAMPLE_OUTPUT: &[u8] = b"done 02\ndone 7f\n";
 fn assert_reads(
     rt: &(impl Abort + AllocGlobal),
     fails_at: usize,
-    end: Result<u8, RunError>,
+    end: Result<Status, RunError>,
     output: &[u8],
 ) -> usize {
     let mut reader = Trickle::new(EXAMPLE, fails_at);
@@ -29,7 +29,7 @@ fn assert_reads(
 
 #[test]
 fn fails_at_each_read_in_turn(rt: HostRuntime) {
-    let calls = assert_reads(&rt, NEVER, Ok(0), EXAMPLE_OUTPUT);
+    let calls = assert_reads(&rt, NEVER, Ok(Status::Answered), EXAMPLE_OUTPUT);
     for call in 0..calls {
         if call % 3 != 1 {
             assert_reads(&rt, call, Err(RunError::Read), b"");
@@ -38,7 +38,7 @@ fn fails_at_each_read_in_turn(rt: HostRuntime) {
 }
 
 /// How a run ends that is written to a device.
-fn drips(alloc: Global, writer: &mut Drip) -> Result<u8, RunError> {
+fn drips(alloc: Global, writer: &mut Drip) -> Result<Status, RunError> {
     let mut reader = EXAMPLE;
     run(alloc, &Verb::Transcode, &mut reader, writer)
 }
@@ -52,7 +52,7 @@ fn has_all(writer: &Drip) -> bool {
 fn assert_writes_all(rt: &(impl Abort + AllocGlobal)) -> usize {
     let mut writer = Drip::new(rt.alloc(), NEVER);
     let done = drips(rt.alloc(), &mut writer);
-    assert!(rt; done == Ok(0) && has_all(&writer));
+    assert!(rt; done == Ok(Status::Answered) && has_all(&writer));
     writer.calls
 }
 
@@ -88,5 +88,7 @@ fn a_run_that_may_take_no_row_takes_none(rt: HostRuntime) {
     let mut written = Vec::new(rt.alloc());
     let verb = Verb::Run { steps: 0 };
     let done = run(rt.alloc(), &verb, &mut reader, &mut written);
-    assert!(rt; done == Ok(0) && written.as_slice() == b"running count 0\n".as_slice());
+    assert!(rt;
+        done == Ok(Status::Answered) && written.as_slice() == b"running count 0\n".as_slice()
+    );
 }

@@ -8,7 +8,7 @@
 #![tactic(auto)]
 
 use command_words::{command_line, verb_of};
-use commands::{RunError, Verb, run};
+use commands::{RunError, Status, Verb, run};
 use std::alloc::{AllocError, Global};
 use std::io::{Read, Write};
 use std::process::ExitCode;
@@ -70,7 +70,7 @@ fn push_counts(alloc: Global, output: &mut Vec<u8>, text: &[u8]) -> Result<(), A
 fn asked(alloc: Global, words: &str) -> Result<Result<Verb, i32>, AllocError> {
     let words: Vec<&str> = words.split(' ').collect(alloc)?;
     match command_line(alloc)?.try_get_matches_from(words.as_slice()) {
-        Ok(matches) => Ok(verb_of(&matches).ok_or(2)),
+        Ok(matches) => Ok(verb_of(&matches).ok_or(i32::from(Status::BadWords.code()))),
         Err(error) => Ok(Err(error.exit_code())),
     }
 }
@@ -83,7 +83,7 @@ fn obey(
     mut input: &[u8],
 ) -> Result<i32, RunError> {
     match asked(alloc, words)? {
-        Ok(verb) => Ok(i32::from(run(alloc, &verb, &mut input, output)?)),
+        Ok(verb) => Ok(i32::from(run(alloc, &verb, &mut input, output)?.code())),
         Err(status) => Ok(status),
     }
 }
