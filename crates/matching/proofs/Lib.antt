@@ -6,4 +6,5 @@ pub mod Members
 pub mod Names
 pub mod RouteLoop
 pub mod Partnering
+mod Passed
 mod Taken

@@ -16,7 +16,7 @@ pub record IsFree (names : List (List ℕ)) (ps : List (Option ℕ)) (aliases : 
   pub named : slice_get names n ≡ Some name
   pub used : is_used name aliases ≡ true
 
-free_there : (ps : List (Option ℕ)) (o : Option ℕ) (n : ℕ) → if_free ps o ≡ Some n → (o ≡ Some n) × (is_none (slice_index_or ps n None) ≡ true)
+pub free_there : (ps : List (Option ℕ)) (o : Option ℕ) (n : ℕ) → if_free ps o ≡ Some n → (o ≡ Some n) × (is_none (slice_index_or ps n None) ≡ true)
 free_there ps None n e = absurd cc
 free_there ps (Some i) n e = by_test (is_none (slice_index_or ps i None)) refl e where
   by_test : (b : Bool) → is_none (slice_index_or ps i None) ≡ b → cond b (Some i) None ≡ Some n → (Some i ≡ Some n) × (is_none (slice_index_or ps n None) ≡ true)

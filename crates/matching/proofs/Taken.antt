@@ -13,7 +13,7 @@ use Rattle.matching.proofs.Partnering.{all_keep, freely}
 
 -- ---- lists
 
-set_there : {X : Type 0} (xs : List X) (n : ℕ) (x y : X) → slice_get xs n ≡ Some y → slice_get (slice_set xs n x) n ≡ Some x
+pub set_there : {X : Type 0} (xs : List X) (n : ℕ) (x y : X) → slice_get xs n ≡ Some y → slice_get (slice_set xs n x) n ≡ Some x
 set_there [] n x y e = absurd cc
 set_there (z ∷ xs) zero x y e = refl
 set_there (z ∷ xs) (suc n) x y e = set_there xs n x y e
@@ -25,7 +25,7 @@ set_keeps (w ∷ xs) zero (suc i) x y e = (y, e)
 set_keeps (w ∷ xs) (suc n) zero x y e = (y, e)
 set_keeps (w ∷ xs) (suc n) (suc i) x y e = set_keeps xs n i x y e
 
-free_at : (ps : List (Option ℕ)) (i : ℕ) → slice_get ps i ≡ Some None → is_none (slice_index_or ps i None) ≡ true
+pub free_at : (ps : List (Option ℕ)) (i : ℕ) → slice_get ps i ≡ Some None → is_none (slice_index_or ps i None) ≡ true
 free_at [] i e = absurd cc
 free_at (p ∷ ps) zero e = ap is_none (let same : p ≡ None = cc in same)
 free_at (p ∷ ps) (suc i) e = free_at ps i e
@@ -33,17 +33,18 @@ free_at (p ∷ ps) (suc i) e = free_at ps i e
 -- ---- one reader's field
 
 -- for each name there is a place
-abbrev ArePlaces : List (List ℕ) → List (Option ℕ) → Type 0
+abbrev pub ArePlaces : List (List ℕ) → List (Option ℕ) → Type 0
 ArePlaces names ps = (n : ℕ) (name : List ℕ) → slice_get names n ≡ Some name → (p : Option ℕ) × (slice_get ps n ≡ Some p)
+
+-- the first of the names takes a position that is free
+pub first_takes : (names : List (List ℕ)) (ps : List (Option ℕ)) (i : ℕ) (name : List ℕ) → place_of name names ≡ Some i → is_none (slice_index_or ps i None) ≡ true → (a : List ℕ) → bytes_eq a name ≡ true → if_free ps (place_of a names) ≡ Some i
+first_takes names ps i name at free a e = let same : a ≡ name = (bytes_eq-Decides a name).0 e in ap (λ (x : List ℕ). if_free ps (place_of x names)) same ∙ ap (if_free ps) at ∙ ap (λ (b : Bool). cond b (Some i) None) free
 
 some_free : (names : List (List ℕ)) (ps : List (Option ℕ)) (i : ℕ) (name : List ℕ) → place_of name names ≡ Some i → is_none (slice_index_or ps i None) ≡ true → (aliases : List (List ℕ)) → is_used name aliases ≡ true → (n : ℕ) × (first_free names ps aliases ≡ Some n)
 some_free names ps i name at free [] used = absurd cc
 some_free names ps i name at free (a ∷ aliases) used = by_first (λ u. some_free names ps i name at free aliases u) (if_free ps (place_of a names)) refl where
-  first : bytes_eq a name ≡ true → if_free ps (place_of a names) ≡ Some i
-  first e = let same : a ≡ name = (bytes_eq-Decides a name).0 e in ap (λ (x : List ℕ). if_free ps (place_of x names)) same ∙ ap (if_free ps) at ∙ ap (λ (b : Bool). cond b (Some i) None) free
-
   later : (b : Bool) → bytes_eq a name ≡ b → (b || is_used name aliases) ≡ true → if_free ps (place_of a names) ≡ None → is_used name aliases ≡ true
-  later true is h none = absurd (let clash : Some i ≡ None = sym (first is) ∙ none in cc)
+  later true is h none = absurd (let clash : Some i ≡ None = sym (first_takes names ps i name at free a is) ∙ none in cc)
   later false is h none = h
 
   by_first : (is_used name aliases ≡ true → (n : ℕ) × (first_free names ps aliases ≡ Some n)) → (o : Option ℕ) → if_free ps (place_of a names) ≡ o → (n : ℕ) × (or_else (if_free ps (place_of a names)) (first_free names ps aliases) ≡ Some n)
@@ -60,7 +61,7 @@ takes names ps i name g at free unnamed used =
 -- ---- all of them
 
 module _ (names : List (List ℕ)) (i : ℕ) (name : List ℕ) (at : place_of name names ≡ Some i) where
-  still : (count : ℕ) (o : Option ℕ) (ps : List (Option ℕ)) → ArePlaces names ps → ArePlaces names (taken_by count o ps)
+  pub still : (count : ℕ) (o : Option ℕ) (ps : List (Option ℕ)) → ArePlaces names ps → ArePlaces names (taken_by count o ps)
   still count None ps places = places
   still count (Some n) ps places = λ k other e. let p = places k other e in set_keeps ps n k (Some count) p.0 p.1
 
@@ -86,11 +87,11 @@ module _ (names : List (List ℕ)) (i : ℕ) (name : List ℕ) (at : place_of na
       (rest.0, rest.1 ∙ ap (λ (m : ℕ). Some (Some m)) number)
 
 -- where names are distinct, a name's place is where it stands
-only_place : (names : List (List ℕ)) (i : ℕ) (name : List ℕ) → ((k : ℕ) → slice_get names k ≡ Some name → k ≡ i) → slice_get names i ≡ Some name → (o : Option ℕ) → place_of name names ≡ o → place_of name names ≡ Some i
+pub only_place : (names : List (List ℕ)) (i : ℕ) (name : List ℕ) → ((k : ℕ) → slice_get names k ≡ Some name → k ≡ i) → slice_get names i ≡ Some name → (o : Option ℕ) → place_of name names ≡ o → place_of name names ≡ Some i
 only_place names i name one at None is = absurd (let clash : true ≡ false = sym (used_there name names i at) ∙ none-used name names is in cc)
 only_place names i name one at (Some n) is = is ∙ ap (λ (k : ℕ). Some k) (one n (place-some name names n is))
 
-by_name_places : (others : List (List ℕ)) (ws : List FieldNode) → ArePlaces (field_names ws) (map (λ f. place_of f.name others) ws)
+pub by_name_places : (others : List (List ℕ)) (ws : List FieldNode) → ArePlaces (field_names ws) (map (λ f. place_of f.name others) ws)
 by_name_places others [] n name e = absurd cc
 by_name_places others (w ∷ ws) zero name e = (place_of w.name others, refl)
 by_name_places others (w ∷ ws) (suc n) name e = by_name_places others ws n name e

@@ -1,5 +1,5 @@
 -- Which fields of two records go together (Avro 1.11, "Schema Resolution": "fields are matched by name"; "Aliases").
-use Rattle.std.specs.Prelude.{◌≡◌, ℕ, suc, ◌<◌, ◌==◌, Bool, true, false, List, [], ◌∷◌, map, Option, Some, None, is_some, is_none, option_map, IfSome, if◌then◌else◌, slice_get, slice_index_or, slice_set, string_bytes}
+use Rattle.std.specs.Prelude.{◌≡◌, ℕ, suc, ◌<◌, ◌⊎◌, ◌==◌, Bool, true, false, List, [], ◌∷◌, map, Option, Some, None, is_some, is_none, option_map, IfSome, if◌then◌else◌, slice_get, slice_index_or, slice_set, string_bytes}
 use Rattle.std.specs.List.{AllByRecursion, list_any}
 use Rattle.std.specs.Str.{bytes_eq}
 use Rattle.avro_types.specs.declared.kind.Field.{Field}
@@ -75,6 +75,20 @@ AliasesAreTaken = (ws rs : List FieldNode) (i j : ℕ) (f g : FieldNode) → Hav
     → slice_get ws i ≡ Some f → slice_get (partners ws rs) i ≡ Some None
     → slice_get rs j ≡ Some g → place_of g.name (field_names ws) ≡ None → is_used f.name g.aliases ≡ true
     → (k : ℕ) × (slice_get (partners ws rs) k ≡ Some (Some j))
+
+-- The alias at m of the reader's field g, which is at j, comes before the name of the writer's field that g is the
+-- partner of, or g is the partner of none.
+abbrev pub PassesOver : List FieldNode → List FieldNode → ℕ → FieldNode → ℕ → Type 0
+PassesOver ws rs j g m = (k n : ℕ) (h : FieldNode) → slice_get ws k ≡ Some h
+    → slice_get (partners ws rs) k ≡ Some (Some j) → place_of h.name g.aliases ≡ Some n → m < n
+
+-- The reader's fields take their aliases in the declared order, and each the first that it can: an alias that a
+-- reader's field passes over is no writer's field's name, or that field goes by its name, or its partner comes before.
+abbrev pub EarlierAliasesWereTaken : Type 0
+EarlierAliasesWereTaken = (ws rs : List FieldNode) (i j m : ℕ) (f g : FieldNode) → HaveDistinctNames ws
+    → slice_get ws i ≡ Some f → slice_get rs j ≡ Some g → place_of g.name (field_names ws) ≡ None
+    → place_of f.name g.aliases ≡ Some m → PassesOver ws rs j g m
+    → (is_used f.name (field_names rs) ≡ true) ⊎ ((l : ℕ) × (l < j) × (slice_get (partners ws rs) i ≡ Some (Some l)))
 
 -- ---- where each of the writer's fields goes: its own node, and its partner's position and node
 

@@ -1,6 +1,6 @@
 ghost use Rattle.matching.specs.Matches.{MatchesWhereItHolds};
 ghost use Rattle.matching.specs.Matching.{MatchesByRule};
-ghost use Rattle.matching.specs.Partners.{AliasesAreTaken, NamesGoFirst, OthersGoByAlias, PartnersAreApart};
+ghost use Rattle.matching.specs.Partners.{AliasesAreTaken, EarlierAliasesWereTaken, NamesGoFirst, OthersGoByAlias, PartnersAreApart};
 
 /// The law that matching is the rule as the standard writes it, however deep arrays and maps nest: what `matches`
 /// computes is true exactly where the relation holds.
@@ -10,10 +10,12 @@ pub fn matches_by_rule()
 {}
 
 /// The law that a field goes to the one of its name, where there is one, and else by an alias of its partner's, which
-/// is taken where it can be; no two of a writer's fields have one partner.
+/// is taken where it can be; no two of a writer's fields have one partner. The reader's fields take their aliases in
+/// the declared order, each the first that it can.
 pub fn partners_by_rule()
     ensures name { NamesGoFirst }
     ensures alias { OthersGoByAlias }
     ensures taken { AliasesAreTaken }
+    ensures earlier { EarlierAliasesWereTaken }
     ensures apart { PartnersAreApart }
 {}

@@ -1,5 +1,6 @@
 use Rattle.matching.proofs.Apart.{partners_apart}
 use Rattle.matching.proofs.Partnering.{names_go_first, others_go_by_alias}
+use Rattle.matching.proofs.Passed.{earlier_aliases_were_taken}
 use Rattle.matching.proofs.Taken.{aliases_are_taken}
 use Rattle.matching.proofs.laws.partners_by_rule.Goals as goal
 
@@ -14,3 +15,6 @@ returns-clause-apart c = partners_apart
 
 pub returns-clause-taken : goal.returns-clause-taken
 returns-clause-taken c = aliases_are_taken
+
+pub returns-clause-earlier : goal.returns-clause-earlier
+returns-clause-earlier c = earlier_aliases_were_taken
