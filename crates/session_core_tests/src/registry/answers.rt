@@ -7,10 +7,11 @@ ghost use Rattle.schema_registry.specs.Shared.{IsReceiptOf};
 use crate::registry::lines::{answer_line, command_of, reply_line, second_answer};
 use schema_registry::{Receipt, Refusal, SharedRegistry};
 use std::alloc::{AllocError, Global};
+use std::fmt::Write;
 use std::sync::Wait;
 
 /// Registers a text.
-fn register<R: Wait>(
+pub(crate) fn register<R: Wait>(
     rt: &R,
     alloc: Global,
     shared: &SharedRegistry,
@@ -31,7 +32,7 @@ pub(crate) fn found(shared: &SharedRegistry, id: u32) -> &str {
 }
 
 /// The text that a receipt of an id shows, which agrees with one that is found.
-fn shown<'a>(shared: &'a SharedRegistry, id: u32, receipt: &mut Receipt) -> &'a str
+pub(crate) fn shown<'a>(shared: &'a SharedRegistry, id: u32, receipt: &mut Receipt) -> &'a str
     requires { IsReceiptOf shared.now receipt.old × (receipt.old.id ≡ id) }
 {
     if let Some((_, mut other)) = shared.find(id) {
@@ -41,7 +42,7 @@ fn shown<'a>(shared: &'a SharedRegistry, id: u32, receipt: &mut Receipt) -> &'a 
 }
 
 /// Registers a text, and tells the id with the text that its receipt shows.
-pub(crate) fn registered<R: Wait>(
+fn registered<R: Wait>(
     rt: &R,
     alloc: Global,
     shared: &SharedRegistry,
@@ -96,40 +97,23 @@ pub(crate) fn answered_by<R: Wait>(
     let mut answered = String::new(alloc);
     for line in rows.lines().step_by(step) {
         let answer = answer_to(rt, alloc, shared, line)?;
-        let row = format!(in alloc; "{line}\n{answer}\n")?;
-        answered.push_str(&row)?;
+        write!(answered, "{line}\n{answer}\n")?;
     }
     Ok(answered)
 }
 
-/// Whether a shared registry answers each line as its row has it, with a number in place of `#`.
-fn answers_numbered<R: Wait>(
-    rt: &R,
-    alloc: Global,
-    shared: &SharedRegistry,
-    rows: &str,
-    number: usize,
-) -> Result<bool, AllocError> {
-    let word = format!(in alloc; "{number}")?;
-    let wanted = rows.replace(alloc, '#', &word)?;
-    let answered = answered_by(rt, alloc, shared, &wanted, 2)?;
-    Ok(answered == wanted)
-}
-
-/// Rows with the answers that a new shared registry gives to their lines after other rows, which have the numbers from
-/// 1 to a count in place of `#`; or nothing, where those are answered otherwise.
-pub(crate) fn answered_after<R: Wait>(
-    rt: &R,
+/// Rows behind others, which stand there once for each number from 1 to a count, with the number in place of `#`.
+pub(crate) fn rows_after(
     alloc: Global,
     numbered_rows: &str,
     count: usize,
     rows: &str,
 ) -> Result<String, AllocError> {
-    let shared = SharedRegistry::new(alloc)?;
+    let mut all = String::new(alloc);
     for number in 1..=count {
-        if !answers_numbered(rt, alloc, &shared, numbered_rows, number)? {
-            return Ok(String::new(alloc));
-        }
+        let word = format!(in alloc; "{number}")?;
+        all.push_str(&numbered_rows.replace(alloc, '#', &word)?)?;
     }
-    answered_by(rt, alloc, &shared, rows, 2)
+    all.push_str(rows)?;
+    Ok(all)
 }

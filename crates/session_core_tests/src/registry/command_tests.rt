@@ -1,6 +1,6 @@
 //! What a registry answers to commands in a row.
 
-use crate::registry::answers::{answer_to, answered_after, answered_by};
+use crate::registry::answers::{answer_to, answered_by, rows_after};
 use crate::registry::lines::command_of;
 use crate::registry::rows::{
     EACH_ID, EACH_LEVEL, EACH_SUBJECT, FORWARD, FULL, LATEST, LEVELS, MANY, NO_IDS, NO_LEVELS,
@@ -10,7 +10,7 @@ use crate::same::same;
 use schema_registry::{
     LONGEST_SUBJECT, MOST_LEVELS, MOST_SCHEMAS, MOST_SUBJECTS, Refusal, SharedRegistry,
 };
-use std::alloc::{AllocError, Global};
+use std::alloc::Global;
 use std::process::Abort;
 use std::sync::Wait;
 use std::test::Fail;
@@ -23,8 +23,10 @@ fn assert_after(
     count: usize,
     rows: &str,
 ) -> Result<(), Fail> {
-    let answered = answered_after(rt, rt.alloc(), numbered_rows, count, rows)?;
-    same(rt, answered.as_str(), rows);
+    let shared = SharedRegistry::new(rt.alloc())?;
+    let wanted = rows_after(rt.alloc(), numbered_rows, count, rows)?;
+    let answered = answered_by(rt, rt.alloc(), &shared, &wanted, 2)?;
+    same(rt, answered.as_str(), wanted.as_str());
     Ok(())
 }
 
