@@ -1,4 +1,4 @@
-ghost use Rattle.std.specs.Prelude.{◌≡◌, ◌<◌, ◌≤◌, length, Some, slice_get, string_bytes, IfOk};
+ghost use Rattle.std.specs.Prelude.{◌≡◌, ◌<◌, ◌≤◌, length, Some, slice_get, string_bytes, IfErr, IfOk};
 ghost use Rattle.std.specs.Option.{ok_or};
 ghost use Rattle.serde_json.specs.Data.{Data, depth};
 ghost use Rattle.serde_json.specs.Read.{max_depth, read};
@@ -6,6 +6,7 @@ ghost use Rattle.serde_json.specs.View.{view};
 ghost use Rattle.avro_types.specs.Conforming.{DefaultsConform};
 ghost use Rattle.avro_types.specs.Node.{node_of, nodes_of};
 ghost use Rattle.avro_types.specs.WellFormed.{NodeIsWellFormed};
+ghost use Rattle.avro_types.specs.declared.limits.TheConstants.{MOST_TEXT};
 ghost use Rattle.schema_names.specs.Fault.{Tells};
 ghost use Rattle.avro_schema.specs.Schema.{IsCompact, Parses, TextGives, declared};
 ghost use Rattle.avro_schema.specs.SchemaLaw.{ReadsAsSchema};
@@ -56,7 +57,8 @@ impl Model for Schema {
 impl Schema {
     /// The schema that a text declares, or the first of its faults.
     pub fn parse(alloc: Global, text: &str) -> Result<Schema, SchemaError>
-        ensures { Parses result text.now }
+        ensures schema { Parses result text.now }
+        ensures memory { IfErr result (λ e. e ≡ SchemaError.NoMemory → length text.now ≤ MOST_TEXT) }
     {
         if text.len() > MOST_TEXT {
             return Err(SchemaError::TooLarge);

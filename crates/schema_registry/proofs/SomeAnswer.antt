@@ -1,6 +1,7 @@
 -- What a registry answers under its lock is an answer after some accepted commands.
-use Rattle.std.specs.Prelude.{◌≡◌, ℕ, List, [], Result, Ok, Err, IfErr, true}
-use Rattle.std.proofs.Common.{inr, refl, sym, subst}
+use Rattle.std.specs.Prelude.{◌≡◌, ℕ, List, [], Result, Ok, Err, IfErr}
+use Rattle.std.proofs.Common.{inr, refl}
+use Rattle.avro_schema.specs.Schema.{Declaration}
 use Rattle.schema_registry.specs.declared.refusal.Refusal.{Refusal}
 use Rattle.schema_registry.specs.declared.refusal.Refusal.TheVariants.{NoMemory}
 use Rattle.schema_registry.specs.declared.reply.Reply.{Reply}
@@ -10,7 +11,9 @@ use Rattle.schema_registry.specs.Answers.{AreAccepted, Grows, answer_to, no_comm
 use Rattle.schema_registry.specs.Command.{Command, RegisterCommand}
 use Rattle.schema_registry.specs.Reply.{answer_of}
 use Rattle.schema_registry.specs.Shared.{IsSomeAnswer, IsSomeShownOf, MayGrow}
-use Rattle.schema_registry.specs.Subject.{is_subject}
+use Rattle.schema_registry.specs.Lists.{no_lists}
+use Rattle.schema_registry.specs.Tables.{AsksToRegister}
+use Rattle.schema_registry.proofs.Told.{asked-grows}
 
 pub some-answer : (commands : List Command) (c : Command) (result : Result Reply Refusal) → AreAccepted commands → Gives (answer_to (registry_after commands) c) result
     → IfErr result (λ e. e ≡ NoMemory → Grows (registry_after commands) c) → IsSomeAnswer c (answer_of result)
@@ -20,9 +23,9 @@ some-answer commands c (Err refusal) accepted gives memory = (
   λ known. inr (record { commands = commands; accepted = accepted; answer = gives known }),
 )
 
--- a registration may want memory where its subject is named by the rule
-pub registration-grows : (c : Command) (subject text : List ℕ) → c ≡ RegisterCommand subject text → is_subject subject ≡ true → MayGrow c
-registration-grows c subject text is named = subst MayGrow (sym is) (record { commands = []; accepted = no_command; grows = named })
+-- a registration of a schema may want memory
+pub registration-grows : (subject text : List ℕ) (schema : Declaration) → AsksToRegister (RegisterCommand subject text) subject schema → MayGrow (RegisterCommand subject text)
+registration-grows subject text schema asks = record { commands = []; accepted = no_command; grows = asked-grows no_lists subject text schema asks }
 
 -- memory is refused where it may be wanted
 pub memory-refused : (c : Command) → MayGrow c → IsSomeShownOf c (Err NoMemory)

@@ -1,7 +1,8 @@
 -- What a registry answers, read off its lists, and in which order it refuses (our own order; the API has the codes).
-use Rattle.std.specs.Prelude.{◌≡◌, ◌≢◌, ℕ, ◌&&◌, ◌||◌, List, [], ◌∷◌, ◌++◌, map, length, nat_le, Bool, true, false, not, is_some, if◌then◌else◌, Option, Some, None, Result, Ok, Err}
+use Rattle.std.specs.Prelude.{◌≡◌, ◌≢◌, ◌≤◌, ℕ, ◌&&◌, ◌||◌, List, [], ◌∷◌, ◌++◌, map, length, nat_le, Bool, true, false, not, is_some, if◌then◌else◌, Option, Some, None, Result, Ok, Err}
 use Rattle.std.specs.List.{filter_map, flat_map}
 use Rattle.std.specs.FinMap as finite
+use Rattle.avro_types.specs.declared.limits.TheConstants.{MOST_TEXT}
 use Rattle.avro_schema.specs.Schema.{Declaration}
 use Rattle.schema_registry.specs.declared.limits.TheConstants.{MOST_SCHEMAS, MOST_SUBJECTS, MOST_LEVELS}
 use Rattle.schema_registry.specs.declared.command.Version.{Version}
@@ -114,11 +115,13 @@ module _ (lists : Lists) where
   answer_to (LevelCommand subject) =
       where_true (is_subject_or_none subject) BadSubject (Told (Ok (LevelReply (level_of subject lists.levels))))
 
-  -- where a command may want memory: where it reads the text of a schema, and where it sets or tells what it was asked
+  -- where a command may want memory: where it reads the text of a schema, which is short enough, and where it sets or
+  -- tells what it was asked
   abbrev pub Grows : Command → Type 0
-  Grows (RegisterCommand subject text) = is_subject subject ≡ true
-  Grows (LookupCommand subject text) = is_subject subject ≡ true
-  Grows (CheckCommand subject version text) = (is_subject subject ≡ true) × (is_version version ≡ true)
+  Grows (RegisterCommand subject text) = (is_subject subject ≡ true) × (length text ≤ MOST_TEXT)
+  Grows (LookupCommand subject text) = (is_subject subject ≡ true) × (length text ≤ MOST_TEXT)
+  Grows (CheckCommand subject version text) =
+      (is_subject subject ≡ true) × (is_version version ≡ true) × (length text ≤ MOST_TEXT)
   Grows (SetLevelCommand None level) = ⊥
   Grows (LevelCommand subject) = ⊥
   Grows c = IsReply (answer_to c)

@@ -58,11 +58,11 @@ abbrev pub one_more : Session → Session
 one_more s = record s { count = s.count + 1 }
 
 -- either no row is there, or one is, and the others are those that the session takes then
-abbrev pub GoesOn : ℕ → Session → Type 0
-GoesOn k s = ((walk_rows 1 s ≡ 0) × (go_rows (suc k) s ≡ 0))
+abbrev pub OneThenSlice : ℕ → Session → Type 0
+OneThenSlice k s = ((walk_rows 1 s ≡ 0) × (go_rows (suc k) s ≡ 0))
     ⊎ ((walk_rows 1 s ≡ 1) × (go_rows (suc k) s ≡ 1 + slice_rows k (record s { count = s.count + 1 })))
 
-goes_from : (k : ℕ) (s : Session) (state : State) → RunsGoOn → s.out_of_memory ≡ false → state_of s ≡ Some state → First s.program s.bytes s.closed s.breaks k state → GoesOn k s
+goes_from : (k : ℕ) (s : Session) (state : State) → RunsGoOn → s.out_of_memory ≡ false → state_of s ≡ Some state → First s.program s.bytes s.closed s.breaks k state → OneThenSlice k s
 goes_from k s state go_on o is (inl (w, g)) = inl (rows_are s state (slice_from s.program s.bytes s.closed [] 1) o is ∙ w, rows_are s state (go_from s.program s.bytes s.closed s.breaks (suc k)) o is ∙ g)
 goes_from k s state go_on o is (inr (next, r, w, g)) =
     let later = go_on s.program s.bytes s.closed s.count 1 state is ∙ one_row s.program s.bytes s.closed state next r in
@@ -72,7 +72,7 @@ goes_from k s state go_on o is (inr (next, r, w, g)) =
       rows_are s state (go_from s.program s.bytes s.closed s.breaks (suc k)) o is ∙ g ∙ ap (λ (x : ℕ). 1 + x) (sym others),
     )
 
-goes_where : (x : Bool) (k : ℕ) (s : Session) (state : State) → RunsGoOn → s.out_of_memory ≡ x → state_of s ≡ Some state → GoesOn k s
+goes_where : (x : Bool) (k : ℕ) (s : Session) (state : State) → RunsGoOn → s.out_of_memory ≡ x → state_of s ≡ Some state → OneThenSlice k s
 goes_where true k s state go_on o is = inl (none_are s (slice_from s.program s.bytes s.closed [] 1) o, none_are s (go_from s.program s.bytes s.closed s.breaks (suc k)) o)
 goes_where false k s state go_on o is = goes_from k s state go_on o is (first_row s.program s.bytes s.closed s.breaks k state)
 
@@ -80,13 +80,13 @@ goes_where false k s state go_on o is = goes_from k s state go_on o is (first_ro
 
 stopped_at : (W G : ℕ) (s new : Session) → (x : (W ≡ 0) × (G ≡ 0)) → TakesRows W s 0 new → TakesRows G s 0 new
 stopped_at W G s new (w, g) (inl (e, same)) = inl (sym g, same)
-stopped_at W G s new (w, g) (inr (lt, same)) = inr (omega (arith, lt, w), same)
+stopped_at W G s new (w, g) (inr (lt, same, wants)) = inr (omega (arith, lt, w), same, wants)
 
 stopped_after : (W G : ℕ) (s new : Session) → W ≡ 1 → 1 ≤ G → TakesRows W s 0 new → TakesRows G s 0 new
 stopped_after W G s new w g (inl (e, same)) = inl (omega (arith, e, w), same)
-stopped_after W G s new w g (inr (lt, same)) = inr (omega (arith, g), same)
+stopped_after W G s new w g (inr (lt, same, wants)) = inr (omega (arith, g), same, wants)
 
-stopped_where : (k : ℕ) (s new : Session) → GoesOn k s → TakesRows (walk_rows 1 s) s 0 new → TakesRows (go_rows (suc k) s) s 0 new
+stopped_where : (k : ℕ) (s new : Session) → OneThenSlice k s → TakesRows (walk_rows 1 s) s 0 new → TakesRows (go_rows (suc k) s) s 0 new
 stopped_where k s new (inl both) t = stopped_at (walk_rows 1 s) (go_rows (suc k) s) s new both t
 stopped_where k s new (inr (w, g)) t = stopped_after (walk_rows 1 s) (go_rows (suc k) s) s new w (omega (arith, g)) t
 
@@ -98,7 +98,7 @@ stopped (suc k) s new state n go_on is t = stopped_where k s new (goes_where s.o
 -- the first row was taken
 first_taken : (W : ℕ) (s mid : Session) → W ≤ 1 → TakesRows W s 1 mid → mid ≡ one_more s
 first_taken W s mid le (inl (e, same)) = same
-first_taken W s mid le (inr (lt, same)) = absurd (lt_irrefl 1 (omega (arith, lt, le)))
+first_taken W s mid le (inr (lt, same, wants)) = absurd (lt_irrefl 1 (omega (arith, lt, le)))
 
 others_taken : (S G more : ℕ) (s new : Session) → G ≡ 1 + S → TakesRows S (one_more s) more new → TakesRows G s (1 + more) new
 others_taken S G more s new g (inl (e, same)) =
@@ -106,18 +106,18 @@ others_taken S G more s new g (inl (e, same)) =
   where
     sum_is : (n m : ℕ) → n + 1 + m ≡ n + (1 + m)
     sum_is n m = omega arith
-others_taken S G more s new g (inr (lt, same)) =
-    inr (omega (arith, lt, g), same ∙ ap (λ (n : ℕ). record s { count = n; out_of_memory = true }) (sum_is s.count more))
+others_taken S G more s new g (inr (lt, same, wants)) =
+    inr (omega (arith, lt, g), same ∙ ap (λ (n : ℕ). record s { count = n; out_of_memory = true }) (sum_is s.count more), wants)
   where
     sum_is : (n m : ℕ) → n + 1 + m ≡ n + (1 + m)
     sum_is n m = omega arith
 
-went_where : (k first more : ℕ) (s mid new : Session) → GoesOn k s → first ≡ 1 → TakesRows (walk_rows 1 s) s first mid → TakesRows (slice_rows k mid) mid more new → TakesRows (go_rows (suc k) s) s (1 + more) new
+went_where : (k first more : ℕ) (s mid new : Session) → OneThenSlice k s → first ≡ 1 → TakesRows (walk_rows 1 s) s first mid → TakesRows (slice_rows k mid) mid more new → TakesRows (go_rows (suc k) s) s (1 + more) new
 went_where k first more s mid new (inl (w, g)) one t u = absurd (none-taken (walk_rows 1 s) first s mid w one t)
   where
     none-taken : (W first : ℕ) (s mid : Session) → W ≡ 0 → first ≡ 1 → TakesRows W s first mid → ⊥
     none-taken W first s mid w one (inl (e, same)) = suc-ne-zero 0 (sym one ∙ e ∙ w)
-    none-taken W first s mid w one (inr (lt, same)) = lt_irrefl 0 (omega (arith, lt, w))
+    none-taken W first s mid w one (inr (lt, same, wants)) = lt_irrefl 0 (omega (arith, lt, w))
 went_where k first more s mid new (inr (w, g)) one t u =
     let is_mid = first_taken (walk_rows 1 s) s mid (omega (arith, w)) (subst (λ (x : ℕ). TakesRows (walk_rows 1 s) s x mid) one t) in
     others_taken (slice_rows k (one_more s)) (go_rows (suc k) s) more s new g (subst (λ (m : Session). TakesRows (slice_rows k m) m more new) is_mid u)

@@ -1,10 +1,12 @@
 -- How many rows are taken of a session. All of this is this project's own.
-use Rattle.std.specs.Prelude.{◌≡◌, ◌<◌, ◌⊎◌, ℕ, zero, suc, ◌+◌, ◌-◌, ◌^◌, ◌==◌, ◌||◌, Bool, true, List, [], if◌then◌else◌}
+use Rattle.std.specs.Prelude.{◌≡◌, ◌<◌, ◌⊎◌, ℕ, zero, suc, ◌+◌, ◌-◌, ◌^◌, ◌==◌, ◌||◌, Bool, true, List, [], Some, if◌then◌else◌, slice_get}
 use Rattle.std.specs.Option.{option_map_or}
 use Rattle.matching.specs.Options.{given}
 use Rattle.isa.specs.Program.{Program}
 use Rattle.isa.specs.Row.{row_of}
 use Rattle.isa.specs.State.{State}
+use Rattle.stepper.specs.Contract.{GoesOn}
+use Rattle.stepper.specs.Memory.{MayGrow}
 use Rattle.stepper.specs.Slice.{stops_at}
 use Rattle.session.specs.Session.{Session, state_of}
 
@@ -42,7 +44,12 @@ walk_rows n s = rows_of s (slice_from s.program s.bytes s.closed [] n)
 abbrev pub go_rows : ℕ → Session → ℕ
 go_rows n s = rows_of s (go_from s.program s.bytes s.closed s.breaks n)
 
--- All these rows were taken; or fewer, and then want of memory has ended the session.
+-- the next row may want memory: its instruction may grow something, and it tells no fault and no trap
+abbrev pub NextMayGrow : Session → Type 0
+NextMayGrow s = (state : State) × (state_of s ≡ Some state) × MayGrow (slice_get s.program.code state.pc)
+    × GoesOn state (row_of s.program s.bytes s.closed state)
+
+-- All these rows were taken; or fewer, and then want of memory has ended the session, at a row that may want it.
 abbrev pub TakesRows : ℕ → Session → ℕ → Session → Type 0
 TakesRows all old rows new = ((rows ≡ all) × (new ≡ record old { count = old.count + rows }))
-    ⊎ ((rows < all) × (new ≡ record old { count = old.count + rows; out_of_memory = true }))
+    ⊎ ((rows < all) × (new ≡ record old { count = old.count + rows; out_of_memory = true }) × NextMayGrow new)

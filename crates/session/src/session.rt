@@ -149,6 +149,7 @@ impl<'p> Session<'p> {
         self.run.is_alone();
         let taken = take(&mut self.run, &self.breaks, k);
         if taken.is_short {
+            self.run.is_alone();
             self.out_of_memory = true;
         }
         taken.rows
@@ -165,6 +166,7 @@ impl<'p> Session<'p> {
         self.run.is_alone();
         let taken = take(&mut self.run, &[], n);
         if taken.is_short {
+            self.run.is_alone();
             self.out_of_memory = true;
         }
         taken.rows

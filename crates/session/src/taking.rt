@@ -1,5 +1,8 @@
-ghost use Rattle.std.specs.Prelude.{◌≡◌, ◌≤◌, ◌<◌, ◌+◌, MatchBool};
+ghost use Rattle.std.specs.Prelude.{◌≡◌, ◌≤◌, ◌<◌, ◌+◌, MatchBool, slice_get, true};
+ghost use Rattle.isa.specs.Row.{row_of};
 ghost use Rattle.session.specs.Rows.{slice_from};
+ghost use Rattle.stepper.specs.Contract.{GoesOn};
+ghost use Rattle.stepper.specs.Memory.{MayGrow};
 
 use machine::{Run, Why};
 use simulation::runs_alone_are_counted_and_stay;
@@ -18,6 +21,9 @@ pub(crate) fn take(run: &mut Run, breaks: &[u32], k: u64) -> Taken
         (result.rows ≡ slice_from run.old.program run.old.input run.old.ended breaks.now k run.old.machine.state) }
     ensures most { result.rows ≤ k }
     ensures count { run.new.machine.state.count ≡ run.old.machine.state.count + result.rows }
+    ensures memory { result.is_short ≡ true → MayGrow (slice_get run.old.program.code run.new.machine.state.pc) }
+    ensures goes_on { result.is_short ≡ true → GoesOn run.new.machine.state
+        (row_of run.old.program run.old.input run.old.ended run.new.machine.state) }
     ensures kept { run.new ≡ record run.old { machine = run.new.machine } }
 {
     runs_alone_are_counted_and_stay();

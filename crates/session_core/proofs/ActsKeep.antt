@@ -40,7 +40,7 @@ module _ (cs : List Command) where
 
   rows-keep : (all rows : ℕ) (old new : Session) → TakesRows all old rows new → new.program ≡ old.program
   rows-keep all rows old new (inl (e, same)) = ap (λ (s : Session). s.program) same
-  rows-keep all rows old new (inr (lt, same)) = ap (λ (s : Session). s.program) same
+  rows-keep all rows old new (inr (lt, same, wants)) = ap (λ (s : Session). s.program) same
 
   takes-keep : (all : ℕ) (reply : EventReply) (old new : Held) → Takes all reply old new → IsSession cs old → IsSession cs new
   takes-keep all (Rows rows) old new t is = by-session old new new.session (rows-keep all rows old.session new.session t.0) t.1 is

@@ -49,7 +49,8 @@ SetsBreak address reply old new =
     Maybe (break_refusal address old.session) (set_at address old.session) reply old new
     × WhereNoMemory reply (has_break address old.session.breaks ≡ false)
 
--- All these rows are taken; or memory is refused, and then some fewer, and the session has ended there.
+-- All these rows are taken; or memory is refused, and then some fewer, and the session has ended there, at a row that
+-- may want it.
 abbrev pub Takes : ℕ → EventReply → Held → Held → Type 0
 Takes all (Rows rows) old new = TakesRows all old.session rows new.session × (new ≡ with_session new.session old)
 Takes all reply old new = ⊥

@@ -1,5 +1,6 @@
-ghost use Rattle.std.specs.Prelude.{◌≡◌, ◌<◌, ◌≢◌, ◌↔◌, ◌≤◌, [], ◌∷◌, ◌++◌, Ok, Err, Some, None, true, false, IfErr, IfOk, IsTrue, MatchResult, OnOk, OnErr, option_map, string_bytes};
+ghost use Rattle.std.specs.Prelude.{◌≡◌, ◌<◌, ◌≢◌, ◌↔◌, ◌≤◌, [], ◌∷◌, ◌++◌, Ok, Err, Some, None, true, false, IfErr, IfOk, IsTrue, MatchResult, OnOk, OnErr, length, option_map, string_bytes};
 ghost use Rattle.schema_names.specs.declared.error.SchemaError.{SchemaError};
+ghost use Rattle.avro_types.specs.declared.limits.TheConstants.{MOST_TEXT};
 ghost use Rattle.avro_schema.specs.Schema.{Declaration};
 ghost use Rattle.schema_registry.specs.declared.limits.TheConstants.{MOST_SCHEMAS};
 ghost use Rattle.schema_registry.specs.Accepting.{declaration_of, id_for, registry_after};
@@ -25,9 +26,10 @@ use std::alloc::{AllocError, Global};
 
 /// The schema that a text declares.
 pub(crate) fn parse_schema(alloc: Global, text: &str) -> Result<Schema, Refusal>
-    ensures { MatchResult result (λ s. declaration_of text.now ≡ Ok s)
+    ensures schema { MatchResult result (λ s. declaration_of text.now ≡ Ok s)
         (λ e. e ≢ Refusal.NoMemory
         → (f : SchemaError) × (e ≡ Refusal.BadSchema f) × (declaration_of text.now ≡ Err f)) }
+    ensures memory { IfErr result (λ e. e ≡ Refusal.NoMemory → length text.now ≤ MOST_TEXT) }
 {
     match Schema::parse(alloc, text) {
         Ok(schema) => Ok(schema),
@@ -41,7 +43,8 @@ pub(crate) fn schema_for(alloc: Global, subject: &str, text: &str) -> Result<Sch
     ensures ok { IfOk result (λ s. (is_subject subject.now ≡ true) × (declaration_of text.now ≡ Ok s)) }
     ensures err { IfErr result (λ e. e ≢ Refusal.NoMemory → (answer : Declaration → Answer)
         → IsAnswer (where_declared subject.now text.now answer) (Err e)) }
-    ensures memory { IfErr result (λ e. e ≡ Refusal.NoMemory → is_subject subject.now ≡ true) }
+    ensures memory { IfErr result (λ e. e ≡ Refusal.NoMemory
+        → (is_subject subject.now ≡ true) × (length text.now ≤ MOST_TEXT)) }
 {
     if !is_subject(subject) {
         return Err(Refusal::BadSubject);

@@ -1,4 +1,5 @@
 use Rattle.std.proofs.Common.{◌≤◌, ◌+◌, ◌-◌, ◌^◌, ap, subst, arith}
+use Rattle.std.proofs.lemmas.Bool.{false≢true}
 use Rattle.stepper.specs.Running.{Running}
 use Rattle.stepper.specs.declared.slice.Why.{Why}
 use Rattle.stepper.specs.Slice.{IsWhy}
@@ -24,5 +25,7 @@ returns-in_default c =
       rows = all_rows run.program run.input run.ended c.args.breaks.now slice.result.why c.args.k slice.result.rows run.machine.state slice.new.self.machine.state c.runs_alone_are_counted_and_stay.ensures.go_on c.runs_alone_are_counted_and_stay.ensures.counted c.is_alone.ensures slice.ensures.rows fits slice.ensures.most c.in_default.not-NoMemory slice.ensures.why;
       most = slice.ensures.most;
       count = slice.ensures.count;
+      memory = λ short. absurd (false≢true short);
+      goes_on = λ short. absurd (false≢true short);
       kept = slice.ensures.kept;
     }

@@ -10,21 +10,21 @@ use Rattle.avro_schema.proofs.ReadSizes.{read-within}
 use Rattle.avro_schema.proofs.WholeNodes.{declared-well_formed}
 use Rattle.avro_schema.proofs.schema.Schema.parse.Goals as goal
 
-pub returns-then-text-gt-MOST_TEXT : goal.returns-then-text-gt-MOST_TEXT
-returns-then-text-gt-MOST_TEXT c = λ _. too-large c.args.text.now (omega arith)
+pub returns-then-text-gt-MOST_TEXT-clause-schema : goal.returns-then-text-gt-MOST_TEXT-clause-schema
+returns-then-text-gt-MOST_TEXT-clause-schema c = λ _. too-large c.args.text.now (omega arith)
 
-pub returns-in_err-value : goal.returns-in_err-value
-returns-in_err-value c =
+pub returns-in_err-value-clause-schema : goal.returns-in_err-value-clause-schema
+returns-in_err-value-clause-schema c =
     let p = err_from_is_err_and c.from_residual.result c.from_residual.ensures.1 in
     rw (p.1, p.2) (λ known. small c.args.text.now (omega arith) ∙ no-json (read c.args.text.now) _ (c.in_err-value.ensures.value known))
 
-pub returns-then-has_float : goal.returns-then-has_float
-returns-then-has_float c =
+pub returns-then-has_float-clause-schema : goal.returns-then-has_float-clause-schema
+returns-then-has_float-clause-schema c =
     let is = some-json (read c.args.text.now) (view c.in_ok-value.value) c.in_ok-value.ensures.value in
     λ _. small c.args.text.now (omega arith) ∙ a-float c.args.text.now (view c.in_ok-value.value) is c.if-has_float.ensures
 
-pub returns-in_err-kinds : goal.returns-in_err-kinds
-returns-in_err-kinds c =
+pub returns-in_err-kinds-clause-schema : goal.returns-in_err-kinds-clause-schema
+returns-in_err-kinds-clause-schema c =
     let p = err_from_is_err_and c.from_residual-in_err-kinds.result c.from_residual-in_err-kinds.ensures.1 in
     let is = some-json (read c.args.text.now) (view c.in_ok-value.value) c.in_ok-value.ensures.value in
     rw (p.1, p.2) (λ known. small c.args.text.now (omega arith) ∙ walked c.args.text.now (view c.in_ok-value.value) is c.if-has_float.ensures ∙ c.in_err-kinds.ensures.declared known)
@@ -48,8 +48,8 @@ new-requires c =
       defaults_are_short = declared-within MOST_TEXT (view c.in_ok-value.value) _ c.in_ok-kinds.ensures.declared short;
     }
 
-pub returns : goal.returns
-returns c =
+pub returns-clause-schema : goal.returns-clause-schema
+returns-clause-schema c =
     let is = some-json (read c.args.text.now) (view c.in_ok-value.value) c.in_ok-value.ensures.value in
     rw c.in_ok-of_parts.ensures (
       small c.args.text.now (omega arith) ∙ walked c.args.text.now (view c.in_ok-value.value) is c.if-has_float.ensures ∙ c.in_ok-kinds.ensures.declared ∙ ap Ok (sym c.new.ensures),
