@@ -61,7 +61,8 @@ pub fn assemble(alloc: Global, text: &[u8]) -> Result<Program, AsmError>
     // What is assembled has this text as its listing.
     ensures found { IfOk result (λ P. text.now ≡ listing_of P) }
     // The listing of a program is assembled, unless memory runs out.
-    ensures only { (P : Parted) → IsProgram P → HasBytes P → text.now ≡ listing_of P → Gives (λ x. x) result (Ok P) }
+    ensures only { (P : Parted) → IsProgram P → HasBytes P → text.now ≡ listing_of P
+        → Gives (λ x. x) result (Ok P) }
     // Which fault it is.
     ensures exact { Gives (λ x. x) result (assembled text.now) }
 {

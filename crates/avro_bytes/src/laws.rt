@@ -33,19 +33,24 @@ pub fn limits_are_these()
 pub fn shortest_spelling_is_shortest()
     ensures long { (n : ℤ) → FitsLimit long_limit n → IsNumber64 n (shortest n) }
     ensures int { (n : ℤ) → FitsLimit int_limit n → IsNumber32 n (shortest n) }
-    ensures none_shorter { (n : ℤ) (bytes : List ℕ) → IsNumber64 n bytes → length (shortest n) ≤ length bytes }
-    ensures no_int_shorter { (n : ℤ) (bytes : List ℕ) → IsNumber32 n bytes → length (shortest n) ≤ length bytes }
+    ensures none_shorter { (n : ℤ) (bytes : List ℕ) → IsNumber64 n bytes
+        → length (shortest n) ≤ length bytes }
+    ensures no_int_shorter { (n : ℤ) (bytes : List ℕ) → IsNumber32 n bytes
+        → length (shortest n) ≤ length bytes }
 {}
 
 /// The law that a spelling of one byte, or whose last byte is above 0, is the shortest one.
 pub fn tight_spelling_is_the_shortest()
-    ensures long { (n : ℤ) (bytes : List ℕ) → AreBytes bytes → IsNumber64 n bytes → IsTight bytes → bytes ≡ shortest n }
-    ensures int { (n : ℤ) (bytes : List ℕ) → AreBytes bytes → IsNumber32 n bytes → IsTight bytes → bytes ≡ shortest n }
+    ensures long { (n : ℤ) (bytes : List ℕ) → AreBytes bytes → IsNumber64 n bytes → IsTight bytes
+        → bytes ≡ shortest n }
+    ensures int { (n : ℤ) (bytes : List ℕ) → AreBytes bytes → IsNumber32 n bytes → IsTight bytes
+        → bytes ≡ shortest n }
 {}
 
 /// The law that a content is read as its length is, and then as a fixed of that size.
 pub fn content_is_a_length_and_a_fixed()
-    ensures fixed { (bytes : List ℕ) (at n to : ℕ) (m after : Meter) → length_at bytes at m ≡ Complete n to after →
+    ensures fixed { (bytes : List ℕ) (at n to : ℕ) (m after : Meter)
+        → length_at bytes at m ≡ Complete n to after →
         content_at bytes at m ≡ fixed_at n bytes to after }
     ensures failed { (bytes : List ℕ) (at : ℕ) (m : Meter) (d : Defect) → length_at bytes at m ≡ Failed d →
         content_at bytes at m ≡ Failed d }
@@ -55,7 +60,8 @@ pub fn content_is_a_length_and_a_fixed()
 pub fn walks_pass_the_items()
     ensures first { (start at : ℕ) (items : List (List ℕ)) (bytes : List ℕ) →
         IsItems items bytes ↔ Remains (first_walk start) at items bytes }
-    ensures step_sound { (walk : Walk) (all : List ℕ) (at : ℕ) (m : Meter) (next : Walk) (to : ℕ) (after : Meter) →
+    ensures step_sound { (walk : Walk) (all : List ℕ) (at : ℕ) (m : Meter) (next : Walk) (to : ℕ)
+        (after : Meter) →
         next_item walk all at m ≡ Complete (Some next) to after → Stands (Leads walk at next to) all at to }
     ensures end_sound { (walk : Walk) (all : List ℕ) (at : ℕ) (m : Meter) (to : ℕ) (after : Meter) →
         next_item walk all at m ≡ Complete None to after → Stands (Remains walk at []) all at to }
@@ -100,6 +106,7 @@ pub fn walks_tell_the_first_fault()
         HasDefect (next_block all at m) at (FaultyHead (drop at all) m) }
     ensures head_told { (before bytes : List ℕ) (m : Meter) (d : Defect) → FaultyHead bytes m d →
         next_block (before ++ bytes) (length before) m ≡ failing (length before) d }
-    ensures bad_block_told { (walk : Walk) (all : List ℕ) (at : ℕ) (m : Meter) → walk.left ≡ 0 → ¬ (IsMet walk at) →
+    ensures bad_block_told { (walk : Walk) (all : List ℕ) (at : ℕ) (m : Meter) → walk.left ≡ 0
+        → ¬ (IsMet walk at) →
         next_item walk all at m ≡ Failed (Malformed BadBlock walk.count_at) }
 {}

@@ -19,7 +19,8 @@ pub fn payload_is_spelled_or_faulty()
         IsPayload nodes d payload → IsPayload nodes e payload → d ≡ e }
     ensures one_fault { (nodes : List Node) (payload : List ℕ) (kind other : MalformedKind) (at place : ℕ) →
         FirstFault nodes payload kind at → FirstFault nodes payload other place → (kind ≡ other) × (at ≡ place) }
-    ensures never_both { (nodes : List Node) (payload : List ℕ) (d : datum.Datum) (kind : MalformedKind) (at : ℕ) →
+    ensures never_both { (nodes : List Node) (payload : List ℕ) (d : datum.Datum) (kind : MalformedKind)
+        (at : ℕ) →
         IsPayload nodes d payload → ¬ (FirstFault nodes payload kind at) }
 {}
 

@@ -10,7 +10,8 @@ ghost use Rattle.isa.specs.Worked.{BooleanIsBad, LongIsTaken, TextIsBegun};
 
 /// The law that a state has an end or a row, where the input has ended.
 pub fn row_or_end_is_there()
-    ensures { (P : Program) (input : List ℕ) (s : State) → s.end ≡ None → is_some (row_of P input true s) ≡ true }
+    ensures { (P : Program) (input : List ℕ) (s : State) → s.end ≡ None
+        → is_some (row_of P input true s) ≡ true }
 {}
 
 /// The law that a row that is taken before the input has ended is the same on every longer input, ended or not.

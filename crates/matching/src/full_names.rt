@@ -16,7 +16,8 @@ fn have_same_last(one: &Name, other: &Name) -> bool
 
 /// Whether the last parts of two full names are the same, or the writer's is an alias of the reader's.
 pub(crate) fn have_matching_names(writer: &Name, reader: &Name, aliases: &Aliases) -> bool
-    ensures { result ≡ (bytes_eq (unqualified writer.now) (unqualified reader.now) || is_used writer.now aliases.now) }
+    ensures { result ≡ (bytes_eq (unqualified writer.now) (unqualified reader.now)
+        || is_used writer.now aliases.now) }
 {
     have_same_last(writer, reader) || aliases.contains(writer)
 }

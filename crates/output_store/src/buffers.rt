@@ -82,7 +82,8 @@ fn joined_segment(ropes: &mut Ropes, buffer: Buffer, segment: Segment) -> Result
 fn joined_bytes(ropes: &mut Ropes, buffer: Buffer, segment: Segment) -> Result<Buffer, AllocError>
     requires ropes { AreRopes ropes.old }
     requires held { IsHeld ropes.old buffer }
-    ensures segments { IfOk result (λ b. segments_of ropes.new b ≡ with_bytes (segments_of ropes.old buffer) segment) }
+    ensures segments { IfOk result (λ b. segments_of ropes.new b
+        ≡ with_bytes (segments_of ropes.old buffer) segment) }
     ensures held { IfOk result (λ b. IsHeld ropes.new b) }
     ensures later { IsLater ropes.old ropes.new }
 {
@@ -333,7 +334,8 @@ impl Buffers {
     /// Appends the bytes of a buffer to others. What stands behind those after an `Err` is not said.
     pub fn write(&self, alloc: Global, place: Place, out: &mut Vec<u8>) -> Result<(), AllocError>
         requires { IsPlace (length self.now.slots) place }
-        ensures { OnOk result (out.new.items ≡ out.old.items ++ bytes_of self.now.arena (segments_at self.now place)) }
+        ensures { OnOk result (out.new.items ≡ out.old.items
+            ++ bytes_of self.now.arena (segments_at self.now place)) }
     {
         match buffer_at(self.out, &self.slots, place) {
             Buffer::Empty => Ok(()),

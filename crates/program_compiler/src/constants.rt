@@ -20,7 +20,8 @@ use std::collections::BTreeMap;
 
 /// The default of a field of a record, if it has one.
 fn default_at(nodes: &Nodes, reader: usize, field: usize) -> Option<&Datum>
-    ensures none { result ≡ None → default_of (slice_get (fields_of_record (slice_get nodes.now reader)) field) ≡ [] }
+    ensures none { result ≡ None
+        → default_of (slice_get (fields_of_record (slice_get nodes.now reader)) field) ≡ [] }
     ensures some { IfSome result
         (λ d. default_of (slice_get (fields_of_record (slice_get nodes.now reader)) field) ≡ written (datum_of d.now)) }
 {
@@ -126,7 +127,8 @@ fn noted(
     line: &Line,
 ) -> Result<Option<Constants>, AllocError>
     requires { AreDefaults r.now defaults.old constants }
-    ensures notes { IfOk result (λ o. (W : List Node) → Notes o constants (constants_of (line_of W r.now line.now))) }
+    ensures notes { IfOk result (λ o. (W : List Node)
+        → Notes o constants (constants_of (line_of W r.now line.now))) }
     ensures defaults { IfOk result (λ o. IfSome o (λ more. AreDefaults r.now defaults.new more)) }
 {
     match line {

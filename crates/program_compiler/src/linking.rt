@@ -70,7 +70,8 @@ impl Numbered {
 
 /// The instruction with a number, if that is one of 32 bits.
 fn of_number(kind: Numbered, number: Option<u32>) -> Result<Instr, CompileError>
-    ensures { (constants : List (List ℕ)) (n : ℕ) → Narrows number n → LinksTo constants (instr_with kind n) result }
+    ensures { (constants : List (List ℕ)) (n : ℕ) → Narrows number n
+        → LinksTo constants (instr_with kind n) result }
 {
     match number {
         Some(number) => Ok(kind.with(number)),

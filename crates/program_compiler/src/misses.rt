@@ -79,7 +79,8 @@ fn note(
     line: &Line,
 ) -> Result<(), AllocError>
     requires { AreNoted w.now r.now pairs.old misses.old }
-    ensures added { OnOk result (misses.new ≡ adding same_miss misses.old (misses_of (line_of w.now r.now line.now))) }
+    ensures added { OnOk result (misses.new
+        ≡ adding same_miss misses.old (misses_of (line_of w.now r.now line.now))) }
     ensures noted { OnOk result (AreNoted w.now r.now pairs.new misses.new) }
 {
     match line {

@@ -53,7 +53,8 @@ impl Ending<'_> {
     /// At a fault of what was read: it is told, whatever was told before, unless more bytes may come.
     pub fn refused(&self, fault: Fault) -> Verdict
         requires { fault ≢ NoMemory }
-        ensures { (s : State) → told result s ≡ refused self.now.program.now self.now.input.now self.now.ended fault s }
+        ensures { (s : State) → told result s
+            ≡ refused self.now.program.now self.now.input.now self.now.ended fault s }
     {
         match fault {
             Fault::Malformed { kind, at } => Verdict::Malformed { kind, at },
