@@ -28,10 +28,7 @@ struct Tally {
 fn split_schema(alloc: Global, input: &[u8]) -> Option<(Schema, &[u8])> {
     let end = memchr(b'\n', input)?;
     let line = std::str::from_utf8(&input[..end]).ok()?;
-    match Schema::parse(alloc, line) {
-        Ok(schema) => Some((schema, &input[end + 1..])),
-        Err(_) => None,
-    }
+    Some((Schema::parse(alloc, line).ok()?, &input[end + 1..]))
 }
 
 /// A message, transcoded to bytes, in the place of another outcome.
@@ -105,61 +102,25 @@ fn line_of(alloc: Global, tally: Tally) -> Option<Vec<u8>> {
     Some(line.into_bytes())
 }
 
-/// What to print for messages.
+/// What to print for a pair of schemas and messages.
 fn output_of_messages(
-    alloc: Global,
-    task: &Task,
-    transcoder: &mut Transcoder<'_>,
-    messages: &[&[u8]],
-) -> Option<Vec<u8>> {
-    match task {
-        Task::Dump => dump(alloc, transcoder, messages),
-        Task::Passes(count) => line_of(alloc, passes(alloc, transcoder, messages, *count)?),
-    }
-}
-
-/// What to print for a container of messages.
-fn output_of_container(
-    alloc: Global,
-    task: &Task,
-    transcoder: &mut Transcoder<'_>,
-    container: &[u8],
-) -> Option<Vec<u8>> {
-    let messages = Messages::of(container)?.split(alloc)?;
-    output_of_messages(alloc, task, transcoder, &messages)
-}
-
-/// What to print for a pair of schemas and a container.
-fn output_of_pair(
     alloc: Global,
     task: &Task,
     writer: &Nodes,
     reader: &Nodes,
-    container: &[u8],
+    messages: &[&[u8]],
 ) -> Option<Vec<u8>> {
-    match Transcoder::new(alloc, writer, reader) {
-        Ok(transcoder) => {
-            let mut transcoder = transcoder;
-            output_of_container(alloc, task, &mut transcoder, container)
-        }
-        Err(_) => None,
-    }
-}
-
-/// What to print for the reader's schema and a container, which follow the writer's.
-fn output_after(alloc: Global, task: &Task, writer: &Nodes, rest: &[u8]) -> Option<Vec<u8>> {
-    match split_schema(alloc, rest) {
-        Some((reader, container)) => {
-            output_of_pair(alloc, task, writer, reader.nodes(), container)
-        }
-        None => None,
+    let mut transcoder = Transcoder::new(alloc, writer, reader).ok()?;
+    match task {
+        Task::Dump => dump(alloc, &mut transcoder, messages),
+        Task::Passes(count) => line_of(alloc, passes(alloc, &mut transcoder, messages, *count)?),
     }
 }
 
 /// What to print for an input.
 pub(crate) fn output_of(alloc: Global, task: &Task, input: &[u8]) -> Option<Vec<u8>> {
-    match split_schema(alloc, input) {
-        Some((writer, rest)) => output_after(alloc, task, writer.nodes(), rest),
-        None => None,
-    }
+    let (writer, rest) = split_schema(alloc, input)?;
+    let (reader, container) = split_schema(alloc, rest)?;
+    let messages = Messages::of(container)?.split(alloc)?;
+    output_of_messages(alloc, task, writer.nodes(), reader.nodes(), &messages)
 }
