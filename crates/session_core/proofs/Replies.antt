@@ -1,13 +1,16 @@
 -- What a registry replies to a command that it accepts.
-use Rattle.std.proofs.Common.{◌≡◌, ℕ, Bool, true, false, List, [], ◌∷◌, ◌++◌, Option, Some, None, inl, inr, ap, subst, sym, ◌∙◌}
+use Rattle.std.proofs.Common.{◌≡◌, ◌<◌, refl, length, ℕ, Bool, true, false, List, [], ◌∷◌, ◌++◌, Option, Some, None, inl, inr, ap, subst, sym, ◌∙◌}
 use Rattle.std.specs.Prelude.{Result, Ok, Err, IfErr, IsSome, OnOk, OnErr, if◌then◌else◌}
+use Rattle.avro_types.specs.declared.limits.TheConstants.{MOST_TEXT}
 use Rattle.avro_schema.specs.Schema.{Declaration}
+use Rattle.avro_schema.proofs.Declared.{too-large}
+use Rattle.schema_names.specs.declared.error.SchemaError.TheVariants.{TooLarge}
 use Rattle.schema_names.specs.declared.error.SchemaError.{SchemaError}
 use Rattle.schema_registry.specs.declared.level.Level.{Level}
 use Rattle.schema_registry.specs.declared.refusal.Refusal.{Refusal}
-use Rattle.schema_registry.specs.declared.refusal.Refusal.TheVariants.{Full}
+use Rattle.schema_registry.specs.declared.refusal.Refusal.TheVariants.{BadSchema, Full}
 use Rattle.schema_registry.specs.declared.refusal.Refusal.TheVariants as refusals
-use Rattle.schema_registry.specs.Accepting.{declaration_of, id_for, registry_after}
+use Rattle.schema_registry.specs.Accepting.{declaration_of, declared_as, id_for, registry_after}
 use Rattle.schema_registry.specs.Answer.{Answer, Gives, IsAnswer, IsReply, Told, is_subject_or_none, where_schema, where_true}
 use Rattle.schema_registry.specs.Answers.{Grows, answer_to, has_no_room, is_full, register_answer, registration, set_level_answer}
 use Rattle.schema_registry.specs.Command.{Command, RegisterCommand, SetLevelCommand}
@@ -34,6 +37,10 @@ no-reply reply refusal e = cc
 where-true-is : (b : Bool) (refusal : Refusal) (answer : Answer) (reply : Reply) → IsAnswer (where_true b refusal answer) (Ok reply) → IsAnswer answer (Ok reply)
 where-true-is true refusal answer reply a = a
 where-true-is false refusal answer reply a = absurd (no-reply reply refusal a)
+
+-- a text that is too long is refused as that
+pub long-refused : (lists : Lists) (s text : List ℕ) → is_subject s ≡ true → MOST_TEXT < length text → IsAnswer (answer_to lists (RegisterCommand s text)) (Err (BadSchema TooLarge))
+long-refused lists s text named long = let is : declaration_of text ≡ Err TooLarge = ap (declared_as text) (too-large text long) in rw (named, is) refl
 
 id-unless-full : (b : Bool) (id : ℕ) (reply : Reply) → ◌≡◌ {A = Result Reply Refusal} (Ok reply) (if b then Err Full else Ok (IdReply id)) → IsId reply
 id-unless-full true id reply e = absurd (no-reply reply Full e)

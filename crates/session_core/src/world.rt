@@ -17,6 +17,8 @@ use crate::publish_error::PublishError;
 use crate::published::Published;
 use crate::refusal::EventRefusal;
 use crate::reply::EventReply;
+use avro_schema::SchemaError;
+use avro_types::MOST_TEXT;
 use isa::Program;
 use schema_registry::{Command, Level, Refusal, Registry, Reply, is_subject};
 use session::Session;
@@ -130,6 +132,10 @@ impl<'p> World<'p> {
     {
         if !is_subject(subject) {
             return EventReply::Refused(EventRefusal::OfRegistry(Refusal::BadSubject));
+        }
+        if text.len() > MOST_TEXT {
+            let refusal = Refusal::BadSchema(SchemaError::TooLarge);
+            return EventReply::Refused(EventRefusal::OfRegistry(refusal));
         }
         let Ok(command) = registration(subject, text) else {
             return EventReply::Refused(EventRefusal::OfRegistry(Refusal::NoMemory));
