@@ -7,6 +7,5 @@ pub mod RoutineSteps
 pub mod SectionSteps
 pub mod Starts
 pub mod Steps
-pub mod Unions
 pub mod Walked
 pub mod WriteSteps

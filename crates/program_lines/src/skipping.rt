@@ -1,13 +1,12 @@
-ghost use Rattle.std.specs.Prelude.{◌≡◌, ◌+◌, ◌++◌, ◌<◌, ◌≤◌, length, map, OnOk};
+ghost use Rattle.std.specs.Prelude.{◌≡◌, ◌++◌, ◌<◌, length, map, IfOk, OnOk};
 ghost use Rattle.std.specs.List.{AllByRecursion};
-ghost use Rattle.program_code.specs.Lines.{begins, one_of};
 ghost use Rattle.program_code.specs.Skipping.{K, skip_within};
-ghost use Rattle.program_tables.specs.Lines.{lines_in};
+ghost use Rattle.program_tables.specs.Lines.{lines_in, parts_in};
 
 use crate::schema_pair::SchemaPair;
-use avro_types::{Kind, MOST_NODES};
+use avro_types::Kind;
 use isa::Instr;
-use program_tables::{Go, Line, Section, put, put_all, put_loop, set_jump};
+use program_tables::{Go, Line, Section, put, put_branched, put_loop};
 use std::alloc::AllocError;
 
 impl SchemaPair<'_> {
@@ -49,47 +48,27 @@ impl SchemaPair<'_> {
                 put_loop(lines, Go::SkipNext, body)
             }
             Kind::Union(members) => {
-                let mut fars = Vec::new(self.alloc);
-                let mut code = Vec::new(self.alloc);
-                self.skip_members(members, levels - 1, &mut fars, &mut code)?;
-                put(lines, Line::Branch(fars))?;
-                put_all(lines, code)
+                let parts = self.skip_members(members, levels - 1)?;
+                put_branched(self.alloc, lines, parts)
             }
             Kind::Record { .. } => put(lines, Line::Call(Section::Skip(n))),
         }
     }
 
-    /// Adds the lines that skip members, and how far after a branch, which stands before all lines, each begins.
+    /// The lines that skip each of these members.
     #[cycle(skip)]
-    fn skip_members(
-        &self,
-        members: &[usize],
-        levels: usize,
-        fars: &mut Vec<usize>,
-        code: &mut Vec<Line>,
-    ) -> Result<(), AllocError>
-        requires members { AllByRecursion (λ m. m < length self.now.writer.now) members.now }
-        requires few { length members.now ≤ MOST_NODES }
-        ensures lines { OnOk result (lines_in self.now.writer.now self.now.reader.now code.new.items
-            ≡ lines_in self.now.writer.now self.now.reader.now code.old.items
-            ++ one_of (map (skip_within self.now.writer.now levels) members.now)) }
-        ensures places { OnOk result (fars.new.items
-            ≡ fars.old.items
-            ++ begins (length code.old.items + 1) (map (skip_within self.now.writer.now levels) members.now)) }
+    fn skip_members(&self, members: &[usize], levels: usize) -> Result<Vec<Vec<Line>>, AllocError>
+        requires { AllByRecursion (λ m. m < length self.now.writer.now) members.now }
+        ensures { IfOk result (λ parts. parts_in self.now.writer.now self.now.reader.now parts.items
+            ≡ map (skip_within self.now.writer.now levels) members.now) }
     {
-        let Some((first, rest)) = members.split_first() else {
-            return Ok(());
-        };
-        fars.push(code.len() + 1)?;
-        self.skip_within(*first, levels, code)?;
-        if rest.is_empty() {
-            return Ok(());
+        let mut parts = Vec::new(self.alloc);
+        for member in members {
+            let mut part = Vec::new(self.alloc);
+            self.skip_within(*member, levels, &mut part)?;
+            parts.push(part)?;
         }
-        let end = code.len();
-        put(code, Line::Lost)?;
-        self.skip_members(rest, levels, fars, code)?;
-        set_jump(code, end);
-        Ok(())
+        Ok(parts)
     }
 
     /// Adds the lines that skip a node.

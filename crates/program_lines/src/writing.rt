@@ -1,23 +1,23 @@
-ghost use Rattle.std.specs.Prelude.{◌≡◌, ◌+◌, ◌++◌, ◌∷◌, ◌<◌, ◌≤◌, [], List, if◌then◌else◌, length, map, slice_get, IfSome, OnOk};
+ghost use Rattle.std.specs.Prelude.{◌≡◌, ◌++◌, ◌∷◌, ◌<◌, [], List, if◌then◌else◌, length, map, slice_get, IfOk, IfSome, OnOk};
 ghost use Rattle.std.specs.List.{AllByRecursion};
 ghost use Rattle.avro_types.specs.Node.{Node};
 ghost use Rattle.outcome.specs.declared.mismatch.MismatchKind.TheVariants as kinds;
 ghost use Rattle.isa.specs.declared.instr.Instr.TheVariants as op;
 ghost use Rattle.matching.specs.Matching.{ArePair, place};
 ghost use Rattle.matching.specs.Options.{given};
-ghost use Rattle.program_code.specs.Lines.{BytesText, Lost, Op, begins, looped, miss, one_of};
+ghost use Rattle.program_code.specs.Lines.{BytesText, Lost, Op, looped, miss};
 ghost use Rattle.program_code.specs.Writing.{X, is_text, placed_node, record_code, straight_node, write_within};
 ghost use Rattle.resolver.specs.Resolution.{field_lists, lacking};
 ghost use Rattle.program_lines.specs.Known.{AreKnown};
-ghost use Rattle.program_tables.specs.Lines.{lines_in};
+ghost use Rattle.program_tables.specs.Lines.{lines_in, parts_in};
 
 use crate::known::Known;
 use crate::schema_pair::SchemaPair;
-use avro_types::{Kind, MOST_NODES};
+use avro_types::Kind;
 use isa::Instr;
 use matching::{Place, both_items, both_values};
 use outcome::MismatchKind;
-use program_tables::{Constant, Go, Line, miss, put, put_all, put_loop, put_record, set_jump};
+use program_tables::{Constant, Go, Line, miss, put, put_branched, put_loop, put_record};
 use resolver::field_lists;
 use std::alloc::AllocError;
 
@@ -232,17 +232,14 @@ impl SchemaPair<'_> {
         }
         match self.writer.kind(wn) {
             Kind::Union(members) => {
-                let mut fars = Vec::new(self.alloc);
-                let mut code = Vec::new(self.alloc);
-                self.write_members(known, members, rn, levels - 1, &mut fars, &mut code)?;
-                put(lines, Line::Branch(fars))?;
-                put_all(lines, code)
+                let parts = self.write_members(known, members, rn, levels - 1)?;
+                put_branched(self.alloc, lines, parts)
             }
             _ => self.placed(known, wn, rn, levels - 1, lines),
         }
     }
 
-    /// Adds the lines that write members, and how far after a branch, which stands before all lines, each begins.
+    /// The lines that write each of these members.
     #[cycle(write)]
     fn write_members(
         &self,
@@ -250,35 +247,21 @@ impl SchemaPair<'_> {
         members: &[usize],
         rn: usize,
         steps: usize,
-        fars: &mut Vec<usize>,
-        code: &mut Vec<Line>,
-    ) -> Result<(), AllocError>
+    ) -> Result<Vec<Vec<Line>>, AllocError>
         requires members { AllByRecursion (λ m. m < length self.now.writer.now) members.now }
-        requires few { length members.now ≤ MOST_NODES }
         requires reader { rn < length self.now.reader.now }
         requires known { AreKnown self.now.writer.now self.now.reader.now known.old }
-        ensures lines { OnOk result (lines_in self.now.writer.now self.now.reader.now code.new.items
-            ≡ lines_in self.now.writer.now self.now.reader.now code.old.items
-            ++ one_of (map (λ m. write_within self.now.writer.now self.now.reader.now steps m rn) members.now)) }
-        ensures places { OnOk result (fars.new.items
-            ≡ fars.old.items
-            ++ begins (length code.old.items + 1)
-            (map (λ m. write_within self.now.writer.now self.now.reader.now steps m rn) members.now)) }
+        ensures parts { IfOk result (λ parts. parts_in self.now.writer.now self.now.reader.now parts.items
+            ≡ map (λ m. write_within self.now.writer.now self.now.reader.now steps m rn) members.now) }
         ensures known { AreKnown self.now.writer.now self.now.reader.now known.new }
     {
-        let Some((first, rest)) = members.split_first() else {
-            return Ok(());
-        };
-        fars.push(code.len() + 1)?;
-        self.write_within(known, *first, rn, steps, code)?;
-        if rest.is_empty() {
-            return Ok(());
+        let mut parts = Vec::new(self.alloc);
+        for member in members {
+            let mut part = Vec::new(self.alloc);
+            self.write_within(known, *member, rn, steps, &mut part)?;
+            parts.push(part)?;
         }
-        let end = code.len();
-        put(code, Line::Lost)?;
-        self.write_members(known, rest, rn, steps, fars, code)?;
-        set_jump(code, end);
-        Ok(())
+        Ok(parts)
     }
 
     /// Adds the lines that write a pair of nodes.

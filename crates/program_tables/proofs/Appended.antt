@@ -1,7 +1,7 @@
 -- Lines after lines.
-use Rattle.std.proofs.Common.{◌≡◌, ◌++◌, ◌∷◌, [], ℕ, set, get_or, ◌+◌, ◌<◌, List, length, Option, Some, None, IfSome, ap, subst, ◌∙◌, append_assoc}
+use Rattle.std.proofs.Common.{◌≡◌, ◌++◌, ◌∷◌, [], ℕ, get_or, ◌+◌, ◌<◌, List, length, Option, Some, None, IfSome, ap, subst, ◌∙◌, append_assoc}
 use Rattle.std.specs.Prelude.{slice_get}
-use Rattle.std.proofs.lemmas.List.{length-map, map-append, map-set}
+use Rattle.std.proofs.lemmas.List.{length-map, map-append}
 use Rattle.std.proofs.lemmas.Option.{slice_get-get_or}
 use Rattle.avro_types.specs.declared.limits.TheConstants.{MOST_FIELDS}
 use Rattle.avro_types.specs.Node.{Node}
@@ -16,9 +16,6 @@ use Rattle.program_tables.specs.Lines.{HasSlot, lines_in, line_of, slot_lines}
 
 pub lines_on : (W R : List Node) (a b : List rust.Line) → lines_in W R (a ++ b) ≡ lines_in W R a ++ lines_in W R b
 lines_on W R a b = map-append (line_of W R) a b
-
-pub lines_set : (W R : List Node) (ls : List rust.Line) (i : ℕ) (line : rust.Line) → lines_in W R (set ls i line) ≡ set (lines_in W R ls) i (line_of W R line)
-lines_set W R ls i line = map-set (line_of W R) ls i line
 
 pub lines_length : (W R : List Node) (ls : List rust.Line) → length (lines_in W R ls) ≡ length ls
 lines_length W R ls = length-map ls (line_of W R)

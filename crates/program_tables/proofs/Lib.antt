@@ -1,3 +1,4 @@
 pub mod Appended
+pub mod Branched
 pub mod Numbered
 pub mod Tables

@@ -1,5 +1,6 @@
 -- Lines as the program's definition has them. This project's own.
-use Rattle.std.specs.Prelude.{ℕ, ◌<◌, ◌++◌, ◌∷◌, pos, List, [], map, Option, Some, None, IfSome, slice_get}
+use Rattle.std.specs.Prelude.{ℕ, zero, suc, ◌<◌, ◌++◌, ◌∷◌, pos, List, [], map, Option, Some, None, IfSome, slice_get}
+use Rattle.std.specs.Global.{Vec}
 use Rattle.avro_bytes.specs.Shortest.{shortest}
 use Rattle.avro_types.specs.Node.{Node, FieldNode, EnumNode, RecordNode}
 use Rattle.avro_types.specs.declared.limits.TheConstants.{MOST_FIELDS}
@@ -64,6 +65,14 @@ line_of W R lines.Lost = Lost
 
 abbrev pub lines_in : List Node → List Node → List rust.Line → List Line
 lines_in W R ls = map (line_of W R) ls
+
+abbrev pub parts_in : List Node → List Node → List (Vec rust.Line) → List (List Line)
+parts_in W R parts = map (λ part. lines_in W R part.items) parts
+
+-- a jump so far ahead, if that is anywhere
+abbrev pub jump_lines : ℕ → List Line
+jump_lines zero = []
+jump_lines (suc far) = Ahead op.Jump (suc far) ∷ []
 
 -- ---- records
 

@@ -10,8 +10,8 @@ mod targets;
 
 pub use constants::Constants;
 pub use lines::{
-    Constant, Go, Line, Section, miss, put, put_all, put_loop, put_record, put_routine, put_slot,
-    set_jump,
+    Constant, Go, Line, Section, miss, put, put_all, put_branched, put_loop, put_record,
+    put_routine, put_slot,
 };
 pub use misses::Misses;
 pub use sections::{Sections, note_calls};

@@ -1,13 +1,12 @@
-ghost use Rattle.std.specs.Prelude.{◌≡◌, ◌++◌, ◌∷◌, ◌-◌, ◌<◌, List, [], IfSome, OnOk, length, slice_get, slice_set};
+ghost use Rattle.std.specs.Prelude.{◌≡◌, ◌++◌, ◌∷◌, ◌<◌, List, [], IfSome, OnOk, length, slice_get};
 ghost use Rattle.avro_types.specs.Node.{Node};
-ghost use Rattle.isa.specs.declared.instr.Instr.TheVariants as op;
-ghost use Rattle.program_code.specs.Lines.{Ahead, looped, miss};
-ghost use Rattle.program_tables.specs.Lines.{HasSlot, go_of, line_of, lines_in, record_line, routine_lines, slot_lines};
+ghost use Rattle.program_code.specs.Lines.{branched, looped, miss};
+ghost use Rattle.program_tables.specs.Lines.{HasSlot, go_of, jump_lines, line_of, lines_in, parts_in, record_line, routine_lines, slot_lines};
 
 use isa::Instr;
 use matching::Route;
 use outcome::{Mismatch, MismatchKind};
-use std::alloc::AllocError;
+use std::alloc::{AllocError, Global};
 
 /// A part of the code.
 #[derive(Clone, Copy)]
@@ -98,14 +97,42 @@ pub fn put_loop(lines: &mut Vec<Line>, go: Go, body: Vec<Line>) -> Result<(), Al
     put(lines, Line::Back(len + 1))
 }
 
-/// Sets the line of a place to a jump to the end.
-pub fn set_jump(lines: &mut Vec<Line>, place: usize)
-    requires { place < length lines.old.items }
-    ensures { (W R : List Node) → lines_in W R lines.new.items
-        ≡ slice_set (lines_in W R lines.old.items) place (Ahead op.Jump (length lines.old.items - place)) }
+/// Adds a jump so far ahead, and no line where that is nowhere.
+fn put_jump(lines: &mut Vec<Line>, far: usize) -> Result<(), AllocError>
+    ensures { OnOk result ((W R : List Node) → lines_in W R lines.new.items
+        ≡ lines_in W R lines.old.items ++ jump_lines far) }
 {
-    let far = lines.len() - place;
-    lines[place] = Line::Ahead(Go::Jump, far);
+    if far == 0 {
+        return Ok(());
+    }
+    put(lines, Line::Ahead(Go::Jump, far))
+}
+
+/// Adds a branch to each of these parts, and the parts, after each but the last a jump to where the last ends. There
+/// is room for all of them before the first is added.
+pub fn put_branched(
+    alloc: Global,
+    lines: &mut Vec<Line>,
+    parts: Vec<Vec<Line>>,
+) -> Result<(), AllocError>
+    ensures { OnOk result ((W R : List Node) → lines_in W R lines.new.items
+        ≡ lines_in W R lines.old.items ++ branched (parts_in W R parts.items)) }
+{
+    let mut fars = Vec::new(alloc);
+    // How far ahead the end is.
+    let mut far = 0;
+    for part in &parts {
+        fars.push(far + 1)?;
+        far += part.len() + 1;
+        lines.try_reserve(far)?;
+    }
+    put(lines, Line::Branch(fars))?;
+    for part in parts {
+        far -= part.len() + 1;
+        put_all(lines, part)?;
+        put_jump(lines, far)?;
+    }
+    Ok(())
 }
 
 /// Adds the line that a record begins with: the call of its routine, or the miss of the first of the reader's fields

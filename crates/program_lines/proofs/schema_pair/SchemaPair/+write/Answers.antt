@@ -1,16 +1,13 @@
 -- The lines of each kind of node, in each place.
-use Rattle.std.proofs.Common.{rules, ◌-◌, ◌≡◌, ◌≤◌, ◌++◌, [], ◌∷◌, length, ap, ◌∙◌, refl, arith, map, ◌+◌, sym}
+use Rattle.std.proofs.Common.{◌-◌, ◌++◌, [], ◌∷◌, ap, ◌∙◌, refl, map}
 use Rattle.std.specs.Prelude.{slice_get, Some}
 use Rattle.std.proofs.lemmas.Result.{on_ok_weaker}
-use Rattle.avro_types.specs.declared.limits.TheConstants.{MOST_NODES}
-use Rattle.avro_types.specs.Node.{UnionNode, node_of}
-use Rattle.program_code.specs.Lines.{Enum, Miss, Lost}
+use Rattle.avro_types.specs.Node.{node_of}
+use Rattle.program_code.specs.Lines.{Enum, Miss, branched}
 use Rattle.program_code.specs.Writing.{target, write_within}
 use Rattle.program_tables.specs.Lines.{lines_in, symbols_of}
-use Rattle.matching.proofs.Members.{members_below}
 use Rattle.program_lines.proofs.Steps.{body_is, key_then, looped_after, write_more, write_none}
-use Rattle.program_tables.proofs.Appended.{lines_length, two}
-use Rattle.program_lines.proofs.Unions.{first_then, hole_below, places_then, write_union}
+use Rattle.program_tables.proofs.Appended.{two}
 use Rattle.program_lines.proofs.WriteSteps.{no_union, parts_none, parts_some, placed_more, straight_more}
 use Rattle.program_lines.proofs.schema_pair.SchemaPair.+write.Goals as goal
 
@@ -80,44 +77,13 @@ placed-returns-in_ok-put-in-Unmatched-clause-lines t c =
 pub write_within-returns-then-levels-eq0-clause-lines : goal.write_within-returns-then-levels-eq0-clause-lines
 write_within-returns-then-levels-eq0-clause-lines t c = on_ok_weaker c.put.result (λ h. write_none _ _ _ _ _ _ _ c.if-levels-eq0.true (h c.args.self.now.writer.now c.args.self.now.reader.now)) c.put.ensures
 
-pub write_within-write_members-requires : goal.write_within-write_members-requires
-write_within-write_members-requires t c =
-    let formed = rw c.in-Union.is at c.kind.ensures.well_formed in
-    let few : length c.deref.result.now ≤ MOST_NODES = rw c.deref.ensures.value formed.1 in
-    let some : c.args.levels ≡ 0 → ⊥ = c.if-levels-eq0.false in
-    (omega (arith, few, some), (rw c.deref.ensures.value (members_below c.args.self.now.writer.now c.args.wn c.in-Union.members.items formed.0), (few, (c.requires.reader, c.requires.known))))
-
-pub write_within-returns-in_ok-put-in-Union-clause-lines : goal.write_within-returns-in_ok-put-in-Union-clause-lines
-write_within-returns-in_ok-put-in-Union-clause-lines t c =
-    let at : slice_get c.args.self.now.writer.now c.args.wn ≡ Some (UnionNode c.in-Union.members.items) = c.kind.ensures.kind ∙ ap (λ k. Some (node_of k)) c.in-Union.is in
-    let places = rw (c.new-fars.ensures.items, c.new-code.ensures.items, c.deref.ensures.value) at c.in_ok-write_members-in-Union.ensures.places in
-    let code = rw (c.new-code.ensures.items, c.deref.ensures.value) at c.in_ok-write_members-in-Union.ensures.lines in
-    on_ok_weaker c.put_all.result (λ h. h c.args.self.now.writer.now c.args.self.now.reader.now ∙ write_union c.args.self.now.writer.now c.args.self.now.reader.now c.args.levels c.args.wn c.args.rn c.in-Union.members.items _ _ _ _ c.if-levels-eq0.false at places code (c.in_ok-put-in-Union.ensures c.args.self.now.writer.now c.args.self.now.reader.now)) c.put_all.ensures
-
 pub write_within-returns-in_default-clause-lines : goal.write_within-returns-in_default-clause-lines
 write_within-returns-in_default-clause-lines t c =
     on_ok_weaker c.placed.result (λ h. write_more c.args.self.now.writer.now c.args.self.now.reader.now c.args.levels c.args.wn c.args.rn _ (lines_in c.args.self.now.writer.now c.args.self.now.reader.now c.args.lines.now.items) _ _ c.if-levels-eq0.false c.kind.ensures.kind (no_union c.args.self.now.writer.now c.args.self.now.reader.now (write_within c.args.self.now.writer.now c.args.self.now.reader.now (c.args.levels - 1)) c.args.wn c.args.rn c.kind.result.now c.in_default.not-Union) h) c.placed.ensures.lines
 
-pub write_members-set_jump-requires : goal.write_members-set_jump-requires
-write_members-set_jump-requires t c =
+pub write_within-returns-in_ok-parts-in-Union-clause-lines : goal.write_within-returns-in_ok-parts-in-Union-clause-lines
+write_within-returns-in_ok-parts-in-Union-clause-lines t c =
     let W = c.args.self.now.writer.now in
     let R = c.args.self.now.reader.now in
-    let end : c.len-end.result ≡ length c.write_within.new.lines.items = search rules in
-    let place : c.len-end.result ≡ length (lines_in W R c.write_within.new.lines.items) = end ∙ sym (lines_length W R c.write_within.new.lines.items) in
-    let below = hole_below (lines_in W R c.write_within.new.lines.items) _ _ _ _ (c.in_ok-put.ensures W R) c.in_ok-write_members.ensures.lines in
-    omega (arith, place, below, lines_length W R c.write_members.new.code.items)
-
-pub write_members-returns-clause-lines : goal.write_members-returns-clause-lines
-write_members-returns-clause-lines t c =
-    let W = c.args.self.now.writer.now in
-    let R = c.args.self.now.reader.now in
-    let some : length c.in-Some.rest.now ≡ 0 → ⊥ = λ e. search rules in
-    let end : c.len-end.result ≡ length c.write_within.new.lines.items = search rules in
-    c.set_jump.ensures W R ∙ first_then (λ m. write_within c.args.self.now.writer.now c.args.self.now.reader.now c.args.steps m c.args.rn) c.in-Some.first.now c.in-Some.rest.now c.args.members.now c.in-Some.ensures.cases.0 (lines_in W R c.args.code.now.items) (lines_in W R c.write_within.new.lines.items) (lines_in W R c.put.new.lines.items) (lines_in W R c.write_members.new.code.items) Lost c.len-end.result (length c.write_members.new.code.items) some c.in_ok-write_within.ensures.lines (c.in_ok-put.ensures W R) c.in_ok-write_members.ensures.lines (end ∙ sym (lines_length W R c.write_within.new.lines.items)) (sym (lines_length W R c.write_members.new.code.items))
-
-pub write_members-returns-clause-places : goal.write_members-returns-clause-places
-write_members-returns-clause-places t c =
-    let W = c.args.self.now.writer.now in
-    let R = c.args.self.now.reader.now in
-    let at : c.len.result ≡ length c.args.code.now.items = search rules in
-    places_then (λ m. write_within c.args.self.now.writer.now c.args.self.now.reader.now c.args.steps m c.args.rn) c.in-Some.first.now c.in-Some.rest.now c.args.members.now c.in-Some.ensures.cases.0 (lines_in W R c.args.code.now.items) (lines_in W R c.write_within.new.lines.items) (lines_in W R c.put.new.lines.items) Lost c.args.fars.now.items c.push.new.self.items c.write_members.new.fars.items (length c.args.code.now.items) (length c.put.new.lines.items) (◌∙◌ {b = c.args.fars.now.items ++ (c.len.result + 1) ∷ []} c.in_ok-push.ensures.items (ap (λ k. c.args.fars.now.items ++ (k + 1) ∷ []) at)) c.in_ok-write_members.ensures.places c.in_ok-write_within.ensures.lines (c.in_ok-put.ensures W R) (sym (lines_length W R c.args.code.now.items)) (sym (lines_length W R c.put.new.lines.items))
+    let parts = rw c.deref.ensures.value at c.in_ok-parts-in-Union.ensures.parts in
+    on_ok_weaker c.put_branched.result (λ h. write_more W R c.args.levels c.args.wn c.args.rn _ (lines_in W R c.args.lines.now.items) _ _ c.if-levels-eq0.false (c.kind.ensures.kind ∙ ap (λ k. Some (node_of k)) c.in-Union.is) refl (h W R ∙ ap (λ ps. lines_in W R c.args.lines.now.items ++ branched ps) parts)) c.put_branched.ensures
