@@ -10,5 +10,5 @@ pub use run::Run;
 pub use stepper::{
     BufferAt, FrameView, Machine, Part, Slice, Step, Why, machines_go_on_with_more_input,
 };
-pub use transcoder::Transcoder;
+pub use transcoder::{Transcoder, transcode_by};
 pub use transcoding::{PairError, transcode};

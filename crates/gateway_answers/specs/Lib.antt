@@ -1,0 +1,4 @@
+pub mod Status
+pub mod Fault
+pub mod Replies
+pub mod Answer

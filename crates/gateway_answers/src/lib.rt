@@ -1,0 +1,18 @@
+//! The answers of the HTTP interface: faults with their codes, statuses and texts, the JSON of replies, and the bytes of
+//! an answer.
+#![tactic(auto)]
+
+mod answer;
+mod fault;
+mod laws;
+mod replies;
+mod status;
+
+pub use answer::Answer;
+pub use fault::Fault;
+pub use laws::codes_begin_with_their_status;
+pub use replies::{
+    compatibility_text, entry_text, fault_text, id_text, level_text, names_text, new_level_text,
+    numbers_text, schema_text,
+};
+pub use status::Status;

@@ -1,0 +1,4 @@
+pub mod Front
+pub mod Digits
+pub mod ContentLength
+pub mod Body

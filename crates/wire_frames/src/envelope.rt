@@ -1,0 +1,60 @@
+//! An envelope: how it is opened, and how it is begun.
+
+ghost use Rattle.std.specs.Prelude.{◌≡◌, ◌++◌, OnErr, OnOk};
+ghost use Rattle.wire_frames.specs.Envelope.{Opens, prefix};
+
+use std::alloc::AllocError;
+use thiserror::Error;
+
+/// How many bytes stand before the payload: the magic byte, and the id in four.
+pub const PREFIX_LENGTH: usize = 5;
+
+/// The byte that a message begins with.
+const MAGIC_BYTE: u8 = 0;
+
+/// Why bytes are no message. This project's own; the first that holds is told.
+#[derive(Clone, Copy, Debug, PartialEq, Eq, Error)]
+pub enum EnvelopeError {
+    #[error("a message has at least five bytes")]
+    ShortEnvelope,
+    #[error("a message begins with the byte 0")]
+    BadMagic,
+}
+
+impl EnvelopeError {
+    ghost use Rattle.std.specs.Prelude.{◌≡◌};
+    ghost use Rattle.wire_frames.specs.Envelope.{name_of};
+
+    /// Its name, as answers show it.
+    pub fn name(self) -> &'static str
+        ensures { result.now ≡ name_of self }
+    {
+        match self {
+            EnvelopeError::ShortEnvelope => "ShortEnvelope",
+            EnvelopeError::BadMagic => "BadMagic",
+        }
+    }
+}
+
+/// Opens a message: the id of the writer's schema, and the payload (Confluent wire format).
+pub fn open_envelope(message: &[u8]) -> Result<(u32, &[u8]), EnvelopeError>
+    ensures { Opens message.now (λ payload. payload.now) result }
+{
+    if message.len() < PREFIX_LENGTH {
+        return Err(EnvelopeError::ShortEnvelope);
+    }
+    if message[0] != MAGIC_BYTE {
+        return Err(EnvelopeError::BadMagic);
+    }
+    let id = u32::from_be_bytes([message[1], message[2], message[3], message[4]]);
+    Ok((id, &message[PREFIX_LENGTH..]))
+}
+
+/// Appends what stands before a payload that the schema of this id writes. An `Err` leaves the output as it was.
+pub fn put_envelope(id: u32, out: &mut Vec<u8>) -> Result<(), AllocError>
+    ensures put { OnOk result (out.new.items ≡ out.old.items ++ prefix id) }
+    ensures refused { OnErr result (out.new.items ≡ out.old.items) }
+{
+    let [first, second, third, fourth] = id.to_be_bytes();
+    out.extend_from_slice(&[MAGIC_BYTE, first, second, third, fourth])
+}

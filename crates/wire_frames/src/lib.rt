@@ -1,0 +1,8 @@
+//! Messages in the wire format of the registry: a magic byte, the id of the schema that wrote the payload, the payload.
+#![tactic(auto)]
+
+mod envelope;
+mod laws;
+
+pub use envelope::{EnvelopeError, PREFIX_LENGTH, open_envelope, put_envelope};
+pub use laws::envelopes_have_one_id_and_payload;
