@@ -1,0 +1,18 @@
+//! What is asked whether to go on where a call may have to be tried again.
+
+/// Where a gate is asked.
+#[derive(Clone, Copy, Debug, PartialEq, Eq)]
+pub enum Place {
+    /// By a worker, before a turn.
+    Turn,
+    /// By who waits for a session, before the call is tried again.
+    Waiting,
+    /// By a worker that holds the session of a slot, before the first row.
+    Inside { slot: u32 },
+}
+
+/// What is asked whether to go on.
+pub trait Gate {
+    /// Whether to go on at a place. It may wait before it answers.
+    fn at(&mut self, place: Place) -> bool;
+}

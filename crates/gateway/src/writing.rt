@@ -1,0 +1,47 @@
+//! An answer's bytes, written to any writer.
+
+ghost use Rattle.std.specs.Prelude.{◌≡◌, ◌≤◌, IfErr, IfOk, OnOk, length, take};
+ghost use Rattle.std.specs.Io.KnownBytes.{Appends, Keeps, WriteAppends};
+
+use http_request::MOST_TRIES;
+use std::io::{ErrorKind, Write};
+
+/// Why not all bytes were written.
+#[derive(Clone, Copy, Debug, PartialEq, Eq)]
+pub(crate) struct CutShort {
+    /// How many bytes the writer took.
+    pub(crate) sent: usize,
+}
+
+/// Writes once: how many bytes the writer took. The error says that it fails, or was interrupted `MOST_TRIES` times.
+fn write_once<W: Write>(writer: &mut W, bytes: &[u8]) -> Result<usize, CutShort>
+    ensures bytes { WriteAppends (W.contents writer.old) (W.contents writer.new) result bytes.now }
+    ensures bound { IfOk result (λ count. count ≤ length bytes.now) }
+{
+    for _try in 0..MOST_TRIES {
+        match writer.write(bytes) {
+            Ok(count) => return Ok(count),
+            Err(error) if error.kind() == ErrorKind::Interrupted => {}
+            Err(_) => return Err(CutShort { sent: 0 }),
+        }
+    }
+    Err(CutShort { sent: 0 })
+}
+
+/// Writes all bytes and passes on what the writer holds back; or the first of them, where the writer fails or takes none.
+pub(crate) fn write_all<W: Write>(writer: &mut W, bytes: &[u8]) -> Result<(), CutShort>
+    ensures ok { OnOk result (Appends (W.contents writer.old) (W.contents writer.new) bytes.now) }
+    ensures err { IfErr result (λ cut. Appends (W.contents writer.old) (W.contents writer.new) (take cut.sent bytes.now)) }
+{
+    let mut sent = 0;
+    while sent < bytes.len() {
+        match write_once(writer, &bytes[sent..]) {
+            Ok(count) if count > 0 => sent += count,
+            _ => return Err(CutShort { sent }),
+        }
+    }
+    match writer.flush() {
+        Ok(()) => Ok(()),
+        Err(_) => Err(CutShort { sent }),
+    }
+}

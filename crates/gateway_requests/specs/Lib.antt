@@ -1,0 +1,10 @@
+pub mod Steps
+pub mod Path
+pub mod Paths
+pub mod Route
+pub mod Action
+pub mod Body
+pub mod Parameters
+pub mod Request
+pub mod Sizes
+pub mod Asking

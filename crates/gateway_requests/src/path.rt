@@ -1,0 +1,63 @@
+//! The path of a target, and its segments.
+
+ghost use Rattle.std.specs.Prelude.{◌≡◌, ◌==◌, ◌≤◌, IsUtf8, length};
+ghost use Rattle.std.specs.List.{after_first, before_first, position_or_len};
+ghost use Rattle.gateway_requests.specs.Path.{path_of, segment};
+
+/// The offset of the first such byte, or of the end.
+fn offset_of(byte: u8, text: &[u8]) -> usize
+    ensures offset { result ≡ position_or_len (λ b. b == byte) text.now }
+    ensures within { result ≤ length text.now }
+{
+    for (offset, b) in text.iter().enumerate() {
+        if *b == byte {
+            return offset;
+        }
+    }
+    text.len()
+}
+
+/// What stands before the first such byte.
+fn before(byte: u8, text: &[u8]) -> &[u8]
+    ensures { result.now ≡ before_first (λ b. b == byte) text.now }
+{
+    let offset = offset_of(byte, text);
+    &text[..offset]
+}
+
+/// What stands behind the first such byte; nothing where there is none.
+fn behind(byte: u8, text: &[u8]) -> &[u8]
+    ensures { result.now ≡ after_first (λ b. b == byte) text.now }
+{
+    let offset = offset_of(byte, text);
+    if offset < text.len() {
+        &text[offset + 1..]
+    } else {
+        &text[text.len()..]
+    }
+}
+
+/// A target without its query.
+#[tactic(auto, using(crate::proofs::Targets::path_is_text))]
+pub fn path_of(target: &[u8]) -> &str
+    requires { IsUtf8 target.now }
+    ensures { result.now ≡ path_of target.now }
+{
+    match std::str::from_utf8(before(b'?', target)) {
+        Ok(path) => path,
+        Err(_) => unreachable!(),
+    }
+}
+
+/// The segment of that number: what stands behind so many slashes, up to the next one.
+pub(crate) fn segment(number: usize, path: &[u8]) -> &[u8]
+    ensures { result.now ≡ segment number path.now }
+{
+    let mut rest = path;
+    let mut left = number;
+    while left > 0 {
+        rest = behind(b'/', rest);
+        left -= 1;
+    }
+    before(b'/', rest)
+}

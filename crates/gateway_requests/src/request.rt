@@ -1,0 +1,16 @@
+//! What is asked of the service.
+
+use schema_registry::Command;
+
+/// What is asked of the service.
+#[derive(Drop)]
+pub enum Request {
+    /// What the registry replies to a command that is no registration.
+    Command(Command),
+    /// To register the schema of a text for a subject, and to tell its id.
+    Registration { subject: String, text: String },
+    /// The text of the schema of an id.
+    Schema { id: u32 },
+    /// A message for the reader of an id, from the message in the body.
+    Transcoding { reader: u32, message: Vec<u8> },
+}
