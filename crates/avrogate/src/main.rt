@@ -1,16 +1,21 @@
-//! Avro transcoding from standard input to standard output.
+//! Avro transcoding, from standard input to standard output or over HTTP.
 #![tactic(auto)]
 
 ghost use Rattle.std.specs.Prelude.{◌≡◌, ◌≢◌, IfErr, IfOk};
 ghost use Rattle.commands.specs.declared.status.Status.TheVariants.{BadTraffic, NoMemory};
 
 use clap::error::ErrorKind;
-use command_words::{command_line, verb_of};
+use command_words::{ServeWords, Task, command_line, task_of};
 use commands::{RunError, Status, Verb, run};
+use gateway_server::{ServeOptions, serve_on};
 use std::alloc::AllocError;
 use std::io;
+use std::net::{Net, TcpListener, TcpStream};
 use std::process::ExitCode;
 use std::rt::Env;
+use std::sync::Wait;
+use std::thread::Threads;
+use std::time::{Clock, Duration};
 
 /// How the program ends after a run.
 fn status_of(done: Result<Status, RunError>) -> Status
@@ -25,7 +30,34 @@ fn status_of(done: Result<Status, RunError>) -> Status
     }
 }
 
-/// Does what the words ask for.
+/// Serves HTTP on 127.0.0.1. A port that cannot be bound is bad traffic.
+fn serve<
+    R: Net<Listener = TcpListener, Stream = TcpStream>
+        + Threads
+        + Wait
+        + Clock
+        + Sync
+        + Print
+        + AllocGlobal,
+>(rt: &R, words: &ServeWords) -> Result<Status, AllocError> {
+    let port = words.port;
+    let address = format!(in rt.alloc(); "127.0.0.1:{port}")?;
+    let Ok(listener) = TcpListener::bind(rt, address.as_str()) else {
+        return Ok(Status::BadTraffic);
+    };
+    let options = ServeOptions {
+        clients: words.clients,
+        each: words.each,
+        request_timeout: Duration::from_secs(u64::from(words.request_timeout)),
+    };
+    let mut writer = std::io::writer(rt);
+    match serve_on(rt, rt.alloc(), &listener, &options, &mut writer) {
+        Ok(()) => Ok(Status::Answered),
+        Err(error) => Ok(status_of(Err(error))),
+    }
+}
+
+/// Does to the lines of standard input what the words ask for.
 fn obey(rt: &(impl Input + Print + AllocGlobal), verb: &Verb) -> Status {
     let mut reader = rt.reader();
     let mut writer = std::io::writer(rt);
@@ -56,17 +88,14 @@ fn refuse(rt: &impl Eprint, error: &io::Error) -> Status {
     Status::NoMemory
 }
 
-/// Does what the words ask for, or tells what is wrong with them.
-fn answer(
-    rt: &(impl Input + Print + Eprint + AllocGlobal),
-    words: &[String],
-) -> Result<Status, AllocError> {
-    match command_line(rt.alloc())?.try_get_matches_from(words) {
-        Ok(matches) => match verb_of(&matches) {
-            Some(verb) => Ok(obey(rt, &verb)),
-            None => Ok(Status::BadWords),
-        },
-        Err(error) => Ok(explain(rt, &error)),
+/// What the words ask for; or the status, where it was told what is wrong with them or the help that they ask for.
+fn task_in(rt: &(impl Print + Eprint + AllocGlobal), words: &[String]) -> Result<Task, Status> {
+    let Ok(line) = command_line(rt.alloc()) else {
+        return Err(Status::NoMemory);
+    };
+    match line.try_get_matches_from(words) {
+        Ok(matches) => task_of(&matches).ok_or(Status::BadWords),
+        Err(error) => Err(explain(rt, &error)),
     }
 }
 
@@ -77,10 +106,26 @@ fn words_of(rt: &(impl Env + AllocGlobal)) -> io::Result<Vec<String>> {
 }
 
 /// Reads the words of the command line, and does what they ask for.
-fn status(rt: &(impl Env + Input + Print + Eprint + AllocGlobal)) -> Status {
-    match words_of(rt) {
-        Ok(words) => answer(rt, words.as_slice()).unwrap_or(Status::NoMemory),
-        Err(error) => refuse(rt, &error),
+fn status<
+    R: Net<Listener = TcpListener, Stream = TcpStream>
+        + Threads
+        + Wait
+        + Clock
+        + Sync
+        + Env
+        + Input
+        + Print
+        + Eprint
+        + AllocGlobal,
+>(rt: &R) -> Status {
+    let words = match words_of(rt) {
+        Ok(words) => words,
+        Err(error) => return refuse(rt, &error),
+    };
+    match task_in(rt, words.as_slice()) {
+        Ok(Task::Lines(verb)) => obey(rt, &verb),
+        Ok(Task::Serve(words)) => serve(rt, &words).unwrap_or(Status::NoMemory),
+        Err(status) => status,
     }
 }
 

@@ -7,7 +7,7 @@
 //! those that ask for help, the number that `avrogate` ends with is printed alone.
 #![tactic(auto)]
 
-use command_words::{command_line, verb_of};
+use command_words::{Task, command_line, task_of};
 use commands::{RunError, Status, Verb, run};
 use std::alloc::{AllocError, Global};
 use std::io::{Read, Write};
@@ -70,7 +70,10 @@ fn push_counts(alloc: Global, output: &mut Vec<u8>, text: &[u8]) -> Result<(), A
 fn asked(alloc: Global, words: &str) -> Result<Result<Verb, i32>, AllocError> {
     let words: Vec<&str> = words.split(' ').collect(alloc)?;
     match command_line(alloc)?.try_get_matches_from(words.as_slice()) {
-        Ok(matches) => Ok(verb_of(&matches).ok_or(i32::from(Status::BadWords.code()))),
+        Ok(matches) => match task_of(&matches) {
+            Some(Task::Lines(verb)) => Ok(Ok(verb)),
+            _ => Ok(Err(i32::from(Status::BadWords.code()))),
+        },
         Err(error) => Ok(Err(error.exit_code())),
     }
 }

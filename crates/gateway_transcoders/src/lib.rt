@@ -1,0 +1,8 @@
+//! How messages are transcoded for requests: by their pair's program, which all threads share.
+#![tactic(auto)]
+
+mod compiled;
+mod pair_program;
+mod running;
+
+pub use compiled::{Compiled, MOST_KEPT_PROGRAMS};
