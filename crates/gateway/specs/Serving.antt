@@ -1,5 +1,5 @@
 -- What is read of a request and written for it.
-use Rattle.std.specs.Prelude.{◌≡◌, ◌≤◌, ◌⊎◌, ℕ, List, [], length, take, Option, IfSome, Result}
+use Rattle.std.specs.Prelude.{◌≡◌, ◌⊎◌, ℕ, List, [], take, Option, IfSome, Result}
 use Rattle.std.specs.Io.KnownBytes.{Appends, Keeps}
 use Rattle.http_request.specs.declared.read_error.ReadError.{ReadError}
 use Rattle.http_request.specs.declared.read_error.ReadError.TheVariants as reading
@@ -9,8 +9,7 @@ use Rattle.gateway_answers.specs.declared.fault.Fault.{Fault}
 use Rattle.gateway_answers.specs.declared.fault.Fault.TheVariants as faults
 use Rattle.gateway_requests.specs.Asking.{IsAsked}
 use Rattle.gateway_requests.specs.Steps.{Tells}
-use Rattle.gateway_requests.specs.Request.{Request, Asks, Registers, AsksSchema, Transcodes, request_of}
-use Rattle.gateway_requests.specs.declared.limits.TheConstants.{MOST_BODY}
+use Rattle.gateway_requests.specs.Request.{Request, request_of}
 use Rattle.gateway_requests.specs.declared.request.Request as rust
 use Rattle.gateway.specs.declared.evidence.Evidence.{Evidence}
 use Rattle.gateway.specs.declared.serve_error.ServeError.{ServeError}

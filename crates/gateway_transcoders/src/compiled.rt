@@ -9,7 +9,6 @@ ghost use Rattle.schema_registry.specs.Shared.{IsReceiptOf};
 ghost use Rattle.gateway.specs.Transcoding.{HasOutcome, HasNoCode};
 
 use crate::pair_program::{PairOfIds, PairProgram};
-use crate::running::run_payload;
 use avro_schema::Schema;
 use gateway::{Gate, Transcode, TranscodeFault};
 use lru::LruCache;
@@ -112,24 +111,10 @@ impl<'a> Compiled<'a> {
         let w = self.registry.schema(writer);
         let r = self.registry.schema(reader);
         if let Some(kept) = self.kept_for(rt, ids, w, r) {
-            return Ok(run_payload(
-                self.alloc,
-                machine,
-                w.nodes(),
-                r.nodes(),
-                &kept.program,
-                payload,
-            )?);
+            return Ok(kept.run(self.alloc, machine, w, r, payload)?);
         }
         let made = PairProgram::new(self.alloc, w, r)?;
-        let outcome = run_payload(
-            self.alloc,
-            machine,
-            w.nodes(),
-            r.nodes(),
-            &made.program,
-            payload,
-        );
+        let outcome = made.run(self.alloc, machine, w, r, payload);
         self.keep(rt, ids, made);
         Ok(outcome?)
     }

@@ -3,6 +3,5 @@
 
 mod compiled;
 mod pair_program;
-mod running;
 
 pub use compiled::{Compiled, MOST_KEPT_PROGRAMS};

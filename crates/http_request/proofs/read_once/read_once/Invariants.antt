@@ -1,5 +1,4 @@
 -- The reader lost nothing so far.
-use Rattle.std.proofs.Common.{◌≡◌, length}
 use Rattle.std.specs.Io.KnownBytes.{Keeps}
 use Rattle.http_request.proofs.read_once.read_once.Given as goal
 
