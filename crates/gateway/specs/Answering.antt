@@ -31,7 +31,8 @@ HasText receipt text = IfSome receipt.schema (λ s. s.text ≡ text)
 -- a schema's text beside an id is that of a receipt of the id
 abbrev pub IsEvident : List ℕ → Result Reply Refusal → Evidence → Type 0
 IsEvident cells (Ok (EntryReply subject version id text)) evidence =
-    (receipt : Shown) × (evidence ≡ evidences.Shown receipt) × IsReceiptOf cells receipt × (receipt.id ≡ id) × HasText receipt text
+    (receipt : Shown) × (evidence ≡ evidences.Shown receipt) × IsReceiptOf cells receipt × (receipt.id ≡ id)
+    × HasText receipt text
 IsEvident cells (Ok (IdReply id)) evidence = Unit {0}
 IsEvident cells (Ok (CompatibleReply is_compatible)) evidence = Unit {0}
 IsEvident cells (Ok (NumbersReply numbers)) evidence = Unit {0}
@@ -119,11 +120,12 @@ TellsOutcome writer reader id payload answer =
     (IfSome writer.schema (λ w. IfSome reader.schema (λ r.
     (outcome : Outcome) × IsOutcome w.nodes r.nodes payload outcome × (answer ≡ answer_of_outcome id outcome))))
     ⊎ (HasNoCode writer reader × (answer ≡ Refused faults.ProgramTooLarge))
-    ⊎ (answer ≡ Refused faults.Clash) ⊎ (answer ≡ Refused faults.Full) ⊎ (answer ≡ Refused faults.NotFinished)
-    ⊎ (answer ≡ Refused faults.NoMemory)
+    ⊎ (answer ≡ Refused faults.Clash) ⊎ (answer ≡ Refused faults.Full)
+    ⊎ (answer ≡ Refused faults.NotFinished) ⊎ (answer ≡ Refused faults.NoMemory)
 
 -- the message of the path's reader, from that of the envelope's writer
-pub record TellsMessage (cells : List ℕ) (id : ℕ) (message : List ℕ) (evidence : Evidence) (answer : Answer) : Type 0 where
+pub record TellsMessage (cells : List ℕ) (id : ℕ) (message : List ℕ) (evidence : Evidence) (answer : Answer)
+    : Type 0 where
   pub writer : Shown
   pub reader : Shown
   pub payload : List ℕ
@@ -137,7 +139,8 @@ pub record TellsMessage (cells : List ℕ) (id : ℕ) (message : List ℕ) (evid
 -- the bytes are no message
 abbrev pub TellsEnvelope : List ℕ → Answer → Type 0
 TellsEnvelope message answer =
-    (e : EnvelopeError) × Opens {A = List ℕ} message (λ payload. payload) (Err e) × (answer ≡ Refused (faults.BadEnvelope e))
+    (e : EnvelopeError) × Opens {A = List ℕ} message (λ payload. payload) (Err e)
+    × (answer ≡ Refused (faults.BadEnvelope e))
 
 -- ---- all that may be asked
 
@@ -147,7 +150,8 @@ Fulfils cells (requests.Registers subject text) evidence answer = TellsId cells 
 Fulfils cells (requests.AsksSchema id) evidence answer =
     (answer ≡ Refused faults.NoSchema) ⊎ TellsText cells id evidence answer
 Fulfils cells (requests.Transcodes id message) evidence answer =
-    (answer ≡ Refused faults.NoSchema) ⊎ TellsEnvelope message answer ⊎ TellsMessage cells id message evidence answer
+    (answer ≡ Refused faults.NoSchema) ⊎ TellsEnvelope message answer
+    ⊎ TellsMessage cells id message evidence answer
 
 -- the answer to what is asked, or the fault of the request
 abbrev pub Answers : List ℕ → Result requests.Request Fault → Evidence → Answer → Type 0

@@ -25,13 +25,15 @@ error_of reading.NoMemory = NoMemory
 -- ---- for private clauses
 
 -- what was read is what the bytes ask, where they are known, unless memory ran out
-abbrev pub TellsAsked : Option (List ℕ) → (List ℕ → Result Request Fault) → Result rust.Request Fault → Type 0
+abbrev pub TellsAsked : Option (List ℕ) → (List ℕ → Result Request Fault) → Result rust.Request Fault
+    → Type 0
 TellsAsked left asked result =
     (request : Result Request Fault) × Tells request_of result request × IfSome left (λ more. request ≡ asked more)
 
 abbrev pub TellsRequest : Option (List ℕ) → Result rust.Request Fault → Type 0
 TellsRequest input result =
-    (request : Result Request Fault) × Tells request_of result request × IfSome input (λ bytes. IsAsked bytes request)
+    (request : Result Request Fault) × Tells request_of result request
+    × IfSome input (λ bytes. IsAsked bytes request)
 
 -- the bytes and the status of an answer, or of the answer that memory ran out
 abbrev pub IsTextOf : Answer → List ℕ → ℕ → Type 0
@@ -41,15 +43,17 @@ IsTextOf answer bytes status =
 
 -- ---- one request, one answer
 
--- an answer to what the bytes of a request ask, where they are known, and else to what some request asks; or that memory
--- ran out
-pub record IsAnswer (cells : List ℕ) (input : Option (List ℕ)) (evidence : Evidence) (answer : Answer) : Type 0 where
+-- an answer to what the bytes of a request ask, where they are known, and else to what some request asks; or that
+-- memory ran out
+pub record IsAnswer (cells : List ℕ) (input : Option (List ℕ)) (evidence : Evidence) (answer : Answer)
+    : Type 0 where
   pub request : Result Request Fault
   pub asked : IfSome input (λ bytes. IsAsked bytes request)
   pub answers : (answer ≡ Refused faults.NoMemory) ⊎ Answers cells request evidence answer
 
 -- a whole answer was written, with this status
-pub record IsServed (cells : List ℕ) (input old new : Option (List ℕ)) (status : ℕ) (evidence : Evidence) : Type 0 where
+pub record IsServed (cells : List ℕ) (input old new : Option (List ℕ)) (status : ℕ) (evidence : Evidence)
+    : Type 0 where
   pub answer : Answer
   pub is_answer : IsAnswer cells input evidence answer
   pub status_is : status ≡ number_of (status_of_answer answer)
@@ -63,7 +67,7 @@ pub record IsCutShort (cells : List ℕ) (input old new : Option (List ℕ)) (se
   pub written : Appends old new (take sent (answer_text answer))
 
 -- nothing was written, or the beginning of an answer
-abbrev pub IsFault : List ℕ → Option (List ℕ) → Option (List ℕ) → Option (List ℕ) → ServeError → Type 0
+abbrev pub IsFault : List ℕ → (input old new : Option (List ℕ)) → ServeError → Type 0
 IsFault cells input old new Closed = IfSome input (λ bytes. bytes ≡ []) × Keeps old new
 IsFault cells input old new ReadFault = Keeps old new
 IsFault cells input old new (WriteFault sent) = IsCutShort cells input old new sent

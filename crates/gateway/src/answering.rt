@@ -42,7 +42,8 @@ pub(crate) fn refused(fault: Fault) -> Told
 
 /// The receipt of an id whose schema has a text. `None` where this thread sees no such schema.
 fn receipt_of(registry: &SharedRegistry, id: u32, text: &str) -> Option<Receipt>
-    ensures { IfSome result (λ receipt. IsReceiptOf registry.now receipt × (receipt.id ≡ id) × HasText receipt text.now) }
+    ensures { IfSome result (λ receipt. IsReceiptOf registry.now receipt × (receipt.id ≡ id)
+        × HasText receipt text.now) }
 {
     let (schema, receipt) = registry.find(id)?;
     if schema.text() == text {

@@ -73,7 +73,8 @@ fn rewritten<R: Wait, T: Transcode, G: Gate>(
     ensures seat { T.rests transcoder.now seat.new }
     ensures writer { writer.new ≡ writer.old }
     ensures reader { reader.new ≡ reader.old }
-    ensures answer { IfOk result (λ answer. TellsOutcome writer.old reader.old reader.old.id payload.now (answer_of answer)) }
+    ensures answer { IfOk result (λ answer.
+        TellsOutcome writer.old reader.old reader.old.id payload.now (answer_of answer)) }
 {
     let id = reader.id();
     match transcoder.transcode(rt, seat, gate, writer, reader, payload) {

@@ -39,7 +39,8 @@ fn request_behind<R: Read>(
     requires head { (h : RequestHead) × IsRequestAt received.now headers.now head.now h }
     requires within { IsRequestWithin received.now headers.now head.now }
     ensures ok { (h : RequestHead) → IsRequestAt received.now headers.now head.now h
-        → IfOk result (TellsAsked (R.remaining reader.old) (λ left. asked h (drop head.now.len received.now ++ left))) }
+        → IfOk result (TellsAsked (R.remaining reader.old)
+        (λ left. asked h (drop head.now.len received.now ++ left))) }
     ensures size { IfOk result (λ r. IfOk r (λ request. IsWithin MOST_BODY (request_of request))) }
     ensures fault { IfErr result (λ e. e ≡ reading.Failed) }
 {
@@ -124,8 +125,8 @@ fn text_of(alloc: Global, answer: &Answer) -> Result<(Vec<u8>, u16), AllocError>
 
 /// Reads one request and writes one answer: the status, and the receipts that the answer stands on.
 ///
-/// `Closed` where no byte came, `ReadFault` where the reader failed, `NoMemory` where not even a fault's text found memory:
-/// then nothing is written. `WriteFault` where the writer failed, behind the first bytes of an answer.
+/// `Closed` where no byte came, `ReadFault` where the reader failed, `NoMemory` where not even a fault's text found
+/// memory: then nothing is written. `WriteFault` where the writer failed, behind the first bytes of an answer.
 pub fn serve_and_tell<R: Wait, T: Transcode, I: Read, O: Write, G: Gate>(
     rt: &R,
     alloc: Global,

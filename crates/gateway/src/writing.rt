@@ -28,10 +28,11 @@ fn write_once<W: Write>(writer: &mut W, bytes: &[u8]) -> Result<usize, CutShort>
     Err(CutShort { sent: 0 })
 }
 
-/// Writes all bytes and passes on what the writer holds back; or the first of them, where the writer fails or takes none.
+/// Writes all bytes and passes on what the writer holds back; or the first of them, where it fails or takes none.
 pub(crate) fn write_all<W: Write>(writer: &mut W, bytes: &[u8]) -> Result<(), CutShort>
     ensures ok { OnOk result (Appends (W.contents writer.old) (W.contents writer.new) bytes.now) }
-    ensures err { IfErr result (λ cut. Appends (W.contents writer.old) (W.contents writer.new) (take cut.sent bytes.now)) }
+    ensures err { IfErr result (λ cut.
+        Appends (W.contents writer.old) (W.contents writer.new) (take cut.sent bytes.now)) }
 {
     let mut sent = 0;
     while sent < bytes.len() {

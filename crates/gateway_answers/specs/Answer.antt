@@ -1,4 +1,5 @@
--- An answer's bytes (RFC 9112, sections 4 to 6; which fields there are, and the types of content, is this project's own).
+-- An answer's bytes (RFC 9112, sections 4 to 6; which fields there are, and the types of content, is this project's
+-- own).
 use Rattle.std.specs.Prelude.{ℕ, List, ◌++◌, length, codes, decimal, string_bytes}
 use Rattle.serde_json.specs.Written.{compact_text}
 use Rattle.gateway_answers.specs.Fault.{status_of}

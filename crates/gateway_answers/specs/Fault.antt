@@ -1,5 +1,5 @@
--- The codes, statuses and texts of faults (Confluent Schema Registry API, "Errors"; 41301 and those from 42250 on are this
--- project's own, and so are the texts).
+-- The codes, statuses and texts of faults (Confluent Schema Registry API, "Errors"; 41301 and those from 42250 on are
+-- this project's own, and so are the texts).
 use Rattle.std.specs.Prelude.{◌≡◌, ◌⊎◌, ◌/◌, ℕ, List, ◌++◌, codes, decimal}
 use Rattle.avro_bytes.specs.MalformedKind.{name_of as name_of_kind}
 use Rattle.outcome.specs.MismatchKind.{name_of as name_of_mismatch}

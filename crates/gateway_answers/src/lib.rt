@@ -1,5 +1,5 @@
-//! The answers of the HTTP interface: faults with their codes, statuses and texts, the JSON of replies, and the bytes of
-//! an answer.
+//! The answers of the HTTP interface: faults with their codes, statuses and texts, the JSON of replies, and an answer's
+//! bytes.
 #![tactic(auto)]
 
 mod answer;

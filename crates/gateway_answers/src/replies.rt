@@ -1,5 +1,5 @@
-//! The JSON of replies and faults: compact, the keys of each object sorted. A pair of functions each, of which the first
-//! writes the value that the second makes.
+//! The JSON of replies and faults: compact, the keys of each object sorted. A pair of functions each, of which the
+//! first writes the value that the second makes.
 
 ghost use Rattle.std.specs.Prelude.{◌≡◌, IfOk, codes, map, string_bytes};
 ghost use Rattle.serde_json.specs.Written.{compact_text};

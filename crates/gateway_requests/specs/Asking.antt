@@ -30,7 +30,8 @@ length_of head = ok_or (option_map number (declared_length (map name_and_value h
 
 -- an action, where the body passes no limit
 abbrev pub where_small : ℕ → Action → Result Chosen Fault
-where_small n action = if nat_lt MOST_BODY n then Err faults.TooLarge else Ok (record { action = action; body_length = n })
+where_small n action =
+    if nat_lt MOST_BODY n then Err faults.TooLarge else Ok (record { action = action; body_length = n })
 
 -- what a head asks for, and how many bytes the body has
 abbrev pub chosen : RequestHead → Result Chosen Fault
@@ -48,7 +49,8 @@ module _ (path : List ℕ) (body : Option (List ℕ)) where
   -- what an action asks for
   abbrev pub asked_for : Action → Result Request Fault
   asked_for actions.ListSubjects = question body SubjectsCommand
-  asked_for actions.Lookup = subject_of (segment 2 path) >>= (λ s. text_of body >>= (λ t. Ok (Asks (LookupCommand s t))))
+  asked_for actions.Lookup =
+      subject_of (segment 2 path) >>= (λ s. text_of body >>= (λ t. Ok (Asks (LookupCommand s t))))
   asked_for actions.ListVersions = subject_of (segment 2 path) >>= (λ s. question body (VersionsCommand s))
   asked_for actions.Register = subject_of (segment 2 path) >>= (λ s. text_of body >>= (λ t. Ok (Registers s t)))
   asked_for actions.ShowVersion =
@@ -62,7 +64,8 @@ module _ (path : List ℕ) (body : Option (List ℕ)) where
   asked_for actions.ShowSubjectLevel = subject_of (segment 2 path) >>= (λ s. question body (LevelCommand (Some s)))
   asked_for actions.SetSubjectLevel =
       subject_of (segment 2 path) >>= (λ s. level_of body >>= (λ l. Ok (Asks (SetLevelCommand (Some s) l))))
-  asked_for actions.Transcode = whole_body body >>= (λ bytes. id_of (segment 2 path) >>= (λ id. Ok (Transcodes id bytes)))
+  asked_for actions.Transcode =
+      whole_body body >>= (λ bytes. id_of (segment 2 path) >>= (λ id. Ok (Transcodes id bytes)))
 
 -- ---- a request
 
@@ -78,4 +81,5 @@ asked head rest = chosen head >>= (λ c. asked_for (path_of head.target) (body_i
 abbrev pub IsAsked : List ℕ → Result Request Fault → Type 0
 IsAsked input request =
     (HasNoHead input × (request ≡ Err faults.BadRequest))
-    ⊎ ((head : RequestHead) × (rest : List ℕ) × ReadsRequest input head rest × IsAllowed head × (request ≡ asked head rest))
+    ⊎ ((head : RequestHead) × (rest : List ℕ) × ReadsRequest input head rest × IsAllowed head
+    × (request ≡ asked head rest))

@@ -1,5 +1,5 @@
--- The parameters in a path (Confluent Schema Registry API; that numbers go by their value, with zeros before them, and that a
--- text that spells no id is the id of no schema, is this project's own).
+-- The parameters in a path (Confluent Schema Registry API; that numbers go by their value, with zeros before them, and
+-- that a text that spells no id is the id of no schema, is this project's own).
 use Rattle.std.specs.Prelude.{ℕ, ◌^◌, ◌&&◌, List, nat_le, nat_lt, Result, Ok, Err, codes, if◌then◌else◌}
 use Rattle.std.specs.Str.{bytes_eq}
 use Rattle.http_request.specs.Digits.{is_number, number}

@@ -15,7 +15,8 @@ use gateway_answers::Fault;
 use schema_registry::Command;
 use std::alloc::Global;
 
-/// What an action asks for, by the path and the body, which is `None` where it was cut short; or the first fault of these.
+/// What an action asks for, by the path and the body, which is `None` where it was cut short; or the first fault of
+/// these.
 pub fn request_of(
     alloc: Global,
     path: &[u8],
@@ -23,7 +24,8 @@ pub fn request_of(
     action: Action,
 ) -> Result<Request, Fault>
     ensures tells { Tells request_of result (asked_for path.now (option_map (λ b. b.now) body.entry) action) }
-    ensures size { IfOk result (λ request. IsWithin (size_of (option_map (λ b. b.now) body.entry)) (request_of request)) }
+    ensures size { IfOk result (λ request.
+        IsWithin (size_of (option_map (λ b. b.now) body.entry)) (request_of request)) }
 {
     match action {
         Action::ListSubjects => {
@@ -97,8 +99,10 @@ fn check_of(alloc: Global, path: &[u8], body: Option<&[u8]>) -> Result<Request, 
 
 /// The message in the body, for a reader.
 fn transcoding_of(alloc: Global, path: &[u8], body: Option<&[u8]>) -> Result<Request, Fault>
-    ensures tells { Tells request_of result (asked_for path.now (option_map (λ b. b.now) body.entry) Action.Transcode) }
-    ensures size { IfOk result (λ request. IsWithin (size_of (option_map (λ b. b.now) body.entry)) (request_of request)) }
+    ensures tells { Tells request_of result
+        (asked_for path.now (option_map (λ b. b.now) body.entry) Action.Transcode) }
+    ensures size { IfOk result (λ request.
+        IsWithin (size_of (option_map (λ b. b.now) body.entry)) (request_of request)) }
 {
     let bytes = whole_body(body)?;
     let reader = id_of(segment(2, path))?;

@@ -20,8 +20,8 @@ pub struct Chosen {
     pub body_length: usize,
 }
 
-/// What a head asks for, whose parts stand in `bytes` where the spans say; or the first fault of its length, its route, its
-/// method and the body's size.
+/// What a head asks for, whose parts stand in `bytes` where the spans say; or the first fault of its length, its route,
+/// its method and the body's size.
 pub fn choose(
     routes: &Routes,
     bytes: &[u8],

@@ -135,8 +135,8 @@ fn level_in(object: &Value) -> Result<Level, Fault>
     }
 }
 
-/// The level in a body, which is `None` where it was cut short. `BadRequest` where the body is no JSON object, `BadLevel`
-/// where that names no level.
+/// The level in a body, which is `None` where it was cut short. `BadRequest` where the body is no JSON object,
+/// `BadLevel` where that names no level.
 pub(crate) fn level_of(alloc: Global, body: Option<&[u8]>) -> Result<Level, Fault>
     ensures { Tells (λ l. l) result (level_of (option_map (λ b. b.now) body.entry)) }
 {

@@ -19,8 +19,8 @@ const MOST_LINGERING_READS: u32 = 8_192;
 /// How many bytes of the rest are read at once.
 const CHUNK: usize = 4_096;
 
-/// Ends the answer, and takes what still comes of the request, within bounds: were the connection closed over unread bytes,
-/// a client that still sends would be reset, and might lose the answer.
+/// Ends the answer, and takes what still comes of the request, within bounds: were the connection closed over unread
+/// bytes, a client that still sends would be reset, and might lose the answer.
 fn linger(clock: &impl Clock, stream: &TcpStream) {
     if stream.shutdown(Shutdown::Write).is_err() {
         return;

@@ -32,8 +32,8 @@ fn run_clients<R: Threads + Wait + Clock + Sync>(
 /// Serves on a listener, over a new registry, until each client has accepted as many connections as the options say. It
 /// prints `listening P`, with the port, before the first, and `served N`, the number of answers, after the last.
 ///
-/// `Read` where the listener has no port, `Write` where a line could not be printed, `NoMemory` where the service found no
-/// room to begin in.
+/// `Read` where the listener has no port, `Write` where a line could not be printed, `NoMemory` where the service found
+/// no room to begin in.
 pub fn serve_on<R: Threads + Wait + Clock + Sync, W: Write>(
     rt: &R,
     alloc: Global,

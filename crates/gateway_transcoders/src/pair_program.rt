@@ -38,7 +38,8 @@ impl PairProgram {
         reader: &Schema,
     ) -> Result<PairProgram, CompileError>
         ensures made { IfOk result (λ pair. code_of writer.now.nodes reader.now.nodes ≡ Some pair.program) }
-        ensures refused { IfErr result (λ e. e ≡ ProgramTooLarge → code_of writer.now.nodes reader.now.nodes ≡ None) }
+        ensures refused { IfErr result (λ e. e ≡ ProgramTooLarge
+            → code_of writer.now.nodes reader.now.nodes ≡ None) }
     {
         let program = compile(alloc, writer.nodes(), reader.nodes())?;
         Ok(PairProgram {
@@ -59,6 +60,7 @@ impl PairProgram {
         self.reader.same_text_has_same_nodes(reader);
         true
     }
+
     /// The outcome of a payload between schemas that it is the program of, on a machine that may have run whatever. An
     /// error where memory ran out.
     pub(crate) fn run(

@@ -1,5 +1,6 @@
 -- How many bytes the fields of a head say that the body has (RFC 9112, section 6). That a length may have any number of
--- leading zeros, that two fields of one value do not differ, and that any Transfer-Encoding is refused, is this project's own.
+-- leading zeros, that two fields of one value do not differ, and that any Transfer-Encoding is refused, is this
+-- project's own.
 use Rattle.std.specs.Prelude.{ℕ, List, [], ◌∷◌, codes, if◌then◌else◌, Option, Some, None, option_and_then, unwrap_or}
 use Rattle.std.specs.Str.{bytes_eq, str_eq_ignore_ascii_case}
 use Rattle.http_request.specs.Digits.{is_number, significant_digits}

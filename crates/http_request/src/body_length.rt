@@ -34,13 +34,14 @@ fn length_after<'a>(
     }
 }
 
-/// How many bytes the body has, or `most` where it has more: the fields stand in `bytes` where `headers` says. `None` where
-/// they name no one length (RFC 9112, section 6).
+/// How many bytes the body has, or `most` where it has more: the fields stand in `bytes` where `headers` says. `None`
+/// where they name no one length (RFC 9112, section 6).
 pub fn content_length(bytes: &[u8], headers: &[HeaderSpan], most: u64) -> Option<u64>
     requires within { All (IsHeaderWithin (length bytes.now)) headers.now }
     requires most { most < 2 ^ 40 }
     ensures { result
-        ≡ option_map (λ digits. min (number digits) most) (declared_length (map (header_bytes bytes.now) headers.now)) }
+        ≡ option_map (λ digits. min (number digits) most)
+        (declared_length (map (header_bytes bytes.now) headers.now)) }
 {
     let mut found: Option<&[u8]> = None;
     for header in headers {

@@ -30,14 +30,15 @@ fn read_more<R: Read>(
     received: usize,
 ) -> Result<usize, ReadError>
     requires room { received < length buffer.old }
-    ensures taken { IfOk result (TakesMore (R.remaining reader.old) (R.remaining reader.new) buffer.old buffer.new received) }
+    ensures taken { IfOk result
+        (TakesMore (R.remaining reader.old) (R.remaining reader.new) buffer.old buffer.new received) }
     ensures fault { IfErr result (λ e. e ≡ ReadError.Failed) }
 {
     let count = read_once(reader, &mut buffer[received..])?;
     Ok(count)
 }
 
-/// Reads until the head is whole or the bytes can no longer become one, which is told at once (RFC 9112, sections 2.1 to
+/// Reads until the head is whole or the bytes can no longer become one, which is told at once (RFC 9112, sections 2 to
 /// 5, as `httparse` has them). The buffer takes all that was read, `headers` where the fields stand.
 ///
 /// `Closed` where no byte came, `Failed` where the reader failed.

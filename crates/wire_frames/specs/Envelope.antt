@@ -1,5 +1,5 @@
--- Messages in the wire format (Confluent Schema Registry, "Wire format"): a magic byte 0, the id of the writer's schema in
--- four bytes, the highest first, and the payload. Which refusal comes first is this project's own.
+-- Messages in the wire format (Confluent Schema Registry, "Wire format"): a magic byte 0, the id of the writer's schema
+-- in four bytes, the highest first, and the payload. Which refusal comes first is this project's own.
 use Rattle.std.specs.Prelude.{◌≡◌, ◌≢◌, ◌<◌, ◌≤◌, ℕ, List, ◌∷◌, ◌++◌, length, codes, slice_index, Result, Ok, Err}
 use Rattle.std.specs.Int.{w32, to_be_bytes}
 use Rattle.wire_frames.specs.declared.envelope.TheConstants.{PREFIX_LENGTH}

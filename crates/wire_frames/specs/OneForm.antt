@@ -7,4 +7,5 @@ OneId = (id other : ℕ) (payload rest : List ℕ) → id < 2 ^ 32 → other < 2
     → envelope id payload ≡ envelope other rest → id ≡ other
 
 abbrev pub OnePayload : Type 0
-OnePayload = (id other : ℕ) (payload rest : List ℕ) → envelope id payload ≡ envelope other rest → payload ≡ rest
+OnePayload = (id other : ℕ) (payload rest : List ℕ)
+    → envelope id payload ≡ envelope other rest → payload ≡ rest
