@@ -18,7 +18,7 @@ schemas=$'"int"\n"long"\n'
 printf '%s03\n' "$schemas" | "$program" transcode >"$out" 2>"$err"; want transcode 0 some none
 printf '"float"\n' | "$program" transcode >"$out" 2>"$err"; want 'bad schema' 1 some none
 "$program" </dev/null >"$out" 2>"$err"; want 'no subcommand' 2 none some
-"$program" serve </dev/null >"$out" 2>"$err"; want 'no such subcommand' 2 none some
+"$program" fly </dev/null >"$out" 2>"$err"; want 'no such subcommand' 2 none some
 "$program" transcode --fast </dev/null >"$out" 2>"$err"; want 'no such flag' 2 none some
 "$program" $'tr\xffans' </dev/null >"$out" 2>"$err"; want 'a word that is no UTF-8' 2 none some
 "$program" --help </dev/null >"$out" 2>"$err"; want help 0 some none
@@ -49,5 +49,21 @@ printf 'publish 1 1\nno event\n' | "$program" replay >"$out" 2>"$err"; want repl
 printf 'finish 0\n' | "$program" replay >/dev/full 2>"$err"; status=$?; : >"$out"; (exit $status); want 'replay to a full device' 3 none none
 "$program" replay more </dev/null >"$out" 2>"$err"; want 'replay and a further word' 2 none some
 printf '%s02|61\n' "$listing" | "$program" run >/dev/full 2>"$err"; status=$?; : >"$out"; (exit $status); want 'run to a full device' 3 none none
+for words in '--port 65536' '--port -1' '--clients 0' '--clients 65' '--each -1' '--each 4294967296' '--request-timeout 0' \
+  '--request-timeout 3601' '--workers' 'more'; do
+  "$program" serve $words </dev/null >"$out" 2>"$err"; want "serve $words" 2 none some
+done
+"$program" serve --help </dev/null >"$out" 2>"$err"; want 'help of serve' 0 some none
+"$program" serve --port 0 --clients 2 --each 1 </dev/null >"$out" 2>"$err" & server=$!
+for _ in $(seq 100); do grep -q listening "$out" && break; sleep 0.1; done
+port=$(sed -n 's/^listening //p' "$out")
+"$program" serve --port "$port" </dev/null >"$folder/second" 2>"$folder/second_err"; status=$?
+[ "$status" = 3 ] && [ ! -s "$folder/second" ] && [ ! -s "$folder/second_err" ] && passed=$((passed + 1)) \
+  || { echo "a port that is taken: $status"; failed=$((failed + 1)); }
+for path in config nowhere; do
+  exec 3<>"/dev/tcp/127.0.0.1/$port"; printf 'GET /%s HTTP/1.1\r\n\r\n' "$path" >&3; timeout 10 cat <&3 >/dev/null; exec 3>&-
+done
+wait "$server"; want 'serve of two connections' 0 some none
+[ "$(tail -1 "$out")" = 'served 2' ] && passed=$((passed + 1)) || { echo "serve told $(tail -1 "$out")"; failed=$((failed + 1)); }
 echo "$passed passed, $failed failed"
 [ "$failed" = 0 ]
