@@ -24,10 +24,10 @@ use Rattle.assembler.specs.declared.fault.AsmFault.{AsmFault}
 use Rattle.assembler.specs.Assembling.{◌>>=◌, Gives, assembled, fits_constant, fits_list, in_range, is_before_code, is_before_jumps, is_before_maps, is_before_misses, nothing, placed, with_constant, with_header, with_instr, with_jumps, with_lines, with_map, with_miss, with_words}
 use Rattle.assembler.specs.Listing.{constant_line, entry, instr_line, jumps_line, lines_from, listing_of, map_line, miss_line, number, operand}
 use Rattle.assembler.specs.Things.{constant_in, each_in, entry_in, instr_in, miss_in}
-use Rattle.listing_words.specs.Words.{number_in, parts}
+use Rattle.assembler_lexer.specs.Words.{number_in, parts}
 use Rattle.assembler.proofs.Fit.{EntryFits, InstrFits, IsLow, MissFits, program_fits}
 use Rattle.assembler.proofs.Joined.{after}
-use Rattle.listing_words.proofs.Numbers.{are_digits, model, number_again, tells}
+use Rattle.assembler_lexer.proofs.Numbers.{are_digits, model, number_again, tells}
 use Rattle.assembler.proofs.Taken.{ok_is}
 use Rattle.std.proofs.lemmas.Fmt.{digits_decimal}
 use Rattle.std.specs.Str.{bytes_eq}

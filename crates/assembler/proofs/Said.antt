@@ -21,13 +21,13 @@ use Rattle.isa.specs.declared.operation.Shape.{Shape}
 use Rattle.isa.specs.declared.operation.Shape.TheVariants as shapes
 use Rattle.isa.specs.Operation.{instr_of, name_of, operand_of, operation_of, shape_of}
 use Rattle.isa.specs.declared.operation.TheConstants.{OPERATIONS}
-use Rattle.listing_words.specs.declared.words.TheConstants.{KINDS}
+use Rattle.assembler_lexer.specs.declared.words.TheConstants.{KINDS}
 use Rattle.assembler.specs.Listing.{entry, number, operand}
 use Rattle.assembler.specs.Things.{◌>>=◌, at_end, bytes_in, constant_in, each_in, entry_in, first_number, instr_in, miss_in, numbered, operand_in, spelled_so}
-use Rattle.listing_words.specs.Words.{kind_named, number_in, operation_named}
+use Rattle.assembler_lexer.specs.Words.{kind_named, number_in, operation_named}
 use Rattle.assembler.proofs.Fit.{EntryFits, InstrFits, IsLow, MissFits, OperandFits}
 use Rattle.assembler.proofs.Joined.{after}
-use Rattle.listing_words.proofs.Numbers.{both, number_taken}
+use Rattle.assembler_lexer.proofs.Numbers.{both, number_taken}
 
 pub bind_some : {A B : Type 0} (o : Option A) (f : A → Option B) (y : B) → (o >>= f) ≡ Some y → (x : A) × (o ≡ Some x) × (f x ≡ Some y)
 bind_some (Some x) f y e = (x, refl, e)

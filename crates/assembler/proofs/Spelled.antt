@@ -28,10 +28,10 @@ use Rattle.isa.specs.Operation.{instr_of, name_of, operand_of, operation_of, sha
 use Rattle.isa.proofs.Operations as operations
 use Rattle.assembler.specs.Listing.{entry}
 use Rattle.assembler.specs.Things.{◌>>=◌, at_end, bytes_in, constant_in, each_in, entry_in, first_number, instr_in, miss_in, numbered, operand_in, spelled_so}
-use Rattle.listing_words.specs.Words.{kind_named, number_in, operation_named}
+use Rattle.assembler_lexer.specs.Words.{kind_named, number_in, operation_named}
 use Rattle.assembler.proofs.Fit.{EntryFits, InstrFits, IsLow, MissFits, OperandFits}
 use Rattle.assembler.proofs.Joined.{after}
-use Rattle.listing_words.proofs.Numbers.{are_digits, both, model, number_again, tells}
+use Rattle.assembler_lexer.proofs.Numbers.{are_digits, both, model, number_again, tells}
 use Rattle.assembler.proofs.Parted.{Above, AreWords, above_from_test}
 
 -- ---- numbers

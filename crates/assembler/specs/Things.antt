@@ -10,7 +10,7 @@ use Rattle.isa.specs.declared.instr.Instr.{Instr}
 use Rattle.isa.specs.declared.operation.Shape.{Shape}
 use Rattle.isa.specs.declared.operation.Shape.TheVariants as shapes
 use Rattle.isa.specs.Operation.{instr_of, shape_of}
-use Rattle.listing_words.specs.Words.{kind_named, number_in, operation_named}
+use Rattle.assembler_lexer.specs.Words.{kind_named, number_in, operation_named}
 
 infixl 10 ◌>>=◌
 abbrev pub ◌>>=◌ : {A B : Type 0} → Option A → (A → Option B) → Option B

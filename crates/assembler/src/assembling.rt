@@ -3,12 +3,12 @@ ghost use Rattle.isa.specs.Program.{Program as Parted};
 ghost use Rattle.isa.specs.Range.{IsProgram};
 ghost use Rattle.assembler.specs.Assembling.{Gives, assembled, nothing, with_header, with_lines};
 ghost use Rattle.assembler.specs.Listing.{HasBytes, listing_of};
-ghost use Rattle.listing_words.specs.Words.{parts};
+ghost use Rattle.assembler_lexer.specs.Words.{parts};
 
 use crate::draft::{Draft, fault};
 use crate::fault::{AsmError, AsmErrorKind};
 use isa::Program;
-use listing_words::{is_text, split_line};
+use assembler_lexer::{is_text, split_line};
 use std::alloc::Global;
 
 /// Takes the lines after the header.

@@ -1,10 +1,10 @@
 ghost use Rattle.std.specs.Prelude.{◌≡◌, ℕ, List, Option, IfOk, option_map};
 ghost use Rattle.assembler.specs.Things.{at_end, bytes_in, constant_in, each_in, entry_in, first_number, instr_in, miss_in, numbered, operand_in};
-ghost use Rattle.listing_words.specs.Words.{later, number_in};
+ghost use Rattle.assembler_lexer.specs.Words.{later, number_in};
 
 use hex::FromHexError;
 use isa::{Entry, Instr, Shape};
-use listing_words::{kind_named, next_word, number_of, operation_named};
+use assembler_lexer::{kind_named, next_word, number_of, operation_named};
 use outcome::Mismatch;
 use std::alloc::{AllocError, Global};
 

@@ -16,17 +16,17 @@ use Rattle.isa.specs.Lists.{total_length}
 use Rattle.isa.specs.Program.{Program}
 use Rattle.isa.specs.Range.{EntryIsInRange, InstrIsInRange, IsAddress, IsProgram, MissIsInRange, sizes_of}
 use Rattle.isa.proofs.Judged.{complete}
-use Rattle.image_words.specs.Reading.{◌>>=◌, Read, address_at, ended, most_instrs, opened, place}
-use Rattle.image_words.specs.Spelling.{long, address, version_byte}
-use Rattle.image_words.specs.declared.fault.ImageFault.{ImageFault}
-use Rattle.image_words.specs.declared.fault.ImageFault.TheVariants.{NoCode, OutOfRange}
-use Rattle.image_words.specs.declared.version.Format.{Format}
-use Rattle.image_words.specs.declared.version.Version.{Version}
-use Rattle.image_words.specs.declared.version.Version.TheVariants.{One, Two}
-use Rattle.image_words.proofs.Opened.{ended_ok, opened_again, opened_taken}
-use Rattle.image_words.proofs.Spelled.{address_limit, addresses}
-use Rattle.image_words.proofs.Steps.{bind_ok, ok_is, unless}
-use Rattle.image_words.proofs.Taking.{IsBytes, Takes, Takes-then, Reads}
+use Rattle.avro_loader_format.specs.Reading.{◌>>=◌, Read, address_at, ended, most_instrs, opened, place}
+use Rattle.avro_loader_format.specs.Spelling.{long, address, version_byte}
+use Rattle.avro_loader_format.specs.declared.fault.ImageFault.{ImageFault}
+use Rattle.avro_loader_format.specs.declared.fault.ImageFault.TheVariants.{NoCode, OutOfRange}
+use Rattle.avro_loader_format.specs.declared.version.Format.{Format}
+use Rattle.avro_loader_format.specs.declared.version.Version.{Version}
+use Rattle.avro_loader_format.specs.declared.version.Version.TheVariants.{One, Two}
+use Rattle.avro_loader_format.proofs.Opened.{ended_ok, opened_again, opened_taken}
+use Rattle.avro_loader_format.proofs.Spelled.{address_limit, addresses}
+use Rattle.avro_loader_format.proofs.Steps.{bind_ok, ok_is, unless}
+use Rattle.avro_loader_format.proofs.Taking.{IsBytes, Takes, Takes-then, Reads}
 use Rattle.avro_loader.specs.Image.{section, First, IsImage, Second, constant, entry, image, instr, miss, sections}
 use Rattle.avro_loader.specs.Reading.{count_at, section_at, things_at, Gives, code_at, constants_at, constants_section_at, entry_at, instr_at, miss_at}
 use Rattle.avro_loader.specs.declared.fault.LoadError.{LoadError}

@@ -17,15 +17,15 @@ use Rattle.isa.specs.declared.operation.Operation.{Operation}
 use Rattle.isa.specs.declared.operation.Operation.TheVariants as op
 use Rattle.isa.specs.Operation.{at_code, code_of, instr_of, operand_of, operation_of, shape_of}
 use Rattle.isa.proofs.Operations.{coded, found, same}
-use Rattle.image_words.specs.Reading.{◌>>=◌, Read, place, number_at, operand_at}
-use Rattle.image_words.specs.Spelling.{short, long, operand}
-use Rattle.image_words.specs.declared.fault.ImageFault.{ImageFault}
-use Rattle.image_words.specs.declared.fault.ImageFault.TheVariants.{Truncated, BadByte, TooLarge}
-use Rattle.image_words.specs.declared.version.Format.{Format}
-use Rattle.image_words.specs.declared.version.Version.{Version}
-use Rattle.image_words.proofs.Spelled.{shorts, longs, OperandFits, operand_takes, operand_again}
-use Rattle.image_words.proofs.Steps.{bind_ok, unless, ok_is}
-use Rattle.image_words.proofs.Taking.{IsBytes, IsBytes-drop, IsBytes-rest, Takes, Takes-then, Takes-byte, Reads}
+use Rattle.avro_loader_format.specs.Reading.{◌>>=◌, Read, place, number_at, operand_at}
+use Rattle.avro_loader_format.specs.Spelling.{short, long, operand}
+use Rattle.avro_loader_format.specs.declared.fault.ImageFault.{ImageFault}
+use Rattle.avro_loader_format.specs.declared.fault.ImageFault.TheVariants.{Truncated, BadByte, TooLarge}
+use Rattle.avro_loader_format.specs.declared.version.Format.{Format}
+use Rattle.avro_loader_format.specs.declared.version.Version.{Version}
+use Rattle.avro_loader_format.proofs.Spelled.{shorts, longs, OperandFits, operand_takes, operand_again}
+use Rattle.avro_loader_format.proofs.Steps.{bind_ok, unless, ok_is}
+use Rattle.avro_loader_format.proofs.Taking.{IsBytes, IsBytes-drop, IsBytes-rest, Takes, Takes-then, Takes-byte, Reads}
 use Rattle.avro_loader.specs.Image.{constant, entry, instr, miss}
 use Rattle.avro_loader.specs.Reading.{constants_at, entry_at, instr_at, miss_at, constant_at, kind_at, known}
 

@@ -8,10 +8,10 @@ use Rattle.isa.specs.declared.entry.Entry.TheVariants as entries
 use Rattle.isa.specs.declared.instr.Instr.{Instr}
 use Rattle.isa.specs.Program.{Program}
 use Rattle.isa.specs.Operation.{code_of, operand_of, operation_of, shape_of}
-use Rattle.image_words.specs.Spelling.{short, long, address, operand, version_byte}
-use Rattle.image_words.specs.declared.limits.TheConstants.{MOST_INSTRS_OF_ONE}
-use Rattle.image_words.specs.declared.version.Version.{Version}
-use Rattle.image_words.specs.declared.version.Version.TheVariants.{One, Two}
+use Rattle.avro_loader_format.specs.Spelling.{short, long, address, operand, version_byte}
+use Rattle.avro_loader_format.specs.declared.limits.TheConstants.{MOST_INSTRS_OF_ONE}
+use Rattle.avro_loader_format.specs.declared.version.Version.{Version}
+use Rattle.avro_loader_format.specs.declared.version.Version.TheVariants.{One, Two}
 
 -- ---- things
 

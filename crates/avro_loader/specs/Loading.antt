@@ -9,10 +9,10 @@ use Rattle.isa.specs.declared.program.ProgramError.{ProgramError}
 use Rattle.isa.specs.declared.program.ProgramError.TheVariants as wrong
 use Rattle.isa.specs.Judging.{judged}
 use Rattle.isa.specs.Program.{Program}
-use Rattle.image_words.specs.Reading.{◌>>=◌, Read, place, number_at, address_at, opened, ended}
-use Rattle.image_words.specs.declared.fault.ImageFault.{ImageFault}
-use Rattle.image_words.specs.declared.fault.ImageFault.TheVariants.{OutOfRange}
-use Rattle.image_words.specs.declared.version.Format.{Format}
+use Rattle.avro_loader_format.specs.Reading.{◌>>=◌, Read, place, number_at, address_at, opened, ended}
+use Rattle.avro_loader_format.specs.declared.fault.ImageFault.{ImageFault}
+use Rattle.avro_loader_format.specs.declared.fault.ImageFault.TheVariants.{OutOfRange}
+use Rattle.avro_loader_format.specs.declared.version.Format.{Format}
 use Rattle.avro_loader.specs.Image.{image_of}
 use Rattle.avro_loader.specs.Reading.{section_at, things_at, code_at, constants_section_at, entry_at, instr_at, miss_at}
 use Rattle.avro_loader.specs.declared.places.Sections.{Sections}

@@ -9,10 +9,10 @@ use Rattle.isa.specs.declared.entry.Entry.TheVariants as entries
 use Rattle.isa.specs.declared.instr.Instr.{Instr}
 use Rattle.isa.specs.declared.limits.TheConstants.{MOST_CONSTANT_BYTES, MOST_TABLES}
 use Rattle.isa.specs.Operation.{at_code, instr_of, shape_of}
-use Rattle.image_words.specs.Reading.{◌>>=◌, Read, place, number_at, operand_at, most_instrs}
-use Rattle.image_words.specs.declared.fault.ImageFault.{ImageFault}
-use Rattle.image_words.specs.declared.fault.ImageFault.TheVariants.{Truncated, BadByte, TooLarge, NoCode}
-use Rattle.image_words.specs.declared.version.Format.{Format}
+use Rattle.avro_loader_format.specs.Reading.{◌>>=◌, Read, place, number_at, operand_at, most_instrs}
+use Rattle.avro_loader_format.specs.declared.fault.ImageFault.{ImageFault}
+use Rattle.avro_loader_format.specs.declared.fault.ImageFault.TheVariants.{Truncated, BadByte, TooLarge, NoCode}
+use Rattle.avro_loader_format.specs.declared.version.Format.{Format}
 use Rattle.avro_loader.specs.declared.fault.LoadError.{LoadError}
 use Rattle.avro_loader.specs.declared.fault.LoadError.TheVariants as errors
 

@@ -1,7 +1,7 @@
 ghost use Rattle.std.specs.Prelude.{◌≡◌};
 ghost use Rattle.avro_loader.specs.declared.fault.LoadError.TheVariants.{Fault, NoMemory};
 
-use image_words::ImageFault;
+use avro_loader_format::ImageFault;
 use std::alloc::{AllocError, AllocFailed};
 use thiserror::Error;
 

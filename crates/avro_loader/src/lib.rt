@@ -10,7 +10,7 @@ mod saving;
 mod thing;
 
 pub use fault::LoadError;
-pub use image_words::{ImageFault, Version};
+pub use avro_loader_format::{ImageFault, Version};
 pub use laws::image_is_of_one_program;
 pub use loading::{load, migrate};
 pub use saving::save;

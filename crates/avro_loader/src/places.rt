@@ -5,7 +5,7 @@ ghost use Rattle.avro_loader.specs.Reading.{Gives, section_at};
 use crate::fault::LoadError;
 use crate::reading::{push_tables, push_things};
 use crate::thing::Thing;
-use image_words::{Format, u32_at};
+use avro_loader_format::{Format, u32_at};
 use isa::{Entry, Instr, Lists, ProgramError};
 use outcome::Mismatch;
 use std::alloc::Global;

@@ -2,7 +2,7 @@ ghost use Rattle.std.specs.Prelude.{◌≡◌, ◌++◌, OnOk, IfOk};
 ghost use Rattle.avro_loader.specs.Image.{constant, image_of, section};
 
 use crate::thing::Thing;
-use image_words::put_long;
+use avro_loader_format::put_long;
 use isa::{Lists, Program};
 use std::alloc::{AllocError, Global};
 

@@ -1,12 +1,12 @@
 ghost use Rattle.std.specs.Prelude.{◌≡◌, ◌++◌, ℕ, List, OnOk, Some, None};
-ghost use Rattle.image_words.specs.declared.version.Format.{Format};
-ghost use Rattle.image_words.specs.declared.version.Version.TheVariants.{Two};
-ghost use Rattle.image_words.specs.Spelling.{address};
-ghost use Rattle.image_words.specs.Reading.{Read, Tells, address_at};
+ghost use Rattle.avro_loader_format.specs.declared.version.Format.{Format};
+ghost use Rattle.avro_loader_format.specs.declared.version.Version.TheVariants.{Two};
+ghost use Rattle.avro_loader_format.specs.Spelling.{address};
+ghost use Rattle.avro_loader_format.specs.Reading.{Read, Tells, address_at};
 ghost use Rattle.avro_loader.specs.Image.{entry, miss, instr};
 ghost use Rattle.avro_loader.specs.Reading.{entry_at, miss_at, instr_at, kind_at};
 
-use image_words::{Format, ImageFault, address_of, operand_of, put_long, put_short, u16_at};
+use avro_loader_format::{Format, ImageFault, address_of, operand_of, put_long, put_short, u16_at};
 use isa::{Entry, Instr, Operation, Shape};
 use outcome::{Mismatch, MismatchKind};
 use std::alloc::AllocError;

@@ -8,4 +8,4 @@ mod schema;
 pub use avro_types::{Aliases, Datum, Field, Kind, Name, Nodes, Symbols};
 pub use laws::parsed_schema_is_declared;
 pub use schema::Schema;
-pub use schema_names::SchemaError;
+pub use avro_schema_names::SchemaError;

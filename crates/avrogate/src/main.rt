@@ -5,7 +5,7 @@ ghost use Rattle.std.specs.Prelude.{◌≡◌, ◌≢◌, IfErr, IfOk};
 ghost use Rattle.commands.specs.declared.status.Status.TheVariants.{BadTraffic, NoMemory};
 
 use clap::error::ErrorKind;
-use command_words::{ServeWords, Task, command_line, task_of};
+use command_line::{ServeWords, Task, cli, task_of};
 use commands::{RunError, Status, Verb, run};
 use gateway_server::{ServeOptions, serve_on};
 use std::alloc::AllocError;
@@ -90,7 +90,7 @@ fn refuse(rt: &impl Eprint, error: &io::Error) -> Status {
 
 /// What the words ask for; or the status, where it was told what is wrong with them or the help that they ask for.
 fn task_in(rt: &(impl Print + Eprint + AllocGlobal), words: &[String]) -> Result<Task, Status> {
-    let Ok(line) = command_line(rt.alloc()) else {
+    let Ok(line) = cli(rt.alloc()) else {
         return Err(Status::NoMemory);
     };
     match line.try_get_matches_from(words) {

@@ -4,22 +4,22 @@ use Rattle.std.specs.List.{concat}
 use Rattle.avro_types.specs.Node.{Node}
 use Rattle.assembler.specs.Assembling.{assembled}
 use Rattle.isa.specs.Program.{Program}
-use Rattle.program_code.specs.Code.{code_of}
+use Rattle.program_definition.specs.Code.{code_of}
 use Rattle.outcome.specs.Outcome.{Outcome}
 use Rattle.outcome.specs.declared.limits.TheConstants.{MOST_PAYLOAD}
 use Rattle.resolver.specs.Outcome.{IsOutcome}
-use Rattle.simulation.specs.Alone.{EndsAreLast, RowsAreCounted, RunsGoOn}
-use Rattle.answer_lines.specs.OutcomeLine.{line_of}
-use Rattle.answer_lines.specs.RunLine.{line_of_run}
-use Rattle.answer_lines.specs.Answer.{AreAnswers, IsAnswer, IsAnswers, IsPayloadAnswer}
-use Rattle.answer_lines.specs.Lines.{lines}
+use Rattle.program_correctness.specs.Alone.{EndsAreLast, RowsAreCounted, RunsGoOn}
+use Rattle.command_io.specs.OutcomeLine.{line_of}
+use Rattle.command_io.specs.RunLine.{line_of_run}
+use Rattle.command_io.specs.Answer.{AreAnswers, IsAnswer, IsAnswers, IsPayloadAnswer}
+use Rattle.command_io.specs.Lines.{lines}
 use Rattle.commands.specs.Listed.{listed}
 use Rattle.commands.specs.Output.{HasOneOutput, HasOutput, IsCompiled, IsForSchemas, IsRun, IsTranscoded, text_of_program}
-use Rattle.answer_lines.specs.Payload.{payload_of}
+use Rattle.command_io.specs.Payload.{payload_of}
 use Rattle.commands.specs.Refusal.{IsRefused, text_of}
 use Rattle.commands.specs.Running.{IsRunAnswer, IsRunLine, StopsIn, pieces_of}
 use Rattle.commands.specs.Schemas.{schemas_of}
-use Rattle.command_words.specs.declared.verb.Verb.TheVariants.{Compile, Debug, Replay, Run, Transcode}
+use Rattle.command_line.specs.declared.verb.Verb.TheVariants.{Compile, Debug, Replay, Run, Transcode}
 use Rattle.commands.specs.declared.refusal.Refusal.{Refusal}
 use Rattle.commands.specs.declared.refusal.Refusal.TheVariants.{BadListing, ProgramTooLarge}
 use Rattle.commands.specs.declared.status.Status.{Status}

@@ -7,12 +7,12 @@ use Rattle.std.proofs.lemmas.Bool.{leb-false, leb-true, lt-leb, lt-ltb}
 use Rattle.isa.specs.Lists.{total_length}
 use Rattle.outcome.specs.declared.limits.TheConstants.{MOST_PAYLOAD}
 use Rattle.assembler.specs.Things.{each_in}
-use Rattle.listing_words.specs.Words.{parts}
+use Rattle.assembler_lexer.specs.Words.{parts}
 use Rattle.assembler.proofs.Each.{with_front, word_fails, word_read, words_read}
 use Rattle.isa.specs.Program.{Program}
 use Rattle.isa.specs.State.{State}
-use Rattle.answer_lines.specs.Payload.{payload_of}
-use Rattle.answer_lines.specs.RunLine.{line_of_run}
+use Rattle.command_io.specs.Payload.{payload_of}
+use Rattle.command_io.specs.RunLine.{line_of_run}
 use Rattle.commands.specs.Running.{IsRunAnswer, StopsIn}
 
 -- ---- what is left of a line

@@ -4,8 +4,8 @@ use Rattle.std.specs.Str.{IsUtf8, is_utf8}
 use Rattle.std.proofs.lemmas.Str.{IsUtf8-from_is_utf8, is_utf8-from_IsUtf8}
 use Rattle.avro_schema.specs.Schema.{Declaration}
 use Rattle.avro_schema.specs.Schema.{Parses, schema_of}
-use Rattle.schema_names.specs.declared.error.SchemaError.{SchemaError}
-use Rattle.schema_names.specs.declared.error.SchemaError.TheVariants.{NoMemory, NotJson}
+use Rattle.avro_schema_names.specs.declared.error.SchemaError.{SchemaError}
+use Rattle.avro_schema_names.specs.declared.error.SchemaError.TheVariants.{NoMemory, NotJson}
 use Rattle.commands.specs.Schemas.{schema_of_line}
 
 schema_of_text : (line : List ℕ) → IsUtf8 line → schema_of_line line ≡ schema_of line

@@ -6,7 +6,7 @@ use Rattle.std.proofs.lemmas.Option.{same_Some}
 use Rattle.isa.specs.Program.{Program}
 use Rattle.isa.specs.Row.{row_of}
 use Rattle.isa.specs.State.{End, State, start}
-use Rattle.simulation.specs.Alone.{EndsAreLast, RowsAreCounted, RunsGoOn, rows_from, run_alone}
+use Rattle.program_correctness.specs.Alone.{EndsAreLast, RowsAreCounted, RunsGoOn, rows_from, run_alone}
 use Rattle.commands.specs.Running.{StopsIn}
 
 -- the law of rows, as `isa` proves it

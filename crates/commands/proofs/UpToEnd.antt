@@ -2,9 +2,9 @@
 use Rattle.std.proofs.Common.{◌≡◌, ◌-◌, ℕ, true, false, List, [], ◌∷◌, ◌++◌, length, take, Option, Some, None, option_map, codes, refl, sym, ap, ◌∙◌, arith, append_assoc, append-nil, inl, inr, length-append}
 use Rattle.std.specs.Str.{bytes_eq}
 use Rattle.std.proofs.Math.Seq.{take-append_seam}
-use Rattle.answer_lines.specs.Lines.{IsFirst, lines}
+use Rattle.command_io.specs.Lines.{IsFirst, lines}
 use Rattle.commands.specs.Listed.{cut_at_end, listed}
-use Rattle.answer_lines.proofs.Split.{lines_none}
+use Rattle.command_io.proofs.Split.{lines_none}
 
 abbrev Cut : Type 0
 Cut = Option (List ℕ × List (List ℕ))

@@ -1,7 +1,7 @@
 -- The program that an input lists, and the payload lines after it. This project's own.
 use Rattle.std.specs.Prelude.{ℕ, if◌then◌else◌, List, [], ◌∷◌, ◌++◌, codes, Option, Some, None, option_map}
 use Rattle.std.specs.Str.{bytes_eq}
-use Rattle.answer_lines.specs.Lines.{lines}
+use Rattle.command_io.specs.Lines.{lines}
 
 -- the text of the lines before the first line `end`, and the lines after it, or None where there is no such line
 unfoldable pub cut_at_end : List (List ℕ) → Option (List ℕ × List (List ℕ))

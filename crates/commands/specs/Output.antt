@@ -6,19 +6,19 @@ use Rattle.assembler.specs.Assembling.{assembled}
 use Rattle.assembler.specs.Listing.{listing_of}
 use Rattle.avro_loader.specs.Image.{image_of}
 use Rattle.isa.specs.Program.{Program}
-use Rattle.program_code.specs.Code.{code_of}
-use Rattle.answer_lines.specs.Answer.{AreAnswers, IsAnswers}
-use Rattle.answer_lines.specs.Lines.{line_at, lines}
+use Rattle.program_definition.specs.Code.{code_of}
+use Rattle.command_io.specs.Answer.{AreAnswers, IsAnswers}
+use Rattle.command_io.specs.Lines.{line_at, lines}
 use Rattle.commands.specs.Listed.{listed}
-use Rattle.session_commands.specs.Debugging.{IsDebugged, debugged}
-use Rattle.session_commands.specs.Replaying.{IsReplayed}
-use Rattle.session_commands.specs.declared.debugging.DebugError.{DebugError}
-use Rattle.session_commands.specs.declared.debugging.DebugError.TheVariants as errors
+use Rattle.command_sessions.specs.Debugging.{IsDebugged, debugged}
+use Rattle.command_sessions.specs.Replaying.{IsReplayed}
+use Rattle.command_sessions.specs.declared.debugging.DebugError.{DebugError}
+use Rattle.command_sessions.specs.declared.debugging.DebugError.TheVariants as errors
 use Rattle.commands.specs.Refusal.{IsRefused}
 use Rattle.commands.specs.Running.{IsRunLine}
 use Rattle.commands.specs.Schemas.{schemas_of}
-use Rattle.command_words.specs.declared.verb.Verb.{Verb}
-use Rattle.command_words.specs.declared.verb.Verb.TheVariants.{Compile, Debug, Replay, Run, Transcode}
+use Rattle.command_line.specs.declared.verb.Verb.{Verb}
+use Rattle.command_line.specs.declared.verb.Verb.TheVariants.{Compile, Debug, Replay, Run, Transcode}
 use Rattle.commands.specs.declared.refusal.Refusal.{Refusal}
 use Rattle.commands.specs.declared.refusal.Refusal.TheVariants.{BadHex, BadListing, NoMemory, ProgramTooLarge, TooLarge}
 use Rattle.commands.specs.declared.status.Status.{Status}

@@ -1,7 +1,7 @@
 -- Why an input is not answered, in one line. The lines are this project's own.
 use Rattle.std.specs.Prelude.{◌≡◌, ℕ, List, [], ◌∷◌, ◌++◌, codes}
 use Rattle.std.specs.Fmt.{decimal}
-use Rattle.schema_names.specs.SchemaError.{name_of}
+use Rattle.avro_schema_names.specs.SchemaError.{name_of}
 use Rattle.commands.specs.Names.{name_of_fault}
 use Rattle.commands.specs.declared.refusal.Refusal.{Refusal}
 use Rattle.commands.specs.declared.refusal.Refusal.TheVariants as refusals

@@ -2,13 +2,13 @@
 use Rattle.std.specs.Prelude.{◌≡◌, ◌≤◌, ◌<◌, ℕ, true, List, length, codes, nat_lt, Option, Some, is_some, MatchBool, MatchOption}
 use Rattle.std.specs.List.{concat}
 use Rattle.assembler.specs.Things.{each_in}
-use Rattle.listing_words.specs.Words.{parts}
+use Rattle.assembler_lexer.specs.Words.{parts}
 use Rattle.isa.specs.Program.{Program}
 use Rattle.isa.specs.State.{State}
 use Rattle.outcome.specs.declared.limits.TheConstants.{MOST_PAYLOAD}
-use Rattle.simulation.specs.Alone.{run_alone}
-use Rattle.answer_lines.specs.Payload.{payload_of}
-use Rattle.answer_lines.specs.RunLine.{line_of_run}
+use Rattle.program_correctness.specs.Alone.{run_alone}
+use Rattle.command_io.specs.Payload.{payload_of}
+use Rattle.command_io.specs.RunLine.{line_of_run}
 
 -- the bytes of each piece of a line, which bars, 124, part, or None where one of them spells none
 abbrev pub pieces_of : List ℕ → Option (List (List ℕ))

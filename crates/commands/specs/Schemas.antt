@@ -1,11 +1,11 @@
 -- The schemas of an input. The lines are this project's own.
 use Rattle.std.specs.Prelude.{ℕ, List, if◌then◌else◌, Result, Ok, Err}
 use Rattle.std.specs.Str.{is_utf8}
-use Rattle.answer_lines.specs.Lines.{line_at}
+use Rattle.command_io.specs.Lines.{line_at}
 use Rattle.avro_types.specs.Node.{Node}
 use Rattle.avro_schema.specs.Schema.{schema_of}
-use Rattle.schema_names.specs.declared.error.SchemaError.{SchemaError}
-use Rattle.schema_names.specs.declared.error.SchemaError.TheVariants.{NotJson}
+use Rattle.avro_schema_names.specs.declared.error.SchemaError.{SchemaError}
+use Rattle.avro_schema_names.specs.declared.error.SchemaError.TheVariants.{NotJson}
 use Rattle.commands.specs.declared.refusal.Refusal.{Refusal}
 use Rattle.commands.specs.declared.refusal.Refusal.TheVariants.{BadSchema}
 

@@ -12,9 +12,9 @@ use crate::running::run_listed;
 use crate::schemas::schemas_of;
 use crate::status::Status;
 use crate::transcode::transcode;
-use answer_lines::{RunError, read_all, write_whole};
-use command_words::Verb;
-use session_commands::replay;
+use command_io::{RunError, read_all, write_whole};
+use command_line::Verb;
+use command_sessions::replay;
 use std::alloc::{AllocError, Global};
 use std::io::{Read, Write};
 

@@ -2,7 +2,7 @@ ghost use Rattle.std.specs.Prelude.{◌≡◌, ◌++◌, ◌⊎◌, ◌∷◌, [
 ghost use Rattle.hex.specs.Hex.{encode_lower};
 ghost use Rattle.avro_loader.specs.Image.{image_of};
 ghost use Rattle.isa.specs.Program.{Program};
-ghost use Rattle.program_code.specs.Code.{code_of};
+ghost use Rattle.program_definition.specs.Code.{code_of};
 ghost use Rattle.commands.specs.Output.{text_of_program};
 
 use crate::refusal::Refusal;

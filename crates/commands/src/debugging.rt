@@ -1,12 +1,12 @@
 ghost use Rattle.std.specs.Prelude.{◌≢◌, ◌++◌, ◌∷◌, [], string_bytes, IfErr, IfOk};
-ghost use Rattle.answer_lines.specs.Lines.{lines};
+ghost use Rattle.command_io.specs.Lines.{lines};
 ghost use Rattle.commands.specs.Output.{IsDebug};
 ghost use Rattle.commands.specs.Refusal.{text_of};
 ghost use Rattle.commands.specs.declared.status.Status.TheVariants.{Answered, Refused};
 
 use crate::refusal::Refusal;
 use avro_types::Nodes;
-use session_commands::DebugError;
+use command_sessions::DebugError;
 use std::alloc::Global;
 
 /// The answers to the commands of a debugger, which follow the line of a payload.
@@ -21,7 +21,7 @@ pub(crate) fn debug(
     ensures err { IfErr result (λ e. e ≢ Refusal.NoMemory →
         IsDebug writer.now reader.now (lines later.now) (text_of e ++ 10 ∷ []) Refused) }
 {
-    match session_commands::debug(alloc, writer, reader, later) {
+    match command_sessions::debug(alloc, writer, reader, later) {
         Ok(output) => Ok(output),
         Err(DebugError::ProgramTooLarge) => Err(Refusal::ProgramTooLarge),
         Err(DebugError::BadHex) => Err(Refusal::BadHex),

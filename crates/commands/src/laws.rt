@@ -10,5 +10,5 @@ pub fn input_has_one_output()
 {
     resolver::payload_has_one_outcome();
     isa::row_or_end_is_there();
-    simulation::runs_alone_are_counted_and_stay();
+    program_correctness::runs_alone_are_counted_and_stay();
 }

@@ -1,9 +1,9 @@
 ghost use Rattle.std.specs.Prelude.{◌≡◌, codes};
 ghost use Rattle.std.specs.Str.{bytes_eq};
-ghost use Rattle.answer_lines.specs.Lines.{lines};
+ghost use Rattle.command_io.specs.Lines.{lines};
 ghost use Rattle.commands.specs.Listed.{listed};
 
-use answer_lines::split_line;
+use command_io::split_line;
 
 /// Whether a line ends the listing.
 fn is_end(line: &[u8]) -> bool

@@ -1,8 +1,8 @@
 ghost use Rattle.std.specs.Prelude.{◌≡◌, ◌<◌, ◌∷◌, [], IfOk, MatchOption, length};
-ghost use Rattle.listing_words.specs.Words.{parts};
+ghost use Rattle.assembler_lexer.specs.Words.{parts};
 ghost use Rattle.commands.specs.Running.{pieces_of};
 
-use answer_lines::payload_of;
+use command_io::payload_of;
 use isa::Lists;
 use memchr::memchr;
 use std::alloc::{AllocError, Global};

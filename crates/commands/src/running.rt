@@ -4,15 +4,15 @@ ghost use Rattle.assembler.specs.Assembling.{assembled};
 ghost use Rattle.assembler.specs.declared.fault.AsmFault.{AsmFault};
 ghost use Rattle.isa.specs.Program.{Program as Parted};
 ghost use Rattle.outcome.specs.declared.limits.TheConstants.{MOST_PAYLOAD};
-ghost use Rattle.answer_lines.specs.Lines.{lines};
-ghost use Rattle.answer_lines.specs.Answer.{AreAnswers};
+ghost use Rattle.command_io.specs.Lines.{lines};
+ghost use Rattle.command_io.specs.Answer.{AreAnswers};
 ghost use Rattle.commands.specs.Listed.{listed};
 ghost use Rattle.commands.specs.Running.{IsRunAnswer, IsRunLine, StopsIn};
 
 use crate::listed::split_listing;
 use crate::pieces::pieces_of;
 use crate::refusal::Refusal;
-use answer_lines::{push_run, split_line};
+use command_io::{push_run, split_line};
 use assembler::{AsmError, assemble};
 use isa::{Lists, Program, row_or_end_is_there};
 use machine::{Run, Why};

@@ -1,10 +1,10 @@
 ghost use Rattle.std.specs.Prelude.{◌≡◌, ◌≢◌, Err, Ok, IfOk, IfErr, drop};
-ghost use Rattle.schema_names.specs.declared.error.SchemaError.TheVariants.{NoMemory};
-ghost use Rattle.answer_lines.specs.Lines.{lines};
+ghost use Rattle.avro_schema_names.specs.declared.error.SchemaError.TheVariants.{NoMemory};
+ghost use Rattle.command_io.specs.Lines.{lines};
 ghost use Rattle.commands.specs.Schemas.{schema_of_line, schemas_of};
 
 use crate::refusal::Refusal;
-use answer_lines::split_line_or_empty;
+use command_io::split_line_or_empty;
 use avro_schema::{Schema, SchemaError};
 use std::alloc::Global;
 

@@ -1,11 +1,11 @@
 ghost use Rattle.std.specs.Prelude.{◌≡◌, ◌⊎◌, string_bytes, IfErr, IfOk, Some, None};
 ghost use Rattle.isa.specs.Program.{Program};
-ghost use Rattle.program_code.specs.Code.{code_of};
-ghost use Rattle.answer_lines.specs.Answer.{IsAnswers};
-ghost use Rattle.answer_lines.specs.Lines.{lines};
+ghost use Rattle.program_definition.specs.Code.{code_of};
+ghost use Rattle.command_io.specs.Answer.{IsAnswers};
+ghost use Rattle.command_io.specs.Lines.{lines};
 
 use crate::refusal::Refusal;
-use answer_lines::{push_answer, split_line};
+use command_io::{push_answer, split_line};
 use avro_types::Nodes;
 use machine::Transcoder;
 use program_compiler::CompileError;

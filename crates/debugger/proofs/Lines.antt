@@ -4,8 +4,8 @@ use Rattle.std.specs.Prelude.{codes, option_map, option_to_list}
 use Rattle.std.specs.List.{flat_map}
 use Rattle.std.proofs.lemmas.List.{append-nil}
 use Rattle.isa.specs.State.{Blocks, Frame, Rec, Skip, SkipBlocks}
-use Rattle.output_store.specs.declared.views.FrameView.TheVariants as views
-use Rattle.output_store.specs.Viewing.{slots_in, view_of}
+use Rattle.machine_store.specs.declared.views.FrameView.TheVariants as views
+use Rattle.machine_store.specs.Viewing.{slots_in, view_of}
 use Rattle.debugger.specs.Show.{frame_line}
 use Rattle.debugger.specs.Words.{bytes, number_or_none}
 

@@ -1,7 +1,7 @@
 ghost use Rattle.std.specs.Prelude.{◌≡◌, ◌++◌, length, option_map, option_to_list, reverse, slice_get, string_bytes, OnOk, Some};
 ghost use Rattle.std.specs.List.{flat_map};
 ghost use Rattle.isa.specs.State.{SkipBlocks};
-ghost use Rattle.output_store.specs.Viewing.{slots_in, view_of};
+ghost use Rattle.machine_store.specs.Viewing.{slots_in, view_of};
 ghost use Rattle.debugger.specs.Show.{call_line, frame_line};
 ghost use Rattle.debugger.specs.Words.{bytes};
 
@@ -9,7 +9,7 @@ use crate::words::{push_buffer, push_number, push_walk};
 use avro_bytes::BlockWalk;
 use std::alloc::{AllocError, Global};
 use std::fmt::Write;
-use stepper::{BufferAt, FrameView, Machine};
+use machine_stepper::{BufferAt, FrameView, Machine};
 
 /// Appends the slots of a frame, of which there are so many.
 fn push_slots(

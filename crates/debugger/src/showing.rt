@@ -9,7 +9,7 @@ use isa::{End, Program};
 use outcome::Outcome;
 use std::alloc::{AllocError, Global};
 use std::fmt::Write;
-use stepper::{BufferAt, Machine};
+use machine_stepper::{BufferAt, Machine};
 
 /// Whether a run goes on, or how it ended.
 fn name_of_state(machine: &Machine, no_memory: bool) -> &'static str

@@ -1,12 +1,12 @@
 ghost use Rattle.std.specs.Prelude.{◌≡◌, ◌++◌, is_some, option_map, string_bytes, true, OnOk, Some};
-ghost use Rattle.output_store.specs.Viewing.{buffer_of};
-ghost use Rattle.stepper.specs.Running.{part_of};
+ghost use Rattle.machine_store.specs.Viewing.{buffer_of};
+ghost use Rattle.machine_stepper.specs.Running.{part_of};
 ghost use Rattle.debugger.specs.Words.{bytes, number, number_or_none, part, size_or_none, truth, walk};
 
 use avro_bytes::BlockWalk;
 use std::alloc::{AllocError, Global};
 use std::fmt::Write;
-use stepper::{BufferAt, Machine, Part};
+use machine_stepper::{BufferAt, Machine, Part};
 
 /// Appends a number, and `-` for none.
 pub(crate) fn push_number(output: &mut String, number: Option<usize>) -> Result<(), AllocError>

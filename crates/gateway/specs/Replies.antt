@@ -2,8 +2,8 @@
 use Rattle.std.specs.Prelude.{◌≡◌, ℕ, Bool, true, false, List, Result, Ok, Err}
 use Rattle.serde_json.specs.Data.{Data}
 use Rattle.serde_json.specs.Written.{compact_text}
-use Rattle.schema_names.specs.declared.error.SchemaError.{SchemaError}
-use Rattle.schema_names.specs.declared.error.SchemaError.TheVariants as errors
+use Rattle.avro_schema_names.specs.declared.error.SchemaError.{SchemaError}
+use Rattle.avro_schema_names.specs.declared.error.SchemaError.TheVariants as errors
 use Rattle.schema_registry.specs.Command.{Command, SetLevelCommand}
 use Rattle.schema_registry.specs.Level.{level_name}
 use Rattle.schema_registry.specs.Reply.{Reply, IdReply, EntryReply, CompatibleReply, NumbersReply, NamesReply, TextReply, LevelReply}

@@ -3,7 +3,7 @@ use Rattle.std.specs.Prelude.{◌≡◌, ℕ, List, None, IfSome, Result, Ok, Er
 use Rattle.outcome.specs.Outcome.{outcome_of}
 use Rattle.outcome.specs.declared.payload.Outcome as rust
 use Rattle.resolver.specs.Outcome.{IsOutcome}
-use Rattle.program_code.specs.Code.{code_of}
+use Rattle.program_definition.specs.Code.{code_of}
 use Rattle.schema_registry.specs.Shared.{Shown}
 use Rattle.gateway.specs.declared.transcode.TranscodeFault.{TranscodeFault}
 use Rattle.gateway.specs.declared.transcode.TranscodeFault.TheVariants.{ProgramTooLarge, Clash, Full, NotFinished, NoMemory}

@@ -10,7 +10,7 @@ use gateway_answers::{
     Fault, compatibility_text, entry_text, id_text, level_text, names_text, new_level_text,
     numbers_text, schema_text,
 };
-use schema_names::SchemaError;
+use avro_schema_names::SchemaError;
 use schema_registry::{Refusal, Reply};
 use std::alloc::{AllocError, Global};
 

@@ -3,7 +3,7 @@
 use Rattle.std.specs.Prelude.{◌≡◌, ◌⊎◌, ◌/◌, ℕ, List, ◌++◌, codes, decimal}
 use Rattle.avro_bytes.specs.MalformedKind.{name_of as name_of_kind}
 use Rattle.outcome.specs.MismatchKind.{name_of as name_of_mismatch}
-use Rattle.schema_names.specs.SchemaError.{name_of as name_of_schema_error}
+use Rattle.avro_schema_names.specs.SchemaError.{name_of as name_of_schema_error}
 use Rattle.wire_frames.specs.Envelope.{name_of as name_of_envelope_error}
 use Rattle.gateway_answers.specs.declared.status.Status.{Status}
 use Rattle.gateway_answers.specs.declared.status.Status.TheVariants as statuses

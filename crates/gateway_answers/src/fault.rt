@@ -7,7 +7,7 @@ ghost use Rattle.gateway_answers.specs.declared.fault.Fault.TheVariants.{BadEnve
 use crate::status::Status;
 use avro_bytes::MalformedKind;
 use outcome::Mismatch;
-use schema_names::SchemaError;
+use avro_schema_names::SchemaError;
 use std::alloc::{AllocError, AllocFailed, Global};
 use wire_frames::EnvelopeError;
 

@@ -9,7 +9,7 @@ mod options;
 mod service;
 mod shared;
 
-pub use answer_lines::RunError;
+pub use command_io::RunError;
 pub use gate::Open;
 pub use options::ServeOptions;
 pub use service::serve_on;

@@ -3,7 +3,7 @@
 use crate::client::run_client;
 use crate::options::ServeOptions;
 use crate::shared::Shared;
-use answer_lines::{RunError, write_whole};
+use command_io::{RunError, write_whole};
 use gateway_transcoders::Compiled;
 use schema_registry::SharedRegistry;
 use std::alloc::{AllocError, Global};

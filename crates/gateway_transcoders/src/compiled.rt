@@ -3,8 +3,8 @@
 ghost use Rattle.std.specs.Prelude.{◌≡◌, ◌≤◌, Some, IfErr, IfOk, IfSome, length, ⊤};
 ghost use Rattle.std.specs.Arc.{arc_value};
 ghost use Rattle.outcome.specs.declared.limits.TheConstants.{MOST_PAYLOAD};
-ghost use Rattle.program_code.specs.Code.{code_of};
-ghost use Rattle.program_lines.specs.declared.error.CompileError.TheVariants.{ProgramTooLarge};
+ghost use Rattle.program_definition.specs.Code.{code_of};
+ghost use Rattle.program_lowering.specs.declared.error.CompileError.TheVariants.{ProgramTooLarge};
 ghost use Rattle.schema_registry.specs.Shared.{IsReceiptOf};
 ghost use Rattle.gateway.specs.Transcoding.{HasOutcome, HasNoCode};
 

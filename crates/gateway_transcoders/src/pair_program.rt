@@ -3,8 +3,8 @@
 ghost use Rattle.std.specs.Prelude.{◌≡◌, ◌≤◌, [], Some, None, IfErr, IfOk, length, true};
 ghost use Rattle.outcome.specs.Outcome.{Done, outcome_of};
 ghost use Rattle.outcome.specs.declared.limits.TheConstants.{MOST_PAYLOAD};
-ghost use Rattle.program_code.specs.Code.{code_of};
-ghost use Rattle.program_lines.specs.declared.error.CompileError.TheVariants.{ProgramTooLarge};
+ghost use Rattle.program_definition.specs.Code.{code_of};
+ghost use Rattle.program_lowering.specs.declared.error.CompileError.TheVariants.{ProgramTooLarge};
 ghost use Rattle.resolver.specs.Outcome.{IsOutcome};
 
 use avro_schema::Schema;

@@ -7,7 +7,7 @@ mod transcoding;
 
 pub use resolver::{Outcome, TranscodeError};
 pub use run::Run;
-pub use stepper::{
+pub use machine_stepper::{
     BufferAt, FrameView, Machine, Part, Slice, Step, Why, machines_go_on_with_more_input,
 };
 pub use transcoder::{Transcoder, transcode_by};

@@ -1,19 +1,19 @@
 ghost use Rattle.std.specs.Prelude.{◌≡◌, ◌≤◌, ◌<◌, ◌+◌, ◌++◌, length, slice_get, OnOk, OnErr, option_map, Some, false, true};
 ghost use Rattle.isa.specs.Row.{row_of};
-ghost use Rattle.program_code.specs.Code.{code_of};
-ghost use Rattle.simulation.specs.Alone.{run_alone};
-ghost use Rattle.stepper.specs.Contract.{GoesOn, OnlyAppends};
-ghost use Rattle.stepper.specs.Memory.{MayGrow};
-ghost use Rattle.stepper.specs.Running.{end_of};
-ghost use Rattle.stepper.specs.Slice.{IsWhy, Rows};
+ghost use Rattle.program_definition.specs.Code.{code_of};
+ghost use Rattle.program_correctness.specs.Alone.{run_alone};
+ghost use Rattle.machine_stepper.specs.Contract.{GoesOn, OnlyAppends};
+ghost use Rattle.machine_stepper.specs.Memory.{MayGrow};
+ghost use Rattle.machine_stepper.specs.Running.{end_of};
+ghost use Rattle.machine_stepper.specs.Slice.{IsWhy, Rows};
 ghost use Rattle.machine.specs.Ending.{EarlyEndIsOutcome, EndIsOutcome, EndsInOneSlice, EndsWithinBound, HasEndedWithinBound};
 
 use avro_types::Nodes;
 use isa::{End, Program, row_or_end_is_there};
-use simulation::{program_ends_with_the_outcome, runs_alone_are_counted_and_stay};
+use program_correctness::{program_ends_with_the_outcome, runs_alone_are_counted_and_stay};
 use std::alloc::{AllocError, Global};
 use std::marker::Model;
-use stepper::{Machine, Slice, Why, machines_go_on_with_more_input};
+use machine_stepper::{Machine, Slice, Why, machines_go_on_with_more_input};
 
 /// A run of a program on bytes that come in pieces.
 ///

@@ -13,15 +13,15 @@ use Rattle.isa.specs.Program.{Program}
 use Rattle.isa.specs.Range.{IsProgram}
 use Rattle.outcome.specs.declared.limits.TheConstants.{MOST_OUTPUT}
 use Rattle.outcome.specs.declared.mismatch.Mismatch.{Mismatch}
-use Rattle.program_code.specs.Code.{are_whole, is_lost}
-use Rattle.program_code.specs.Lines.{Line, Section}
-use Rattle.program_code.specs.Numbering.{code_from, constants_in, constants_of, entry_of, has, jumps_from, maps_of, misses_in, named_in, numbered}
-use Rattle.program_code.proofs.Numbers.{added, bytes_is, bytes_refl}
-use Rattle.program_code.proofs.Ranges.{code_length}
-use Rattle.program_lines.specs.declared.error.CompileError.{CompileError}
-use Rattle.program_lines.specs.declared.error.CompileError.TheVariants.{ProgramTooLarge, NoMemory}
-use Rattle.program_tables.specs.declared.lines.Line as rust
-use Rattle.program_tables.specs.Lines.{line_of, lines_in}
+use Rattle.program_definition.specs.Code.{are_whole, is_lost}
+use Rattle.program_definition.specs.Lines.{Line, Section}
+use Rattle.program_definition.specs.Numbering.{code_from, constants_in, constants_of, entry_of, has, jumps_from, maps_of, misses_in, named_in, numbered}
+use Rattle.program_definition.proofs.Numbers.{added, bytes_is, bytes_refl}
+use Rattle.program_definition.proofs.Ranges.{code_length}
+use Rattle.program_lowering.specs.declared.error.CompileError.{CompileError}
+use Rattle.program_lowering.specs.declared.error.CompileError.TheVariants.{ProgramTooLarge, NoMemory}
+use Rattle.program_ir.specs.declared.lines.Line as rust
+use Rattle.program_ir.specs.Lines.{line_of, lines_in}
 use Rattle.program_compiler.specs.Parts.{AreWide, Assembles, FitNowhere, IsLong, LinksAll, LinksTables}
 use Rattle.program_compiler.proofs.Jumps.{lines_left}
 

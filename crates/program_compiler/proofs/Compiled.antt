@@ -10,15 +10,15 @@ use Rattle.isa.specs.declared.program.ProgramError.TheVariants.{NoCode, TooLarge
 use Rattle.isa.specs.Judging.{first_error, is_within_limits, judged}
 use Rattle.isa.specs.Program.{Program, program_of}
 use Rattle.isa.specs.Range.{IsProgram}
-use Rattle.program_code.specs.Code.{are_whole, checked, code_of, start_in}
-use Rattle.program_code.specs.Lines.{Line, Section, Op, Put, Miss, BytesText, Enum, Call, Ahead, Back, Branch, Lost}
-use Rattle.program_code.specs.Linking.{ProgramIsInRange}
-use Rattle.program_code.specs.Numbering.{code_from, constants_in, entry_of, jumps_from, jumps_of, linked, maps_of, misses_in, named_in, numbered}
-use Rattle.program_code.specs.Writing.{section}
-use Rattle.program_tables.specs.Lines.{lines_in}
-use Rattle.program_lines.specs.declared.error.CompileError.{CompileError}
-use Rattle.program_lines.specs.declared.error.CompileError.TheVariants as CompileErrors
-use Rattle.program_lines.specs.Walking.{AreSectionLines, SectionLines, Walks, start_at}
+use Rattle.program_definition.specs.Code.{are_whole, checked, code_of, start_in}
+use Rattle.program_definition.specs.Lines.{Line, Section, Op, Put, Miss, BytesText, Enum, Call, Ahead, Back, Branch, Lost}
+use Rattle.program_definition.specs.Linking.{ProgramIsInRange}
+use Rattle.program_definition.specs.Numbering.{code_from, constants_in, entry_of, jumps_from, jumps_of, linked, maps_of, misses_in, named_in, numbered}
+use Rattle.program_definition.specs.Writing.{section}
+use Rattle.program_ir.specs.Lines.{lines_in}
+use Rattle.program_lowering.specs.declared.error.CompileError.{CompileError}
+use Rattle.program_lowering.specs.declared.error.CompileError.TheVariants as CompileErrors
+use Rattle.program_lowering.specs.Walking.{AreSectionLines, SectionLines, Walks, start_at}
 use Rattle.program_compiler.specs.Compiling.{Compiles}
 use Rattle.program_compiler.specs.Parts.{Assembles}
 

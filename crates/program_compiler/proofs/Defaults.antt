@@ -5,16 +5,16 @@ use Rattle.std.specs.BTreeMap.{BTreeMap, get}
 use Rattle.std.specs.Ordering.{is_eq}
 use Rattle.std.specs.Str.{bytes_eq}
 use Rattle.avro_types.specs.Node.{Node}
-use Rattle.program_code.specs.Numbering.{adding, has, number}
-use Rattle.program_code.proofs.Growing.{number_more}
-use Rattle.program_code.proofs.Numbers.{added, bytes_refl, has_more}
-use Rattle.program_tables.specs.declared.lines.Constant.TheVariants.{Default}
-use Rattle.program_tables.specs.Lines.{bytes_of}
-use Rattle.program_tables.specs.Tables.{found}
-use Rattle.program_tables.specs.Sections.{pair_cmp}
+use Rattle.program_definition.specs.Numbering.{adding, has, number}
+use Rattle.program_definition.proofs.Growing.{number_more}
+use Rattle.program_definition.proofs.Numbers.{added, bytes_refl, has_more}
+use Rattle.program_ir.specs.declared.lines.Constant.TheVariants.{Default}
+use Rattle.program_ir.specs.Lines.{bytes_of}
+use Rattle.program_ir.specs.Tables.{found}
+use Rattle.program_ir.specs.Sections.{pair_cmp}
 use Rattle.program_compiler.specs.Tables.{AreDefaults}
 use Rattle.program_compiler.proofs.Sharing.{number_is, pair_is}
-use Rattle.program_tables.proofs.Tables.{adding_there, is_found}
+use Rattle.program_ir.proofs.Tables.{adding_there, is_found}
 
 -- what is found is there, and has that number
 there : (b : List ℕ) (xs : List (List ℕ)) (n : ℕ) → found bytes_eq b xs ≡ Some n → has bytes_eq b xs ≡ true

@@ -7,12 +7,12 @@ use Rattle.std.proofs.lemmas.List.{map-append}
 use Rattle.avro_types.specs.Node.{Node}
 use Rattle.isa.specs.declared.entry.Entry.{Entry}
 use Rattle.outcome.specs.declared.mismatch.Mismatch.{Mismatch}
-use Rattle.program_code.specs.Numbering.{entry_of, jumps_from, jumps_of, maps_of, named_in}
-use Rattle.program_code.proofs.Numbering.{all_front, all_back}
+use Rattle.program_definition.specs.Numbering.{entry_of, jumps_from, jumps_of, maps_of, named_in}
+use Rattle.program_definition.proofs.Numbering.{all_front, all_back}
 use Rattle.std.specs.Global.{Vec}
-use Rattle.program_tables.specs.declared.lines.Line as rust
-use Rattle.program_tables.specs.declared.lines.Line.TheVariants as variants
-use Rattle.program_tables.specs.Lines.{line_of, lines_in}
+use Rattle.program_ir.specs.declared.lines.Line as rust
+use Rattle.program_ir.specs.declared.lines.Line.TheVariants as variants
+use Rattle.program_ir.specs.Lines.{line_of, lines_in}
 use Rattle.program_compiler.specs.Parts.{AreWide, IsWide}
 
 module _ (W R : List Node) (lines : List rust.Line) (i : ℕ) (line : rust.Line) (lt : i < length lines) (is : line ≡ get_or lines i line) where

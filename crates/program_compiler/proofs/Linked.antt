@@ -1,19 +1,19 @@
 -- Code, a line at a time.
 use Rattle.std.proofs.Common.{◌≡◌, ℕ, zero, suc, ◌+◌, ◌<◌, ◌≤◌, drop, get_or, List, [], ◌∷◌, ◌++◌, length, Option, Some, Result, Err, sym, ap, subst, ◌∙◌, append_assoc}
 use Rattle.std.specs.Prelude.{MatchOption}
-use Rattle.program_lines.specs.declared.error.CompileError.{CompileError}
-use Rattle.program_lines.specs.declared.error.CompileError.TheVariants.{ProgramTooLarge, NoMemory}
+use Rattle.program_lowering.specs.declared.error.CompileError.{CompileError}
+use Rattle.program_lowering.specs.declared.error.CompileError.TheVariants.{ProgramTooLarge, NoMemory}
 use Rattle.std.specs.List.{AllByRecursion}
 use Rattle.avro_types.specs.Node.{Node}
 use Rattle.isa.specs.declared.instr.Instr.{Instr}
 use Rattle.isa.specs.Range.{InstrIsInRange, sizes_of}
 use Rattle.outcome.specs.declared.limits.TheConstants.{MOST_OUTPUT}
 use Rattle.outcome.specs.declared.mismatch.Mismatch.{Mismatch}
-use Rattle.program_code.specs.Lines.{Section}
-use Rattle.program_code.specs.Numbering.{code_from, constants_of, jumps_of, linked, maps_of, named_in}
-use Rattle.program_code.proofs.Numbering.{all_front, all_back}
-use Rattle.program_tables.specs.declared.lines.Line as rust
-use Rattle.program_tables.specs.Lines.{line_of, lines_in}
+use Rattle.program_definition.specs.Lines.{Section}
+use Rattle.program_definition.specs.Numbering.{code_from, constants_of, jumps_of, linked, maps_of, named_in}
+use Rattle.program_definition.proofs.Numbering.{all_front, all_back}
+use Rattle.program_ir.specs.declared.lines.Line as rust
+use Rattle.program_ir.specs.Lines.{line_of, lines_in}
 use Rattle.program_compiler.specs.Parts.{FitNowhere, IsLong, Links, LinksAll, LinksTo}
 use Rattle.program_compiler.proofs.Jumps.{lines_left}
 

@@ -6,10 +6,10 @@ use Rattle.std.specs.BTreeSet.{BTreeSet, contains}
 use Rattle.std.specs.Ordering.{is_eq}
 use Rattle.outcome.specs.declared.mismatch.Mismatch.{Mismatch}
 use Rattle.avro_types.specs.Node.{Node}
-use Rattle.program_code.specs.Numbering.{adding, has, lacked, same_miss}
-use Rattle.program_code.proofs.Numbers.{added, all_more, miss_refl}
-use Rattle.program_tables.specs.Lines.{targets_of}
-use Rattle.program_tables.specs.Sections.{pair_cmp}
+use Rattle.program_definition.specs.Numbering.{adding, has, lacked, same_miss}
+use Rattle.program_definition.proofs.Numbers.{added, all_more, miss_refl}
+use Rattle.program_ir.specs.Lines.{targets_of}
+use Rattle.program_ir.specs.Sections.{pair_cmp}
 use Rattle.program_compiler.specs.Tables.{AreNoted}
 use Rattle.program_compiler.proofs.Sharing.{pair_is}
 

@@ -9,11 +9,11 @@ use Rattle.std.proofs.lemmas.Option.{get_or_from_slice_get, slice_get-get_or, sl
 use Rattle.avro_types.specs.Node.{Node}
 use Rattle.outcome.specs.declared.mismatch.Mismatch.{Mismatch}
 use Rattle.isa.specs.declared.entry.Entry.{Entry}
-use Rattle.program_code.specs.Numbering.{entry_of}
-use Rattle.program_tables.specs.Lines.{targets_of}
-use Rattle.program_tables.specs.Sections.{pair_cmp}
+use Rattle.program_definition.specs.Numbering.{entry_of}
+use Rattle.program_ir.specs.Lines.{targets_of}
+use Rattle.program_ir.specs.Sections.{pair_cmp}
 use Rattle.program_compiler.specs.Tables.{AreShared}
-use Rattle.program_tables.proofs.Tables.{nat_at, then_at}
+use Rattle.program_ir.proofs.Tables.{nat_at, then_at}
 
 longer : (xs : List (List Entry)) (x a : List Entry) (n : ℕ) → slice_get xs n ≡ Some a → slice_get (xs ++ x ∷ []) n ≡ Some a
 longer xs x a n e =

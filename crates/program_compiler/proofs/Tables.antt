@@ -2,11 +2,11 @@
 use Rattle.std.proofs.Common.{◌≡◌, ℕ, suc, ◌+◌, ◌<◌, drop, get_or, Bool, List, ◌++◌, length, sym, ap, ◌∙◌, arith}
 use Rattle.std.proofs.Math.Seq.{drop-cons}
 use Rattle.avro_types.specs.Node.{Node}
-use Rattle.program_code.specs.Lines.{Line}
-use Rattle.program_code.specs.Numbering.{adding, named_in}
-use Rattle.program_tables.specs.declared.lines.Line as rust
-use Rattle.program_tables.specs.Lines.{line_of, lines_in}
-use Rattle.program_tables.proofs.Tables.{adding_on}
+use Rattle.program_definition.specs.Lines.{Line}
+use Rattle.program_definition.specs.Numbering.{adding, named_in}
+use Rattle.program_ir.specs.declared.lines.Line as rust
+use Rattle.program_ir.specs.Lines.{line_of, lines_in}
+use Rattle.program_ir.proofs.Tables.{adding_on}
 
 module _ {A : Type 0} (same : A → A → Bool) where
   -- one line more

@@ -9,12 +9,12 @@ use Rattle.isa.specs.declared.entry.Entry.{Entry}
 use Rattle.isa.specs.declared.instr.Instr.{Instr}
 use Rattle.isa.specs.declared.parts.Parts.{Parts}
 use Rattle.isa.specs.Program.{Program, program_of}
-use Rattle.program_code.specs.Code.{are_whole}
+use Rattle.program_definition.specs.Code.{are_whole}
 use Rattle.isa.specs.Range.{InstrIsInRange, IsProgram, IsWithinLimits, sizes_of}
-use Rattle.program_code.specs.Lines.{Line}
-use Rattle.program_code.specs.Numbering.{adding, constants_of, named_in}
-use Rattle.program_lines.specs.declared.error.CompileError.{CompileError}
-use Rattle.program_lines.specs.declared.error.CompileError.TheVariants.{ProgramTooLarge, NoMemory}
+use Rattle.program_definition.specs.Lines.{Line}
+use Rattle.program_definition.specs.Numbering.{adding, constants_of, named_in}
+use Rattle.program_lowering.specs.declared.error.CompileError.{CompileError}
+use Rattle.program_lowering.specs.declared.error.CompileError.TheVariants.{ProgramTooLarge, NoMemory}
 
 -- a number as an operand, or none where it takes more than 32 bits
 abbrev pub Narrows : Option ℕ → ℕ → Type 0

@@ -7,11 +7,11 @@ use Rattle.std.specs.Str.{bytes_eq}
 use Rattle.outcome.specs.declared.mismatch.Mismatch.{Mismatch}
 use Rattle.avro_types.specs.Node.{Node}
 use Rattle.isa.specs.declared.entry.Entry.{Entry}
-use Rattle.program_code.specs.Numbering.{entry_of, has, lacked, same_miss}
-use Rattle.program_tables.specs.Tables.{found}
-use Rattle.program_tables.specs.declared.lines.Constant.TheVariants.{Default}
-use Rattle.program_tables.specs.Lines.{bytes_of, targets_of}
-use Rattle.program_tables.specs.Sections.{pair_cmp}
+use Rattle.program_definition.specs.Numbering.{entry_of, has, lacked, same_miss}
+use Rattle.program_ir.specs.Tables.{found}
+use Rattle.program_ir.specs.declared.lines.Constant.TheVariants.{Default}
+use Rattle.program_ir.specs.Lines.{bytes_of, targets_of}
+use Rattle.program_ir.specs.Sections.{pair_cmp}
 
 -- under a pair of enums stands the number of a map that has its entries
 abbrev pub AreShared : List Node → List Node → List Mismatch → BTreeMap (ℕ × ℕ) ℕ → List (List Entry) → Type 0

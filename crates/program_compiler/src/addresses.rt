@@ -1,11 +1,11 @@
 ghost use Rattle.std.specs.Prelude.{◌≡◌, ◌+◌, ◌++◌, List, map, IfOk, MatchOption};
 ghost use Rattle.avro_types.specs.Node.{Node};
-ghost use Rattle.program_code.specs.Numbering.{jumps_from, jumps_of};
+ghost use Rattle.program_definition.specs.Numbering.{jumps_from, jumps_of};
 ghost use Rattle.program_compiler.specs.Parts.{AreWide, IsWide, Narrows};
-ghost use Rattle.program_tables.specs.Lines.{line_of, lines_in};
+ghost use Rattle.program_ir.specs.Lines.{line_of, lines_in};
 
 use isa::Lists;
-use program_lines::Line;
+use program_lowering::Line;
 use std::alloc::{AllocError, Global};
 
 /// A number as an operand, or none where it takes more than 32 bits.

@@ -1,12 +1,12 @@
 ghost use Rattle.std.specs.Prelude.{◌≡◌, ◌≤◌, List, length, true};
 ghost use Rattle.avro_types.specs.Node.{Node};
-ghost use Rattle.program_code.specs.Numbering.{constants_in, misses_in, numbered};
-ghost use Rattle.program_code.specs.Code.{are_whole as are_whole_lines};
-ghost use Rattle.program_code.specs.Code.{is_lost as is_lost_line};
+ghost use Rattle.program_definition.specs.Numbering.{constants_in, misses_in, numbered};
+ghost use Rattle.program_definition.specs.Code.{are_whole as are_whole_lines};
+ghost use Rattle.program_definition.specs.Code.{is_lost as is_lost_line};
 ghost use Rattle.program_compiler.specs.Parts.{Assembles, LinksTables};
 ghost use Rattle.program_compiler.specs.Tables.{AreDefaults};
-ghost use Rattle.program_tables.specs.Lines.{line_of, lines_in};
-ghost use Rattle.program_lines.specs.Walking.{start_at};
+ghost use Rattle.program_ir.specs.Lines.{line_of, lines_in};
+ghost use Rattle.program_lowering.specs.Walking.{start_at};
 
 use crate::addresses::gather_jumps;
 use crate::constants::gather_constants;
@@ -15,8 +15,8 @@ use crate::maps::gather_maps;
 use crate::misses::gather_misses;
 use avro_types::Nodes;
 use isa::{Entry, Instr, Lists, MOST_INSTRS, MOST_TABLES, Parts};
-use program_lines::{CompileError, Line, SectionLines};
-use program_tables::Constants;
+use program_lowering::{CompileError, Line, SectionLines};
+use program_ir::Constants;
 use std::alloc::Global;
 use std::collections::BTreeMap;
 

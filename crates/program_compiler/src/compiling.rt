@@ -3,8 +3,8 @@ ghost use Rattle.program_compiler.specs.Compiling.{Compiles};
 use crate::assembling::parts_of_lines;
 use avro_types::Nodes;
 use isa::Program;
-use program_code::program_is_in_range;
-use program_lines::{CompileError, walk};
+use program_definition::program_is_in_range;
+use program_lowering::{CompileError, walk};
 use std::alloc::Global;
 
 /// The program that reads what the writer's schema wrote and writes what the reader's makes of it. `ProgramTooLarge`

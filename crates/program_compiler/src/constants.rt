@@ -3,18 +3,18 @@ ghost use Rattle.avro_datum.specs.Writing.{written};
 ghost use Rattle.avro_types.specs.Datum.{datum_of};
 ghost use Rattle.avro_types.specs.Node.{Node};
 ghost use Rattle.outcome.specs.declared.limits.TheConstants.{MOST_OUTPUT};
-ghost use Rattle.program_code.specs.Numbering.{constants_of, named_in};
+ghost use Rattle.program_definition.specs.Numbering.{constants_of, named_in};
 ghost use Rattle.program_compiler.specs.Parts.{Notes};
 ghost use Rattle.program_compiler.specs.Tables.{AreDefaults};
-ghost use Rattle.program_tables.specs.declared.lines.Constant.TheVariants.{Default};
-ghost use Rattle.program_tables.specs.Lines.{default_of, fields_of_record, line_of, lines_in};
-ghost use Rattle.program_tables.specs.Lines.{bytes_of as bytes_of_constant};
+ghost use Rattle.program_ir.specs.declared.lines.Constant.TheVariants.{Default};
+ghost use Rattle.program_ir.specs.Lines.{default_of, fields_of_record, line_of, lines_in};
+ghost use Rattle.program_ir.specs.Lines.{bytes_of as bytes_of_constant};
 
 use avro_bytes::put_long;
 use avro_datum::{WriteError, write};
 use avro_types::{Datum, Kind, Nodes};
-use program_lines::{Constant, Line};
-use program_tables::Constants;
+use program_lowering::{Constant, Line};
+use program_ir::Constants;
 use std::alloc::{AllocError, Global};
 use std::collections::BTreeMap;
 

@@ -10,4 +10,4 @@ mod maps;
 mod misses;
 
 pub use compiling::compile;
-pub use program_lines::CompileError;
+pub use program_lowering::CompileError;

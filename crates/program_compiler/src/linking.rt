@@ -3,21 +3,21 @@ ghost use Rattle.std.specs.Str.{bytes_eq};
 ghost use Rattle.avro_types.specs.Node.{Node};
 ghost use Rattle.outcome.specs.declared.limits.TheConstants.{MOST_OUTPUT};
 ghost use Rattle.isa.specs.declared.instr.Instr.TheVariants as op;
-ghost use Rattle.program_code.specs.Numbering.{code_from, jumps_of, maps_of, number};
-ghost use Rattle.program_code.specs.Numbering.{linked as instr_of};
+ghost use Rattle.program_definition.specs.Numbering.{code_from, jumps_of, maps_of, number};
+ghost use Rattle.program_definition.specs.Numbering.{linked as instr_of};
 ghost use Rattle.program_compiler.specs.Linking.{instr_with};
 ghost use Rattle.program_compiler.specs.Tables.{AreDefaults};
 ghost use Rattle.program_compiler.specs.Parts.{Links, LinksAll, LinksTo, Narrows};
-ghost use Rattle.program_tables.specs.Lines.{line_of, lines_in};
-ghost use Rattle.program_tables.specs.Lines.{bytes_of as bytes_of_constant};
-ghost use Rattle.program_lines.specs.Walking.{start_at};
+ghost use Rattle.program_ir.specs.Lines.{line_of, lines_in};
+ghost use Rattle.program_ir.specs.Lines.{bytes_of as bytes_of_constant};
+ghost use Rattle.program_lowering.specs.Walking.{start_at};
 
 use crate::addresses::{ahead, operand};
 use crate::constants::bytes_of;
 use avro_types::Nodes;
 use isa::{Instr, MOST_INSTRS};
-use program_lines::{CompileError, Constant, Go, Line, SectionLines};
-use program_tables::{Constants, Misses};
+use program_lowering::{CompileError, Constant, Go, Line, SectionLines};
+use program_ir::{Constants, Misses};
 use std::alloc::{AllocError, Global};
 use std::collections::BTreeMap;
 

@@ -1,12 +1,12 @@
 ghost use Rattle.std.specs.Prelude.{◌≡◌, ◌≤◌, ◌++◌, ◌∷◌, [], length, map, slice_get, string_bytes, IfOk, OnOk};
-ghost use Rattle.program_code.specs.Numbering.{entry_of, maps_of, named_in};
-ghost use Rattle.program_tables.specs.Lines.{line_of, lines_in, symbols_of, targets_of};
+ghost use Rattle.program_definition.specs.Numbering.{entry_of, maps_of, named_in};
+ghost use Rattle.program_ir.specs.Lines.{line_of, lines_in, symbols_of, targets_of};
 ghost use Rattle.program_compiler.specs.Tables.{AreShared};
 
 use avro_types::{Kind, Nodes};
 use isa::{Entry, Lists, MOST_TABLES};
-use program_lines::Line;
-use program_tables::{Misses, entries};
+use program_lowering::Line;
+use program_ir::{Misses, entries};
 use std::alloc::{AllocError, Global};
 use std::collections::BTreeMap;
 

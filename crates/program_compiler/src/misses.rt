@@ -1,14 +1,14 @@
 ghost use Rattle.std.specs.Prelude.{◌≡◌, ◌∷◌, [], slice_get, IfOk, OnOk};
-ghost use Rattle.program_code.specs.Numbering.{adding, lacked, misses_in, misses_of, same_miss};
-ghost use Rattle.program_code.specs.Writing.{target};
-ghost use Rattle.program_tables.specs.Lines.{line_of, lines_in, targets_of};
+ghost use Rattle.program_definition.specs.Numbering.{adding, lacked, misses_in, misses_of, same_miss};
+ghost use Rattle.program_definition.specs.Writing.{target};
+ghost use Rattle.program_ir.specs.Lines.{line_of, lines_in, targets_of};
 ghost use Rattle.program_compiler.specs.Tables.{AreNoted};
 
 use crate::maps::symbols;
 use avro_types::Nodes;
 use outcome::{Mismatch, MismatchKind};
-use program_lines::Line;
-use program_tables::{Misses, position_for};
+use program_lowering::Line;
+use program_ir::{Misses, position_for};
 use std::alloc::{AllocError, Global};
 use std::collections::BTreeSet;
 

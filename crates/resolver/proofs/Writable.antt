@@ -8,15 +8,15 @@ use Rattle.avro_types.specs.Datum.{Datum, Data, Pairs, NullDatum, BooleanDatum, 
 use Rattle.avro_types.specs.Sizes.{DefaultsHaveSizesWithin}
 use Rattle.avro_datum.specs.Conforming.{IsWritable, AreWritable, AreWritablePairs, most_items}
 use Rattle.outcome.specs.declared.mismatch.MismatchKind.{MismatchKind}
-use Rattle.matching.specs.declared.place.Place.{Place}
-use Rattle.matching.specs.declared.place.Place.TheVariants.{Straight, IntoMember, Nowhere, Unmatched}
-use Rattle.matching.specs.Matching.{both_items, both_values, place}
-use Rattle.matching.specs.Options.{given}
+use Rattle.resolver_matching.specs.declared.place.Place.{Place}
+use Rattle.resolver_matching.specs.declared.place.Place.TheVariants.{Straight, IntoMember, Nowhere, Unmatched}
+use Rattle.resolver_matching.specs.Matching.{both_items, both_values, place}
+use Rattle.resolver_matching.specs.Options.{given}
 use Rattle.resolver.specs.Resolution.{Resolved, mismatch, placed, int_for, text_for, bytes_for, symbol_at, member_at, field_lists, lacking, resolved, resolved_items, resolved_values, resolved_fields, Slots, filled, no_slots}
-use Rattle.matching.specs.Options.{or_else}
-use Rattle.matching.specs.Partners.{routes}
-use Rattle.matching.specs.declared.pairing.Partner.{Partner}
-use Rattle.matching.specs.declared.pairing.Route.{Route}
+use Rattle.resolver_matching.specs.Options.{or_else}
+use Rattle.resolver_matching.specs.Partners.{routes}
+use Rattle.resolver_matching.specs.declared.pairing.Partner.{Partner}
+use Rattle.resolver_matching.specs.declared.pairing.Route.{Route}
 use Rattle.resolver.specs.Laws.Fields.{one_put}
 use Rattle.resolver.proofs.Places.{wrapped}
 use Rattle.resolver.proofs.Whole.{bound, enum_made, made_of, none_lacks, text_or_fault, two}

@@ -1,7 +1,7 @@
 ghost use Rattle.std.specs.Prelude.{◌≡◌, ◌<◌, length, IfOk, IfSome, option_map};
 ghost use Rattle.avro_types.specs.Datum.{ArrayDatum, MapDatum, RecordDatum, data_of, datum_of, pairs_of};
-ghost use Rattle.matching.specs.Matching.{place};
-ghost use Rattle.matching.specs.Partners.{AreRoutes};
+ghost use Rattle.resolver_matching.specs.Matching.{place};
+ghost use Rattle.resolver_matching.specs.Partners.{AreRoutes};
 ghost use Rattle.resolver.specs.Steps.{inside, one_field, placed_value, slots_of};
 ghost use Rattle.resolver.specs.Resolution.{Resolves, placed, resolved, resolved_fields, resolved_items, resolved_values};
 
@@ -10,7 +10,7 @@ use crate::leaves::{bytes_for, enum_for, int_for, text_for};
 use crate::mismatch::{ResolveError, mismatched};
 use crate::unions::member_of;
 use avro_types::{Datum, Nodes};
-use matching::{Place, Route, both_items, both_values, place_of, routes};
+use resolver_matching::{Place, Route, both_items, both_values, place_of, routes};
 use outcome::MismatchKind;
 use std::alloc::Global;
 

@@ -1,7 +1,7 @@
 ghost use Rattle.std.specs.Prelude.{◌≡◌, ◌<◌, ◌↔◌, [], ◌∷◌, length, map, slice_get, IfOk, IsTrue, OnOk};
 ghost use Rattle.avro_types.specs.Node.{fields_of};
 ghost use Rattle.resolver.specs.Pairs.{AddsAll, AreWithin};
-ghost use Rattle.matching.specs.Partners.{routes};
+ghost use Rattle.resolver_matching.specs.Partners.{routes};
 ghost use Rattle.resolver.specs.NextPairs.{is_bad, lacks_field, lacks_symbol, next_pairs, part_pairs, partner_pairs};
 ghost use Rattle.resolver.specs.Safety.{IsSafe};
 
@@ -9,7 +9,7 @@ use crate::fields::{field_lists, first_lacking};
 use crate::pairs::PairList;
 use crate::symbols::some_missing;
 use avro_types::{Field, Kind, Nodes};
-use matching::{Place, place_of, routes};
+use resolver_matching::{Place, place_of, routes};
 use std::alloc::{AllocError, Global};
 
 /// Whether the reader's record has a field with neither a partner nor a default.

@@ -17,7 +17,7 @@ use Rattle.schema_registry.specs.contracts.registry.Registry as registry
 use Rattle.schema_registry.specs.contracts.schemas.SchemaTable as table
 use Rattle.schema_registry.specs.contracts.shared.SharedRegistry as shared
 use Rattle.schema_registry.proofs.level.Level.TheSendSync as level
-use Rattle.registry_tables.proofs.versions.Versions.TheSendSync as versions
+use Rattle.schema_registry_maps.proofs.versions.Versions.TheSendSync as versions
 
 nodes-send : IsSend nodes.the_row
 nodes-send = search (aliases.the_send, name.the_send, symbols.the_send, knot.crosses, maps.String-send, crosses, sendable) depth 60 fits 20000

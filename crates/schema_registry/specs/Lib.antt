@@ -1,5 +1,5 @@
-pub use Rattle.registry_tables.specs.Comparing
-pub use Rattle.registry_tables.specs.Maps
+pub use Rattle.schema_registry_maps.specs.Comparing
+pub use Rattle.schema_registry_maps.specs.Maps
 pub mod Command
 pub mod Reply
 pub mod Level

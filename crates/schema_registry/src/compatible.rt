@@ -10,7 +10,7 @@ ghost use Rattle.schema_registry.specs.Lists.{numbered};
 use crate::level::Level;
 use crate::schemas::SchemaTable;
 use avro_schema::Schema;
-use registry_tables::{newer_reads, older_reads};
+use schema_registry_maps::{newer_reads, older_reads};
 use resolver::can_read;
 use std::alloc::{AllocError, Global};
 

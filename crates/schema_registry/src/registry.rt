@@ -17,7 +17,7 @@ use crate::refusal::Refusal;
 use crate::reply::Reply;
 use crate::schemas::SchemaTable;
 use avro_schema::Schema;
-use registry_tables::Versions;
+use schema_registry_maps::Versions;
 use std::alloc::Global;
 use std::collections::BTreeMap;
 use std::marker::Model;

@@ -1,7 +1,7 @@
 ghost use Rattle.std.specs.Prelude.{◌≡◌, ◌≤◌, ◌<◌, [], ◌∷◌, ◌++◌, length, None, option_map, IfOk, OnOk, OnErr, if◌then◌else◌, string_bytes};
 ghost use Rattle.std.specs.BTreeMap.{get_by_text};
 ghost use Rattle.std.specs.Vec.{vec_capacity, vec_len};
-ghost use Rattle.registry_tables.specs.Maps.{AreSame, Puts, ids_in, number_of};
+ghost use Rattle.schema_registry_maps.specs.Maps.{AreSame, Puts, ids_in, number_of};
 ghost use Rattle.schema_registry.specs.declared.limits.TheConstants.{MOST_SCHEMAS};
 ghost use Rattle.schema_registry.specs.Accepting.{id_for, with_schema};
 ghost use Rattle.schema_registry.specs.Answers.{has_no_id};
@@ -9,7 +9,7 @@ ghost use Rattle.schema_registry.specs.Lists.{id_of, numbered};
 
 use crate::limits::MOST_SCHEMAS;
 use avro_schema::Schema;
-use registry_tables::{Versions, add};
+use schema_registry_maps::{Versions, add};
 use std::alloc::{AllocError, Global};
 use std::collections::BTreeMap;
 use std::marker::Model;

@@ -2,10 +2,10 @@
 use Rattle.std.proofs.Common.{◌≡◌, ℕ, zero, suc, [], ◌∷◌, Bool, true, false, List, Option, Some, None, refl, sym, ap, subst, inl, inr}
 use Rattle.std.specs.Prelude.{if◌then◌else◌, is_some, slice_get, slice_set}
 use Rattle.std.specs.List.{AllByRecursion}
-use Rattle.session.specs.declared.refusal.SessionRefusal.{SessionRefusal}
-use Rattle.session.specs.Changes.{break_refusal, clear_refusal, cleared_at, finished, piece_refusal, refused, set_at, with_piece}
-use Rattle.session.specs.Rows.{TakesRows, go_rows, slice_rows, walk_rows}
-use Rattle.session.specs.Session.{Session, end_in}
+use Rattle.session_state.specs.declared.refusal.SessionRefusal.{SessionRefusal}
+use Rattle.session_state.specs.Changes.{break_refusal, clear_refusal, cleared_at, finished, piece_refusal, refused, set_at, with_piece}
+use Rattle.session_state.specs.Rows.{TakesRows, go_rows, slice_rows, walk_rows}
+use Rattle.session_state.specs.Session.{Session, end_in}
 use Rattle.schema_registry.specs.Command.{Command}
 use Rattle.session_core.specs.declared.reply.EventReply.{EventReply}
 use Rattle.session_core.specs.declared.reply.EventReply.TheVariants.{Done, Refused, Rows}
@@ -14,7 +14,7 @@ use Rattle.session_core.specs.Acts.{Acts, Maybe, Slices, Surely, Takes, with_ses
 use Rattle.session_core.specs.Event.{Act, Break, Clear, Finish, Go, Piece, Refuse, Slice, Steal, Walk}
 use Rattle.avro_schema.specs.Schema.{Declaration}
 use Rattle.avro_types.specs.Node.{Node}
-use Rattle.session.specs.Ending.{EarlyEndIsOutcome, EndIsOutcome, EndsWithinBound}
+use Rattle.session_state.specs.Ending.{EarlyEndIsOutcome, EndIsOutcome, EndsWithinBound}
 use Rattle.session_core.specs.Ending.{EndsWithOutcome}
 use Rattle.session_core.specs.Kept.{IsKept, IsSession}
 use Rattle.session_core.specs.World.{Held, IsCodeOf, World, schema_after}

@@ -4,7 +4,7 @@ use Rattle.isa.specs.Program.{Program}
 use Rattle.avro_schema.specs.Schema.{Declaration}
 use Rattle.schema_registry.specs.Command.{Command, RegisterCommand, SetLevelCommand}
 use Rattle.schema_registry.specs.Reply as replies
-use Rattle.session.specs.Session.{begun}
+use Rattle.session_state.specs.Session.{begun}
 use Rattle.session_core.specs.declared.publish_error.PublishError.TheVariants.{Clash, NoMemory, ProgramTooLarge}
 use Rattle.session_core.specs.declared.reply.EventReply.{EventReply}
 use Rattle.session_core.specs.declared.reply.EventReply.TheVariants.{Done, Id, Refused, Rows, SessionIs}

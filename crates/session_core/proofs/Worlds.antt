@@ -5,12 +5,12 @@ use Rattle.std.specs.List.{AllByRecursion}
 use Rattle.std.proofs.lemmas.Bool.{eqb-true}
 use Rattle.avro_schema.specs.Schema.{Declaration}
 use Rattle.isa.specs.Program.{Program}
-use Rattle.schema_names.specs.declared.error.SchemaError.{SchemaError}
+use Rattle.avro_schema_names.specs.declared.error.SchemaError.{SchemaError}
 use Rattle.schema_registry.specs.Accepting.{declaration_of, registered, registry_after, taken, taken_all, with_version}
 use Rattle.schema_registry.specs.Command.{Command, RegisterCommand}
 use Rattle.schema_registry.specs.Lists.{Lists, id_of, no_lists, numbered, versions_of, with_text}
-use Rattle.program_code.specs.Code.{code_of}
-use Rattle.session.specs.Ending.{EarlyEndIsOutcome, EndIsOutcome, EndsWithinBound}
+use Rattle.program_definition.specs.Code.{code_of}
+use Rattle.session_state.specs.Ending.{EarlyEndIsOutcome, EndIsOutcome, EndsWithinBound}
 use Rattle.session_core.specs.Ending.{EndsWithOutcome}
 use Rattle.session_core.specs.Kept.{IsKept, IsPublication, IsSession}
 use Rattle.session_core.specs.World.{Held, IsCodeOf, Publication, World, is_of, program_at, schema_after}

@@ -1,10 +1,10 @@
 -- What happens to one session, and what is replied. All of this is this project's own.
 use Rattle.std.specs.Prelude.{◌≡◌, ◌≢◌, ◌<◌, ℕ, false, List, length, Option, Some, None, Result, Ok, Err}
-use Rattle.session.specs.declared.refusal.SessionRefusal.{SessionRefusal}
-use Rattle.session.specs.declared.refusal.SessionRefusal.TheVariants.{NoMemory}
-use Rattle.session.specs.Changes.{break_refusal, clear_refusal, cleared_at, finished, piece_refusal, refused, set_at, with_piece}
-use Rattle.session.specs.Rows.{TakesRows, go_rows, slice_rows, walk_rows}
-use Rattle.session.specs.Session.{Session, has_break}
+use Rattle.session_state.specs.declared.refusal.SessionRefusal.{SessionRefusal}
+use Rattle.session_state.specs.declared.refusal.SessionRefusal.TheVariants.{NoMemory}
+use Rattle.session_state.specs.Changes.{break_refusal, clear_refusal, cleared_at, finished, piece_refusal, refused, set_at, with_piece}
+use Rattle.session_state.specs.Rows.{TakesRows, go_rows, slice_rows, walk_rows}
+use Rattle.session_state.specs.Session.{Session, has_break}
 use Rattle.session_core.specs.declared.reply.EventReply.{EventReply}
 use Rattle.session_core.specs.declared.reply.EventReply.TheVariants.{Done, Refused, Rows}
 use Rattle.session_core.specs.declared.refusal.EventRefusal.TheVariants.{NotHeld, OfSession}

@@ -1,6 +1,6 @@
 -- How the sessions of a world end. All of this is this project's own.
 use Rattle.std.specs.Prelude.{◌≡◌, ℕ, Some, slice_get}
-use Rattle.session.specs.Ending.{EarlyEndIsOutcome, EndIsOutcome, EndsWithinBound}
+use Rattle.session_state.specs.Ending.{EarlyEndIsOutcome, EndIsOutcome, EndsWithinBound}
 use Rattle.session_core.specs.World.{Held, IsCodeOf, World}
 
 -- a session's program is that of its pair; its machine ends with the outcome of its own bytes for this pair, and no

@@ -2,7 +2,7 @@
 use Rattle.std.specs.Prelude.{◌≡◌, ◌≢◌, ℕ, List, [], ◌∷◌, ◌++◌, length, Option, Some, None, Result, Ok, Err, slice_get, slice_set}
 use Rattle.isa.specs.Program.{Program}
 use Rattle.avro_schema.specs.Schema.{Declaration}
-use Rattle.program_code.specs.Code.{code_of}
+use Rattle.program_definition.specs.Code.{code_of}
 use Rattle.schema_registry.specs.declared.refusal.Refusal.{Refusal}
 use Rattle.schema_registry.specs.declared.refusal.Refusal.TheVariants as registry
 use Rattle.schema_registry.specs.declared.reply.Reply as rust
@@ -11,7 +11,7 @@ use Rattle.schema_registry.specs.Answer.{IsAnswer}
 use Rattle.schema_registry.specs.Answers.{Grows, answer_to}
 use Rattle.schema_registry.specs.Command.{Command, RegisterCommand, SetLevelCommand}
 use Rattle.schema_registry.specs.Reply as replies
-use Rattle.session.specs.Session.{begun}
+use Rattle.session_state.specs.Session.{begun}
 use Rattle.session_core.specs.declared.publish_error.PublishError.TheVariants.{Clash, NoMemory, ProgramTooLarge}
 use Rattle.session_core.specs.declared.reply.EventReply.{EventReply}
 use Rattle.session_core.specs.declared.reply.EventReply.TheVariants.{Done, Id, Refused, SessionIs}

@@ -1,7 +1,7 @@
 -- The names of refusals. This project's own.
 use Rattle.std.specs.Prelude.{ℕ, List, codes}
 use Rattle.schema_registry.specs.Refusal as registry
-use Rattle.session.specs.Names as session
+use Rattle.session_state.specs.Names as session
 use Rattle.session_core.specs.declared.publish_error.PublishError.{PublishError}
 use Rattle.session_core.specs.declared.publish_error.PublishError.TheVariants as errors
 use Rattle.session_core.specs.declared.refusal.EventRefusal.{EventRefusal}

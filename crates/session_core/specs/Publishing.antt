@@ -3,7 +3,7 @@ use Rattle.std.specs.Prelude.{◌≡◌, List, Some, None, Result, Ok, Err}
 use Rattle.avro_types.specs.Node.{Node}
 use Rattle.std.proofs.Common.{Bor}
 use Rattle.isa.specs.Program.{Program}
-use Rattle.program_code.specs.Code.{code_of}
+use Rattle.program_definition.specs.Code.{code_of}
 use Rattle.session_core.specs.declared.publish_error.PublishError.{PublishError}
 use Rattle.session_core.specs.declared.publish_error.PublishError.TheVariants.{Clash, NoMemory, ProgramTooLarge}
 

@@ -3,11 +3,11 @@
 use Rattle.std.specs.Prelude.{◌≡◌, ℕ, ◌==◌, ◌&&◌, List, [], find, Bool, Option, Some, option_map}
 use Rattle.avro_schema.specs.Schema.{Declaration}
 use Rattle.isa.specs.Program.{Program}
-use Rattle.program_code.specs.Code.{code_of}
+use Rattle.program_definition.specs.Code.{code_of}
 use Rattle.schema_registry.specs.Accepting.{registry_after}
 use Rattle.schema_registry.specs.Command.{Command}
 use Rattle.schema_registry.specs.Lists.{numbered}
-use Rattle.session.specs.Session.{Session}
+use Rattle.session_state.specs.Session.{Session}
 
 -- a published pair, by the ids of its schemas, and its program
 pub record Publication : Type 0 where

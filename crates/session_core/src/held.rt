@@ -5,7 +5,7 @@ ghost use Rattle.session_core.specs.Event.{Slice, act_of};
 use crate::act::Act;
 use crate::refusal::EventRefusal;
 use crate::reply::EventReply;
-use session::{Session, SessionRefusal};
+use session_state::{Session, SessionRefusal};
 use std::marker::Model;
 
 /// A session, the worker that holds it, and the ids of its pair.

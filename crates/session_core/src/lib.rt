@@ -22,5 +22,5 @@ pub use publish_error::PublishError;
 pub use refusal::EventRefusal;
 pub use reply::EventReply;
 pub use running::run_events;
-pub use session::{MOST_BREAKS, Session, SessionEnd, SessionRefusal};
+pub use session_state::{MOST_BREAKS, Session, SessionEnd, SessionRefusal};
 pub use world::World;

@@ -1,5 +1,5 @@
 ghost use Rattle.std.specs.Prelude.{◌≡◌, Some, None, IfErr, IfOk, IfSome};
-ghost use Rattle.program_code.specs.Code.{code_of};
+ghost use Rattle.program_definition.specs.Code.{code_of};
 ghost use Rattle.session_core.specs.declared.publish_error.PublishError.TheVariants.{ProgramTooLarge};
 ghost use Rattle.session_core.specs.Publishing.{IsPublished};
 

@@ -1,4 +1,4 @@
-use program_lines::CompileError;
+use program_lowering::CompileError;
 use std::alloc::{AllocError, AllocFailed};
 use thiserror::Error;
 

@@ -1,6 +1,6 @@
 use crate::publish_error::PublishError;
 use schema_registry::Refusal;
-use session::SessionRefusal;
+use session_state::SessionRefusal;
 use thiserror::Error;
 
 /// Why an event was refused, which changed nothing.

@@ -21,7 +21,7 @@ use avro_schema::SchemaError;
 use avro_types::MOST_TEXT;
 use isa::Program;
 use schema_registry::{Command, Level, Refusal, Registry, Reply, is_subject};
-use session::Session;
+use session_state::Session;
 use std::alloc::{AllocError, Global};
 use std::marker::Model;
 

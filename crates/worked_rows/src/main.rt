@@ -7,7 +7,7 @@
 //! those that ask for help, the number that `avrogate` ends with is printed alone.
 #![tactic(auto)]
 
-use command_words::{Task, command_line, task_of};
+use command_line::{Task, cli, task_of};
 use commands::{RunError, Status, Verb, run};
 use std::alloc::{AllocError, Global};
 use std::io::{Read, Write};
@@ -69,7 +69,7 @@ fn push_counts(alloc: Global, output: &mut Vec<u8>, text: &[u8]) -> Result<(), A
 /// What words ask for, or else the number that the program ends with.
 fn asked(alloc: Global, words: &str) -> Result<Result<Verb, i32>, AllocError> {
     let words: Vec<&str> = words.split(' ').collect(alloc)?;
-    match command_line(alloc)?.try_get_matches_from(words.as_slice()) {
+    match cli(alloc)?.try_get_matches_from(words.as_slice()) {
         Ok(matches) => match task_of(&matches) {
             Some(Task::Lines(verb)) => Ok(Ok(verb)),
             _ => Ok(Err(i32::from(Status::BadWords.code()))),

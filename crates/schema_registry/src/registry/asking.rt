@@ -17,7 +17,7 @@ use crate::refusal::Refusal;
 use crate::reply::Reply;
 use crate::subject::is_subject;
 use avro_schema::Schema;
-use registry_tables::Versions;
+use schema_registry_maps::Versions;
 use std::alloc::{AllocError, Global};
 
 /// Whether a version may be asked for.

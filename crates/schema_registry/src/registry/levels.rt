@@ -14,7 +14,7 @@ use crate::refusal::Refusal;
 use crate::reply::Reply;
 use crate::room::has_no_room;
 use crate::subject::is_subject;
-use registry_tables::{put, set_for};
+use schema_registry_maps::{put, set_for};
 
 impl Registry {
     /// The level of a subject, which is its own or else the global one; without a subject the global one.

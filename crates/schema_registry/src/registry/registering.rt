@@ -1,5 +1,5 @@
 ghost use Rattle.std.specs.Prelude.{◌≡◌, ◌<◌, ◌≢◌, ◌↔◌, ◌≤◌, [], ◌∷◌, ◌++◌, Ok, Err, Some, None, true, false, IfErr, IfOk, IsTrue, MatchResult, OnOk, OnErr, length, option_map, string_bytes};
-ghost use Rattle.schema_names.specs.declared.error.SchemaError.{SchemaError};
+ghost use Rattle.avro_schema_names.specs.declared.error.SchemaError.{SchemaError};
 ghost use Rattle.avro_types.specs.declared.limits.TheConstants.{MOST_TEXT};
 ghost use Rattle.avro_schema.specs.Schema.{Declaration};
 ghost use Rattle.schema_registry.specs.declared.limits.TheConstants.{MOST_SCHEMAS};
@@ -21,7 +21,7 @@ use crate::reply::Reply;
 use crate::room::has_no_room;
 use crate::subject::is_subject;
 use avro_schema::{Schema, SchemaError};
-use registry_tables::compared;
+use schema_registry_maps::compared;
 use std::alloc::{AllocError, Global};
 
 /// The schema that a text declares.

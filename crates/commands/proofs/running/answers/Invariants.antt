@@ -1,7 +1,7 @@
 -- What is answered so far goes before the answers of the lines that are left.
 use Rattle.std.proofs.Common.{string_bytes, length}
 use Rattle.commands.proofs.Answers.{Continues}
-use Rattle.answer_lines.specs.Lines.{lines}
+use Rattle.command_io.specs.Lines.{lines}
 use Rattle.commands.specs.Running.{IsRunLine}
 use Rattle.commands.proofs.running.answers.Given as goal
 

@@ -1,7 +1,7 @@
 use Rattle.std.proofs.Common.{◌≡◌, ◌++◌, reverse, slice_get, take}
 use Rattle.std.specs.List.{flat_map}
 use Rattle.std.specs.Prelude.{string_bytes}
-use Rattle.output_store.specs.Viewing.{slots_in}
+use Rattle.machine_store.specs.Viewing.{slots_in}
 use Rattle.debugger.specs.Words.{bytes}
 use Rattle.debugger.proofs.frames.push_slots.Given as goal
 

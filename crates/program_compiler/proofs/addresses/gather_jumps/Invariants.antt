@@ -1,8 +1,8 @@
 -- The tables so far, before those of the lines that are left, are all of them.
 use Rattle.std.proofs.Common.{◌≡◌, ◌++◌, drop, List}
 use Rattle.avro_types.specs.Node.{Node}
-use Rattle.program_code.specs.Numbering.{jumps_from}
-use Rattle.program_tables.specs.Lines.{lines_in}
+use Rattle.program_definition.specs.Numbering.{jumps_from}
+use Rattle.program_ir.specs.Lines.{lines_in}
 use Rattle.program_compiler.proofs.addresses.gather_jumps.Given as goal
 
 abbrev pub invariant-loop-pc : goal.invariant-loop-pc

@@ -1,8 +1,8 @@
 -- One line more, one that is lost, and none left.
 use Rattle.std.proofs.Common.{◌∙◌, sym, ap}
 use Rattle.std.proofs.Math.ListN.{drop_of_length-le}
-use Rattle.program_code.specs.Code.{are_whole}
-use Rattle.program_tables.specs.Lines.{lines_in}
+use Rattle.program_definition.specs.Code.{are_whole}
+use Rattle.program_ir.specs.Lines.{lines_in}
 use Rattle.program_compiler.proofs.Assembled.{line_is_lost, line_is_whole}
 use Rattle.program_compiler.proofs.assembling.are_whole.Goals as goal
 

@@ -1,8 +1,8 @@
 -- Where a limit is passed there is no program, and else all is that of all lines.
 use Rattle.std.proofs.Common.{sym, ap, ◌∙◌}
-use Rattle.program_code.specs.Numbering.{constants_in, misses_in}
-use Rattle.program_tables.specs.Lines.{lines_in}
-use Rattle.program_lines.specs.Walking.{start_at}
+use Rattle.program_definition.specs.Numbering.{constants_in, misses_in}
+use Rattle.program_ir.specs.Lines.{lines_in}
+use Rattle.program_lowering.specs.Walking.{start_at}
 use Rattle.program_compiler.proofs.Assembled.{code_is, jumps_are, many_misses, maps_are, none_assembled, wide_lines}
 use Rattle.program_compiler.proofs.Jumps.{at_none}
 use Rattle.program_compiler.proofs.Linked.{at_some}

@@ -1,8 +1,8 @@
 -- Where a limit is passed there is no program.
 use Rattle.std.proofs.Common.{ap, ◌∙◌}
-use Rattle.program_code.specs.Numbering.{constants_in}
-use Rattle.program_tables.specs.Lines.{lines_in}
-use Rattle.program_lines.specs.Walking.{start_at}
+use Rattle.program_definition.specs.Numbering.{constants_in}
+use Rattle.program_ir.specs.Lines.{lines_in}
+use Rattle.program_lowering.specs.Walking.{start_at}
 use Rattle.program_compiler.proofs.Assembled.{long_lines, many_lines, not_whole, whole_of}
 use Rattle.program_compiler.proofs.Jumps.{at_none}
 use Rattle.program_compiler.proofs.Linked.{at_some}

@@ -1,8 +1,8 @@
 -- What is linked, with the constants and the misses.
 use Rattle.std.proofs.Common.{◌∙◌}
-use Rattle.program_code.specs.Numbering.{numbered}
-use Rattle.program_tables.specs.Lines.{lines_in}
-use Rattle.program_lines.specs.Walking.{start_at}
+use Rattle.program_definition.specs.Numbering.{numbered}
+use Rattle.program_ir.specs.Lines.{lines_in}
+use Rattle.program_lowering.specs.Walking.{start_at}
 use Rattle.program_compiler.proofs.Assembled.{linked_parts, misses_are, none_linked}
 use Rattle.program_compiler.proofs.assembling.parts_with_constants.Goals as goal
 

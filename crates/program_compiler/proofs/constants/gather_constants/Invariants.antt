@@ -2,8 +2,8 @@
 use Rattle.std.proofs.Common.{◌≡◌, drop, List}
 use Rattle.std.specs.Str.{bytes_eq}
 use Rattle.avro_types.specs.Node.{Node}
-use Rattle.program_code.specs.Numbering.{adding, constants_in, constants_of, named_in}
-use Rattle.program_tables.specs.Lines.{lines_in}
+use Rattle.program_definition.specs.Numbering.{adding, constants_in, constants_of, named_in}
+use Rattle.program_ir.specs.Lines.{lines_in}
 use Rattle.program_compiler.specs.Tables.{AreDefaults}
 use Rattle.program_compiler.proofs.constants.gather_constants.Given as goal
 

@@ -1,9 +1,9 @@
 -- A default that came before adds nothing, and another has the number of its bytes.
 use Rattle.std.proofs.Common.{◌≡◌, ◌∷◌, ◌∙◌, [], ap, sym, refl}
 use Rattle.std.specs.Str.{bytes_eq}
-use Rattle.program_code.specs.Numbering.{adding, number}
-use Rattle.program_tables.specs.declared.lines.Constant.TheVariants.{Default}
-use Rattle.program_tables.specs.Lines.{bytes_of}
+use Rattle.program_definition.specs.Numbering.{adding, number}
+use Rattle.program_ir.specs.declared.lines.Constant.TheVariants.{Default}
+use Rattle.program_ir.specs.Lines.{bytes_of}
 use Rattle.program_compiler.proofs.Defaults.{default_before, defaults_on}
 use Rattle.program_compiler.proofs.Linked.{at_some}
 use Rattle.program_compiler.proofs.constants.with_default.Goals as goal

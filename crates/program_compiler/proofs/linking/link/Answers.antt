@@ -2,9 +2,9 @@
 use Rattle.std.proofs.Common.{◌≡◌, ◌∙◌, ◌++◌, ◌∷◌, [], sym, ap, subst, append-nil, rules, arith}
 use Rattle.std.proofs.Math.ListN.{drop_of_length-le}
 use Rattle.std.specs.Prelude.{Err}
-use Rattle.program_code.specs.Numbering.{code_from, constants_of, linked}
-use Rattle.program_tables.specs.Lines.{line_of, lines_in}
-use Rattle.program_lines.specs.Walking.{start_at}
+use Rattle.program_definition.specs.Numbering.{code_from, constants_of, linked}
+use Rattle.program_ir.specs.Lines.{line_of, lines_in}
+use Rattle.program_lowering.specs.Walking.{start_at}
 use Rattle.program_compiler.specs.Parts.{LinksAll, LinksTo}
 use Rattle.program_compiler.proofs.Linked.{code_on, none_linked}
 use Rattle.program_compiler.proofs.linking.link.Goals as goal

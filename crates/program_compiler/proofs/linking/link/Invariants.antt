@@ -1,9 +1,9 @@
 -- The code so far, before that of the lines that are left, is all of it.
 use Rattle.std.proofs.Common.{◌≡◌, ◌≤◌, ◌++◌, drop, List}
 use Rattle.avro_types.specs.Node.{Node}
-use Rattle.program_code.specs.Numbering.{code_from}
-use Rattle.program_tables.specs.Lines.{lines_in}
-use Rattle.program_lines.specs.Walking.{start_at}
+use Rattle.program_definition.specs.Numbering.{code_from}
+use Rattle.program_ir.specs.Lines.{lines_in}
+use Rattle.program_lowering.specs.Walking.{start_at}
 use Rattle.program_compiler.proofs.linking.link.Given as goal
 
 abbrev pub invariant-loop-pc : goal.invariant-loop-pc

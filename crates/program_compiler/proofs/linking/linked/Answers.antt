@@ -1,7 +1,7 @@
 -- Each line with its number.
 use Rattle.std.proofs.Common.{◌≡◌, ◌-◌, [], subst, rules}
-use Rattle.program_tables.specs.declared.lines.Line.TheVariants as lines
-use Rattle.program_lines.specs.Walking.{start_at}
+use Rattle.program_ir.specs.declared.lines.Line.TheVariants as lines
+use Rattle.program_lowering.specs.Walking.{start_at}
 use Rattle.program_compiler.specs.Parts.{Narrows}
 use Rattle.program_compiler.proofs.Linked.{line_linked}
 use Rattle.program_compiler.proofs.linking.linked.Goals as goal

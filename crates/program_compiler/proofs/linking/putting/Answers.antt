@@ -1,8 +1,8 @@
 -- The number of the constant's bytes.
 use Rattle.std.proofs.Common.{◌≡◌, ◌∷◌, [], subst}
 use Rattle.std.specs.Str.{bytes_eq}
-use Rattle.program_code.specs.Numbering.{number}
-use Rattle.program_tables.specs.Lines.{bytes_of as bytes_of_constant}
+use Rattle.program_definition.specs.Numbering.{number}
+use Rattle.program_ir.specs.Lines.{bytes_of as bytes_of_constant}
 use Rattle.program_compiler.specs.Parts.{Narrows}
 use Rattle.program_compiler.proofs.Linked.{at_some}
 use Rattle.program_compiler.proofs.linking.putting.Goals as goal

@@ -1,7 +1,7 @@
 -- The maps so far, before those of the lines that are left, are all of them.
 use Rattle.std.proofs.Common.{◌≡◌, ◌++◌, drop, map}
-use Rattle.program_code.specs.Numbering.{entry_of, maps_of, named_in}
-use Rattle.program_tables.specs.Lines.{lines_in}
+use Rattle.program_definition.specs.Numbering.{entry_of, maps_of, named_in}
+use Rattle.program_ir.specs.Lines.{lines_in}
 use Rattle.program_compiler.specs.Tables.{AreShared}
 use Rattle.program_compiler.proofs.maps.gather_maps.Given as goal
 

@@ -1,8 +1,8 @@
 -- One line more, and none left.
 use Rattle.std.proofs.Common.{◌∙◌, sym, ap}
 use Rattle.std.proofs.Math.ListN.{drop_of_length-le}
-use Rattle.program_code.specs.Numbering.{adding, misses_of, named_in, same_miss}
-use Rattle.program_tables.specs.Lines.{lines_in}
+use Rattle.program_definition.specs.Numbering.{adding, misses_of, named_in, same_miss}
+use Rattle.program_ir.specs.Lines.{lines_in}
 use Rattle.program_compiler.proofs.Tables.{listed_on}
 use Rattle.program_compiler.proofs.misses.gather_misses.Goals as goal
 

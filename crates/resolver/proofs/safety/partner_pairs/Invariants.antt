@@ -2,7 +2,7 @@
 use Rattle.std.proofs.Common.{◌≡◌, ◌++◌, drop}
 use Rattle.avro_types.specs.Node.{fields_of}
 use Rattle.resolver.specs.NextPairs.{partner_pairs}
-use Rattle.matching.specs.Partners.{routes}
+use Rattle.resolver_matching.specs.Partners.{routes}
 use Rattle.resolver.proofs.safety.partner_pairs.Given as goal
 
 abbrev pub invariant-loop-route : goal.invariant-loop-route

@@ -1,6 +1,0 @@
--- No line is left behind the last.
-use Rattle.answer_lines.proofs.Split.{lines_none}
-use Rattle.answer_lines.proofs.lines.split_line_or_empty.Goals as goal
-
-pub returns-in-None-clause-rest : goal.returns-in-None-clause-rest
-returns-in-None-clause-rest c = rw c.in-None.ensures.lines lines_none

@@ -1,0 +1,8 @@
+use Rattle.std.proofs.Common.{◌≡◌, drop}
+use Rattle.serde_json.specs.View.{items_view}
+use Rattle.avro_schema_names.specs.Attributes.{texts_in}
+use Rattle.avro_schema_names.proofs.Texts.{listed, names}
+use Rattle.avro_schema_names.proofs.type_attributes.texts_in.Given as goal
+
+abbrev pub invariant-loop-item : goal.invariant-loop-item
+invariant-loop-item l = listed (names l.texts.items) (texts_in (items_view (drop l.item-index l.items))) ≡ texts_in (items_view l.items)

@@ -1,0 +1,7 @@
+-- What holds of what is told, if anything is.
+use Rattle.std.proofs.Common.{Result, Ok, Err}
+use Rattle.avro_schema_names.specs.declared.error.SchemaError.{SchemaError}
+
+abbrev pub Told : {A : Type 0} → (A → Type 0) → Result A SchemaError → Type 0
+Told P (Ok a) = P a
+Told P (Err e) = Unit {0}

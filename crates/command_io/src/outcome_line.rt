@@ -1,0 +1,40 @@
+ghost use Rattle.std.specs.Prelude.{◌≡◌, ◌++◌, string_bytes, OnOk};
+ghost use Rattle.outcome.specs.Outcome.{outcome_of};
+ghost use Rattle.command_io.specs.OutcomeLine.{hex_of, line_of};
+
+use outcome::Outcome;
+use std::alloc::{AllocError, Global};
+use std::fmt::Write;
+
+/// Appends bytes in hexadecimal, or `-` where there are none.
+fn push_hex(alloc: Global, output: &mut String, bytes: &[u8]) -> Result<(), AllocError>
+    ensures { OnOk result (string_bytes output.new ≡ string_bytes output.old ++ hex_of bytes.now) }
+{
+    if bytes.is_empty() {
+        return output.push_str("-");
+    }
+    let text = hex::encode(alloc, bytes)?;
+    output.push_str(&text)
+}
+
+/// Appends the line of an outcome, without its LF. What an `Err` leaves of the text is not said.
+pub fn push_outcome(alloc: Global, output: &mut String, outcome: &Outcome) -> Result<(), AllocError>
+    ensures { OnOk result (string_bytes output.new ≡ string_bytes output.old ++ line_of (outcome_of outcome.now)) }
+{
+    match outcome {
+        Outcome::Done(bytes) => {
+            output.push_str("done ")?;
+            push_hex(alloc, output, bytes)
+        }
+        Outcome::Mismatch(found) => {
+            let kind = found.kind.name();
+            let (writer, reader) = (found.writer_node, found.reader_node);
+            write!(output, "mismatch {kind} {writer} {reader}")
+        }
+        Outcome::Malformed { kind, at } => {
+            let name = kind.name();
+            write!(output, "malformed {name} at {at}")
+        }
+        Outcome::OutputTooLarge => output.push_str("output too large"),
+    }
+}

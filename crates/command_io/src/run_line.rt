@@ -1,0 +1,46 @@
+ghost use Rattle.std.specs.Prelude.{◌≡◌, ◌++◌, string_bytes, OnOk};
+ghost use Rattle.command_io.specs.RunLine.{line_of_run, name_of_trap, text_of_end};
+
+use crate::outcome_line::push_outcome;
+use isa::{End, Trap};
+use std::alloc::{AllocError, Global};
+use std::fmt::Write;
+use machine_stepper::Machine;
+
+/// The name of a trap.
+fn name_of_trap(trap: Trap) -> &'static str
+    ensures { result.now ≡ name_of_trap trap }
+{
+    match trap {
+        Trap::NoFrame => "NoFrame",
+        Trap::NoBuffer => "NoBuffer",
+        Trap::TooManyCalls => "TooManyCalls",
+        Trap::NoReturn => "NoReturn",
+        Trap::BadSlot => "BadSlot",
+        Trap::OpenAtHalt => "OpenAtHalt",
+        Trap::OffEnd => "OffEnd",
+    }
+}
+
+/// Appends how a run ended, or that it goes on.
+fn push_end(alloc: Global, output: &mut String, machine: &Machine) -> Result<(), AllocError>
+    ensures { OnOk result (string_bytes output.new ≡ string_bytes output.old ++ text_of_end machine.now.state.end) }
+{
+    match machine.end() {
+        Some(End::Out(outcome)) => push_outcome(alloc, output, outcome),
+        Some(End::Trap(trap)) => {
+            let name = name_of_trap(*trap);
+            write!(output, "trap {name}")
+        }
+        None => output.push_str("running"),
+    }
+}
+
+/// Appends the line of a run, without its LF. What an `Err` leaves of the text is not said.
+pub fn push_run(alloc: Global, output: &mut String, machine: &Machine) -> Result<(), AllocError>
+    ensures { OnOk result (string_bytes output.new ≡ string_bytes output.old ++ line_of_run machine.now.state) }
+{
+    push_end(alloc, output, machine)?;
+    let count = machine.count();
+    write!(output, " count {count}")
+}

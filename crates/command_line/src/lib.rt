@@ -1,0 +1,139 @@
+//! The words of the program's command line, and what they ask for.
+#![tactic(auto)]
+
+mod task;
+mod verb;
+
+use clap::{Arg, ArgAction, ArgMatches, Command, value_parser};
+use std::alloc::{AllocError, Global};
+pub use task::{ServeWords, Task};
+pub use verb::Verb;
+
+/// How many rows the run on a payload may take at most.
+const MOST_STEPS: i64 = 1_000_000_000;
+
+/// How many rows it takes at most where the words do not say.
+const STEPS: &str = "1000000";
+
+/// The subcommand that prints a program, with its flag.
+fn compile<'a>(alloc: Global) -> Result<Command<'a>, AllocError> {
+    let image = Arg::new(alloc, "image")
+        .long("image")
+        .action(ArgAction::SetTrue)
+        .help("Prints the image in one line of hexadecimal, in place of the listing");
+    Command::new(alloc, "compile")
+        .about("Prints the program that transcodes from a writer's schema to a reader's")
+        .arg(image)
+}
+
+/// The subcommand that runs a listed program, with its number of rows.
+fn run<'a>(alloc: Global) -> Result<Command<'a>, AllocError> {
+    let steps = Arg::new(alloc, "steps")
+        .long("steps")
+        .value_name("N")
+        .action(ArgAction::Set)
+        .value_parser(value_parser!(u64).range(1..=MOST_STEPS))
+        .default_value(STEPS)
+        .help("How many rows the run on a payload takes at most");
+    Command::new(alloc, "run")
+        .about("Runs the program of a listing on payloads, whose pieces are parted by bars")
+        .arg(steps)
+}
+
+/// The greatest port.
+const MOST_PORT: i64 = 65_535;
+
+/// How many clients there may be.
+const MOST_CLIENTS: i64 = 64;
+
+/// How many connections a client may be asked to accept.
+const MOST_EACH: i64 = 4_294_967_295;
+
+/// How many seconds a request may take at most, an hour.
+const MOST_TIMEOUT: i64 = 3_600;
+
+/// A word with a number from one to another, and its number where the word is not there.
+fn numbered<'a>(
+    alloc: Global,
+    name: &'a str,
+    least: i64,
+    most: i64,
+    default: &'a str,
+    help: &'a str,
+) -> Arg<'a> {
+    Arg::new(alloc, name)
+        .long(name)
+        .value_name("N")
+        .action(ArgAction::Set)
+        .value_parser(value_parser!(u64).range(least..=most))
+        .default_value(default)
+        .help(help)
+}
+
+/// The subcommand that serves HTTP, with its numbers.
+fn serve<'a>(alloc: Global) -> Result<Command<'a>, AllocError> {
+    let port = "The port on 127.0.0.1, 0 for any that is free";
+    let clients = "How many threads accept connections";
+    let each = "How many connections each of them accepts, 0 for no end";
+    let timeout = "How many seconds a request may take to come, and its answer to go";
+    Command::new(alloc, "serve")
+        .about("Serves the schema registry's API over HTTP, and rewrites messages")
+        .arg(numbered(alloc, "port", 0, MOST_PORT, "8081", port))?
+        .arg(numbered(alloc, "clients", 1, MOST_CLIENTS, "4", clients))?
+        .arg(numbered(alloc, "each", 0, MOST_EACH, "0", each))?
+        .arg(numbered(alloc, "request-timeout", 1, MOST_TIMEOUT, "10", timeout))
+}
+
+/// The command line: its subcommands, their flags and values, and their help.
+pub fn cli<'a>(alloc: Global) -> Result<Command<'a>, AllocError> {
+    let transcode = "Transcodes payloads from a writer's schema to a reader's";
+    let debug = "Obeys the commands of a debugger on a payload, between two schemas";
+    let replay = "Replies to events of a registry and of sessions, one after another";
+    Command::new(alloc, "avrogate")
+        .about("Transcodes Avro data, and serves the schemas that it goes by")
+        .subcommand_required(true)
+        .subcommand(Command::new(alloc, "transcode").about(transcode))?
+        .subcommand(compile(alloc)?)?
+        .subcommand(run(alloc)?)?
+        .subcommand(Command::new(alloc, "debug").about(debug))?
+        .subcommand(Command::new(alloc, "replay").about(replay))?
+        .subcommand(serve(alloc)?)
+}
+
+/// What the words that were read ask of a service.
+fn serve_words_of(words: &ArgMatches<'_>) -> Option<ServeWords> {
+    let port: u64 = words.get_one("port")?;
+    let clients: u64 = words.get_one("clients")?;
+    let each: u64 = words.get_one("each")?;
+    let request_timeout: u64 = words.get_one("request-timeout")?;
+    Some(ServeWords {
+        port: u16::try_from(port).ok()?,
+        clients: u32::try_from(clients).ok()?,
+        each: u32::try_from(each).ok()?,
+        request_timeout: u32::try_from(request_timeout).ok()?,
+    })
+}
+
+/// What the words that were read ask for.
+pub fn task_of(matches: &ArgMatches<'_>) -> Option<Task> {
+    match matches.subcommand() {
+        Some(("serve", words)) => Some(Task::Serve(serve_words_of(words)?)),
+        _ => Some(Task::Lines(verb_of(matches)?)),
+    }
+}
+
+/// What the words that were read ask for of the lines of standard input.
+fn verb_of(matches: &ArgMatches<'_>) -> Option<Verb> {
+    match matches.subcommand() {
+        Some(("transcode", _)) => Some(Verb::Transcode),
+        Some(("compile", words)) => Some(Verb::Compile {
+            image: words.get_flag("image"),
+        }),
+        Some(("run", words)) => Some(Verb::Run {
+            steps: words.get_one("steps")?,
+        }),
+        Some(("debug", _)) => Some(Verb::Debug),
+        Some(("replay", _)) => Some(Verb::Replay),
+        _ => None,
+    }
+}

@@ -1,0 +1,110 @@
+ghost use Rattle.std.specs.Prelude.{◌≡◌, IfErr, IfOk, IsSome, Some, option_map, string_bytes};
+ghost use Rattle.command_parser.specs.ReplayLine.{Register, replay_line_of};
+ghost use Rattle.command_parser.specs.Reading.{HasSubject, level_in, piece_in, register_in, set_level};
+ghost use Rattle.command_parser.specs.Words.{last_bytes, level_named, subject_in, words_left};
+
+use crate::numbers::first_number;
+use crate::replay_line::ReplayLine;
+use crate::words::{only_word, two_words, word_and_text};
+use assembler::bytes_of;
+use schema_registry::Level;
+use std::alloc::{AllocError, Global};
+
+/// The line that registers a text.
+fn register(alloc: Global, subject: &str, text: &str) -> Result<ReplayLine, AllocError>
+    ensures { IfOk result (λ line. replay_line_of line ≡ Register subject.now text.now) }
+{
+    let subject = String::from_str(alloc, subject)?;
+    let text = String::from_str(alloc, text)?;
+    Ok(ReplayLine::Register { subject, text })
+}
+
+/// A subject, and a schema's text, which is all after the space behind it.
+#[tactic(auto, unfolding(crate::specs::Reading::register_in))]
+pub(crate) fn register_of(
+    alloc: Global,
+    left: Option<&str>,
+) -> Result<Option<ReplayLine>, AllocError>
+    ensures line { IfOk result (λ found. option_map replay_line_of found ≡ register_in (words_left left.entry)) }
+    ensures memory { IfErr result (λ e. HasSubject (register_in (words_left left.entry))) }
+{
+    let Some((subject, text)) = word_and_text(left) else {
+        return Ok(None);
+    };
+    let line = register(alloc, subject, text)?;
+    Ok(Some(line))
+}
+
+/// The level of a name.
+fn level_of(word: &str) -> Option<Level>
+    ensures { result ≡ level_named word.now }
+{
+    Level::parse(word).ok()
+}
+
+/// The subject of a word, which is none for the global level.
+fn subject_of(alloc: Global, word: &str) -> Result<Option<String>, AllocError>
+    ensures subject { IfOk result (λ subject. option_map string_bytes subject ≡ subject_in word.now) }
+    ensures memory { IfErr result (λ e. IsSome (subject_in word.now)) }
+{
+    if word == "*" {
+        return Ok(None);
+    }
+    let subject = String::from_str(alloc, word)?;
+    Ok(Some(subject))
+}
+
+/// The line that sets a level.
+fn set_level(alloc: Global, subject: &str, level: &str) -> Result<ReplayLine, AllocError>
+    ensures line { IfOk result
+        (λ line. replay_line_of line ≡ set_level (subject_in subject.now) (level_named level.now)) }
+    ensures memory { IfErr result
+        (λ e. HasSubject (Some (set_level (subject_in subject.now) (level_named level.now)))) }
+{
+    let Some(level) = level_of(level) else {
+        return Ok(ReplayLine::BadLevel);
+    };
+    let subject = subject_of(alloc, subject)?;
+    Ok(ReplayLine::Level { subject, level })
+}
+
+/// A subject and the name of a level.
+#[tactic(auto, unfolding(crate::specs::Reading::level_in))]
+pub(crate) fn level_line_of(
+    alloc: Global,
+    left: Option<&str>,
+) -> Result<Option<ReplayLine>, AllocError>
+    ensures line { IfOk result (λ found. option_map replay_line_of found ≡ level_in (words_left left.entry)) }
+    ensures memory { IfErr result (λ e. HasSubject (level_in (words_left left.entry))) }
+{
+    let Some((subject, level)) = two_words(left) else {
+        return Ok(None);
+    };
+    let line = set_level(alloc, subject, level)?;
+    Ok(Some(line))
+}
+
+/// The bytes of the word that alone is left.
+#[tactic(auto, unfolding(crate::specs::Words::last_bytes))]
+fn last_bytes(alloc: Global, left: Option<&str>) -> Result<Option<Vec<u8>>, AllocError>
+    ensures { IfOk result (λ found. option_map (λ bytes. bytes.items) found ≡ last_bytes (words_left left.entry)) }
+{
+    match only_word(left) {
+        Some(word) => bytes_of(alloc, word.as_bytes()),
+        None => Ok(None),
+    }
+}
+
+/// The number of a session, and bytes.
+#[tactic(auto, unfolding(crate::specs::Reading::piece_in))]
+pub(crate) fn piece_of(alloc: Global, left: Option<&str>) -> Result<Option<ReplayLine>, AllocError>
+    ensures { IfOk result (λ found. option_map replay_line_of found ≡ piece_in (words_left left.entry)) }
+{
+    let Some((session, left)) = first_number(left) else {
+        return Ok(None);
+    };
+    match last_bytes(alloc, left)? {
+        Some(bytes) => Ok(Some(ReplayLine::Piece { session, bytes })),
+        None => Ok(None),
+    }
+}

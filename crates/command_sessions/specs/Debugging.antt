@@ -1,0 +1,66 @@
+-- What `debug` answers: lines change one session, which has its whole payload from the start. This project's own.
+use Rattle.std.specs.Prelude.{◌≡◌, ℕ, false, List, [], length, nat_lt, if◌then◌else◌, Option, Some, None, Result, Ok, Err, IfErr, MatchOption}
+use Rattle.command_io.specs.Payload.{payload_of}
+use Rattle.avro_types.specs.Node.{Node}
+use Rattle.command_parser.specs.Reading.{debug_line}
+use Rattle.command_parser.specs.declared.debug_line.DebugLine.{DebugLine}
+use Rattle.command_parser.specs.declared.debug_line.DebugLine.TheVariants as lines
+use Rattle.isa.specs.Program.{Program}
+use Rattle.outcome.specs.declared.limits.TheConstants.{MOST_PAYLOAD}
+use Rattle.program_definition.specs.Code.{code_of}
+use Rattle.session_state.specs.Changes.{Maybe, Surely, break_refusal, clear_refusal, cleared_at, finished, set_at, with_piece}
+use Rattle.session_state.specs.Names.{refusal_name}
+use Rattle.session_state.specs.Rows.{TakesRows, go_rows, walk_rows}
+use Rattle.session_state.specs.Session.{Session, begun, has_break}
+use Rattle.session_state.specs.declared.refusal.SessionRefusal.{SessionRefusal}
+use Rattle.session_state.specs.declared.refusal.SessionRefusal.TheVariants.{NoMemory}
+use Rattle.command_sessions.specs.declared.debugging.DebugError.{DebugError}
+use Rattle.command_sessions.specs.declared.debugging.DebugError.TheVariants.{BadHex, ProgramTooLarge, TooLarge}
+use Rattle.command_sessions.specs.Folding.{AnswersAll}
+use Rattle.command_sessions.specs.Telling.{Tells, bad_line, refused_line, code_text, state_text}
+
+-- what is done is not told
+abbrev pub done_line : Result (Unit {0}) SessionRefusal → List ℕ
+done_line (Ok u) = []
+done_line (Err e) = refused_line (refusal_name e)
+
+abbrev pub Obeys : DebugLine → List ℕ → Session → Session → Type 0
+Obeys (lines.Break a) answer old new =
+    (done : Result (Unit {0}) SessionRefusal) × Maybe (break_refusal a old) (set_at a old) done old new
+    × IfErr done (λ e. e ≡ NoMemory → has_break a old.breaks ≡ false) × (answer ≡ done_line done)
+Obeys (lines.Clear a) answer old new =
+    (done : Result (Unit {0}) SessionRefusal) × Surely (clear_refusal a old) (cleared_at a old) done old new
+    × (answer ≡ done_line done)
+Obeys (lines.Step n) answer old new = (rows : ℕ) × TakesRows (walk_rows n old) old rows new × (answer ≡ [])
+Obeys (lines.Go n) answer old new = (rows : ℕ) × TakesRows (go_rows n old) old rows new × (answer ≡ [])
+Obeys lines.Show answer old new = Tells state_text old answer × (new ≡ old)
+Obeys lines.List answer old new = Tells code_text old answer × (new ≡ old)
+
+abbrev pub AnswersCommand : List ℕ → List ℕ → Session → Session → Type 0
+AnswersCommand line answer old new =
+    MatchOption (debug_line line) ((answer ≡ bad_line) × (new ≡ old)) (λ said. Obeys said answer old new)
+
+-- ---- what is debugged
+
+abbrev pub within_limit : Program → List ℕ → Result (Program × List ℕ) DebugError
+within_limit P payload = if nat_lt MOST_PAYLOAD (length payload) then Err TooLarge else Ok (P, payload)
+
+abbrev pub with_payload : Program → Option (List ℕ) → Result (Program × List ℕ) DebugError
+with_payload P (Some payload) = within_limit P payload
+with_payload P None = Err BadHex
+
+abbrev pub with_line : Option Program → List ℕ → Result (Program × List ℕ) DebugError
+with_line (Some P) line = with_payload P (payload_of line)
+with_line None line = Err ProgramTooLarge
+
+-- a program and its payload: of a pair of schemas, and a line
+abbrev pub debugged : List Node → List Node → List ℕ → Result (Program × List ℕ) DebugError
+debugged W R line = with_line (code_of W R) line
+
+-- the session at the first command
+abbrev pub given : Program → List ℕ → Session
+given P payload = finished (with_piece payload (begun P))
+
+abbrev pub IsDebugged : Program → List ℕ → List (List ℕ) → List ℕ → Type 0
+IsDebugged P payload commands output =
+    (after : Session) × AnswersAll AnswersCommand commands output (given P payload) after

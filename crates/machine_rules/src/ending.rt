@@ -1,0 +1,102 @@
+ghost use Rattle.std.specs.Prelude.{◌≡◌, ◌≢◌};
+ghost use Rattle.avro_bytes.specs.declared.fault.Fault.TheVariants.{NoMemory};
+ghost use Rattle.isa.specs.Program.{miss_of};
+ghost use Rattle.isa.specs.State.{State};
+ghost use Rattle.isa.specs.Table.{finished, halt};
+ghost use Rattle.machine_rules.specs.Ending.{IsAt, refused, told};
+
+use avro_bytes::{Fault, MalformedKind};
+use isa::{Program, Trap};
+use outcome::{Mismatch, MismatchKind};
+
+/// How a run ends, or that it waits.
+#[derive(Clone, Copy)]
+pub enum Verdict {
+    /// It needs bytes that are not there yet.
+    Waits,
+    Malformed { kind: MalformedKind, at: usize },
+    Mismatch(Mismatch),
+    OutputTooLarge,
+    /// It ends with its output.
+    Done,
+    Trap(Trap),
+}
+
+/// The miss of a number.
+fn miss_of(program: &Program, number: u32) -> Mismatch
+    ensures { result ≡ miss_of program.now number }
+{
+    match program.misses().get(number as usize) {
+        Some(miss) => *miss,
+        None => Mismatch {
+            kind: MismatchKind::NoMatch,
+            writer_node: 0,
+            reader_node: 0,
+        },
+    }
+}
+
+/// What a run reads, and what was told of it so far.
+#[derive(Clone, Copy)]
+pub struct Ending<'a> {
+    pub program: &'a Program,
+    pub input: &'a [u8],
+    /// Whether the bytes that are there are all.
+    pub ended: bool,
+    /// The number of the first miss.
+    pub mark: Option<u32>,
+    /// Whether the output passed its limit.
+    pub over: bool,
+}
+
+impl Ending<'_> {
+    /// At a fault of what was read: it is told, whatever was told before, unless more bytes may come.
+    pub fn refused(&self, fault: Fault) -> Verdict
+        requires { fault ≢ NoMemory }
+        ensures { (s : State) → told result s
+            ≡ refused self.now.program.now self.now.input.now self.now.ended fault s }
+    {
+        match fault {
+            Fault::Malformed { kind, at } => Verdict::Malformed { kind, at },
+            Fault::Need if self.ended => Verdict::Malformed {
+                kind: MalformedKind::Truncated,
+                at: self.input.len(),
+            },
+            Fault::Need => Verdict::Waits,
+            Fault::NoMemory => unreachable!(),
+        }
+    }
+
+    /// Where all was read: the first miss is told, else that the output passed its limit.
+    fn finished(&self) -> Verdict
+        ensures { (s : State) → told result s ≡ finished self.now.program.now s self.now.mark self.now.over }
+    {
+        if let Some(miss) = self.mark {
+            return Verdict::Mismatch(miss_of(self.program, miss));
+        }
+        if self.over {
+            return Verdict::OutputTooLarge;
+        }
+        Verdict::Done
+    }
+
+    /// Where the program halts at a place, with so many frames and calls open.
+    pub fn halted(&self, frames: u32, calls: usize, pos: usize) -> Verdict
+        ensures { (s : State) → IsAt s frames calls pos self.now.mark self.now.over
+            → told result s ≡ halt self.now.program.now self.now.input.now self.now.ended s s.store.frames s.calls }
+    {
+        if frames > 0 || calls > 0 {
+            return Verdict::Trap(Trap::OpenAtHalt);
+        }
+        if pos < self.input.len() {
+            return Verdict::Malformed {
+                kind: MalformedKind::Trailing,
+                at: pos,
+            };
+        }
+        if !self.ended {
+            return Verdict::Waits;
+        }
+        self.finished()
+    }
+}

@@ -1,0 +1,108 @@
+#![tactic(auto, using(crate::proofs::Appending::goes_on, crate::proofs::Appending::no_more, crate::proofs::Appending::stays_open, crate::proofs::Appending::same_arena))]
+
+ghost use Rattle.std.specs.Prelude.{◌≡◌, ◌≢◌, ◌≤◌, ◌<◌, length, None};
+ghost use Rattle.isa.specs.declared.instr.Instr.TheVariants as op;
+ghost use Rattle.isa.specs.declared.limits.TheConstants.{MOST_INSTRS};
+ghost use Rattle.isa.specs.Row.{row};
+ghost use Rattle.machine_stepper.specs.Contract.{AppendsThese, OnlyAppends, Takes, closing_bytes};
+
+use crate::machine::Machine;
+use crate::step::Step;
+use avro_bytes::BlockWalk;
+use isa::{Program, Trap};
+use machine_store::Opening;
+
+impl Machine {
+    /// An array or a map is opened.
+    pub(crate) fn blocks(&mut self, program: &Program, input: &[u8], ended: bool) -> Step
+        requires pc { self.old.state.pc < MOST_INSTRS }
+        requires within { self.old.state.pos ≤ length input.now }
+        requires whole { self.old.state.part ≡ None }
+        ensures takes { Takes (row program.now input.now ended op.Blocks self.old.state) result self.old self.new }
+        ensures appends { OnlyAppends self.old self.new }
+        ensures within { self.new.state.pos ≤ length input.now }
+        ensures whole { self.new.state.part ≡ None }
+    {
+        match BlockWalk::begin(self.pos(), self.meter()) {
+            Ok((walk, inside)) => self.open(Opening::Blocks(walk), inside),
+            Err(fault) => self.refuse(fault, program, input, ended),
+        }
+    }
+
+    /// An array or a map that is skipped is opened.
+    pub(crate) fn skip_blocks(&mut self, program: &Program, input: &[u8], ended: bool) -> Step
+        requires pc { self.old.state.pc < MOST_INSTRS }
+        requires within { self.old.state.pos ≤ length input.now }
+        requires whole { self.old.state.part ≡ None }
+        ensures takes { Takes (row program.now input.now ended op.SkipBlocks self.old.state) result self.old self.new }
+        ensures appends { OnlyAppends self.old self.new }
+        ensures within { self.new.state.pos ≤ length input.now }
+        ensures whole { self.new.state.part ≡ None }
+    {
+        match BlockWalk::begin(self.pos(), self.meter()) {
+            Ok((walk, inside)) => self.open(Opening::SkipBlocks(walk), inside),
+            Err(fault) => self.refuse(fault, program, input, ended),
+        }
+    }
+
+    /// The next item comes, or the array or map is closed.
+    pub(crate) fn next_item(
+        &mut self,
+        after: u32,
+        program: &Program,
+        input: &[u8],
+        ended: bool,
+    ) -> Step
+        requires pc { self.old.state.pc < MOST_INSTRS }
+        requires within { self.old.state.pos ≤ length input.now }
+        requires whole { self.old.state.part ≡ None }
+        ensures takes { Takes (row program.now input.now ended (op.Next after) self.old.state) result self.old
+            self.new }
+        ensures appends { OnlyAppends self.old self.new }
+        ensures joins { AppendsThese (closing_bytes self.old.state.store.frames self.new.state.store.frames)
+            self.old self.new }
+        ensures within { self.new.state.pos ≤ length input.now }
+        ensures whole { self.new.state.part ≡ None }
+    {
+        let Some(mut walk) = self.walk() else {
+            return self.trap(Trap::NoFrame);
+        };
+        match walk.next(input, self.pos(), self.meter()) {
+            Ok((true, to, inside)) => self.gather(walk, to, inside),
+            Ok((false, _, _)) if !self.has_current_below() => self.trap(Trap::NoBuffer),
+            Ok((false, to, _)) => self.close_blocks(after as usize, to),
+            Err(fault) => self.refuse(fault, program, input, ended),
+        }
+    }
+
+    /// The next item that is skipped comes, or the array or map is left.
+    pub(crate) fn skip_next(
+        &mut self,
+        after: u32,
+        program: &Program,
+        input: &[u8],
+        ended: bool,
+    ) -> Step
+        requires pc { self.old.state.pc < MOST_INSTRS }
+        requires within { self.old.state.pos ≤ length input.now }
+        requires whole { self.old.state.part ≡ None }
+        ensures takes { Takes (row program.now input.now ended (op.SkipNext after) self.old.state) result self.old
+            self.new }
+        ensures appends { OnlyAppends self.old self.new }
+        ensures within { self.new.state.pos ≤ length input.now }
+        ensures whole { self.new.state.part ≡ None }
+        ensures memory { result ≢ Step.NoMemory }
+    {
+        let Some(mut walk) = self.skip_walk() else {
+            return self.trap(Trap::NoFrame);
+        };
+        match walk.next(input, self.pos(), self.meter()) {
+            Ok((true, to, inside)) => self.pass(walk, to, inside),
+            Ok((false, to, _)) => {
+                self.leave();
+                self.jump(after as usize, to)
+            }
+            Err(fault) => self.refuse(fault, program, input, ended),
+        }
+    }
+}

@@ -1,0 +1,374 @@
+#![tactic(auto, using(crate::proofs::Appending::goes_on, crate::proofs::Appending::same_arena))]
+
+ghost use Rattle.std.specs.Prelude.{◌≡◌, ◌≤◌, ◌<◌, ◌+◌, ◌-◌, length, pos, [], OnOk, OnErr, Some, None, false};
+ghost use Rattle.avro_bytes.specs.declared.limits.TheConstants.{MOST_CONTENT};
+ghost use Rattle.avro_bytes.specs.Shortest.{shortest};
+ghost use Rattle.isa.specs.declared.limits.TheConstants.{MOST_INSTRS, MOST_PIECE};
+ghost use Rattle.isa.specs.Table.{begun, content, ends_part, fixed, if_current, moved, moves, next};
+ghost use Rattle.machine_stepper.specs.Contract.{AsksOf, HasRoom, asks, move_of, OnlyAppends, Stays, Takes};
+ghost use Rattle.machine_stepper.specs.Memory.{MayAdd};
+ghost use Rattle.machine_rules.specs.Pieces.{HasMoved, part_of};
+ghost use Rattle.machine_rules.specs.Text.{IsCheck, Unasked, check_of, is_asked};
+ghost use Rattle.machine_stepper.specs.Running.{IsOn};
+
+use crate::machine::Machine;
+use crate::step::Step;
+use avro_bytes::{MalformedKind, read_length};
+use isa::{End, MOST_PIECE, Program, Trap};
+use outcome::Outcome;
+use machine_rules::{Part, Piece, TextCheck, piece_at};
+use std::alloc::AllocError;
+
+/// How a content moves.
+#[derive(Clone, Copy)]
+pub enum Moving {
+    /// It is added.
+    Bytes,
+    /// It is added, and has to be UTF-8.
+    Text,
+    /// It is added, and the miss of this number is told where it is no UTF-8.
+    BytesText(u32),
+    /// It is passed over.
+    SkipBytes,
+    /// It is passed over, and has to be UTF-8.
+    SkipText,
+}
+
+impl Moving {
+    /// What is known before its first byte.
+    fn check(self) -> TextCheck
+        ensures check { IsCheck (check_of result) [] }
+        ensures asked { is_asked (check_of result) ≡ asks self }
+    {
+        match self {
+            Moving::Bytes | Moving::SkipBytes => TextCheck::Unasked,
+            Moving::Text | Moving::BytesText(_) | Moving::SkipText => TextCheck::empty(),
+        }
+    }
+}
+
+impl Machine {
+    /// Bytes move.
+    fn put(&mut self, moving: Moving, bytes: &[u8]) -> Result<(), AllocError>
+        requires { HasRoom moving self.old.state }
+        ensures put { OnOk result (self.new.state ≡ (move_of moving).put bytes.now self.old.state) }
+        ensures appends { OnlyAppends self.old self.new }
+        ensures refused { OnErr result (self.new ≡ self.old) }
+        ensures memory { OnErr result (MayAdd moving) }
+    {
+        match moving {
+            Moving::SkipBytes | Moving::SkipText => Ok(()),
+            _ => self.add(bytes),
+        }
+    }
+
+    /// A length moves.
+    fn put_length(&mut self, moving: Moving, len: usize) -> Result<(), AllocError>
+        requires room { HasRoom moving self.old.state }
+        requires few { len ≤ MOST_CONTENT }
+        ensures put { OnOk result (self.new.state ≡ (move_of moving).put (shortest (pos len)) self.old.state) }
+        ensures appends { OnlyAppends self.old self.new }
+        ensures refused { OnErr result (self.new ≡ self.old) }
+        ensures memory { OnErr result (MayAdd moving) }
+    {
+        match moving {
+            Moving::SkipBytes | Moving::SkipText => Ok(()),
+            _ => self.add_long(len as i64),
+        }
+    }
+
+    /// What is known of it.
+    pub(crate) fn check(&self) -> TextCheck
+        ensures { check_of result ≡ self.now.check }
+    {
+        self.check
+    }
+
+    /// At a place, behind which a content goes on.
+    fn goes_on(&mut self, part: Part, check: TextCheck, to: usize) -> Step
+        ensures step { result ≡ Step.Moved }
+        ensures moved { self.new ≡ record self.old
+            { state = record self.old.state { pos = to; part = Some (part_of part) }; check = check_of check } }
+    {
+        self.pos = to;
+        self.part = Some(part);
+        self.check = check;
+        Step::Moved
+    }
+
+    /// At the next instruction, after a whole content.
+    fn pass_whole(&mut self, to: usize) -> Step
+        requires { self.old.state.pc < MOST_INSTRS }
+        ensures step { result ≡ Step.Moved }
+        ensures whole { self.new
+            ≡ record self.old { state = record (next to self.old.state) { part = None }; check = Unasked } }
+    {
+        self.pc += 1;
+        self.pos = to;
+        self.part = None;
+        self.check = TextCheck::Unasked;
+        Step::Moved
+    }
+
+    /// A length was read: it moves, and the content is to follow, unless it is empty.
+    fn begin(&mut self, moving: Moving, len: usize, to: usize, input: &[u8]) -> Step
+        requires pc { self.old.state.pc < MOST_INSTRS }
+        requires room { HasRoom moving self.old.state }
+        requires few { len ≤ MOST_CONTENT }
+        requires within { to ≤ length input.now }
+        requires whole { self.old.state.part ≡ None }
+        requires on { IsOn input.now self.old }
+        ensures takes { Takes (Some (begun (move_of moving) len to self.old.state)) result self.old self.new }
+        ensures appends { OnlyAppends self.old self.new }
+        ensures on { IsOn input.now self.new }
+        ensures stays { Stays moving self.old.state self.new }
+        ensures memory { result ≡ Step.NoMemory → MayAdd moving }
+    {
+        if self.put_length(moving, len).is_err() {
+            return Step::NoMemory;
+        }
+        if len == 0 {
+            return self.next(to);
+        }
+        self.goes_on(
+            Part {
+                left: len,
+                from: to,
+            },
+            moving.check(),
+            to,
+        )
+    }
+
+    /// Some bytes of a content move, after which there are more, and this is known of it.
+    fn move_piece(
+        &mut self,
+        moving: Moving,
+        part: Part,
+        check: TextCheck,
+        program: &Program,
+        input: &[u8],
+        ended: bool,
+    ) -> Step
+        requires room { HasRoom moving self.old.state }
+        requires there { self.old.state.pos + MOST_PIECE ≤ length input.now }
+        requires left { MOST_PIECE < part.left }
+        requires on { IsOn input.now self.old }
+        requires part { HasMoved input.now (self.old.state.pos + MOST_PIECE) (check_of check) (part_of part) }
+        requires asked { is_asked (check_of check) ≡ asks moving }
+        requires stood { AsksOf moving self.old.check self.old.state.part }
+        ensures takes { Takes (Some (moved program.now input.now ended (move_of moving) (part_of part) MOST_PIECE
+            self.old.state)) result self.old self.new }
+        ensures appends { OnlyAppends self.old self.new }
+        ensures on { IsOn input.now self.new }
+        ensures stays { Stays moving self.old.state self.new }
+        ensures memory { result ≡ Step.NoMemory → MayAdd moving }
+    {
+        let pos = self.pos();
+        let to = pos + MOST_PIECE;
+        if self.put(moving, &input[pos..to]).is_err() {
+            return Step::NoMemory;
+        }
+        let left = Part {
+            left: part.left - MOST_PIECE,
+            from: part.from,
+        };
+        self.goes_on(left, check, to)
+    }
+
+    /// The last bytes of a content move.
+    fn end_part(
+        &mut self,
+        moving: Moving,
+        part: Part,
+        check: TextCheck,
+        program: &Program,
+        input: &[u8],
+        ended: bool,
+    ) -> Step
+        requires pc { self.old.state.pc < MOST_INSTRS }
+        requires room { HasRoom moving self.old.state }
+        requires there { self.old.state.pos + part.left ≤ length input.now }
+        requires on { IsOn input.now self.old }
+        requires part { HasMoved input.now self.old.state.pos (check_of check) (part_of part) }
+        requires asked { is_asked (check_of check) ≡ asks moving }
+        requires stood { AsksOf moving self.old.check self.old.state.part }
+        ensures takes { Takes (ends_part program.now input.now ended (move_of moving) (part_of part) self.old.state)
+            result self.old self.new }
+        ensures appends { OnlyAppends self.old self.new }
+        ensures on { IsOn input.now self.new }
+        ensures stays { Stays moving self.old.state self.new }
+        ensures memory { result ≡ Step.NoMemory → MayAdd moving }
+    {
+        let pos = self.pos();
+        let to = pos + part.left;
+        let bytes = &input[pos..to];
+        match moving {
+            Moving::Bytes | Moving::SkipBytes => {
+                if self.put(moving, bytes).is_err() {
+                    return Step::NoMemory;
+                }
+                self.pass_whole(to)
+            }
+            Moving::Text | Moving::SkipText => {
+                if !check.is_text(input, part.from, pos, to) {
+                    return self.stop(End::Out(Outcome::Malformed {
+                        kind: MalformedKind::BadText,
+                        at: part.from,
+                    }));
+                }
+                if self.put(moving, bytes).is_err() {
+                    return Step::NoMemory;
+                }
+                self.pass_whole(to)
+            }
+            Moving::BytesText(miss) => {
+                if self.put(moving, bytes).is_err() {
+                    return Step::NoMemory;
+                }
+                if !check.is_text(input, part.from, pos, to) {
+                    self.miss(miss);
+                }
+                self.pass_whole(to)
+            }
+        }
+    }
+
+    /// So many bytes of a content as are there move.
+    fn move_part(
+        &mut self,
+        moving: Moving,
+        part: Part,
+        check: TextCheck,
+        program: &Program,
+        input: &[u8],
+        ended: bool,
+    ) -> Step
+        requires pc { self.old.state.pc < MOST_INSTRS }
+        requires room { HasRoom moving self.old.state }
+        requires on { IsOn input.now self.old }
+        requires part { HasMoved input.now self.old.state.pos (check_of check) (part_of part) }
+        requires asked { is_asked (check_of check) ≡ asks moving }
+        requires stood { AsksOf moving self.old.check self.old.state.part }
+        ensures takes { Takes (moves program.now input.now ended (move_of moving) (part_of part) self.old.state) result
+            self.old self.new }
+        ensures appends { OnlyAppends self.old self.new }
+        ensures on { IsOn input.now self.new }
+        ensures stays { Stays moving self.old.state self.new }
+        ensures memory { result ≡ Step.NoMemory → MayAdd moving }
+    {
+        match piece_at(part, check, input, self.pos()) {
+            Ok(Piece::Full(check)) => self.move_piece(moving, part, check, program, input, ended),
+            Ok(Piece::Rest) => self.end_part(moving, part, check, program, input, ended),
+            Err(fault) => self.refuse(fault, program, input, ended),
+        }
+    }
+
+    /// A content after its length.
+    pub(crate) fn content(
+        &mut self,
+        moving: Moving,
+        program: &Program,
+        input: &[u8],
+        ended: bool,
+    ) -> Step
+        requires pc { self.old.state.pc < MOST_INSTRS }
+        requires room { HasRoom moving self.old.state }
+        requires on { IsOn input.now self.old }
+        requires asked { AsksOf moving self.old.check self.old.state.part }
+        ensures takes { Takes (content program.now input.now ended (move_of moving) self.old.state self.old.state.part)
+            result self.old self.new }
+        ensures appends { OnlyAppends self.old self.new }
+        ensures on { IsOn input.now self.new }
+        ensures stays { Stays moving self.old.state self.new }
+        ensures memory { result ≡ Step.NoMemory → MayAdd moving }
+    {
+        match self.moving() {
+            Some(part) => self.move_part(moving, part, self.check(), program, input, ended),
+            None => match read_length(input, self.pos(), self.meter()) {
+                Ok((len, to, _)) => self.begin(moving, len, to, input),
+                Err(fault) => self.refuse(fault, program, input, ended),
+            },
+        }
+    }
+
+    /// A content of so many bytes.
+    pub(crate) fn fixed(
+        &mut self,
+        moving: Moving,
+        size: usize,
+        program: &Program,
+        input: &[u8],
+        ended: bool,
+    ) -> Step
+        requires pc { self.old.state.pc < MOST_INSTRS }
+        requires room { HasRoom moving self.old.state }
+        requires on { IsOn input.now self.old }
+        requires asked { AsksOf moving self.old.check self.old.state.part }
+        requires plain { asks moving ≡ false }
+        ensures takes { Takes (fixed program.now input.now ended (move_of moving) size self.old.state
+            self.old.state.part) result self.old self.new }
+        ensures appends { OnlyAppends self.old self.new }
+        ensures on { IsOn input.now self.new }
+        ensures stays { Stays moving self.old.state self.new }
+        ensures memory { result ≡ Step.NoMemory → MayAdd moving }
+    {
+        match self.moving() {
+            Some(part) => self.move_part(moving, part, self.check(), program, input, ended),
+            None if size == 0 => self.next(self.pos()),
+            None => {
+                let part = Part {
+                    left: size,
+                    from: self.pos(),
+                };
+                self.move_part(moving, part, TextCheck::Unasked, program, input, ended)
+            }
+        }
+    }
+
+    /// A content after its length, which is added.
+    pub(crate) fn kept_content(
+        &mut self,
+        moving: Moving,
+        program: &Program,
+        input: &[u8],
+        ended: bool,
+    ) -> Step
+        requires pc { self.old.state.pc < MOST_INSTRS }
+        requires on { IsOn input.now self.old }
+        requires asked { AsksOf moving self.old.check self.old.state.part }
+        ensures takes { Takes (if_current self.old.state.store.frames self.old.state (content program.now input.now
+            ended (move_of moving) self.old.state self.old.state.part)) result self.old self.new }
+        ensures appends { OnlyAppends self.old self.new }
+        ensures on { IsOn input.now self.new }
+        ensures stays { Stays moving self.old.state self.new }
+    {
+        if !self.has_current() {
+            return self.trap(Trap::NoBuffer);
+        }
+        self.content(moving, program, input, ended)
+    }
+
+    /// A content of so many bytes, which is added.
+    pub(crate) fn kept_fixed(
+        &mut self,
+        size: usize,
+        program: &Program,
+        input: &[u8],
+        ended: bool,
+    ) -> Step
+        requires pc { self.old.state.pc < MOST_INSTRS }
+        requires on { IsOn input.now self.old }
+        requires asked { AsksOf Moving.Bytes self.old.check self.old.state.part }
+        ensures takes { Takes (if_current self.old.state.store.frames self.old.state (fixed program.now input.now ended
+            (move_of Moving.Bytes) size self.old.state self.old.state.part)) result self.old self.new }
+        ensures appends { OnlyAppends self.old self.new }
+        ensures on { IsOn input.now self.new }
+        ensures stays { Stays Moving.Bytes self.old.state self.new }
+    {
+        if !self.has_current() {
+            return self.trap(Trap::NoBuffer);
+        }
+        self.fixed(Moving::Bytes, size, program, input, ended)
+    }
+}

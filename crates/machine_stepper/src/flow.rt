@@ -1,0 +1,111 @@
+#![tactic(auto, using(crate::proofs::Appending::finishes, crate::proofs::Appending::same_arena))]
+
+ghost use Rattle.std.specs.Prelude.{◌≡◌, ◌≢◌, ◌≤◌, ◌<◌, length, Some, None};
+ghost use Rattle.isa.specs.declared.instr.Instr.TheVariants as op;
+ghost use Rattle.isa.specs.declared.limits.TheConstants.{MOST_INSTRS};
+ghost use Rattle.isa.specs.Row.{row};
+ghost use Rattle.machine_stepper.specs.Contract.{OnlyAppends, Takes};
+
+use crate::machine::Machine;
+use crate::step::Step;
+use isa::{MOST_CALLS, Program, Trap};
+
+impl Machine {
+    /// A miss is told.
+    pub(crate) fn tell_miss(
+        &mut self,
+        miss: u32,
+        program: &Program,
+        input: &[u8],
+        ended: bool,
+    ) -> Step
+        requires pc { self.old.state.pc < MOST_INSTRS }
+        requires within { self.old.state.pos ≤ length input.now }
+        requires whole { self.old.state.part ≡ None }
+        ensures takes { Takes (row program.now input.now ended (op.Miss miss) self.old.state) result self.old self.new }
+        ensures appends { OnlyAppends self.old self.new }
+        ensures within { self.new.state.pos ≤ length input.now }
+        ensures whole { self.new.state.part ≡ None }
+        ensures memory { result ≢ Step.NoMemory }
+    {
+        self.miss(miss);
+        self.next(self.pos())
+    }
+
+    /// A routine is called.
+    pub(crate) fn call(
+        &mut self,
+        address: u32,
+        program: &Program,
+        input: &[u8],
+        ended: bool,
+    ) -> Step
+        requires pc { self.old.state.pc < MOST_INSTRS }
+        requires within { self.old.state.pos ≤ length input.now }
+        requires whole { self.old.state.part ≡ None }
+        ensures takes { Takes (row program.now input.now ended (op.Call address) self.old.state) result self.old
+            self.new }
+        ensures appends { OnlyAppends self.old self.new }
+        ensures within { self.new.state.pos ≤ length input.now }
+        ensures whole { self.new.state.part ≡ None }
+    {
+        if self.calls() >= MOST_CALLS {
+            return self.trap(Trap::TooManyCalls);
+        }
+        self.push_call(address as usize)
+    }
+
+    /// A routine returns.
+    pub(crate) fn return_from_call(&mut self, program: &Program, input: &[u8], ended: bool) -> Step
+        requires pc { self.old.state.pc < MOST_INSTRS }
+        requires within { self.old.state.pos ≤ length input.now }
+        requires whole { self.old.state.part ≡ None }
+        ensures takes { Takes (row program.now input.now ended op.Return self.old.state) result self.old self.new }
+        ensures appends { OnlyAppends self.old self.new }
+        ensures within { self.new.state.pos ≤ length input.now }
+        ensures whole { self.new.state.part ≡ None }
+        ensures memory { result ≢ Step.NoMemory }
+    {
+        match self.pop_call() {
+            Some(address) => self.jump(address, self.pos()),
+            None => self.trap(Trap::NoReturn),
+        }
+    }
+
+    /// A jump.
+    pub(crate) fn jump_to(
+        &mut self,
+        address: u32,
+        program: &Program,
+        input: &[u8],
+        ended: bool,
+    ) -> Step
+        requires pc { self.old.state.pc < MOST_INSTRS }
+        requires within { self.old.state.pos ≤ length input.now }
+        requires whole { self.old.state.part ≡ None }
+        ensures takes { Takes (row program.now input.now ended (op.Jump address) self.old.state) result self.old
+            self.new }
+        ensures appends { OnlyAppends self.old self.new }
+        ensures within { self.new.state.pos ≤ length input.now }
+        ensures whole { self.new.state.part ≡ None }
+        ensures memory { result ≢ Step.NoMemory }
+    {
+        self.jump(address as usize, self.pos())
+    }
+
+    /// The run ends.
+    pub(crate) fn halt(&mut self, program: &Program, input: &[u8], ended: bool) -> Step
+        requires pc { self.old.state.pc < MOST_INSTRS }
+        requires within { self.old.state.pos ≤ length input.now }
+        requires whole { self.old.state.part ≡ None }
+        ensures takes { Takes (row program.now input.now ended op.Halt self.old.state) result self.old self.new }
+        ensures appends { OnlyAppends self.old self.new }
+        ensures within { self.new.state.pos ≤ length input.now }
+        ensures whole { self.new.state.part ≡ None }
+    {
+        let verdict = self
+            .ending(program, input, ended)
+            .halted(self.meter().depth, self.calls(), self.pos());
+        self.conclude(verdict)
+    }
+}

@@ -1,0 +1,206 @@
+#![tactic(auto, using(crate::proofs::Appending::goes_on, crate::proofs::Appending::no_more, crate::proofs::Appending::stays_open, crate::proofs::Appending::same_arena))]
+
+ghost use Rattle.std.specs.Prelude.{◌≡◌, ◌≢◌, ◌≤◌, ◌<◌, ◌+◌, [], length, is_some, IfOk, Some, true};
+ghost use Rattle.avro_bytes.specs.declared.limits.TheConstants.{MOST_DEPTH};
+ghost use Rattle.isa.specs.declared.limits.TheConstants.{MOST_INSTRS};
+ghost use Rattle.isa.specs.Table.{missed, next, pushed, with_frames};
+ghost use Rattle.machine_store.specs.Frames.{FewSlots, HasSlot, frame_of, has_current_below, is_skip, is_skipped, skip_walk_of, slots_of, walk_of};
+ghost use Rattle.machine_store.specs.Store.{close_blocks, close_record, leave, next_item, next_skipped, select};
+ghost use Rattle.machine_stepper.specs.Contract.{AppendsThese, OnlyAppends, Takes, closing_bytes};
+
+use crate::machine::Machine;
+use crate::step::Step;
+use avro_bytes::{BlockWalk, Meter};
+use machine_store::Opening;
+use std::alloc::AllocError;
+
+impl Machine {
+    /// Whether there is a current buffer below the newest frame.
+    pub(crate) fn has_current_below(&self) -> bool
+        ensures { result ≡ has_current_below self.now.state.store.frames }
+    {
+        self.store.has_current_below()
+    }
+
+    /// How many slots the newest frame has, where it is a record.
+    pub(crate) fn slots(&self) -> Option<usize>
+        ensures { result ≡ slots_of self.now.state.store.frames }
+    {
+        self.store.slots()
+    }
+
+    /// Whether the newest frame is a record that is skipped.
+    pub(crate) fn is_skip(&self) -> bool
+        ensures { result ≡ is_skip self.now.state.store.frames }
+    {
+        self.store.is_skip()
+    }
+
+    /// The walk of the newest frame, where it is an array or a map.
+    pub(crate) fn walk(&self) -> Option<BlockWalk>
+        ensures { result ≡ walk_of self.now.state.store.frames }
+    {
+        self.store.walk()
+    }
+
+    /// The walk of the newest frame, where it is an array or a map that is skipped.
+    pub(crate) fn skip_walk(&self) -> Option<BlockWalk>
+        ensures { result ≡ skip_walk_of self.now.state.store.frames }
+    {
+        self.store.skip_walk()
+    }
+
+    /// The number of the first miss.
+    pub fn mark(&self) -> Option<u32>
+        ensures { result ≡ self.now.state.store.mark }
+    {
+        self.store.mark()
+    }
+
+    /// Whether the output passed its limit.
+    pub fn is_over(&self) -> bool
+        ensures { result ≡ self.now.state.store.over }
+    {
+        self.store.is_over()
+    }
+
+    /// A miss is told.
+    pub(crate) fn miss(&mut self, miss: u32)
+        ensures missed { self.new.state ≡ missed miss self.old.state }
+        ensures appends { OnlyAppends self.old self.new }
+    {
+        self.store.miss(miss);
+    }
+
+    /// A frame is opened, inside which the meter is such.
+    pub(crate) fn open(&mut self, opening: Opening, inside: Meter) -> Step
+        requires pc { self.old.state.pc < MOST_INSTRS }
+        requires few { FewSlots opening }
+        requires deep { length self.old.state.store.frames < MOST_DEPTH }
+        requires units { self.old.state.units ≤ inside.units }
+        ensures takes { Takes (Some (next self.old.state.pos (pushed (frame_of opening) inside self.old.state))) result
+            self.old self.new }
+        ensures appends { OnlyAppends self.old self.new }
+        ensures pos { self.new.state.pos ≡ self.old.state.pos }
+        ensures part { self.new.state.part ≡ self.old.state.part }
+    {
+        if self.store.open(opening, inside.units).is_err() {
+            return Step::NoMemory;
+        }
+        self.pc += 1;
+        Step::Moved
+    }
+
+    /// A slot of the newest record is selected.
+    pub(crate) fn select(&mut self, slot: usize) -> Step
+        requires pc { self.old.state.pc < MOST_INSTRS }
+        requires there { HasSlot slot (slots_of self.old.state.store.frames) }
+        ensures takes { Takes (Some (next self.old.state.pos
+            (with_frames (select slot self.old.state.store.frames) self.old.state))) result self.old self.new }
+        ensures appends { OnlyAppends self.old self.new }
+        ensures pos { self.new.state.pos ≡ self.old.state.pos }
+        ensures part { self.new.state.part ≡ self.old.state.part }
+        ensures memory { result ≢ Step.NoMemory }
+    {
+        self.store.select(slot);
+        self.pc += 1;
+        Step::Moved
+    }
+
+    /// The newest record is closed.
+    pub(crate) fn close_record(&mut self) -> Step
+        requires pc { self.old.state.pc < MOST_INSTRS }
+        requires record { is_some (slots_of self.old.state.store.frames) ≡ true }
+        requires below { has_current_below self.old.state.store.frames ≡ true }
+        ensures takes { Takes (Some (next self.old.state.pos (record self.old.state
+            { store = close_record self.old.state.store.frames self.old.state.store }))) result self.old self.new }
+        ensures appends { OnlyAppends self.old self.new }
+        ensures joins { AppendsThese [] self.old self.new }
+        ensures pos { self.new.state.pos ≡ self.old.state.pos }
+        ensures part { self.new.state.part ≡ self.old.state.part }
+    {
+        if self.store.close_record().is_err() {
+            return Step::NoMemory;
+        }
+        self.pc += 1;
+        Step::Moved
+    }
+
+    /// The newest frame, which is skipped, is left.
+    pub(crate) fn leave(&mut self)
+        requires { is_skipped self.old.state.store.frames ≡ true }
+        ensures left { self.new.state ≡ with_frames (leave self.old.state.store.frames) self.old.state }
+        ensures appends { OnlyAppends self.old self.new }
+    {
+        self.store.leave();
+    }
+
+    /// At the next item of the newest array or map, with the bytes up to a place read.
+    #[tactic(auto, using(crate::proofs::Appending::next_many, crate::proofs::Appending::same_arena))]
+    pub(crate) fn gather(&mut self, walk: BlockWalk, to: usize, inside: Meter) -> Step
+        requires pc { self.old.state.pc < MOST_INSTRS }
+        requires blocks { is_some (walk_of self.old.state.store.frames) ≡ true }
+        requires units { self.old.state.units < inside.units }
+        ensures step { result ≡ Step.Moved }
+        ensures appends { OnlyAppends self.old self.new }
+        ensures arena { self.new.layout.arena ≡ self.old.layout.arena }
+        ensures gathered { self.new.state ≡ record (next to
+            (with_frames (next_item walk self.old.state.store.frames) self.old.state)) { units = inside.units } }
+        ensures frames { length self.new.state.store.frames ≡ length self.old.state.store.frames }
+    {
+        self.store.next_item(walk, inside.units);
+        self.pc += 1;
+        self.pos = to;
+        Step::Moved
+    }
+
+    /// At the next item of the newest array or map, which is skipped, with the bytes up to a place read.
+    pub(crate) fn pass(&mut self, walk: BlockWalk, to: usize, inside: Meter) -> Step
+        requires pc { self.old.state.pc < MOST_INSTRS }
+        requires blocks { is_some (skip_walk_of self.old.state.store.frames) ≡ true }
+        requires units { self.old.state.units ≤ inside.units }
+        ensures step { result ≡ Step.Moved }
+        ensures appends { OnlyAppends self.old self.new }
+        ensures passed { self.new.state ≡ record (next to
+            (with_frames (next_skipped walk self.old.state.store.frames) self.old.state)) { units = inside.units } }
+    {
+        self.store.next_skipped(walk, inside.units);
+        self.pc += 1;
+        self.pos = to;
+        Step::Moved
+    }
+
+    /// The newest array or map is closed, with the bytes up to a place read, and the run goes on at an address.
+    pub(crate) fn close_blocks(&mut self, address: usize, to: usize) -> Step
+        requires blocks { is_some (walk_of self.old.state.store.frames) ≡ true }
+        requires below { has_current_below self.old.state.store.frames ≡ true }
+        ensures takes { Takes (Some (record self.old.state {
+          pc = address;
+          pos = to;
+          store = close_blocks
+              self.old.state.store.frames self.old.state.store;
+        })) result self.old self.new }
+        ensures appends { OnlyAppends self.old self.new }
+        ensures joins { AppendsThese (closing_bytes self.old.state.store.frames self.new.state.store.frames)
+            self.old self.new }
+        ensures part { self.new.state.part ≡ self.old.state.part }
+    {
+        if self
+            .store
+            .close_blocks(self.alloc, &mut self.scratch)
+            .is_err()
+        {
+            return Step::NoMemory;
+        }
+        self.pc = address;
+        self.pos = to;
+        Step::Moved
+    }
+
+    /// The bytes of the output.
+    pub(crate) fn put_together(&self) -> Result<Vec<u8>, AllocError>
+        ensures { IfOk result (λ out. out.items ≡ self.now.state.store.out) }
+    {
+        self.store.put_together(self.alloc)
+    }
+}

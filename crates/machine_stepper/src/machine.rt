@@ -1,0 +1,330 @@
+#![tactic(auto, using(crate::proofs::Appending::goes_on, crate::proofs::Appending::same_arena))]
+
+ghost use Rattle.std.specs.Prelude.{◌≡◌, ◌≢◌, ◌≤◌, ◌<◌, ◌+◌, ℕ, [], ◌∷◌, ◌++◌, length, is_some, option_to_list, OnOk, OnErr, Some, None, false, true};
+ghost use Rattle.avro_bytes.specs.declared.fault.Fault.TheVariants.{NoMemory};
+ghost use Rattle.avro_bytes.specs.declared.meter.Meter.{Meter};
+ghost use Rattle.isa.specs.declared.limits.TheConstants.{MOST_INSTRS};
+ghost use Rattle.isa.specs.State.{has_current, meter_of};
+ghost use Rattle.avro_bytes.specs.Shortest.{IsTight, shortest};
+ghost use Rattle.isa.specs.Table.{added, next, stop, trap};
+ghost use Rattle.machine_rules.specs.declared.ending.Verdict.TheVariants.{Done};
+ghost use Rattle.machine_rules.specs.Ending.{refused, told};
+ghost use Rattle.machine_stepper.specs.Contract.{OnlyAppends, Takes};
+ghost use Rattle.machine_stepper.specs.Running.{end_of};
+
+use crate::step::Step;
+use avro_bytes::{Fault, Meter, put_long};
+use isa::{End, Program, Trap};
+use outcome::Outcome;
+use machine_store::Store;
+use machine_rules::{Ending, Part, RowCount, TextCheck, Verdict};
+use std::alloc::{AllocError, Global};
+use std::marker::Model;
+use machine_lookahead::{Found, is_tight};
+
+/// A run of a program: callers see it as a state of the instruction table, and how that is kept.
+#[derive(Drop)]
+pub struct Machine {
+    pub(crate) pc: usize,
+    pub(crate) pos: usize,
+    pub(crate) calls: Vec<usize>,
+    pub(crate) store: Store,
+    pub(crate) part: Option<Part>,
+    pub(crate) check: TextCheck,
+    pub(crate) count: RowCount,
+    pub(crate) end: Option<End>,
+    pub(crate) scratch: Vec<u8>,
+    /// What was found ahead.
+    pub(crate) found: Found,
+    /// Up to this place looking ahead went before, and took nothing.
+    pub(crate) looked: usize,
+    pub(crate) alloc: Global,
+}
+
+impl Model for Machine {
+    ghost use Rattle.machine_stepper.specs.Running.{Running, running_of};
+
+    ghost Value = { Running };
+
+    ghost view = { λ m. running_of m.pc m.pos m.calls.items m.store m.part m.check m.count.rows m.end };
+}
+
+impl Machine {
+    ghost use Rattle.machine_stepper.specs.Running.{start};
+
+    /// The state before a run. It takes no memory.
+    pub fn new(alloc: Global) -> Machine
+        ensures { result ≡ start }
+    {
+        Machine {
+            pc: 0,
+            pos: 0,
+            calls: Vec::new(alloc),
+            store: Store::new(alloc),
+            part: None,
+            check: TextCheck::Unasked,
+            count: RowCount { rows: 0 },
+            end: None,
+            scratch: Vec::new(alloc),
+            found: Found::new(alloc),
+            looked: 0,
+            alloc,
+        }
+    }
+
+    /// Goes back to what `new` gives, and keeps the memory.
+    pub fn reset(&mut self)
+        ensures { self.new ≡ start }
+    {
+        self.pc = 0;
+        self.pos = 0;
+        self.calls.clear();
+        self.store.reset();
+        self.part = None;
+        self.check = TextCheck::Unasked;
+        self.count = RowCount { rows: 0 };
+        self.end = None;
+        self.looked = 0;
+    }
+
+    /// The address of the next instruction.
+    pub fn pc(&self) -> usize
+        ensures { result ≡ self.now.state.pc }
+    {
+        self.pc
+    }
+
+    /// How many rows were taken.
+    pub fn count(&self) -> u64
+        ensures { result ≡ self.now.state.count }
+    {
+        self.count.rows
+    }
+
+    /// The place of the next byte.
+    pub fn pos(&self) -> usize
+        ensures { result ≡ self.now.state.pos }
+    {
+        self.pos
+    }
+
+    /// How much is open, and how many units there were.
+    pub(crate) fn meter(&self) -> Meter
+        ensures { result ≡ meter_of self.now.state }
+    {
+        self.store.meter()
+    }
+
+    /// Whether there is a current buffer.
+    pub(crate) fn has_current(&self) -> bool
+        ensures { result ≡ has_current self.now.state.store.frames }
+    {
+        self.store.has_current()
+    }
+
+    /// The run ends.
+    pub(crate) fn stop(&mut self, end: End) -> Step
+        ensures step { result ≡ Step.Moved }
+        ensures stopped { stop (end_of end) self.old.state ≡ Some self.new.state }
+        ensures kept { self.new ≡ record self.old { state = self.new.state } }
+    {
+        self.end = Some(end);
+        Step::Moved
+    }
+
+    /// The run ends with a trap.
+    pub(crate) fn trap(&mut self, trap: Trap) -> Step
+        ensures step { result ≡ Step.Moved }
+        ensures stopped { Rattle.isa.specs.Table.trap trap self.old.state ≡ Some self.new.state }
+        ensures kept { self.new ≡ record self.old { state = self.new.state } }
+    {
+        self.stop(End::Trap(trap))
+    }
+
+    /// By what the run ends, where it does.
+    pub(crate) fn ending<'a>(
+        &self,
+        program: &'a Program,
+        input: &'a [u8],
+        ended: bool,
+    ) -> Ending<'a>
+        ensures program { result.program.now ≡ program.now }
+        ensures input { result.input.now ≡ input.now }
+        ensures ended { result.ended ≡ ended }
+        ensures mark { result.mark ≡ self.now.state.store.mark }
+        ensures over { result.over ≡ self.now.state.store.over }
+    {
+        Ending {
+            program,
+            input,
+            ended,
+            mark: self.mark(),
+            over: self.is_over(),
+        }
+    }
+
+    /// What a verdict comes to.
+    pub(crate) fn conclude(&mut self, verdict: Verdict) -> Step
+        ensures takes { Takes (told verdict self.old.state) result self.old self.new }
+        ensures kept { self.new ≡ record self.old { state = record self.old.state { end = self.new.state.end } } }
+        ensures memory { result ≡ Step.NoMemory → verdict ≡ Done }
+    {
+        match verdict {
+            Verdict::Waits => Step::Waits,
+            Verdict::Malformed { kind, at } => self.stop(End::Out(Outcome::Malformed { kind, at })),
+            Verdict::Mismatch(miss) => self.stop(End::Out(Outcome::Mismatch(miss))),
+            Verdict::OutputTooLarge => self.stop(End::Out(Outcome::OutputTooLarge)),
+            Verdict::Done => match self.put_together() {
+                Ok(out) => self.stop(End::Out(Outcome::Done(out))),
+                Err(_) => Step::NoMemory,
+            },
+            Verdict::Trap(trap) => self.trap(trap),
+        }
+    }
+
+    /// Bytes are missing, or cannot be read.
+    pub(crate) fn refuse(
+        &mut self,
+        fault: Fault,
+        program: &Program,
+        input: &[u8],
+        ended: bool,
+    ) -> Step
+        requires { fault ≢ NoMemory }
+        ensures takes { Takes (refused program.now input.now ended fault self.old.state) result self.old self.new }
+        ensures layout { self.new.layout ≡ self.old.layout }
+        ensures pos { self.new.state.pos ≡ self.old.state.pos }
+        ensures part { self.new.state.part ≡ self.old.state.part }
+        ensures check { self.new.check ≡ self.old.check }
+        ensures memory { result ≢ Step.NoMemory }
+        ensures store { self.new.state.store ≡ self.old.state.store }
+    {
+        let verdict = self.ending(program, input, ended).refused(fault);
+        self.conclude(verdict)
+    }
+
+    /// At the next instruction, with the bytes up to a place read.
+    pub(crate) fn next(&mut self, to: usize) -> Step
+        requires { self.old.state.pc < MOST_INSTRS }
+        ensures step { result ≡ Step.Moved }
+        ensures next { self.new ≡ record self.old { state = next to self.old.state } }
+    {
+        self.pc += 1;
+        self.pos = to;
+        Step::Moved
+    }
+
+    /// At an address, with the bytes up to a place read.
+    pub(crate) fn jump(&mut self, address: usize, to: usize) -> Step
+        ensures step { result ≡ Step.Moved }
+        ensures jumped { self.new ≡ record self.old { state = record self.old.state { pc = address; pos = to } } }
+    {
+        self.pc = address;
+        self.pos = to;
+        Step::Moved
+    }
+
+    /// How many calls are open.
+    pub fn calls(&self) -> usize
+        ensures { result ≡ length self.now.state.calls }
+    {
+        self.calls.len()
+    }
+
+    /// A call of a routine at an address.
+    pub(crate) fn push_call(&mut self, address: usize) -> Step
+        requires { self.old.state.pc < MOST_INSTRS }
+        ensures takes { Takes (Some (record self.old.state
+            { pc = address; calls = (self.old.state.pc + 1) ∷ self.old.state.calls })) result self.old self.new }
+        ensures layout { self.new.layout ≡ self.old.layout }
+        ensures pos { self.new.state.pos ≡ self.old.state.pos }
+        ensures part { self.new.state.part ≡ self.old.state.part }
+    {
+        if self.calls.push(self.pc + 1).is_err() {
+            return Step::NoMemory;
+        }
+        self.pc = address;
+        Step::Moved
+    }
+
+    /// The address to return to, of the newest call, which is closed.
+    pub(crate) fn pop_call(&mut self) -> Option<usize>
+        ensures popped { option_to_list result ++ self.new.state.calls ≡ self.old.state.calls }
+        ensures some { is_some result ≡ false → self.old.state.calls ≡ [] }
+        ensures kept { self.new ≡ record self.old { state = record self.old.state { calls = self.new.state.calls } } }
+    {
+        self.calls.pop()
+    }
+
+    /// Bytes at the end of the current buffer.
+    pub(crate) fn add(&mut self, bytes: &[u8]) -> Result<(), AllocError>
+        requires { has_current self.old.state.store.frames ≡ true }
+        ensures added { OnOk result (self.new.state ≡ added bytes.now self.old.state) }
+        ensures appends { OnlyAppends self.old self.new }
+        ensures check { self.new.check ≡ self.old.check }
+        ensures refused { OnErr result (self.new ≡ self.old) }
+    {
+        self.store.add(bytes)
+    }
+
+    /// The shortest spelling of a number at the end of the current buffer.
+    pub(crate) fn add_long(&mut self, n: i64) -> Result<(), AllocError>
+        requires { has_current self.old.state.store.frames ≡ true }
+        ensures added { OnOk result (self.new.state ≡ added (shortest n) self.old.state) }
+        ensures appends { OnlyAppends self.old self.new }
+        ensures check { self.new.check ≡ self.old.check }
+        ensures refused { OnErr result (self.new ≡ self.old) }
+    {
+        self.scratch.clear();
+        put_long(&mut self.scratch, n)?;
+        self.store.add(&self.scratch)
+    }
+
+    /// Bytes at the end of the current buffer: the run is at the next instruction then, with the bytes up to a place
+    /// read.
+    pub(crate) fn move_bytes(&mut self, bytes: &[u8], to: usize) -> Step
+        requires pc { self.old.state.pc < MOST_INSTRS }
+        requires room { has_current self.old.state.store.frames ≡ true }
+        ensures takes { Takes (Some (next to (added bytes.now self.old.state))) result self.old self.new }
+        ensures appends { OnlyAppends self.old self.new }
+        ensures within { (len : ℕ) → self.old.state.pos ≤ len → to ≤ len → self.new.state.pos ≤ len }
+        ensures part { self.new.state.part ≡ self.old.state.part }
+    {
+        if self.add(bytes).is_err() {
+            return Step::NoMemory;
+        }
+        self.next(to)
+    }
+
+    /// The same of a number that was read, in its shortest spelling: its own, where that is the shortest.
+    pub(crate) fn move_number(&mut self, n: i64, spelling: &[u8], to: usize) -> Step
+        requires pc { self.old.state.pc < MOST_INSTRS }
+        requires room { has_current self.old.state.store.frames ≡ true }
+        requires tight { IsTight spelling.now → spelling.now ≡ shortest n }
+        ensures takes { Takes (Some (next to (added (shortest n) self.old.state))) result self.old self.new }
+        ensures appends { OnlyAppends self.old self.new }
+        ensures within { (len : ℕ) → self.old.state.pos ≤ len → to ≤ len → self.new.state.pos ≤ len }
+        ensures part { self.new.state.part ≡ self.old.state.part }
+    {
+        if self.add_spelled(n, spelling).is_err() {
+            return Step::NoMemory;
+        }
+        self.next(to)
+    }
+
+    /// The shortest spelling of a number that was read at the end of the current buffer: its own, where that is the
+    /// shortest.
+    pub(crate) fn add_spelled(&mut self, n: i64, spelling: &[u8]) -> Result<(), AllocError>
+        requires room { has_current self.old.state.store.frames ≡ true }
+        requires tight { IsTight spelling.now → spelling.now ≡ shortest n }
+        ensures added { OnOk result (self.new.state ≡ added (shortest n) self.old.state) }
+        ensures appends { OnlyAppends self.old self.new }
+        ensures check { self.new.check ≡ self.old.check }
+        ensures refused { OnErr result (self.new ≡ self.old) }
+    {
+        if is_tight(spelling) {
+            return self.add(spelling);
+        }
+        self.add_long(n)
+    }
+}

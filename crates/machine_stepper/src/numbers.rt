@@ -1,0 +1,129 @@
+#![tactic(auto, using(crate::proofs::Appending::goes_on, crate::proofs::Appending::same_arena))]
+
+ghost use Rattle.std.specs.Prelude.{◌≡◌, ◌≢◌, ◌≤◌, ◌<◌, length, None};
+ghost use Rattle.isa.specs.declared.instr.Instr.TheVariants as op;
+ghost use Rattle.isa.specs.declared.limits.TheConstants.{MOST_INSTRS};
+ghost use Rattle.isa.specs.Row.{row};
+ghost use Rattle.machine_stepper.specs.Contract.{OnlyAppends, Takes};
+
+use crate::machine::Machine;
+use crate::step::Step;
+use avro_bytes::{read_boolean, read_int, read_long};
+use isa::{Program, Trap};
+use machine_lookahead::spelling;
+
+impl Machine {
+    /// A boolean moves.
+    pub(crate) fn boolean(&mut self, program: &Program, input: &[u8], ended: bool) -> Step
+        requires pc { self.old.state.pc < MOST_INSTRS }
+        requires within { self.old.state.pos ≤ length input.now }
+        requires whole { self.old.state.part ≡ None }
+        ensures takes { Takes (row program.now input.now ended op.Bool self.old.state) result self.old self.new }
+        ensures appends { OnlyAppends self.old self.new }
+        ensures within { self.new.state.pos ≤ length input.now }
+        ensures whole { self.new.state.part ≡ None }
+    {
+        if !self.has_current() {
+            return self.trap(Trap::NoBuffer);
+        }
+        match read_boolean(input, self.pos(), self.meter()) {
+            Ok((value, to, _)) => self.move_bytes(&[u8::from(value)], to),
+            Err(fault) => self.refuse(fault, program, input, ended),
+        }
+    }
+
+    /// An int moves, in its shortest spelling.
+    pub(crate) fn int(&mut self, program: &Program, input: &[u8], ended: bool) -> Step
+        requires pc { self.old.state.pc < MOST_INSTRS }
+        requires within { self.old.state.pos ≤ length input.now }
+        requires whole { self.old.state.part ≡ None }
+        ensures takes { Takes (row program.now input.now ended op.Int self.old.state) result self.old self.new }
+        ensures appends { OnlyAppends self.old self.new }
+        ensures within { self.new.state.pos ≤ length input.now }
+        ensures whole { self.new.state.part ≡ None }
+    {
+        if !self.has_current() {
+            return self.trap(Trap::NoBuffer);
+        }
+        match read_int(input, self.pos(), self.meter()) {
+            Ok((value, to, _)) => {
+                let spelling = spelling(input, self.pos(), to, value.into());
+                self.move_number(value.into(), spelling, to)
+            }
+            Err(fault) => self.refuse(fault, program, input, ended),
+        }
+    }
+
+    /// A long moves, in its shortest spelling.
+    pub(crate) fn long(&mut self, program: &Program, input: &[u8], ended: bool) -> Step
+        requires pc { self.old.state.pc < MOST_INSTRS }
+        requires within { self.old.state.pos ≤ length input.now }
+        requires whole { self.old.state.part ≡ None }
+        ensures takes { Takes (row program.now input.now ended op.Long self.old.state) result self.old self.new }
+        ensures appends { OnlyAppends self.old self.new }
+        ensures within { self.new.state.pos ≤ length input.now }
+        ensures whole { self.new.state.part ≡ None }
+    {
+        if !self.has_current() {
+            return self.trap(Trap::NoBuffer);
+        }
+        match read_long(input, self.pos(), self.meter()) {
+            Ok((value, to, _)) => {
+                let spelling = spelling(input, self.pos(), to, value);
+                self.move_number(value, spelling, to)
+            }
+            Err(fault) => self.refuse(fault, program, input, ended),
+        }
+    }
+
+    /// A boolean is skipped.
+    pub(crate) fn skip_boolean(&mut self, program: &Program, input: &[u8], ended: bool) -> Step
+        requires pc { self.old.state.pc < MOST_INSTRS }
+        requires within { self.old.state.pos ≤ length input.now }
+        requires whole { self.old.state.part ≡ None }
+        ensures takes { Takes (row program.now input.now ended op.SkipBool self.old.state) result self.old self.new }
+        ensures appends { OnlyAppends self.old self.new }
+        ensures within { self.new.state.pos ≤ length input.now }
+        ensures whole { self.new.state.part ≡ None }
+        ensures memory { result ≢ Step.NoMemory }
+    {
+        match read_boolean(input, self.pos(), self.meter()) {
+            Ok((_, to, _)) => self.next(to),
+            Err(fault) => self.refuse(fault, program, input, ended),
+        }
+    }
+
+    /// An int is skipped.
+    pub(crate) fn skip_int(&mut self, program: &Program, input: &[u8], ended: bool) -> Step
+        requires pc { self.old.state.pc < MOST_INSTRS }
+        requires within { self.old.state.pos ≤ length input.now }
+        requires whole { self.old.state.part ≡ None }
+        ensures takes { Takes (row program.now input.now ended op.SkipInt self.old.state) result self.old self.new }
+        ensures appends { OnlyAppends self.old self.new }
+        ensures within { self.new.state.pos ≤ length input.now }
+        ensures whole { self.new.state.part ≡ None }
+        ensures memory { result ≢ Step.NoMemory }
+    {
+        match read_int(input, self.pos(), self.meter()) {
+            Ok((_, to, _)) => self.next(to),
+            Err(fault) => self.refuse(fault, program, input, ended),
+        }
+    }
+
+    /// A long is skipped.
+    pub(crate) fn skip_long(&mut self, program: &Program, input: &[u8], ended: bool) -> Step
+        requires pc { self.old.state.pc < MOST_INSTRS }
+        requires within { self.old.state.pos ≤ length input.now }
+        requires whole { self.old.state.part ≡ None }
+        ensures takes { Takes (row program.now input.now ended op.SkipLong self.old.state) result self.old self.new }
+        ensures appends { OnlyAppends self.old self.new }
+        ensures within { self.new.state.pos ≤ length input.now }
+        ensures whole { self.new.state.part ≡ None }
+        ensures memory { result ≢ Step.NoMemory }
+    {
+        match read_long(input, self.pos(), self.meter()) {
+            Ok((_, to, _)) => self.next(to),
+            Err(fault) => self.refuse(fault, program, input, ended),
+        }
+    }
+}

@@ -1,0 +1,131 @@
+ghost use Rattle.std.specs.Prelude.{◌≡◌, ◌++◌, length, reverse, slice_get, option_map, is_some, false, true, None, Some, OnErr, OnOk};
+ghost use Rattle.machine_store.specs.Segments.{AreSegments, bytes_of};
+ghost use Rattle.machine_store.specs.Viewing.{buffer_of, place_and_length, segments_of_buffer, view_of};
+ghost use Rattle.machine_rules.specs.Pieces.{part_of};
+ghost use Rattle.machine_stepper.specs.Running.{carried, end_of};
+
+use crate::machine::Machine;
+use isa::End;
+use machine_store::{BufferAt, FrameView};
+use machine_rules::Part;
+use std::alloc::AllocError;
+
+impl Machine {
+    /// How many units were opened.
+    pub fn units(&self) -> u32
+        ensures { result ≡ self.now.state.units }
+    {
+        self.store.meter().units
+    }
+
+    /// How many frames are open.
+    pub fn depth(&self) -> u32
+        ensures { result ≡ length self.now.state.store.frames }
+    {
+        self.store.meter().depth
+    }
+
+    /// The address to return to of a call, the oldest first.
+    pub fn call_at(&self, number: usize) -> Option<usize>
+        ensures { result ≡ slice_get (reverse self.now.state.calls) number }
+    {
+        self.calls.get(number).copied()
+    }
+
+    /// The content of which bytes are still to move.
+    pub fn moving(&self) -> Option<Part>
+        ensures { option_map part_of result ≡ self.now.state.part }
+    {
+        self.part
+    }
+
+    /// How the run ended.
+    pub fn end(&self) -> Option<&End>
+        ensures { option_map (λ end. end_of end.now) result ≡ self.now.state.end }
+    {
+        self.end.as_ref()
+    }
+
+    /// How the run ended, which is taken out.
+    pub fn take_end(&mut self) -> Option<End>
+        ensures end { option_map end_of result ≡ self.old.state.end }
+        ensures taken { self.new ≡ record self.old { state = record self.old.state { end = None } } }
+    {
+        self.end.take()
+    }
+
+    /// How the run ended.
+    pub fn into_end(self) -> Option<End>
+        ensures { option_map end_of result ≡ self.state.end }
+    {
+        self.end
+    }
+
+    /// The bytes of a character that is cut, of a text that moves; none where no text moves, or no text begins so.
+    pub fn carry(&self) -> &[u8]
+        ensures { result.now ≡ carried self.now.state.part self.now.check }
+    {
+        match self.part {
+            Some(_) => self.check.carry(),
+            None => &[],
+        }
+    }
+
+    /// The bytes of all buffers.
+    pub fn arena(&self) -> &[u8]
+        ensures { result.now ≡ self.now.layout.arena }
+    {
+        self.store.arena()
+    }
+
+    /// What a frame is, by its number, the oldest first.
+    pub fn frame_at(&self, number: usize) -> Option<FrameView>
+        ensures { result ≡ option_map view_of (slice_get (reverse self.now.state.store.frames) number) }
+    {
+        self.store.frame_at(number)
+    }
+
+    /// Whether a buffer is there.
+    pub fn has_buffer(&self, at: BufferAt) -> bool
+        ensures { result ≡ is_some (buffer_of at self.now.state.store) }
+    {
+        self.store.has_buffer(at)
+    }
+
+    /// The bytes of a buffer after others.
+    pub fn push_buffer(&self, at: BufferAt, out: &mut Vec<u8>) -> Result<(), AllocError>
+        requires { is_some (buffer_of at self.now.state.store) ≡ true }
+        ensures pushed { OnOk result
+            (Some out.new.items ≡ option_map (λ bytes. out.old.items ++ bytes) (buffer_of at self.now.state.store)) }
+        ensures refused { OnErr result (out.new.items ≡ out.old.items) }
+    {
+        self.store.push_buffer(self.alloc, at, out)
+    }
+
+    /// The law that the bytes of a buffer are the arena's at its segments, joined in order, of which none is empty and
+    /// none begins where the one before it ends.
+    pub fn are_laid(&self, at: BufferAt)
+        requires { is_some (buffer_of at self.now.state.store) ≡ true }
+        ensures bytes { buffer_of at self.now.state.store
+            ≡ Some (bytes_of self.now.layout.arena (segments_of_buffer at self.now.layout)) }
+        ensures segments { AreSegments (length self.now.layout.arena) (segments_of_buffer at self.now.layout) }
+    {
+        self.store.are_laid(at);
+    }
+
+    /// The place in the arena and the length of a segment of a buffer, by its number, where there are so many. It takes
+    /// no memory.
+    pub fn segment(&self, at: BufferAt, number: usize) -> Option<(usize, usize)>
+        ensures there { is_some (buffer_of at self.now.state.store) ≡ true
+            → result ≡ option_map place_and_length (slice_get (segments_of_buffer at self.now.layout) number) }
+        ensures none { is_some (buffer_of at self.now.state.store) ≡ false → result ≡ None }
+    {
+        if !self.has_buffer(at) {
+            return None;
+        }
+        match self.store.segment(at, number) {
+            Some(segment) => Some((segment.place, segment.end.saturating_sub(segment.place))),
+            None => None,
+        }
+    }
+}

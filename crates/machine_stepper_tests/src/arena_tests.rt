@@ -1,0 +1,186 @@
+//! Where the bytes of a run lie.
+
+ghost use Rattle.std.specs.Prelude.{◌≡◌};
+ghost use Rattle.machine_stepper.specs.Running.{IsOn, IsUnder, start};
+
+use crate::programs::push_hex;
+use crate::rows::{assert_questions, assert_rows};
+use debugger::show;
+use isa::Program;
+use std::alloc::{AllocError, Global};
+use std::fmt::Write;
+use std::test::Fail;
+use machine_stepper::{BufferAt, Machine, Step};
+
+/// More segments than any buffer of these tests has.
+const SEGMENTS: usize = 4;
+
+/// A breakpoint where no instruction stands. Where there is one, nothing is looked for ahead, and contents lie in the
+/// arena in the order in which they were read.
+const NOWHERE: u32 = u32::MAX;
+
+/// A closed record adds nothing to the arena, and has its slots' segments. Slots are read by their numbers, gathered
+/// items are read, and a cut character is carried.
+const ROWS: &str = "\
+arena 8|swapped|3606666f6f|3606666f6f
+out 8|swapped|3606666f6f|(1 4)(0 1) ff06666f6f36
+slot 7 0|swapped|3606666f6f|(1 4) ff06666f6f
+slot 7 1|swapped|3606666f6f|(0 1) ff36
+slot 7 2|swapped|3606666f6f| none
+gathered 3|array|04060800|(0 1) ff06
+slot 3 0|array|04060800| none
+out 3|array|04060800| ff
+carry 2|0 TEXT;1 HALT|8201{63:61}c3a9|c3
+";
+
+/// Appends what a machine carries of a cut character after so many rows.
+pub(crate) fn push_carry(
+    alloc: Global,
+    output: &mut String,
+    machine: &mut Machine,
+    program: &Program,
+    input: &[u8],
+    k: u64,
+) -> Result<(), AllocError>
+    requires { machine.old ≡ start }
+{
+    let _rows = machine.slice(program, input, true, &[], k);
+    push_hex(alloc, output, machine.carry())
+}
+
+/// Appends the place and the length of each segment of a buffer.
+fn push_segments(output: &mut String, machine: &Machine, at: BufferAt) -> Result<(), AllocError> {
+    for number in 0..SEGMENTS {
+        if let Some((place, len)) = machine.segment(at, number) {
+            write!(output, "({place} {len})")?;
+        }
+    }
+    Ok(())
+}
+
+/// Appends the segments of a buffer, and its bytes after a byte that was there before, where there is such a buffer.
+fn push_buffer(
+    alloc: Global,
+    output: &mut String,
+    machine: &Machine,
+    at: BufferAt,
+) -> Result<(), AllocError> {
+    push_segments(output, machine, at)?;
+    if !machine.has_buffer(at) {
+        return output.push_str(" none");
+    }
+    output.push_str(" ")?;
+    let mut bytes = Vec::from_slice(alloc, &[0xff])?;
+    machine.push_buffer(at, &mut bytes)?;
+    push_hex(alloc, output, &bytes)
+}
+
+/// Appends a buffer, or else the arena, after so many rows, with nothing looked for ahead.
+pub(crate) fn push_after(
+    alloc: Global,
+    output: &mut String,
+    machine: &mut Machine,
+    program: &Program,
+    input: &[u8],
+    k: u64,
+    at: Option<BufferAt>,
+) -> Result<(), AllocError>
+    requires { machine.old ≡ start }
+{
+    let _rows = machine.slice(program, input, true, &[NOWHERE], k);
+    match at {
+        Some(at) => push_buffer(alloc, output, machine, at),
+        None => push_hex(alloc, output, machine.arena()),
+    }
+}
+
+#[test]
+fn bytes_lie_where_they_were_read(rt: HostRuntime) -> Result<(), Fail> {
+    assert_questions(&rt, ROWS)
+}
+
+/// What a machine shows, and its arena.
+fn shown(alloc: Global, machine: &Machine) -> Result<String, AllocError> {
+    let mut text = show(alloc, machine, false)?;
+    let arena = hex::encode(alloc, machine.arena())?;
+    text.push_str(arena.as_str())?;
+    Ok(text)
+}
+
+/// A row, where it can be counted.
+fn step(machine: &mut Machine, program: &Program, input: &[u8]) -> Step
+    requires under { IsUnder program.now machine.old }
+    requires on { IsOn input.now machine.old }
+    ensures under { IsUnder program.now machine.new }
+    ensures on { IsOn input.now machine.new }
+{
+    if machine.count() == u64::MAX {
+        return Step::Ended;
+    }
+    machine.step(program, input, true)
+}
+
+/// Whether a row is taken, asked again where memory ran out the first time: the machine shows then what it showed
+/// before.
+fn takes_row(
+    alloc: Global,
+    machine: &mut Machine,
+    program: &Program,
+    input: &[u8],
+) -> Result<bool, AllocError>
+    requires under { IsUnder program.now machine.old }
+    requires on { IsOn input.now machine.old }
+    ensures under { IsUnder program.now machine.new }
+    ensures on { IsOn input.now machine.new }
+{
+    let before = shown(alloc, machine)?;
+    let first = step(machine, program, input);
+    if first != Step::NoMemory {
+        return Ok(first == Step::Moved);
+    }
+    let after = shown(alloc, machine)?;
+    Ok(before.as_str() == after.as_str() && step(machine, program, input) == Step::Moved)
+}
+
+/// Whether so many rows are taken so.
+fn takes_rows(
+    alloc: Global,
+    machine: &mut Machine,
+    program: &Program,
+    input: &[u8],
+    k: u64,
+) -> Result<bool, AllocError>
+    requires under { IsUnder program.now machine.old }
+    requires on { IsOn input.now machine.old }
+{
+    'rows: for _row in 0..k {
+        if !takes_row(alloc, machine, program, input)? {
+            return Ok(false);
+        }
+    }
+    Ok(true)
+}
+
+/// Appends the arena and the segments of the output after so many rows that are taken one by one.
+pub(crate) fn push_steps(
+    alloc: Global,
+    output: &mut String,
+    machine: &mut Machine,
+    program: &Program,
+    input: &[u8],
+    k: u64,
+) -> Result<(), AllocError>
+    requires { machine.old ≡ start }
+{
+    if !takes_rows(alloc, machine, program, input, k)? {
+        return output.push_str("no such row");
+    }
+    push_hex(alloc, output, machine.arena())?;
+    output.push_str(" ")?;
+    push_segments(output, machine, BufferAt::Out)
+}
+
+#[test]
+fn rows_are_taken_one_by_one(rt: HostRuntime) -> Result<(), Fail> {
+    assert_rows(&rt, "steps 8", "swapped|3606666f6f|3606666f6f (1 4)(0 1)")
+}

@@ -1,0 +1,73 @@
+//! What is asked of a new machine, and what it answers in words.
+
+ghost use Rattle.std.specs.Prelude.{◌≡◌};
+ghost use Rattle.machine_stepper.specs.Running.{start};
+
+use crate::ahead_tests::push_found;
+use crate::arena_tests::{push_after, push_carry, push_steps};
+use crate::programs::{push_words, run};
+use crate::show_tests::{push_listing, push_shown, push_shown_after};
+use crate::slice_tests::{TURNS, WAITING, push_messages, push_turns};
+use isa::Program;
+use std::alloc::{AllocError, Global};
+use machine_stepper::{BufferAt, Machine};
+
+/// The number that a word is.
+fn number(word: Option<&str>) -> u64 {
+    word.unwrap_or("0").parse::<u64>().unwrap_or(0)
+}
+
+/// Appends what a machine answers before its first row. The words that a question has behind its first one are numbers:
+/// of rows, of times, of a frame's slot, or how many bytes a piece has and how many rows a slice.
+fn push_answer(
+    alloc: Global,
+    output: &mut String,
+    machine: &mut Machine,
+    program: &Program,
+    input: &[u8],
+    question: &str,
+) -> Result<(), AllocError>
+    requires { machine.old ≡ start }
+{
+    let mut words = question.split(' ');
+    let asked = words.next().unwrap_or("");
+    let k = number(words.next());
+    let other = number(words.next());
+    let at = match asked {
+        "out" => BufferAt::Out,
+        "gathered" => BufferAt::Gathered { frame: 0 },
+        _ => BufferAt::Slot {
+            frame: 0,
+            slot: other as usize,
+        },
+    };
+    match asked {
+        "end" => {
+            run(machine, program, input, k as usize, other);
+            push_words(alloc, output, machine)
+        }
+        "turns" => push_turns(alloc, output, machine, program, input, true, &TURNS),
+        "waiting" => push_turns(alloc, output, machine, program, input, false, &WAITING),
+        "messages" => push_messages(output, machine, program, input),
+        "shown" => push_shown_after(alloc, output, machine, program, input, k),
+        "no-memory" => push_shown(alloc, output, machine, true),
+        "listing" => push_listing(alloc, output, program),
+        "ahead" => push_found(alloc, output, machine, program, input, k),
+        "steps" => push_steps(alloc, output, machine, program, input, k),
+        "carry" => push_carry(alloc, output, machine, program, input, k),
+        "arena" => push_after(alloc, output, machine, program, input, k, None),
+        _ => push_after(alloc, output, machine, program, input, k, Some(at)),
+    }
+}
+
+/// Appends what a new machine answers.
+pub(crate) fn push_new(
+    alloc: Global,
+    output: &mut String,
+    program: &Program,
+    input: &[u8],
+    question: &str,
+) -> Result<(), AllocError> {
+    let mut machine = Machine::new(alloc);
+    push_answer(alloc, output, &mut machine, program, input, question)
+}

@@ -1,0 +1,5 @@
+pub use Rattle.machine_ropes.specs.Segments
+pub mod Buffers
+pub mod Frames
+pub mod Store
+pub mod Viewing

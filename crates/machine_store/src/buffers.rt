@@ -1,0 +1,363 @@
+ghost use Rattle.std.specs.Prelude.{◌≡◌, ◌≢◌, ◌+◌, ◌-◌, ◌^◌, ◌<◌, ◌≤◌, [], ◌++◌, length, map, slice_get, OnErr, OnOk, IfOk};
+ghost use Rattle.isa.specs.declared.limits.TheConstants.{MOST_SLOTS};
+ghost use Rattle.machine_store.specs.declared.buffers.Buffer.TheVariants.{Empty};
+ghost use Rattle.machine_store.specs.Buffers.{AreLaid, AreRopes, IsHeld, AllHeld, IsLater, IsPlace, buffer_at, segments_at, segments_of, with_added, with_closed, with_fewer, with_none, with_opened};
+ghost use Rattle.machine_ropes.specs.Segments.{bytes_of, with_bytes, with_lists, with_segment, with_segments};
+
+use machine_ropes::{Ropes, Segment};
+use std::alloc::{AllocError, Global};
+use std::marker::Model;
+
+/// The segments of a buffer.
+#[derive(Clone, Copy)]
+pub enum Buffer {
+    Empty,
+    One(Segment),
+    /// A first and a last one, and the number of the rope between them.
+    More {
+        first: Segment,
+        middle: usize,
+        last: Segment,
+    },
+}
+
+/// Which buffer: the output, or a slot.
+#[derive(Clone, Copy)]
+pub enum Place {
+    Out,
+    Slot(usize),
+}
+
+/// The buffer with a segment after its own.
+fn joined_segment(ropes: &mut Ropes, buffer: Buffer, segment: Segment) -> Result<Buffer, AllocError>
+    requires ropes { AreRopes ropes.old }
+    requires held { IsHeld ropes.old buffer }
+    ensures segments { IfOk result
+        (λ b. segments_of ropes.new b ≡ with_segment (segments_of ropes.old buffer) segment) }
+    ensures some { IfOk result (λ b. b ≢ Empty) }
+    ensures held { IfOk result (λ b. IsHeld ropes.new b) }
+    ensures later { IsLater ropes.old ropes.new }
+{
+    match buffer {
+        Buffer::Empty => Ok(Buffer::One(segment)),
+        Buffer::One(last) => Ok(if last.end == segment.place {
+            Buffer::One(Segment {
+                place: last.place,
+                end: segment.end,
+            })
+        } else {
+            Buffer::More {
+                first: last,
+                middle: 0,
+                last: segment,
+            }
+        }),
+        Buffer::More {
+            first,
+            middle,
+            last,
+        } => {
+            if last.end == segment.place {
+                let last = Segment {
+                    place: last.place,
+                    end: segment.end,
+                };
+                return Ok(Buffer::More {
+                    first,
+                    middle,
+                    last,
+                });
+            }
+            let middle = ropes.join(middle, last, 0)?;
+            Ok(Buffer::More {
+                first,
+                middle,
+                last: segment,
+            })
+        }
+    }
+}
+
+/// The buffer with a segment after its own, unless that one is empty.
+fn joined_bytes(ropes: &mut Ropes, buffer: Buffer, segment: Segment) -> Result<Buffer, AllocError>
+    requires ropes { AreRopes ropes.old }
+    requires held { IsHeld ropes.old buffer }
+    ensures segments { IfOk result (λ b. segments_of ropes.new b
+        ≡ with_bytes (segments_of ropes.old buffer) segment) }
+    ensures held { IfOk result (λ b. IsHeld ropes.new b) }
+    ensures later { IsLater ropes.old ropes.new }
+{
+    if segment.place == segment.end {
+        return Ok(buffer);
+    }
+    joined_segment(ropes, buffer, segment)
+}
+
+/// The buffer with those of another one after its own.
+fn joined_buffer(ropes: &mut Ropes, buffer: Buffer, behind: Buffer) -> Result<Buffer, AllocError>
+    requires ropes { AreRopes ropes.old }
+    requires held { IsHeld ropes.old buffer }
+    requires behind { IsHeld ropes.old behind }
+    ensures segments { IfOk result
+        (λ b. segments_of ropes.new b ≡ with_segments (segments_of ropes.old buffer) (segments_of ropes.old behind)) }
+    ensures held { IfOk result (λ b. IsHeld ropes.new b) }
+    ensures later { IsLater ropes.old ropes.new }
+{
+    match behind {
+        Buffer::Empty => Ok(buffer),
+        Buffer::One(segment) => joined_segment(ropes, buffer, segment),
+        Buffer::More {
+            first,
+            middle,
+            last,
+        } => match joined_segment(ropes, buffer, first)? {
+            Buffer::Empty => unreachable!(),
+            Buffer::One(first) => Ok(Buffer::More {
+                first,
+                middle,
+                last,
+            }),
+            Buffer::More {
+                first,
+                middle: before,
+                last: segment,
+            } => {
+                let middle = ropes.join(before, segment, middle)?;
+                Ok(Buffer::More {
+                    first,
+                    middle,
+                    last,
+                })
+            }
+        },
+    }
+}
+
+/// The buffer with those of others after its own, in order.
+fn joined_buffers(
+    ropes: &mut Ropes,
+    buffer: Buffer,
+    others: &[Buffer],
+) -> Result<Buffer, AllocError>
+    requires ropes { AreRopes ropes.old }
+    requires held { IsHeld ropes.old buffer }
+    requires others { AllHeld ropes.old others.now }
+    ensures segments { IfOk result (λ b. segments_of ropes.new b
+        ≡ with_lists (segments_of ropes.old buffer) (map (segments_of ropes.old) others.now)) }
+    ensures held { IfOk result (λ b. IsHeld ropes.new b) }
+    ensures later { IsLater ropes.old ropes.new }
+{
+    let mut joined = buffer;
+    for other in others {
+        joined = joined_buffer(ropes, joined, *other)?;
+    }
+    Ok(joined)
+}
+
+/// The buffer at a place.
+fn buffer_at(out: Buffer, slots: &[Buffer], place: Place) -> Buffer
+    requires { IsPlace (length slots.now) place }
+    ensures { result ≡ buffer_at out slots.now place }
+{
+    match place {
+        Place::Out => out,
+        Place::Slot(number) => slots[number],
+    }
+}
+
+/// A segment of a buffer, by its number, where there are so many.
+fn segment_of(ropes: &Ropes, buffer: Buffer, number: usize) -> Option<Segment>
+    requires held { IsHeld ropes.now buffer }
+    requires few { number < 2 ^ 64 - 1 }
+    ensures { result ≡ slice_get (segments_of ropes.now buffer) number }
+{
+    match buffer {
+        Buffer::One(segment) if number == 0 => Some(segment),
+        Buffer::More { first, .. } if number == 0 => Some(first),
+        Buffer::More { middle, last, .. } => match ropes.segment(middle, number - 1) {
+            None if ropes.len(middle) == number - 1 => Some(last),
+            found => found,
+        },
+        _ => None,
+    }
+}
+
+/// An output and slots, whose bytes lie in one arena. Callers see them as the arena and the segments of each.
+#[derive(Drop)]
+pub struct Buffers {
+    arena: Vec<u8>,
+    ropes: Ropes,
+    out: Buffer,
+    slots: Vec<Buffer>,
+}
+
+impl Model for Buffers {
+    ghost use Rattle.machine_store.specs.Buffers.{IsLaid, Laid, laid_of};
+
+    ghost Value = { Laid };
+
+    ghost view = { λ b. laid_of b.arena.items b.ropes b.out b.slots.items };
+
+    ghost invariant = { λ b. IsLaid b.arena.items b.ropes b.out b.slots.items };
+}
+
+impl Buffers {
+    /// An empty output, and no slot.
+    pub fn new(alloc: Global) -> Buffers
+        ensures { result ≡ record { arena = []; out = []; slots = [] } }
+    {
+        Buffers {
+            arena: Vec::new(alloc),
+            ropes: Ropes::new(alloc),
+            out: Buffer::Empty,
+            slots: Vec::new(alloc),
+        }
+    }
+
+    /// Goes back to what `new` gives, and keeps the memory.
+    pub fn clear(&mut self)
+        ensures { self.new ≡ record { arena = []; out = []; slots = [] } }
+    {
+        self.arena.clear();
+        self.ropes.clear();
+        self.out = Buffer::Empty;
+        self.slots.clear();
+    }
+
+    /// How many slots there are.
+    pub fn len(&self) -> usize
+        ensures { result ≡ length self.now.slots }
+    {
+        self.slots.len()
+    }
+
+    /// The bytes of all buffers, and those that no buffer holds any more.
+    pub fn arena(&self) -> &[u8]
+        ensures { result.now ≡ self.now.arena }
+    {
+        &self.arena
+    }
+
+    /// The law that the segments of each lie in the arena, none is empty, and of two neighbours the second does not
+    /// begin where the first ends.
+    pub fn are_laid(&self)
+        ensures { AreLaid self.now }
+    {
+        let _opened = &self.arena;
+    }
+
+    /// Appends bytes to a buffer.
+    pub fn add(&mut self, place: Place, bytes: &[u8]) -> Result<(), AllocError>
+        requires { IsPlace (length self.old.slots) place }
+        ensures added { OnOk result (self.new ≡ with_added place bytes.now self.old) }
+        ensures refused { OnErr result (self.new ≡ self.old) }
+    {
+        let from = self.arena.len();
+        let segment = Segment {
+            place: from,
+            end: from + bytes.len(),
+        };
+        let buffer = buffer_at(self.out, &self.slots, place);
+        let buffer = joined_bytes(&mut self.ropes, buffer, segment)?;
+        self.arena.extend_from_slice(bytes)?;
+        match place {
+            Place::Out => self.out = buffer,
+            Place::Slot(number) => self.slots[number] = buffer,
+        }
+        Ok(())
+    }
+
+    /// Appends empty slots.
+    pub fn open(&mut self, more: usize) -> Result<(), AllocError>
+        requires { more ≤ MOST_SLOTS }
+        ensures opened { OnOk result (self.new ≡ with_opened more self.old) }
+        ensures refused { OnErr result (self.new ≡ self.old) }
+    {
+        let len = self.slots.len();
+        self.slots.resize(len + more, Buffer::Empty)
+    }
+
+    /// Takes away the slots from a first one on, and appends them, in order, to a buffer, with so many of the bytes
+    /// around them before and the others behind.
+    pub fn close(
+        &mut self,
+        first: usize,
+        into: Place,
+        around: &[u8],
+        before: usize,
+    ) -> Result<(), AllocError>
+        requires first { first ≤ length self.old.slots }
+        requires into { IsPlace first into }
+        requires before { before ≤ length around.now }
+        ensures closed { OnOk result (self.new ≡ with_closed first into around.now before self.old) }
+        ensures refused { OnErr result (self.new ≡ self.old) }
+    {
+        let from = self.arena.len();
+        let front = Segment {
+            place: from,
+            end: from + before,
+        };
+        let back = Segment {
+            place: from + before,
+            end: from + around.len(),
+        };
+        let buffer = buffer_at(self.out, &self.slots, into);
+        let buffer = joined_bytes(&mut self.ropes, buffer, front)?;
+        let buffer = joined_buffers(&mut self.ropes, buffer, &self.slots[first..])?;
+        let buffer = joined_bytes(&mut self.ropes, buffer, back)?;
+        self.arena.extend_from_slice(around)?;
+        self.slots.truncate(first);
+        match into {
+            Place::Out => self.out = buffer,
+            Place::Slot(number) => self.slots[number] = buffer,
+        }
+        Ok(())
+    }
+
+    /// Takes away the slots from a first one on.
+    pub fn shorten(&mut self, first: usize)
+        ensures { self.new ≡ with_fewer first self.old }
+    {
+        self.slots.truncate(first);
+    }
+
+    /// Empties the output and each slot.
+    pub fn empty_all(&mut self)
+        ensures { self.new ≡ with_none self.old }
+    {
+        self.arena.clear();
+        self.ropes.clear();
+        self.out = Buffer::Empty;
+        self.slots.fill(Buffer::Empty);
+    }
+
+    /// Appends the bytes of a buffer to others. What stands behind those after an `Err` is not said.
+    pub fn write(&self, alloc: Global, place: Place, out: &mut Vec<u8>) -> Result<(), AllocError>
+        requires { IsPlace (length self.now.slots) place }
+        ensures { OnOk result (out.new.items ≡ out.old.items
+            ++ bytes_of self.now.arena (segments_at self.now place)) }
+    {
+        match buffer_at(self.out, &self.slots, place) {
+            Buffer::Empty => Ok(()),
+            Buffer::One(segment) => out.extend_from_slice(segment.bytes(&self.arena)),
+            Buffer::More {
+                first,
+                middle,
+                last,
+            } => {
+                out.extend_from_slice(first.bytes(&self.arena))?;
+                self.ropes.write(alloc, &self.arena, middle, out)?;
+                out.extend_from_slice(last.bytes(&self.arena))
+            }
+        }
+    }
+
+    /// A segment of a buffer, by its number, where there are so many. It takes no memory.
+    pub fn segment(&self, place: Place, number: usize) -> Option<Segment>
+        requires there { IsPlace (length self.now.slots) place }
+        requires few { number < 2 ^ 64 - 1 }
+        ensures { result ≡ slice_get (segments_at self.now place) number }
+    {
+        segment_of(&self.ropes, buffer_at(self.out, &self.slots, place), number)
+    }
+}

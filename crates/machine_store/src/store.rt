@@ -1,0 +1,548 @@
+ghost use Rattle.std.specs.Prelude.{◌≡◌, ◌+◌, ◌-◌, ◌<◌, ◌≤◌, true, false, [], ◌∷◌, length, is_some, reverse, vec_len, Some, None, OnErr, OnOk, IfOk};
+ghost use Rattle.avro_bytes.specs.declared.limits.TheConstants.{MOST_DEPTH};
+ghost use Rattle.outcome.specs.declared.limits.TheConstants.{MOST_OUTPUT};
+ghost use Rattle.isa.specs.State.{add, emptied, has_current, is_done, total};
+ghost use Rattle.machine_store.specs.Frames.{FewSlots, HasSlot, HoldsBuffers, first_of, frame_of, has_current_below, is_skip, is_skipped, items_of, newest_place, opened_at, place_of, skip_walk_of, slots_of, slots_opened, walk_of};
+ghost use Rattle.machine_store.specs.Store.{Appends, around_items, close_blocks, close_record, closed_between, leave, meter_of, next_item, next_skipped, select, with_frames};
+
+use crate::buffers::{Buffers, Place};
+use avro_bytes::{BlockWalk, Meter};
+use outcome::MOST_OUTPUT;
+use machine_rules::spell_around;
+use std::alloc::{AllocError, Global};
+use std::marker::Model;
+
+/// What is open, and where its slots begin.
+#[derive(Clone, Copy)]
+pub enum Frame {
+    /// What lies below all frames.
+    Bottom,
+    /// A record, and the slot that is selected.
+    Record {
+        first: usize,
+        selected: Option<usize>,
+    },
+    /// A record that is skipped.
+    Skip,
+    /// An array or a map, and how many items came.
+    Blocks {
+        first: usize,
+        walk: BlockWalk,
+        items: u32,
+    },
+    /// An array or a map that is skipped.
+    SkipBlocks {
+        walk: BlockWalk,
+    },
+}
+
+/// What is to be opened.
+#[derive(Clone, Copy)]
+pub enum Opening {
+    /// A record of so many slots.
+    Record(usize),
+    Skip,
+    Blocks(BlockWalk),
+    SkipBlocks(BlockWalk),
+}
+
+impl Frame {
+    /// The current buffer, where it is the newest frame.
+    fn place(self) -> Option<Place>
+        ensures { result ≡ place_of self }
+    {
+        match self {
+            Frame::Bottom => Some(Place::Out),
+            Frame::Record { selected, .. } => match selected {
+                Some(at) => Some(Place::Slot(at)),
+                None => None,
+            },
+            Frame::Blocks { first, .. } => Some(Place::Slot(first)),
+            _ => None,
+        }
+    }
+
+    /// The first slot of what it holds.
+    pub(crate) fn first(self) -> Option<usize>
+        ensures { result ≡ first_of self }
+    {
+        match self {
+            Frame::Record { first, .. } | Frame::Blocks { first, .. } => Some(first),
+            _ => None,
+        }
+    }
+}
+
+impl Opening {
+    /// How many slots it takes.
+    fn slots(&self) -> usize
+        ensures { result ≡ slots_opened self.now }
+    {
+        match self {
+            Opening::Record(slots) => *slots,
+            Opening::Blocks(_) => 1,
+            _ => 0,
+        }
+    }
+
+    /// The frame that it opens, whose slots begin so.
+    fn frame(self, first: usize) -> Frame
+        ensures { result ≡ opened_at first self }
+    {
+        match self {
+            Opening::Record(_) => Frame::Record {
+                first,
+                selected: None,
+            },
+            Opening::Skip => Frame::Skip,
+            Opening::Blocks(walk) => Frame::Blocks {
+                first,
+                walk,
+                items: 0,
+            },
+            Opening::SkipBlocks(walk) => Frame::SkipBlocks { walk },
+        }
+    }
+}
+
+/// The current buffer, where the last of these frames is the newest.
+fn newest_place(frames: &[Frame]) -> Option<Place>
+    ensures { result ≡ newest_place (reverse frames.now) }
+{
+    frames.last()?.place()
+}
+
+/// The last of these frames, which is taken away.
+fn popped(frames: &mut Vec<Frame>) -> Frame
+    requires { 0 < vec_len frames.old }
+    ensures { reverse frames.old.items ≡ result ∷ reverse frames.new.items }
+{
+    match frames.pop() {
+        Some(frame) => frame,
+        None => unreachable!(),
+    }
+}
+
+/// Open frames with their buffers, the output, and what was told of it: what a run holds.
+#[derive(Drop)]
+pub struct Store {
+    pub(crate) top: Frame,
+    pub(crate) below: Vec<Frame>,
+    pub(crate) buffers: Buffers,
+    /// How many bytes of the arena no buffer holds any more.
+    lost: usize,
+    units: u32,
+    mark: Option<u32>,
+    over: bool,
+}
+
+impl Model for Store {
+    ghost use Rattle.std.specs.Prelude.{◌∷◌, reverse};
+    ghost use Rattle.machine_store.specs.Store.{Held, IsKept, held_of};
+
+    ghost Value = { Held };
+
+    ghost view = { λ s. held_of (s.top ∷ reverse s.below.items) s.buffers s.units s.mark s.over };
+
+    ghost invariant = { λ s. IsKept (s.top ∷ reverse s.below.items) s.buffers s.lost s.units s.mark s.over };
+}
+
+impl Store {
+    ghost use Rattle.machine_store.specs.Store.{start};
+
+    /// Nothing.
+    pub fn new(alloc: Global) -> Store
+        ensures { result ≡ start }
+    {
+        Store {
+            top: Frame::Bottom,
+            below: Vec::new(alloc),
+            buffers: Buffers::new(alloc),
+            lost: 0,
+            units: 0,
+            mark: None,
+            over: false,
+        }
+    }
+
+    /// Goes back to what `new` gives, and keeps the memory.
+    pub fn reset(&mut self)
+        ensures { self.new ≡ start }
+    {
+        self.top = Frame::Bottom;
+        self.below.clear();
+        self.buffers.clear();
+        self.lost = 0;
+        self.units = 0;
+        self.mark = None;
+        self.over = false;
+    }
+
+    /// How much is open, and how many units there were.
+    pub fn meter(&self) -> Meter
+        ensures { result ≡ meter_of self.now }
+    {
+        Meter {
+            depth: self.below.len() as u32,
+            units: self.units,
+        }
+    }
+
+    /// The number of the first miss.
+    pub fn mark(&self) -> Option<u32>
+        ensures { result ≡ self.now.store.mark }
+    {
+        self.mark
+    }
+
+    /// Whether the output passed its limit.
+    pub fn is_over(&self) -> bool
+        ensures { result ≡ self.now.store.over }
+    {
+        self.over
+    }
+
+    /// The bytes of all buffers, and those that no buffer holds any more.
+    pub fn arena(&self) -> &[u8]
+        ensures { result.now ≡ self.now.layout.arena }
+    {
+        self.buffers.arena()
+    }
+
+    /// Whether there is a current buffer.
+    pub fn has_current(&self) -> bool
+        ensures { result ≡ has_current self.now.store.frames }
+    {
+        self.top.place().is_some()
+    }
+
+    /// Whether there is one below the newest frame.
+    pub fn has_current_below(&self) -> bool
+        ensures { result ≡ has_current_below self.now.store.frames }
+    {
+        newest_place(&self.below).is_some()
+    }
+
+    /// How many slots the newest frame has, where it is a record.
+    pub fn slots(&self) -> Option<usize>
+        ensures { result ≡ slots_of self.now.store.frames }
+    {
+        match self.top {
+            Frame::Record { first, .. } => Some(self.buffers.len() - first),
+            _ => None,
+        }
+    }
+
+    /// Whether the newest frame is a record that is skipped.
+    pub fn is_skip(&self) -> bool
+        ensures { result ≡ is_skip self.now.store.frames }
+    {
+        matches!(self.top, Frame::Skip)
+    }
+
+    /// The walk of the newest frame, where it is an array or a map.
+    pub fn walk(&self) -> Option<BlockWalk>
+        ensures { result ≡ walk_of self.now.store.frames }
+    {
+        match self.top {
+            Frame::Blocks { walk, .. } => Some(walk),
+            _ => None,
+        }
+    }
+
+    /// The walk of the newest frame, where it is an array or a map that is skipped.
+    pub fn skip_walk(&self) -> Option<BlockWalk>
+        ensures { result ≡ skip_walk_of self.now.store.frames }
+    {
+        match self.top {
+            Frame::SkipBlocks { walk } => Some(walk),
+            _ => None,
+        }
+    }
+
+    /// Whether nothing is held any more.
+    fn is_done(&self) -> bool
+        ensures { result ≡ is_done self.now.store.mark self.now.store.over }
+    {
+        self.mark.is_some() || self.over
+    }
+
+    /// How many bytes the buffers have.
+    fn held(&self) -> usize
+        ensures held { result ≡ total self.now.store }
+        ensures few { result ≤ MOST_OUTPUT }
+    {
+        self.buffers.arena().len() - self.lost
+    }
+
+    /// How many bytes more the buffers may have.
+    pub fn room(&self) -> usize
+        ensures { result ≡ MOST_OUTPUT - total self.now.store }
+    {
+        MOST_OUTPUT - self.held()
+    }
+
+    /// Bytes at the end of the current buffer.
+    pub fn add(&mut self, bytes: &[u8]) -> Result<(), AllocError>
+        requires { has_current self.old.store.frames ≡ true }
+        ensures added { OnOk result (self.new.store ≡ add bytes.now self.old.store) }
+        ensures units { self.new.units ≡ self.old.units }
+        ensures arena { OnOk result (Appends bytes.now self.old self.new) }
+        ensures refused { OnErr result (self.new ≡ self.old) }
+    {
+        if self.is_done() {
+            return Ok(());
+        }
+        if bytes.len() > self.room() {
+            self.pass_limit();
+            return Ok(());
+        }
+        self.buffers.are_laid();
+        match self.top.place() {
+            Some(place) => self.buffers.add(place, bytes),
+            None => unreachable!(),
+        }
+    }
+
+    /// There are so many units.
+    pub fn count_units(&mut self, units: u32)
+        requires { self.old.units ≤ units }
+        ensures { self.new ≡ record self.old { units = units } }
+    {
+        self.units = units;
+    }
+
+    /// The first miss is marked, and nothing is held any more.
+    pub fn miss(&mut self, miss: u32)
+        ensures missed { self.new.store ≡ Rattle.isa.specs.State.miss miss self.old.store }
+        ensures units { self.new.units ≡ self.old.units }
+    {
+        match self.mark {
+            None => {
+                self.mark = Some(miss);
+                self.buffers.empty_all();
+                self.lost = 0;
+            }
+            Some(_) => {}
+        }
+    }
+
+    /// A frame more, after which there are so many units.
+    pub fn open(&mut self, opening: Opening, units: u32) -> Result<(), AllocError>
+        requires few { FewSlots opening }
+        requires deep { length self.old.store.frames < MOST_DEPTH }
+        requires units { self.old.units ≤ units }
+        ensures opened { OnOk result
+            (self.new.store ≡ with_frames (frame_of opening ∷ self.old.store.frames) self.old.store) }
+        ensures units { OnOk result (self.new.units ≡ units) }
+        ensures arena { self.new.layout.arena ≡ self.old.layout.arena }
+        ensures refused { OnErr result (self.new ≡ self.old) }
+    {
+        let first = self.buffers.len();
+        self.below.try_reserve(1)?;
+        self.buffers.open(opening.slots())?;
+        self.below.push(self.top)?;
+        self.top = opening.frame(first);
+        self.units = units;
+        Ok(())
+    }
+
+    /// Bytes go from now on to a slot of the newest record.
+    pub fn select(&mut self, slot: usize)
+        requires { HasSlot slot (slots_of self.old.store.frames) }
+        ensures selected { self.new.store ≡ with_frames (select slot self.old.store.frames) self.old.store }
+        ensures units { self.new.units ≡ self.old.units }
+        ensures arena { self.new.layout.arena ≡ self.old.layout.arena }
+    {
+        let _slots = self.buffers.len();
+        if let Frame::Record { first, .. } = self.top {
+            self.top = Frame::Record {
+                first,
+                selected: Some(first + slot),
+            };
+        }
+    }
+
+    /// The newest frame, which is skipped, is left.
+    pub fn leave(&mut self)
+        requires { is_skipped self.old.store.frames ≡ true }
+        ensures left { self.new.store ≡ with_frames (leave self.old.store.frames) self.old.store }
+        ensures units { self.new.units ≡ self.old.units }
+        ensures arena { self.new.layout.arena ≡ self.old.layout.arena }
+    {
+        self.top = popped(&mut self.below);
+    }
+
+    /// The newest frame, which is an array or a map, is at its next item.
+    pub fn next_item(&mut self, walk: BlockWalk, units: u32)
+        requires blocks { is_some (walk_of self.old.store.frames) ≡ true }
+        requires units { self.old.units < units }
+        ensures next { self.new.store ≡ with_frames (next_item walk self.old.store.frames) self.old.store }
+        ensures units { self.new.units ≡ units }
+        ensures arena { self.new.layout.arena ≡ self.old.layout.arena }
+    {
+        if let Frame::Blocks { first, items, .. } = self.top {
+            self.top = Frame::Blocks {
+                first,
+                walk,
+                items: items + 1,
+            };
+            self.units = units;
+        }
+    }
+
+    /// The newest frame, which is an array or a map that is skipped, is at its next item.
+    pub fn next_skipped(&mut self, walk: BlockWalk, units: u32)
+        requires blocks { is_some (skip_walk_of self.old.store.frames) ≡ true }
+        requires units { self.old.units ≤ units }
+        ensures next { self.new.store ≡ with_frames (next_skipped walk self.old.store.frames) self.old.store }
+        ensures units { self.new.units ≡ units }
+        ensures arena { self.new.layout.arena ≡ self.old.layout.arena }
+    {
+        self.top = Frame::SkipBlocks { walk };
+        self.units = units;
+    }
+
+    /// The output passed its limit, and nothing is held any more.
+    fn pass_limit(&mut self)
+        ensures passed { self.new.store ≡ emptied (record self.old.store { over = true }) }
+        ensures units { self.new.units ≡ self.old.units }
+    {
+        self.over = true;
+        self.buffers.empty_all();
+        self.lost = 0;
+    }
+
+    /// The newest frame goes with its buffers, where nothing is held any more.
+    fn drop_newest(&mut self)
+        requires holds { HoldsBuffers self.old.store.frames }
+        requires done { is_done self.old.store.mark self.old.store.over ≡ true }
+        ensures dropped { self.new.store ≡ with_frames (leave self.old.store.frames) self.old.store }
+        ensures units { self.new.units ≡ self.old.units }
+    {
+        let Some(first) = self.top.first() else {
+            unreachable!()
+        };
+        self.buffers.shorten(first);
+        self.top = popped(&mut self.below);
+    }
+
+    /// The newest frame is closed: what it holds goes, between bytes of which so many stand before it, to the current
+    /// buffer below.
+    fn close(&mut self, around: &[u8], before: usize) -> Result<(), AllocError>
+        requires holds { HoldsBuffers self.old.store.frames }
+        requires below { has_current_below self.old.store.frames ≡ true }
+        requires before { before ≤ length around.now }
+        ensures closed { OnOk result
+            (self.new.store ≡ closed_between around.now before self.old.store.frames self.old.store) }
+        ensures units { self.new.units ≡ self.old.units }
+        ensures arena { OnOk result (Appends around.now self.old self.new) }
+        ensures refused { OnErr result (self.new ≡ self.old) }
+    {
+        if self.is_done() {
+            self.drop_newest();
+            return Ok(());
+        }
+        if around.len() > self.room() {
+            self.pass_limit();
+            self.drop_newest();
+            return Ok(());
+        }
+        let Some(first) = self.top.first() else {
+            unreachable!()
+        };
+        let Some(into) = newest_place(&self.below) else {
+            unreachable!()
+        };
+        self.buffers.are_laid();
+        self.buffers.close(first, into, around, before)?;
+        self.top = popped(&mut self.below);
+        Ok(())
+    }
+
+    /// The newest frame, which is a record, is closed: its slots, in order, go to the current buffer below it.
+    pub fn close_record(&mut self) -> Result<(), AllocError>
+        requires record { is_some (slots_of self.old.store.frames) ≡ true }
+        requires below { has_current_below self.old.store.frames ≡ true }
+        ensures closed { OnOk result (self.new.store ≡ close_record self.old.store.frames self.old.store) }
+        ensures units { self.new.units ≡ self.old.units }
+        ensures arena { OnOk result (Appends [] self.old self.new) }
+        ensures refused { OnErr result (self.new ≡ self.old) }
+    {
+        self.close(&[], 0)
+    }
+
+    /// The newest frame, which is an array or a map without items, is closed: `00` goes to the current buffer below it,
+    /// and what its own buffer holds goes nowhere. The scratch is used on the way.
+    fn close_empty(&mut self, alloc: Global, scratch: &mut Vec<u8>) -> Result<(), AllocError>
+        requires blocks { is_some (walk_of self.old.store.frames) ≡ true }
+        requires below { has_current_below self.old.store.frames ≡ true }
+        ensures closed { OnOk result
+            (self.new.store ≡ add (0 ∷ []) (with_frames (leave self.old.store.frames) self.old.store)) }
+        ensures units { self.new.units ≡ self.old.units }
+        ensures arena { OnOk result (Appends (0 ∷ []) self.old self.new) }
+        ensures refused { OnErr result (self.new ≡ self.old) }
+    {
+        if self.is_done() {
+            self.drop_newest();
+            return Ok(());
+        }
+        let Some(first) = self.top.first() else {
+            unreachable!()
+        };
+        let Some(into) = newest_place(&self.below) else {
+            unreachable!()
+        };
+        scratch.clear();
+        self.buffers.write(alloc, Place::Slot(first), scratch)?;
+        let held = self.held() - scratch.len();
+        if held == MOST_OUTPUT {
+            self.pass_limit();
+            self.drop_newest();
+            return Ok(());
+        }
+        self.buffers.are_laid();
+        self.buffers.add(into, &[0])?;
+        self.buffers.shorten(first);
+        self.lost = self.buffers.arena().len() - (held + 1);
+        self.top = popped(&mut self.below);
+        Ok(())
+    }
+
+    /// The newest frame, which is an array or a map, is closed: its items go in one block to the current buffer below
+    /// it, or `00` alone where it has none. The scratch is used on the way.
+    pub fn close_blocks(&mut self, alloc: Global, scratch: &mut Vec<u8>) -> Result<(), AllocError>
+        requires blocks { is_some (walk_of self.old.store.frames) ≡ true }
+        requires below { has_current_below self.old.store.frames ≡ true }
+        ensures closed { OnOk result (self.new.store ≡ close_blocks self.old.store.frames self.old.store) }
+        ensures units { self.new.units ≡ self.old.units }
+        ensures arena { OnOk result (Appends (around_items self.old.store.frames) self.old self.new) }
+        ensures refused { OnErr result (self.new ≡ self.old) }
+    {
+        let items = self.items();
+        if items == 0 {
+            return self.close_empty(alloc, scratch);
+        }
+        let before = spell_around(scratch, items)?;
+        self.close(scratch, before)
+    }
+
+    /// How many items the newest frame has.
+    fn items(&self) -> u32
+        ensures { result ≡ items_of self.now.store.frames }
+    {
+        match self.top {
+            Frame::Blocks { items, .. } => items,
+            _ => 0,
+        }
+    }
+
+    /// The bytes of the output.
+    pub fn put_together(&self, alloc: Global) -> Result<Vec<u8>, AllocError>
+        ensures { IfOk result (λ out. out.items ≡ self.now.store.out) }
+    {
+        let mut out = Vec::with_capacity(alloc, self.buffers.arena().len())?;
+        self.buffers.write(alloc, Place::Out, &mut out)?;
+        Ok(out)
+    }
+}

@@ -1,9 +1,0 @@
-use Rattle.matching.proofs.ByRule.{matches_by_rule}
-use Rattle.matching.proofs.Holding.{matches_where_it_holds}
-use Rattle.matching.proofs.laws.matches_by_rule.Goals as goal
-
-pub returns-clause-rule : goal.returns-clause-rule
-returns-clause-rule c = matches_by_rule
-
-pub returns-clause-relation : goal.returns-clause-relation
-returns-clause-relation c = matches_where_it_holds

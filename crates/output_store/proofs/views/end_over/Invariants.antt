@@ -1,7 +1,0 @@
--- None of the frames so far has slots.
-use Rattle.std.proofs.Common.{◌≡◌, drop, reverse}
-use Rattle.output_store.specs.Viewing.{end_over}
-use Rattle.output_store.proofs.views.end_over.Given as goal
-
-abbrev pub invariant-loop-frame : goal.invariant-loop-frame
-invariant-loop-frame l = end_over (reverse (drop l.frame-index l.newer)) l.end ≡ end_over (reverse l.newer) l.end

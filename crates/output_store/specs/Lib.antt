@@ -1,5 +1,0 @@
-pub use Rattle.ropes.specs.Segments
-pub mod Buffers
-pub mod Frames
-pub mod Store
-pub mod Viewing

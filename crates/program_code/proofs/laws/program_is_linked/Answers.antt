@@ -1,6 +1,0 @@
--- The law is the lemma `program_is_linked`.
-use Rattle.program_code.proofs.Linked.{program_is_linked}
-use Rattle.program_code.proofs.laws.program_is_linked.Goals as goal
-
-pub returns : goal.returns
-returns c = program_is_linked _ _ c.is_well_formed.ensures

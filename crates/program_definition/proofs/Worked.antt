@@ -1,0 +1,25 @@
+-- Worked pairs have the programs that the compiler's table gives them.
+use Rattle.std.proofs.Common.{refl}
+use Rattle.avro_bytes.specs.Shortest as S
+use Rattle.avro_datum.specs.Writing.{written}
+use Rattle.resolver_matching.specs.Matching.{matches_within}
+use Rattle.program_definition.specs.Code.{code_of}
+use Rattle.program_definition.specs.Skipping.{skip_within}
+use Rattle.program_definition.specs.Worked.{LongListHasItsProgram, PairHasItsProgram, ReaderHasItsProgram, RenamedHasItsProgram}
+use Rattle.program_definition.specs.Writing.{section, write_within}
+
+pub of_long_list : LongListHasItsProgram
+unfolding code_of section skip_within write_within matches_within S.shortest S.shortest_groups
+of_long_list = refl
+
+pub of_pair : PairHasItsProgram
+unfolding code_of section skip_within write_within matches_within S.shortest S.shortest_groups
+of_pair = refl
+
+pub of_renamed : RenamedHasItsProgram
+unfolding code_of section skip_within write_within matches_within S.shortest S.shortest_groups
+of_renamed = refl
+
+pub of_both : ReaderHasItsProgram
+unfolding code_of section skip_within write_within matches_within S.shortest S.shortest_groups written
+of_both = refl

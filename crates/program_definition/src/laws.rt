@@ -1,0 +1,42 @@
+ghost use Rattle.program_definition.specs.Limits.{NoLineIsLost, NoneByLimitsAlone, SectionsAreFound};
+ghost use Rattle.program_definition.specs.Linking.{ProgramIsInRange, ProgramIsLinked};
+ghost use Rattle.program_definition.specs.Worked.{LongListHasItsProgram, PairHasItsProgram, ReaderHasItsProgram};
+ghost use Rattle.program_definition.specs.Worked.{RenamedHasItsProgram};
+
+use avro_types::Nodes;
+
+/// The law that the code of a pair of schemas stands in its program, line by line as the compiler's table has it: the
+/// roots' code first, and each routine where it is called.
+pub fn program_is_linked(w: &Nodes, r: &Nodes)
+    ensures { ProgramIsLinked w.now r.now }
+{
+    w.is_well_formed();
+}
+
+/// The law that the program of a pair of schemas names nothing that it has not: `isa` takes it as it is.
+pub fn program_is_in_range(w: &Nodes, r: &Nodes)
+    ensures { ProgramIsInRange w.now r.now }
+{
+    w.is_well_formed();
+    r.is_well_formed();
+}
+
+/// The law that each pair of schemas has a whole program, all of whose sections are found and none of whose lines is
+/// lost, and that `code_of` has none only where that passes a limit.
+pub fn no_program_only_past_a_limit(w: &Nodes, r: &Nodes)
+    ensures found { SectionsAreFound w.now r.now }
+    ensures lines { NoLineIsLost w.now r.now }
+    ensures limit { NoneByLimitsAlone w.now r.now }
+{
+    w.is_well_formed();
+    r.is_well_formed();
+}
+
+/// The law that worked pairs have the programs that the compiler's table gives them: two records to themselves, one to
+/// a record that takes its fields by aliases, and one with misses, an entry of a map, a skipped field and a default.
+pub fn worked_pairs_have_their_programs()
+    ensures list { LongListHasItsProgram }
+    ensures same { PairHasItsProgram }
+    ensures renamed { RenamedHasItsProgram }
+    ensures other { ReaderHasItsProgram }
+{}

@@ -1,0 +1,31 @@
+-- Sections in a row, and where each is found. This project's own.
+use Rattle.std.specs.Prelude.{◌≡◌, ℕ, suc, List, [], ◌∷◌, map, Option, Some, None, if◌then◌else◌}
+use Rattle.std.specs.declared.cmp.Ordering.{Ordering}
+use Rattle.std.specs.Ordering.{nat_cmp, ordering_then}
+use Rattle.std.specs.BTreeMap.{get}
+use Rattle.program_definition.specs.Lines.{Section, Main, Write, Skip}
+use Rattle.program_definition.specs.Numbering.{same_section}
+use Rattle.program_ir.specs.declared.lines.Section as rust
+use Rattle.program_ir.specs.declared.sections.Sections.TheInside.{Inside}
+use Rattle.program_ir.specs.Lines.{section_of}
+
+abbrev pub sections_in : List rust.Section → List Section
+sections_in ss = map section_of ss
+
+-- where a section stands first, from a number on
+abbrev pub place_from : ℕ → Section → List Section → Option ℕ
+place_from n s [] = None
+place_from n s (x ∷ xs) = if same_section s x then Some n else place_from (suc n) s xs
+
+abbrev pub place : Section → List Section → Option ℕ
+place s ss = place_from 0 s ss
+
+-- the order of pairs
+abbrev pub pair_cmp : ℕ × ℕ → ℕ × ℕ → Ordering
+pair_cmp p q = ordering_then (nat_cmp p.0 q.0) (nat_cmp p.1 q.1)
+
+-- the main section stands first, and under the nodes of the others stands where they are
+pub record AreNumbered (s : Inside) : Type 0 where
+  pub main : place Main (sections_in s.list.items) ≡ Some 0
+  pub writes : (p : ℕ × ℕ) → get pair_cmp s.writes p ≡ place (Write p.0 p.1) (sections_in s.list.items)
+  pub skips : (w : ℕ) → get nat_cmp s.skips w ≡ place (Skip w) (sections_in s.list.items)

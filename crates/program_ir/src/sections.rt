@@ -1,0 +1,125 @@
+ghost use Rattle.std.specs.Prelude.{◌≡◌, ◌++◌, ◌∷◌, List, [], None, Some, option_map, slice_get, IfOk, OnOk};
+ghost use Rattle.avro_types.specs.Node.{Node};
+ghost use Rattle.program_definition.specs.Lines.{Main, Skip, Write};
+ghost use Rattle.program_definition.specs.Numbering.{adding, calls_of, named_in, same_section};
+ghost use Rattle.program_ir.specs.Lines.{line_of, lines_in, section_of};
+ghost use Rattle.program_ir.specs.Sections.{place};
+
+use crate::lines::{Line, Section};
+use std::alloc::{AllocError, Global};
+use std::collections::BTreeMap;
+use std::marker::Model;
+
+/// Sections in the order in which they are called first, each once. Callers see them as a list.
+#[derive(Drop)]
+pub struct Sections {
+    list: Vec<Section>,
+    writes: BTreeMap<(usize, usize), usize>,
+    skips: BTreeMap<usize, usize>,
+}
+
+impl Model for Sections {
+    ghost use Rattle.std.specs.Prelude.{List};
+    ghost use Rattle.program_definition.specs.Lines.{Section};
+    ghost use Rattle.program_ir.specs.Sections.{AreNumbered, sections_in};
+
+    ghost Value = { List Section };
+
+    ghost view = { λ s. sections_in s.list.items };
+
+    ghost invariant = { AreNumbered };
+}
+
+impl Sections {
+    /// The main section alone.
+    pub fn new(alloc: Global) -> Result<Sections, AllocError>
+        ensures { IfOk result (λ s. s ≡ Main ∷ []) }
+    {
+        let mut list = Vec::new(alloc);
+        list.push(Section::Main)?;
+        Ok(Sections {
+            list,
+            writes: BTreeMap::new(alloc),
+            skips: BTreeMap::new(alloc),
+        })
+    }
+
+    /// The section of a number.
+    pub fn get(&self, number: usize) -> Option<Section>
+        ensures { option_map section_of result ≡ slice_get self.now number }
+    {
+        self.list.get(number).copied()
+    }
+
+    /// The number of a section.
+    pub fn number_of(&self, section: Section) -> Option<usize>
+        ensures number { result ≡ place (section_of section) self.now }
+        ensures main { place Main self.now ≡ Some 0 }
+    {
+        match section {
+            Section::Main => Some(0),
+            Section::Write(wn, rn) => self.writes.get(&(wn, rn)).copied(),
+            Section::Skip(wn) => self.skips.get(&wn).copied(),
+        }
+    }
+
+    /// Adds a routine that is not there.
+    fn add_write(&mut self, wn: usize, rn: usize) -> Result<(), AllocError>
+        requires { place (Write wn rn) self.old ≡ None }
+        ensures { OnOk result (self.new ≡ self.old ++ Write wn rn ∷ []) }
+    {
+        let number = self.list.len();
+        self.list.try_reserve(1)?;
+        self.writes.insert((wn, rn), number)?;
+        self.list.push(Section::Write(wn, rn))?;
+        Ok(())
+    }
+
+    /// Adds a routine that skips and is not there.
+    fn add_skip(&mut self, wn: usize) -> Result<(), AllocError>
+        requires { place (Skip wn) self.old ≡ None }
+        ensures { OnOk result (self.new ≡ self.old ++ Skip wn ∷ []) }
+    {
+        let number = self.list.len();
+        self.list.try_reserve(1)?;
+        self.skips.insert(wn, number)?;
+        self.list.push(Section::Skip(wn))?;
+        Ok(())
+    }
+
+    /// Adds a section, if it is not there.
+    pub fn add(&mut self, section: Section) -> Result<(), AllocError>
+        ensures { OnOk result (self.new ≡ adding same_section self.old (section_of section ∷ [])) }
+    {
+        if self.number_of(section).is_some() {
+            return Ok(());
+        }
+        match section {
+            Section::Main => Ok(()),
+            Section::Write(wn, rn) => self.add_write(wn, rn),
+            Section::Skip(wn) => self.add_skip(wn),
+        }
+    }
+}
+
+/// Adds the section that a line calls, if it calls one.
+fn note_call(sections: &mut Sections, line: &Line) -> Result<(), AllocError>
+    ensures { OnOk result
+        ((W R : List Node) → sections.new ≡ adding same_section sections.old (calls_of (line_of W R line.now))) }
+{
+    match line {
+        Line::Call(section) => sections.add(*section),
+        _ => Ok(()),
+    }
+}
+
+/// Adds the sections that lines call.
+pub fn note_calls(sections: &mut Sections, lines: &[Line]) -> Result<(), AllocError>
+    ensures { OnOk result ((W R : List Node) → sections.new
+        ≡ adding same_section sections.old (named_in calls_of (lines_in W R lines.now))) }
+{
+    for line in lines {
+        note_call(sections, line)?;
+    }
+    Ok(())
+}

@@ -1,0 +1,58 @@
+ghost use Rattle.std.specs.Prelude.{◌≡◌, ◌≤◌, length, map, slice_get, string_bytes, IfOk};
+ghost use Rattle.program_definition.specs.Numbering.{entry_of};
+ghost use Rattle.program_definition.specs.Writing.{target};
+ghost use Rattle.program_ir.specs.Tables.{entry_at};
+ghost use Rattle.resolver.specs.Resolution.{symbol_for as position_of_symbol};
+
+use crate::misses::Misses;
+use avro_types::Nodes;
+use isa::{Entry, MOST_TABLES};
+use outcome::{Mismatch, MismatchKind};
+use resolver::symbol_for;
+use std::alloc::{AllocError, Global};
+
+/// The position of a writer's symbol with a reader's enum.
+pub fn position_for(nodes: &Nodes, node: usize, symbol: &str) -> Option<u32>
+    ensures { result ≡ position_of_symbol (slice_get nodes.now node) symbol.now }
+{
+    if node < nodes.len() {
+        symbol_for(nodes, node, symbol)
+    } else {
+        None
+    }
+}
+
+/// What a symbol of a writer's becomes with a reader's enum: its position there, or else the miss of a number.
+fn entry_for(r: &Nodes, reader: usize, symbol: &str, lacking: u32) -> Entry
+    ensures { result ≡ entry_at lacking (position_of_symbol (slice_get r.now reader) symbol.now) }
+{
+    match position_for(r, reader, symbol) {
+        Some(position) => Entry::Position(position),
+        None => Entry::Miss(lacking),
+    }
+}
+
+/// What each symbol of a writer's enum becomes with a reader's.
+pub fn entries(
+    alloc: Global,
+    r: &Nodes,
+    misses: &Misses,
+    writer: usize,
+    reader: usize,
+    symbols: &[String],
+) -> Result<Vec<Entry>, AllocError>
+    requires { length misses.now ≤ MOST_TABLES }
+    ensures { IfOk result (λ v. v.items ≡ map (entry_of misses.now)
+        (map (target writer reader (slice_get r.now reader)) (map string_bytes symbols.now))) }
+{
+    let lacking = misses.number_of(Mismatch {
+        kind: MismatchKind::NoSymbol,
+        writer_node: writer,
+        reader_node: reader,
+    }) as u32;
+    let mut entries = Vec::new(alloc);
+    for position in 0..symbols.len() {
+        entries.push(entry_for(r, reader, symbols[position].as_str(), lacking))?;
+    }
+    Ok(entries)
+}

@@ -1,0 +1,170 @@
+ghost use Rattle.std.specs.Prelude.{◌≡◌, ◌<◌, List, Some, length, slice_get, IfOk};
+ghost use Rattle.avro_types.specs.Node.{Node, UnionNode};
+ghost use Rattle.avro_types.specs.WellFormed.{full_name_of};
+ghost use Rattle.resolver_matching.specs.Matching.{IsNodeOf, place};
+ghost use Rattle.program_lowering.specs.Known.{AreKnown, lacking_node};
+
+use crate::members::{name_of, positions_of};
+use crate::named_types::NamedTypes;
+use crate::schema_pair::SchemaPair;
+use avro_types::{Kind, Name, Nodes};
+use resolver_matching::{Place, matches_by_rule, place_of, routes};
+use resolver::{field_lists, first_lacking};
+use std::alloc::{AllocError, Global};
+use std::collections::BTreeMap;
+
+/// What is known of nodes that have met, which is found once: a pair that is met again costs no more than a look-up.
+#[derive(Drop)]
+pub(crate) struct Known {
+    /// Under two records, the node of the first of the reader's fields that has neither a partner nor a default.
+    lacking: BTreeMap<(usize, usize), Option<usize>>,
+    /// The reader's named types, once a union of many members has met one of the writer's.
+    types: Option<NamedTypes>,
+    /// Under a reader's union of many members, their positions, each under its node.
+    positions: BTreeMap<usize, BTreeMap<usize, u32>>,
+}
+
+/// So many members, or so many candidates for one, are looked through one by one.
+const FEW: usize = 16;
+
+impl Known {
+    /// Nothing.
+    pub(crate) fn new(alloc: Global) -> Known
+        ensures { (W R : List Node) → AreKnown W R result }
+    {
+        Known {
+            lacking: BTreeMap::new(alloc),
+            types: None,
+            positions: BTreeMap::new(alloc),
+        }
+    }
+
+    /// The node of the first of the reader's fields that has neither a partner nor a default.
+    pub(crate) fn lacking_node(
+        &mut self,
+        pair: &SchemaPair<'_>,
+        wn: usize,
+        rn: usize,
+    ) -> Result<Option<usize>, AllocError>
+        requires writer { wn < length pair.now.writer.now }
+        requires reader { rn < length pair.now.reader.now }
+        requires known { AreKnown pair.now.writer.now pair.now.reader.now self.old }
+        ensures node { IfOk result (λ node. node ≡ lacking_node pair.now.writer.now pair.now.reader.now (wn, rn)) }
+        ensures known { AreKnown pair.now.writer.now pair.now.reader.now self.new }
+    {
+        if let Some(node) = self.lacking.get(&(wn, rn)).copied() {
+            return Ok(node);
+        }
+        let node = pair.find_lacking(wn, rn)?;
+        self.lacking.insert((wn, rn), node)?;
+        Ok(node)
+    }
+
+    /// Notes the reader's named types.
+    fn note_types(&mut self, alloc: Global, r: &Nodes) -> Result<(), AllocError>
+        ensures { (W : List Node) → AreKnown W r.now self.old → AreKnown W r.now self.new }
+    {
+        if self.types.is_none() {
+            self.types = Some(NamedTypes::of_nodes(alloc, r)?);
+        }
+        Ok(())
+    }
+
+    /// Notes the positions of the members of a reader's union.
+    fn note_positions(
+        &mut self,
+        alloc: Global,
+        r: &Nodes,
+        rn: usize,
+        members: &[usize],
+    ) -> Result<(), AllocError>
+        requires { slice_get r.now rn ≡ Some (UnionNode members.now) }
+        ensures { (W : List Node) → AreKnown W r.now self.old → AreKnown W r.now self.new }
+    {
+        if self.positions.contains_key(&rn) {
+            return Ok(());
+        }
+        r.is_well_formed();
+        let positions = positions_of(alloc, members)?;
+        self.positions.insert(rn, positions)?;
+        Ok(())
+    }
+
+    /// Where a value of a writer's named type goes with a reader's union: no other member can match than those that
+    /// have its unqualified name. Where too many nodes have it, each member is compared.
+    fn place_by_name(
+        &self,
+        pair: &SchemaPair<'_>,
+        wn: usize,
+        name: &Name,
+        rn: usize,
+        members: &[usize],
+    ) -> Place
+        requires writer { wn < length pair.now.writer.now }
+        requires name { full_name_of (slice_get pair.now.writer.now wn) ≡ Some name.now }
+        requires reader { rn < length pair.now.reader.now }
+        requires union { slice_get pair.now.reader.now rn ≡ Some (UnionNode members.now) }
+        requires known { AreKnown pair.now.writer.now pair.now.reader.now self.now }
+        ensures place { result ≡ place pair.now.writer.now pair.now.reader.now wn rn }
+        ensures within { IsNodeOf (length pair.now.reader.now) result }
+    {
+        let (Some(types), Some(positions)) = (&self.types, self.positions.get(&rn)) else {
+            return place_of(pair.writer, wn, pair.reader, rn);
+        };
+        let candidates = types.of_name(name.last());
+        if candidates.len() > FEW {
+            return place_of(pair.writer, wn, pair.reader, rn);
+        }
+        pair.writer.is_well_formed();
+        pair.reader.is_well_formed();
+        matches_by_rule();
+        pair.find_member(wn, members, positions, candidates)
+    }
+
+    /// Where a value of a writer's node goes with a reader's node.
+    pub(crate) fn place_of(
+        &mut self,
+        pair: &SchemaPair<'_>,
+        wn: usize,
+        rn: usize,
+    ) -> Result<Place, AllocError>
+        requires writer { wn < length pair.now.writer.now }
+        requires reader { rn < length pair.now.reader.now }
+        requires known { AreKnown pair.now.writer.now pair.now.reader.now self.old }
+        ensures place { IfOk result (λ found. found ≡ place pair.now.writer.now pair.now.reader.now wn rn) }
+        ensures within { IfOk result (IsNodeOf (length pair.now.reader.now)) }
+        ensures known { AreKnown pair.now.writer.now pair.now.reader.now self.new }
+    {
+        let Kind::Union(members) = pair.reader.kind(rn) else {
+            return Ok(place_of(pair.writer, wn, pair.reader, rn));
+        };
+        let Some(name) = name_of(pair.writer, wn) else {
+            return Ok(place_of(pair.writer, wn, pair.reader, rn));
+        };
+        if members.len() <= FEW {
+            return Ok(place_of(pair.writer, wn, pair.reader, rn));
+        }
+        self.note_types(pair.alloc, pair.reader)?;
+        self.note_positions(pair.alloc, pair.reader, rn, members)?;
+        Ok(self.place_by_name(pair, wn, name, rn, members))
+    }
+}
+
+impl SchemaPair<'_> {
+    /// The node of the first of the reader's fields that has neither a partner nor a default, found by all of both
+    /// records' fields.
+    fn find_lacking(&self, wn: usize, rn: usize) -> Result<Option<usize>, AllocError>
+        requires writer { wn < length self.now.writer.now }
+        requires reader { rn < length self.now.reader.now }
+        ensures { IfOk result (λ node. node ≡ lacking_node self.now.writer.now self.now.reader.now (wn, rn)) }
+    {
+        let Some((ws, rs)) = field_lists(self.writer, wn, self.reader, rn) else {
+            return Ok(None);
+        };
+        let routes = routes(self.alloc, ws, rs)?;
+        match first_lacking(self.alloc, &routes, rs)? {
+            Some(field) => Ok(Some(field.node)),
+            None => Ok(None),
+        }
+    }
+}

@@ -1,0 +1,103 @@
+ghost use Rattle.std.specs.Prelude.{◌≡◌, ◌<◌, ◌≤◌, ◌&&◌, None, if◌then◌else◌, length, option_map, slice_get, IfOk};
+ghost use Rattle.std.specs.BTreeMap.{get};
+ghost use Rattle.std.specs.List.{AllByRecursion};
+ghost use Rattle.std.specs.Ordering.{nat_cmp};
+ghost use Rattle.avro_types.specs.WellFormed.{full_name_of};
+ghost use Rattle.resolver_matching.specs.Matching.{IsNodeOf, first_member, matches};
+ghost use Rattle.program_lowering.specs.Members.{ArePositionsOf, least};
+ghost use Rattle.program_lowering.specs.NamedTypes.{is_among};
+
+use crate::schema_pair::SchemaPair;
+use avro_types::{Kind, MOST_NODES, Name, Nodes};
+use resolver_matching::{Place, matches};
+use std::alloc::{AllocError, Global};
+use std::collections::BTreeMap;
+
+/// The full name of a record, an enum or a fixed.
+pub(crate) fn name_of(nodes: &Nodes, n: usize) -> Option<&Name>
+    requires { n < length nodes.now }
+    ensures { option_map (λ name. name.now) result ≡ full_name_of (slice_get nodes.now n) }
+{
+    match nodes.kind(n) {
+        Kind::Fixed { name, .. } | Kind::Enum { name, .. } | Kind::Record { name, .. } => Some(
+            name,
+        ),
+        _ => None,
+    }
+}
+
+/// The positions of a union's members, each under its node.
+pub(crate) fn positions_of(
+    alloc: Global,
+    members: &[usize],
+) -> Result<BTreeMap<usize, u32>, AllocError>
+    requires { length members.now ≤ MOST_NODES }
+    ensures { IfOk result (ArePositionsOf members.now) }
+{
+    let mut positions = BTreeMap::new(alloc);
+    for (position, member) in members.iter().enumerate() {
+        positions.entry(*member)?.or_insert(position as u32);
+    }
+    Ok(positions)
+}
+
+/// The lesser of two positions, or the one that there is.
+fn least(one: Option<u32>, other: Option<u32>) -> Option<u32>
+    ensures { result ≡ least one other }
+{
+    match (one, other) {
+        (Some(one), Some(other)) => Some(one.min(other)),
+        (None, other) => other,
+        (one, None) => one,
+    }
+}
+
+impl SchemaPair<'_> {
+    /// The position of a node, where it is a member and matches.
+    fn matching_position(
+        &self,
+        wn: usize,
+        positions: &BTreeMap<usize, u32>,
+        node: usize,
+    ) -> Option<u32>
+        requires writer { wn < length self.now.writer.now }
+        requires reader { node < length self.now.reader.now }
+        ensures { result
+            ≡ if matches self.now.writer.now self.now.reader.now wn node then get nat_cmp positions.now node else None }
+    {
+        if matches(self.writer, wn, self.reader, node) {
+            positions.get(&node).copied()
+        } else {
+            None
+        }
+    }
+
+    /// The first of a union's members that is a candidate and matches.
+    pub(crate) fn find_member(
+        &self,
+        wn: usize,
+        members: &[usize],
+        positions: &BTreeMap<usize, u32>,
+        candidates: &[usize],
+    ) -> Place
+        requires writer { wn < length self.now.writer.now }
+        requires members { AllByRecursion (λ m. m < length self.now.reader.now) members.now }
+        requires positions { ArePositionsOf members.now positions.now }
+        requires candidates { AllByRecursion (λ m. m < length self.now.reader.now) candidates.now }
+        ensures place { result ≡ first_member
+            (λ m. is_among m candidates.now && matches self.now.writer.now self.now.reader.now wn m) 0 members.now }
+        ensures within { IsNodeOf (length self.now.reader.now) result }
+    {
+        let mut first = None;
+        for candidate in candidates {
+            first = least(first, self.matching_position(wn, positions, *candidate));
+        }
+        match first {
+            Some(position) => Place::IntoMember {
+                position,
+                node: members[position as usize],
+            },
+            None => Place::Nowhere,
+        }
+    }
+}

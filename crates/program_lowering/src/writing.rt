@@ -1,0 +1,286 @@
+ghost use Rattle.std.specs.Prelude.{◌≡◌, ◌++◌, ◌∷◌, ◌<◌, [], List, if◌then◌else◌, length, map, slice_get, IfOk, IfSome, OnOk};
+ghost use Rattle.std.specs.List.{AllByRecursion};
+ghost use Rattle.avro_types.specs.Node.{Node};
+ghost use Rattle.outcome.specs.declared.mismatch.MismatchKind.TheVariants as kinds;
+ghost use Rattle.isa.specs.declared.instr.Instr.TheVariants as op;
+ghost use Rattle.resolver_matching.specs.Matching.{ArePair, place};
+ghost use Rattle.resolver_matching.specs.Options.{given};
+ghost use Rattle.program_definition.specs.Lines.{BytesText, Lost, Op, looped, miss};
+ghost use Rattle.program_definition.specs.Writing.{X, is_text, placed_node, record_code, straight_node, write_within};
+ghost use Rattle.resolver.specs.Resolution.{field_lists, lacking};
+ghost use Rattle.program_lowering.specs.Known.{AreKnown};
+ghost use Rattle.program_ir.specs.Lines.{lines_in, parts_in};
+
+use crate::known::Known;
+use crate::schema_pair::SchemaPair;
+use avro_types::Kind;
+use isa::Instr;
+use resolver_matching::{Place, both_items, both_values};
+use outcome::MismatchKind;
+use program_ir::{Constant, Go, Line, miss, put, put_branched, put_loop, put_record};
+use resolver::field_lists;
+use std::alloc::AllocError;
+
+impl SchemaPair<'_> {
+    /// Adds the line that writes bytes, which have to be UTF-8 where the reader has a string.
+    fn put_bytes(&self, wn: usize, rn: usize, lines: &mut Vec<Line>) -> Result<(), AllocError>
+        requires { rn < length self.now.reader.now }
+        ensures { OnOk result ((W R : List Node) → lines_in W R lines.new.items ≡ lines_in W R lines.old.items
+            ++ (if is_text (slice_get self.now.reader.now rn)
+            then BytesText (miss kinds.BytesNotText wn rn) else Op op.Bytes) ∷ []) }
+    {
+        match self.reader.kind(rn) {
+            Kind::Text => put(
+                lines,
+                Line::BytesText(miss(MismatchKind::BytesNotText, wn, rn)),
+            ),
+            _ => put(lines, Line::Op(Instr::Bytes)),
+        }
+    }
+
+    /// Adds the lines that write a record: a call, or a miss where a default is missing.
+    fn record(
+        &self,
+        known: &mut Known,
+        wn: usize,
+        rn: usize,
+        lines: &mut Vec<Line>,
+    ) -> Result<(), AllocError>
+        requires writer { wn < length self.now.writer.now }
+        requires reader { rn < length self.now.reader.now }
+        requires known { AreKnown self.now.writer.now self.now.reader.now known.old }
+        ensures lines { OnOk result (lines_in self.now.writer.now self.now.reader.now lines.new.items
+            ≡ lines_in self.now.writer.now self.now.reader.now lines.old.items
+            ++ given (field_lists (slice_get self.now.writer.now wn) (slice_get self.now.reader.now rn)) (Lost ∷ [])
+            (λ p. record_code self.now.writer.now self.now.reader.now wn rn (lacking p.0 p.1))) }
+        ensures known { AreKnown self.now.writer.now self.now.reader.now known.new }
+    {
+        if field_lists(self.writer, wn, self.reader, rn).is_none() {
+            return put(lines, Line::Lost);
+        }
+        let lacking = known.lacking_node(self, wn, rn)?;
+        put_record(lines, wn, rn, lacking)?;
+        match lacking {
+            Some(_) => self.skip(wn, lines),
+            None => Ok(()),
+        }
+    }
+
+    /// Adds the lines that write the items of two arrays.
+    #[cycle(write)]
+    fn items(
+        &self,
+        known: &mut Known,
+        parts: Option<(usize, usize)>,
+        steps: usize,
+        lines: &mut Vec<Line>,
+    ) -> Result<(), AllocError>
+        requires parts { IfSome parts (ArePair self.now.writer.now self.now.reader.now) }
+        requires known { AreKnown self.now.writer.now self.now.reader.now known.old }
+        ensures lines { OnOk result (lines_in self.now.writer.now self.now.reader.now lines.new.items
+            ≡ lines_in self.now.writer.now self.now.reader.now lines.old.items
+            ++ given parts (Lost ∷ [])
+            (λ p. Op op.Blocks ∷ looped op.Next (write_within self.now.writer.now self.now.reader.now steps p.0 p.1))) }
+        ensures known { AreKnown self.now.writer.now self.now.reader.now known.new }
+    {
+        let Some((wn, rn)) = parts else {
+            return put(lines, Line::Lost);
+        };
+        let mut body = Vec::new(self.alloc);
+        self.write_within(known, wn, rn, steps, &mut body)?;
+        put(lines, Line::Op(Instr::Blocks))?;
+        put_loop(lines, Go::Next, body)
+    }
+
+    /// Adds the lines that write the values of two maps, after their keys.
+    #[cycle(write)]
+    fn values(
+        &self,
+        known: &mut Known,
+        parts: Option<(usize, usize)>,
+        steps: usize,
+        lines: &mut Vec<Line>,
+    ) -> Result<(), AllocError>
+        requires parts { IfSome parts (ArePair self.now.writer.now self.now.reader.now) }
+        requires known { AreKnown self.now.writer.now self.now.reader.now known.old }
+        ensures lines { OnOk result (lines_in self.now.writer.now self.now.reader.now lines.new.items
+            ≡ lines_in self.now.writer.now self.now.reader.now lines.old.items
+            ++ given parts (Lost ∷ [])
+            (λ p. Op op.Blocks
+            ∷ looped op.Next (Op op.Text ∷ write_within self.now.writer.now self.now.reader.now steps p.0 p.1))) }
+        ensures known { AreKnown self.now.writer.now self.now.reader.now known.new }
+    {
+        let Some((wn, rn)) = parts else {
+            return put(lines, Line::Lost);
+        };
+        let mut body = Vec::new(self.alloc);
+        put(&mut body, Line::Op(Instr::Text))?;
+        self.write_within(known, wn, rn, steps, &mut body)?;
+        put(lines, Line::Op(Instr::Blocks))?;
+        put_loop(lines, Go::Next, body)
+    }
+
+    /// Adds the lines that write nodes that match, neither a union.
+    #[cycle(write)]
+    fn straight(
+        &self,
+        known: &mut Known,
+        wn: usize,
+        rn: usize,
+        steps: usize,
+        lines: &mut Vec<Line>,
+    ) -> Result<(), AllocError>
+        requires writer { wn < length self.now.writer.now }
+        requires reader { rn < length self.now.reader.now }
+        requires known { AreKnown self.now.writer.now self.now.reader.now known.old }
+        ensures lines { OnOk result (lines_in self.now.writer.now self.now.reader.now lines.new.items
+            ≡ lines_in self.now.writer.now self.now.reader.now lines.old.items
+            ++ straight_node self.now.writer.now self.now.reader.now
+            (write_within self.now.writer.now self.now.reader.now steps) wn rn
+            (slice_get self.now.writer.now wn) (slice_get self.now.reader.now rn)) }
+        ensures known { AreKnown self.now.writer.now self.now.reader.now known.new }
+    {
+        match self.writer.kind(wn) {
+            Kind::Null => Ok(()),
+            Kind::Boolean => put(lines, Line::Op(Instr::Bool)),
+            Kind::Int => put(lines, Line::Op(Instr::Int)),
+            Kind::Long => put(lines, Line::Op(Instr::Long)),
+            Kind::Bytes => self.put_bytes(wn, rn, lines),
+            Kind::Text => put(lines, Line::Op(Instr::Text)),
+            Kind::Fixed { size, .. } => put(lines, Line::Op(Instr::Fixed(*size as u32))),
+            Kind::Enum { .. } => put(
+                lines,
+                Line::Enum {
+                    writer: wn,
+                    reader: rn,
+                },
+            ),
+            Kind::Array(_) => self.items(
+                known,
+                both_items(self.writer, wn, self.reader, rn),
+                steps,
+                lines,
+            ),
+            Kind::Map(_) => self.values(
+                known,
+                both_values(self.writer, wn, self.reader, rn),
+                steps,
+                lines,
+            ),
+            Kind::Union(_) => put(lines, Line::Lost),
+            Kind::Record { .. } => self.record(known, wn, rn, lines),
+        }
+    }
+
+    /// Adds the lines that write nodes, no union of the writer's.
+    #[cycle(write)]
+    fn placed(
+        &self,
+        known: &mut Known,
+        wn: usize,
+        rn: usize,
+        steps: usize,
+        lines: &mut Vec<Line>,
+    ) -> Result<(), AllocError>
+        requires writer { wn < length self.now.writer.now }
+        requires reader { rn < length self.now.reader.now }
+        requires known { AreKnown self.now.writer.now self.now.reader.now known.old }
+        ensures lines { OnOk result (lines_in self.now.writer.now self.now.reader.now lines.new.items
+            ≡ lines_in self.now.writer.now self.now.reader.now lines.old.items
+            ++ placed_node self.now.writer.now self.now.reader.now
+            (write_within self.now.writer.now self.now.reader.now steps) wn rn
+            (place self.now.writer.now self.now.reader.now wn rn)) }
+        ensures known { AreKnown self.now.writer.now self.now.reader.now known.new }
+    {
+        match known.place_of(self, wn, rn)? {
+            Place::Straight => self.straight(known, wn, rn, steps, lines),
+            Place::IntoMember { position, node } => {
+                put(lines, Line::Put(Constant::Position(position)))?;
+                self.straight(known, wn, node, steps, lines)
+            }
+            Place::Nowhere => {
+                put(lines, Line::Miss(miss(MismatchKind::NoBranch, wn, rn)))?;
+                self.skip(wn, lines)
+            }
+            Place::Unmatched => {
+                put(lines, Line::Miss(miss(MismatchKind::NoMatch, wn, rn)))?;
+                self.skip(wn, lines)
+            }
+        }
+    }
+
+    /// Adds the lines that write a pair of nodes, of so many levels. A writer's union goes first.
+    #[cycle(write)]
+    fn write_within(
+        &self,
+        known: &mut Known,
+        wn: usize,
+        rn: usize,
+        levels: usize,
+        lines: &mut Vec<Line>,
+    ) -> Result<(), AllocError>
+        requires writer { wn < length self.now.writer.now }
+        requires reader { rn < length self.now.reader.now }
+        requires known { AreKnown self.now.writer.now self.now.reader.now known.old }
+        ensures lines { OnOk result (lines_in self.now.writer.now self.now.reader.now lines.new.items
+            ≡ lines_in self.now.writer.now self.now.reader.now lines.old.items
+            ++ write_within self.now.writer.now self.now.reader.now levels wn rn) }
+        ensures known { AreKnown self.now.writer.now self.now.reader.now known.new }
+    {
+        if levels == 0 {
+            return put(lines, Line::Lost);
+        }
+        match self.writer.kind(wn) {
+            Kind::Union(members) => {
+                let parts = self.write_members(known, members, rn, levels - 1)?;
+                put_branched(self.alloc, lines, parts)
+            }
+            _ => self.placed(known, wn, rn, levels - 1, lines),
+        }
+    }
+
+    /// The lines that write each of these members.
+    #[cycle(write)]
+    fn write_members(
+        &self,
+        known: &mut Known,
+        members: &[usize],
+        rn: usize,
+        steps: usize,
+    ) -> Result<Vec<Vec<Line>>, AllocError>
+        requires members { AllByRecursion (λ m. m < length self.now.writer.now) members.now }
+        requires reader { rn < length self.now.reader.now }
+        requires known { AreKnown self.now.writer.now self.now.reader.now known.old }
+        ensures parts { IfOk result (λ parts. parts_in self.now.writer.now self.now.reader.now parts.items
+            ≡ map (λ m. write_within self.now.writer.now self.now.reader.now steps m rn) members.now) }
+        ensures known { AreKnown self.now.writer.now self.now.reader.now known.new }
+    {
+        let mut parts = Vec::new(self.alloc);
+        for member in members {
+            let mut part = Vec::new(self.alloc);
+            self.write_within(known, *member, rn, steps, &mut part)?;
+            parts.push(part)?;
+        }
+        Ok(parts)
+    }
+
+    /// Adds the lines that write a pair of nodes.
+    pub(crate) fn write(
+        &self,
+        known: &mut Known,
+        wn: usize,
+        rn: usize,
+        lines: &mut Vec<Line>,
+    ) -> Result<(), AllocError>
+        requires writer { wn < length self.now.writer.now }
+        requires reader { rn < length self.now.reader.now }
+        requires known { AreKnown self.now.writer.now self.now.reader.now known.old }
+        ensures lines { OnOk result (lines_in self.now.writer.now self.now.reader.now lines.new.items
+            ≡ lines_in self.now.writer.now self.now.reader.now lines.old.items
+            ++ X self.now.writer.now self.now.reader.now wn rn) }
+        ensures known { AreKnown self.now.writer.now self.now.reader.now known.new }
+    {
+        self.writer.is_well_formed();
+        self.write_within(known, wn, rn, self.writer.len() + 1, lines)
+    }
+}

@@ -1,9 +1,0 @@
--- The entries so far, before those of the symbols that are left, are all of them.
-use Rattle.std.proofs.Common.{◌≡◌, ◌++◌, drop, map}
-use Rattle.std.specs.Prelude.{slice_get, string_bytes}
-use Rattle.program_code.specs.Numbering.{entry_of}
-use Rattle.program_code.specs.Writing.{target}
-use Rattle.program_tables.proofs.targets.entries.Given as goal
-
-abbrev pub invariant-loop-position : goal.invariant-loop-position
-invariant-loop-position l = l.entries.items ++ map (λ t. entry_of l.misses (target l.writer l.reader (slice_get l.r l.reader) (string_bytes t))) (drop l.position l.symbols) ≡ map (λ t. entry_of l.misses (target l.writer l.reader (slice_get l.r l.reader) (string_bytes t))) l.symbols

@@ -1,6 +1,0 @@
-use Rattle.std.proofs.Common.{rules}
-use Rattle.registry_tables.proofs.settings.set_for.Goals as goal
-
--- no other tactic is tried where the function is wrong
-pub returns-in-Some : goal.returns-in-Some
-returns-in-Some g c = search rules

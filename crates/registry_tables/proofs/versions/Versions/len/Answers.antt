@@ -1,6 +1,0 @@
-use Rattle.std.proofs.Common.{arith}
-use Rattle.registry_tables.proofs.Numbers.{few_versions}
-use Rattle.registry_tables.proofs.versions.Versions.len.Goals as goal
-
-pub returns-clause-few : goal.returns-clause-few
-returns-clause-few c = omega (arith, few_versions c.self.inside.numbers c.self.inside.ids.items c.self.invariant)

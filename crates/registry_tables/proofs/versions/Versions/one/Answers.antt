@@ -1,5 +1,0 @@
-use Rattle.registry_tables.proofs.Numbers.{none_yet}
-use Rattle.registry_tables.proofs.versions.Versions.one.Goals as goal
-
-pub invariant_of-versions : goal.invariant_of-versions
-invariant_of-versions c = rw c.new.ensures.items (none_yet c.new-2.result c.new-2.ensures.empty)

@@ -1,0 +1,11 @@
+-- The partners so far lead to those in the end.
+use Rattle.std.proofs.Common.{◌≡◌, drop, length}
+use Rattle.avro_types.specs.Node.{fields_of}
+use Rattle.resolver_matching.specs.Partners.{field_names, partners, with_aliases}
+use Rattle.resolver_matching.proofs.pairing.partners.Given as goal
+
+abbrev pub invariant-loop-position : goal.invariant-loop-position
+invariant-loop-position l = record {
+  len : length l.partners.items ≡ length l.ws;
+  so_far : with_aliases (field_names (fields_of l.ws)) l.partners.items l.position (fields_of (drop l.position l.rs)) ≡ partners (fields_of l.ws) (fields_of l.rs);
+}

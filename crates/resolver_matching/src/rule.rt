@@ -1,0 +1,125 @@
+ghost use Rattle.std.specs.Prelude.{◌≡◌, ◌<◌, Some, false, length, slice_get, suc, IfSome};
+ghost use Rattle.avro_types.specs.Node.{node_of};
+ghost use Rattle.avro_types.specs.WellFormed.{is_union};
+ghost use Rattle.resolver_matching.specs.Matching.{ArePair, both_items, both_values, kinds_match, matches, matches_within, names_match, primitives_match};
+
+use crate::full_names::have_matching_names;
+use avro_types::{Kind, Nodes};
+
+/// Whether a node is a union.
+fn is_union(kind: &Kind) -> bool
+    ensures { result ≡ is_union (Some (node_of kind.now)) }
+{
+    match kind {
+        Kind::Union(_) => true,
+        _ => false,
+    }
+}
+
+/// Whether both are the same primitive type, or the writer's is promoted to the reader's.
+fn primitives_match(writer: &Kind, reader: &Kind) -> bool
+    ensures { result ≡ primitives_match (node_of writer.now) (node_of reader.now) }
+{
+    match (writer, reader) {
+        (Kind::Null, Kind::Null) => true,
+        (Kind::Boolean, Kind::Boolean) => true,
+        (Kind::Int, Kind::Int | Kind::Long) => true,
+        (Kind::Long, Kind::Long) => true,
+        (Kind::Bytes, Kind::Bytes | Kind::Text) => true,
+        (Kind::Text, Kind::Text | Kind::Bytes) => true,
+        _ => false,
+    }
+}
+
+/// Whether both are enums, fixed or records that match by their names, fixed by their sizes too.
+fn names_match(writer: &Kind, reader: &Kind) -> bool
+    ensures { result ≡ names_match (node_of writer.now) (node_of reader.now) }
+{
+    match (writer, reader) {
+        (
+            Kind::Enum { name, .. },
+            Kind::Enum {
+                name: other,
+                aliases,
+                ..
+            },
+        ) => have_matching_names(name, other, aliases),
+        (
+            Kind::Fixed { name, size, .. },
+            Kind::Fixed {
+                name: other,
+                aliases,
+                size: most,
+            },
+        ) => have_matching_names(name, other, aliases) && size == most,
+        (
+            Kind::Record { name, .. },
+            Kind::Record {
+                name: other,
+                aliases,
+                ..
+            },
+        ) => have_matching_names(name, other, aliases),
+        _ => false,
+    }
+}
+
+/// The nodes of the items of two arrays.
+pub fn both_items(w: &Nodes, wn: usize, r: &Nodes, rn: usize) -> Option<(usize, usize)>
+    requires writer { wn < length w.now }
+    requires reader { rn < length r.now }
+    ensures nodes { result ≡ both_items (slice_get w.now wn) (slice_get r.now rn) }
+    ensures within { IfSome result (ArePair w.now r.now) }
+{
+    match (w.kind(wn), r.kind(rn)) {
+        (Kind::Array(item), Kind::Array(other)) => Some((*item, *other)),
+        _ => None,
+    }
+}
+
+/// The nodes of the values of two maps.
+pub fn both_values(w: &Nodes, wn: usize, r: &Nodes, rn: usize) -> Option<(usize, usize)>
+    requires writer { wn < length w.now }
+    requires reader { rn < length r.now }
+    ensures nodes { result ≡ both_values (slice_get w.now wn) (slice_get r.now rn) }
+    ensures within { IfSome result (ArePair w.now r.now) }
+{
+    match (w.kind(wn), r.kind(rn)) {
+        (Kind::Map(value), Kind::Map(other)) => Some((*value, *other)),
+        _ => None,
+    }
+}
+
+/// Whether two nodes match by what they are, whatever their parts.
+fn kinds_match(writer: &Kind, reader: &Kind) -> bool
+    ensures { result ≡ kinds_match (node_of writer.now) (node_of reader.now) }
+{
+    is_union(writer)
+        || is_union(reader)
+        || primitives_match(writer, reader)
+        || names_match(writer, reader)
+}
+
+/// Whether a writer's node and a reader's node match, by so many steps into items and values.
+#[tactic(auto, unfolding(crate::specs::Matching::matches_within))]
+fn matches_within(steps: usize, w: &Nodes, wn: usize, r: &Nodes, rn: usize) -> bool
+    requires writer { wn < length w.now }
+    requires reader { rn < length r.now }
+    ensures { result ≡ matches_within w.now r.now (suc steps) wn rn }
+{
+    match (w.kind(wn), r.kind(rn)) {
+        (Kind::Array(item), Kind::Array(other)) | (Kind::Map(item), Kind::Map(other)) => {
+            steps > 0 && matches_within(steps - 1, w, *item, r, *other)
+        }
+        (writer, reader) => kinds_match(writer, reader),
+    }
+}
+
+/// Whether a writer's node and a reader's node match.
+pub fn matches(w: &Nodes, wn: usize, r: &Nodes, rn: usize) -> bool
+    requires writer { wn < length w.now }
+    requires reader { rn < length r.now }
+    ensures { result ≡ matches w.now r.now wn rn }
+{
+    matches_within(w.len(), w, wn, r, rn)
+}
