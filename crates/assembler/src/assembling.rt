@@ -1,3 +1,5 @@
+//! Reading a listing line by line into a program, or its first fault.
+
 ghost use Rattle.std.specs.Prelude.{◌≡◌, IfOk, Ok};
 ghost use Rattle.isa.specs.Program.{Program as Parted};
 ghost use Rattle.isa.specs.Range.{IsProgram};

@@ -1,3 +1,5 @@
+//! What was read of a listing so far.
+
 ghost use Rattle.std.specs.Prelude.{◌≡◌, ◌+◌, ◌^◌, ◌<◌, ◌≤◌, ◌∷◌, ◌++◌, [], OnErr, OnOk, length, true};
 ghost use Rattle.isa.specs.Judging.{judged};
 ghost use Rattle.isa.specs.Program.{Program as Parted};

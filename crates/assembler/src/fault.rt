@@ -1,3 +1,5 @@
+//! What keeps a text from being a listing, and in which line.
+
 ghost use Rattle.std.specs.Prelude.{◌≡◌};
 ghost use Rattle.assembler.specs.declared.fault.AsmError.TheVariants.{NoMemory};
 

@@ -1,3 +1,5 @@
+//! The law of listings. It does nothing when it runs.
+
 ghost use Rattle.std.specs.Prelude.{◌≡◌};
 ghost use Rattle.isa.specs.Program.{Program};
 ghost use Rattle.isa.specs.Range.{IsProgram};

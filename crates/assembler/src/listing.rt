@@ -1,3 +1,5 @@
+//! Writing the listing of a program.
+
 ghost use Rattle.std.specs.Prelude.{◌≡◌, ◌++◌, string_bytes, OnOk, IfOk};
 ghost use Rattle.std.specs.List.{flat_map};
 ghost use Rattle.assembler.specs.Listing.{constant_line, entry, instr_line, jumps_line, lines, listing_of, map_line, miss_line, number, operand};

@@ -1,3 +1,5 @@
+//! What the words of a line say: numbers, bytes, entries, operands.
+
 ghost use Rattle.std.specs.Prelude.{◌≡◌, ℕ, List, Option, IfOk, option_map};
 ghost use Rattle.assembler.specs.Things.{at_end, bytes_in, constant_in, each_in, entry_in, first_number, instr_in, miss_in, numbered, operand_in};
 ghost use Rattle.assembler_lexer.specs.Words.{later, number_in};

@@ -1,3 +1,5 @@
+//! Bytes after their length, and fixed contents.
+
 ghost use Rattle.std.specs.Prelude.{◌≡◌, ◌≤◌, ℕ, List, length, IfOk};
 ghost use Rattle.avro_bytes.specs.Blob.{FaultyFixed, IsBlob, IsFixed, content_at, fixed_at};
 ghost use Rattle.avro_bytes.specs.Contract.{Finds};

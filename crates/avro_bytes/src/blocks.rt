@@ -1,3 +1,5 @@
+//! Walking over the blocks of an array or a map.
+
 ghost use Rattle.std.specs.Prelude.{◌≡◌, ◌≤◌, ◌<◌, ◌+◌, length, suc, IfOk, IsTrue, false};
 
 use crate::fault::{Fault, MalformedKind};

@@ -1,3 +1,5 @@
+//! The encoding of a boolean.
+
 ghost use Rattle.std.specs.Prelude.{◌≡◌, ◌≤◌, length, IfOk, Bool as Truth};
 ghost use Rattle.avro_bytes.specs.Boolean.{FaultyBoolean, IsBoolean, boolean_at};
 ghost use Rattle.avro_bytes.specs.Contract.{Finds, Never};

@@ -1,3 +1,5 @@
+//! What keeps bytes from being read.
+
 ghost use Rattle.std.specs.Prelude.{◌≡◌};
 
 use std::alloc::{AllocError, AllocFailed};

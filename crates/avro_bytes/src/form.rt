@@ -1,3 +1,5 @@
+//! What every encoding of values owes: reading, skipping, and their laws.
+
 ghost use Rattle.std.specs.Prelude.{◌≡◌, ◌≢◌, ◌≤◌, ◌+◌, ◌++◌, ℕ, List, length, drop, IfOk};
 ghost use Rattle.avro_bytes.specs.declared.meter.Meter.{Meter};
 ghost use Rattle.avro_bytes.specs.Contract.{AnswersAlike, Reads, skipped};

@@ -1,3 +1,5 @@
+//! Laws of limits, numbers and contents. They do nothing when they run.
+
 ghost use Rattle.std.specs.Prelude.{ℕ, ℤ, List, [], ◌∷◌, ◌++◌, ◌+◌, ◌≡◌, ◌≢◌, ◌≤◌, ◌<◌, ◌↔◌, suc, drop, length, Some, None};
 ghost use Rattle.avro_bytes.specs.Blob.{content_at, fixed_at};
 ghost use Rattle.avro_bytes.specs.BlockDecoding.{next_block, next_item};

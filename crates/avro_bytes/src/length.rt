@@ -1,3 +1,5 @@
+//! The length before a content.
+
 ghost use Rattle.std.specs.Prelude.{◌≡◌, ◌≤◌, length, IfOk};
 ghost use Rattle.avro_bytes.specs.Contract.{Finds};
 ghost use Rattle.avro_bytes.specs.Length.{length_at};

@@ -1,3 +1,5 @@
+//! How much of a message was opened: its depth and its units.
+
 ghost use Rattle.std.specs.Prelude.{◌≡◌};
 
 use crate::fault::{Fault, MalformedKind};

@@ -1,3 +1,5 @@
+//! Zig-zag varints of 32 and of 64 bits.
+
 ghost use Rattle.std.specs.Prelude.{◌≡◌, ◌≤◌, ◌<◌, ◌+◌, ◌-◌, ◌*◌, ◌^◌, ℤ, length, drop, IfOk};
 ghost use Rattle.std.proofs.Common.{lit<};
 ghost use Rattle.avro_bytes.specs.Contract.{Finds, Never};

@@ -1,3 +1,5 @@
+//! Positions of symbols and of union branches.
+
 ghost use Rattle.std.specs.Prelude.{◌≡◌, ◌≤◌, ◌<◌, ℕ, length, IfOk};
 ghost use Rattle.avro_bytes.specs.Contract.{Finds, Never};
 ghost use Rattle.avro_bytes.specs.Position.{FaultyPosition, SpellsPosition, position_at};

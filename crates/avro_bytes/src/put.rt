@@ -1,3 +1,5 @@
+//! Writing a number in its shortest encoding.
+
 ghost use Rattle.std.specs.Prelude.{◌≡◌, ◌≤◌, ◌++◌, length, OnOk, OnErr};
 ghost use Rattle.avro_bytes.specs.Number.{zigzag};
 ghost use Rattle.avro_bytes.specs.Shortest.{Extends, shortest, shortest_groups};

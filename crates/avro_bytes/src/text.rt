@@ -1,3 +1,5 @@
+//! UTF-8 after its length.
+
 ghost use Rattle.std.specs.Prelude.{◌≡◌, ◌≤◌, ◌<◌, ℕ, List, length, string_bytes, IfOk};
 ghost use Rattle.avro_bytes.specs.Contract.{Finds};
 ghost use Rattle.avro_bytes.specs.Decoding.{IsComplete};

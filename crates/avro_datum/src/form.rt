@@ -1,3 +1,5 @@
+//! The encoding of the data of a node.
+
 ghost use Rattle.std.specs.Prelude.{◌≡◌, ◌<◌, length};
 
 use crate::reading::read_node;

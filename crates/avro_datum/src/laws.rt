@@ -1,3 +1,5 @@
+//! Laws of payloads and of written data. They do nothing when they run.
+
 ghost use Rattle.std.specs.Prelude.{◌≡◌, ◌≤◌, ◌⊎◌, ℕ, List, length};
 ghost use Rattle.avro_bytes.specs.declared.fault.MalformedKind.{MalformedKind};
 ghost use Rattle.avro_types.specs.Conforming.{Conforms};

@@ -1,3 +1,5 @@
+//! Data that hold no others: reading and skipping them.
+
 ghost use Rattle.std.specs.Prelude.{◌≡◌, ◌≤◌, length, IfOk};
 ghost use Rattle.avro_bytes.specs.Contract.{Reads, skipped};
 ghost use Rattle.avro_types.specs.Datum.{datum_of};

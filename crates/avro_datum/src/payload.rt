@@ -1,3 +1,5 @@
+//! Reading a whole payload.
+
 ghost use Rattle.avro_datum.specs.Payload.{ReadsAll};
 
 use crate::reading::read_node;

@@ -1,3 +1,5 @@
+//! Reading the datum of a node.
+
 ghost use Rattle.std.specs.Prelude.{◌≡◌, ◌<◌, ◌≤◌, ◌-◌, ◌+◌, length, slice_get, false, IfOk};
 ghost use Rattle.avro_bytes.specs.Contract.{Gathers, Reads};
 ghost use Rattle.avro_types.specs.Datum.{data_of, datum_of};

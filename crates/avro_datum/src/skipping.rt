@@ -1,3 +1,5 @@
+//! Skipping the datum of a node.
+
 ghost use Rattle.std.specs.Prelude.{◌≡◌, ◌<◌, ◌≤◌, ◌-◌, ◌+◌, length, slice_get, false, IfOk};
 ghost use Rattle.avro_bytes.specs.Contract.{skipped};
 ghost use Rattle.avro_types.specs.Node.{fields_of};

@@ -1,3 +1,5 @@
+//! Writing the datum of a node, and measuring it first.
+
 ghost use Rattle.std.specs.Prelude.{◌≡◌, ◌++◌, ◌+◌, ◌<◌, ◌^◌, [], length, OnOk, OnErr};
 ghost use Rattle.avro_bytes.specs.Shortest.{Extends};
 ghost use Rattle.avro_types.specs.Datum.{data_of, datum_of, pairs_of};

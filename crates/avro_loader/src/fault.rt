@@ -1,3 +1,5 @@
+//! What keeps bytes from being loaded as a program.
+
 ghost use Rattle.std.specs.Prelude.{◌≡◌};
 ghost use Rattle.avro_loader.specs.declared.fault.LoadError.TheVariants.{Fault, NoMemory};
 

@@ -1,3 +1,5 @@
+//! Loading an image as a program, or its first fault.
+
 ghost use Rattle.std.specs.Prelude.{◌≡◌, IfOk, IsErrOf, IsOk, Ok};
 ghost use Rattle.isa.specs.Program.{Program as Parted, program_of};
 ghost use Rattle.isa.specs.Range.{IsProgram};

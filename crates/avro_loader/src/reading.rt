@@ -1,3 +1,5 @@
+//! Reading the sections of an image.
+
 ghost use Rattle.std.specs.Prelude.{◌≡◌, [], Ok};
 ghost use Rattle.avro_loader_format.specs.Reading.{Tells};
 ghost use Rattle.avro_loader.specs.Reading.{Gives, count_at, things_at, section_at, constant_at, constants_at, constants_section_at, code_at};

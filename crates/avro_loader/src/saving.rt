@@ -1,3 +1,5 @@
+//! Writing the image of a program.
+
 ghost use Rattle.std.specs.Prelude.{◌≡◌, ◌++◌, OnOk, IfOk};
 ghost use Rattle.avro_loader.specs.Image.{constant, image_of, section};
 

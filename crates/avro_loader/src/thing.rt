@@ -1,3 +1,5 @@
+//! What stands in a section of an image: constants, entries, addresses, misses, instructions.
+
 ghost use Rattle.std.specs.Prelude.{◌≡◌, ◌++◌, ℕ, List, OnOk, Some, None};
 ghost use Rattle.avro_loader_format.specs.declared.version.Format.{Format};
 ghost use Rattle.avro_loader_format.specs.declared.version.Version.TheVariants.{Two};

@@ -1,3 +1,5 @@
+//! What keeps bytes from being an image, the first thing in reading order.
+
 use thiserror::Error;
 
 /// The first thing in reading order that keeps bytes from being an image. What is out of range is told after all else.

@@ -1,3 +1,5 @@
+//! The head of an image: its magic number and its version.
+
 ghost use Rattle.std.specs.Prelude.{◌≡◌};
 ghost use Rattle.avro_loader_format.specs.Reading.{Tells, ended, opened, version_at};
 

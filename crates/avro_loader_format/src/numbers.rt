@@ -1,3 +1,5 @@
+//! The numbers in an image.
+
 ghost use Rattle.std.specs.Prelude.{◌≡◌, ◌++◌, OnErr, OnOk};
 ghost use Rattle.std.specs.Int.{w16, w32};
 ghost use Rattle.avro_loader_format.specs.Spelling.{long, short};

@@ -1,3 +1,5 @@
+//! The versions of images, and what an image may have in each.
+
 ghost use Rattle.std.specs.Prelude.{◌≡◌};
 ghost use Rattle.avro_loader_format.specs.Reading.{most_instrs, place};
 

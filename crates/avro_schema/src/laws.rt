@@ -1,3 +1,5 @@
+//! The law of what a text declares. It does nothing when it runs.
+
 ghost use Rattle.avro_schema.specs.SchemaLaw.{FaultsWhereNoneIsDeclared, NodesAreThoseDeclared};
 
 /// The law that the nodes of a text are those that it declares, and so that a fault is told exactly where it declares

@@ -1,3 +1,5 @@
+//! A schema: its compact text and its nodes, parsed from a text.
+
 ghost use Rattle.std.specs.Prelude.{◌≡◌, ◌<◌, ◌≤◌, length, Some, slice_get, string_bytes, IfErr, IfOk};
 ghost use Rattle.std.specs.Option.{ok_or};
 ghost use Rattle.serde_json.specs.Data.{Data, depth};

@@ -1,3 +1,5 @@
+//! Reading a JSON value as the default of a field.
+
 ghost use Rattle.std.specs.Prelude.{Some, map, option_map};
 ghost use Rattle.std.specs.Option.{ok_or};
 ghost use Rattle.serde_json.specs.Find.{get};

@@ -1,3 +1,5 @@
+//! Reading the defaults of all nodes.
+
 ghost use Rattle.std.specs.Prelude.{◌≡◌, IfOk, map, option_map};
 ghost use Rattle.std.specs.Option.{ok_or};
 ghost use Rattle.avro_types.specs.Datum.{datum_of};

@@ -1,3 +1,5 @@
+//! A node before its defaults are read.
+
 use avro_types::{Aliases, Kind, Name};
 use serde_json::Value;
 

@@ -1,3 +1,5 @@
+//! The drafts of a schema so far, and where each full name is defined.
+
 ghost use Rattle.std.specs.Prelude.{◌≡◌, [], ◌∷◌, ◌++◌, length, set, slice_get, Some, None, false, map, IfOk, OnErr, OnOk};
 ghost use Rattle.avro_types.specs.FullNames.{has_dot, inside, namespace_of};
 ghost use Rattle.avro_types.specs.Node.{node_of};

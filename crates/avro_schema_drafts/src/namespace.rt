@@ -1,3 +1,5 @@
+//! Namespaces, under the numbers that their names are kept by.
+
 ghost use Rattle.std.specs.Prelude.{◌≡◌, [], IfOk, true};
 ghost use Rattle.std.specs.Arc.{arc_str_bytes};
 ghost use Rattle.avro_types.specs.FullNames.{is_namespace, namespace_of};

@@ -1,3 +1,5 @@
+//! The aliases that an attribute gives.
+
 ghost use Rattle.std.specs.Prelude.{◌≡◌, IfOk, None, codes, map, string_bytes};
 ghost use Rattle.serde_json.specs.Find.{get};
 ghost use Rattle.serde_json.specs.View.{view};

@@ -1,3 +1,5 @@
+//! Why a text is no schema.
+
 use std::alloc::{AllocError, AllocFailed};
 use thiserror::Error;
 

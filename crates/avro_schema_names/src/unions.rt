@@ -1,3 +1,5 @@
+//! Which members of a union are apart.
+
 ghost use Rattle.std.specs.Prelude.{◌≡◌, ◌++◌, ◌∷◌, ◌&&◌, [], map, not, slice_get, true, IfOk, MatchOption};
 ghost use Rattle.std.specs.List.{list_any};
 ghost use Rattle.avro_schema_drafts.specs.Draft.{draft_of, drafts_of};

@@ -1,3 +1,5 @@
+//! Words that name types.
+
 ghost use Rattle.std.specs.Prelude.{◌≡◌, option_map};
 ghost use Rattle.avro_schema_drafts.specs.Draft.{data_at};
 ghost use Rattle.avro_types.specs.Node.{node_of};

@@ -1,3 +1,5 @@
+//! The kinds that hold values of one type: arrays and maps.
+
 ghost use Rattle.std.specs.Prelude.{◌≡◌};
 ghost use Rattle.avro_types.specs.Node.{node_of};
 ghost use Rattle.avro_schema_walk.specs.Holder.{holder_node};

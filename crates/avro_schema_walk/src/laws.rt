@@ -1,3 +1,5 @@
+//! The law of the walk. It does nothing when it runs.
+
 ghost use Rattle.avro_schema_walk.specs.DeclaringLaws.{DeclaresWhatIsGiven, GivesWhatIsDeclared};
 
 /// The law that the walk gives the nodes that a value declares, and no others.

@@ -1,3 +1,5 @@
+//! The walk over a JSON value, which leaves the drafts that it declares.
+
 ghost use Rattle.std.specs.Prelude.{◌≡◌, ◌<◌, ◌≤◌, ℕ, List, [], length, map, option_map, IfOk, IfErr, OnErr};
 ghost use Rattle.serde_json.specs.Find.{get};
 ghost use Rattle.serde_json.specs.View.{view, items_view};

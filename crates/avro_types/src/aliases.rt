@@ -1,3 +1,5 @@
+//! The aliases of a type, found by their full names.
+
 ghost use Rattle.std.specs.Prelude.{◌≡◌, ◌==◌, ◌&&◌, ◌||◌, IfOk, OnOk, false, ℕ, List, length, map, option_map, slice_get, string_bytes};
 ghost use Rattle.std.specs.Arc.{arc_str_bytes};
 ghost use Rattle.std.specs.BTreeSet.{contains_text};

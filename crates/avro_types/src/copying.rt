@@ -1,3 +1,5 @@
+//! Copying data.
+
 ghost use Rattle.std.specs.Prelude.{◌≡◌, IfOk};
 ghost use Rattle.avro_types.specs.Datum.{data_of, datum_of, pairs_of};
 

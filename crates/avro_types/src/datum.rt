@@ -1,3 +1,5 @@
+//! A datum of a schema.
+
 /// A datum of a schema.
 #[derive(Debug, Drop, PartialEq, Eq)]
 pub enum Datum {

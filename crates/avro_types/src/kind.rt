@@ -1,3 +1,5 @@
+//! What a node of a schema is.
+
 use crate::aliases::Aliases;
 use crate::datum::Datum;
 use crate::name::Name;

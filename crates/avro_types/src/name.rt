@@ -1,3 +1,5 @@
+//! Full names.
+
 ghost use Rattle.std.specs.Prelude.{◌≡◌, IfOk, string_bytes, true};
 ghost use Rattle.std.specs.Arc.{arc_str_bytes};
 ghost use Rattle.avro_types.specs.FullNames.{AreParts, inside, is_namespace, namespace_of, unqualified};

@@ -1,3 +1,5 @@
+//! The messages of a measurement, in a container.
+
 use byteorder::{ByteOrder, LittleEndian};
 use std::alloc::Global;
 

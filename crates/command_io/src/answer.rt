@@ -1,3 +1,5 @@
+//! The line that answers a payload.
+
 ghost use Rattle.std.specs.Prelude.{◌≡◌, ◌++◌, ℕ, List, string_bytes, OnOk};
 ghost use Rattle.command_io.specs.Answer.{IsAnswer, IsPayloadAnswer};
 

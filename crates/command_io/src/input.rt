@@ -1,3 +1,5 @@
+//! Reading a whole input.
+
 ghost use Rattle.std.specs.Prelude.{◌≡◌, ◌⊎◌, ◌<◌, length, IfErr, IfOk, IfSome};
 
 use crate::run_error::RunError;

@@ -1,3 +1,5 @@
+//! Where a line ends.
+
 ghost use Rattle.std.specs.Prelude.{◌≡◌, ◌<◌, [], ◌∷◌, drop, length, IfSome, MatchOption};
 ghost use Rattle.command_io.specs.Lines.{IsFirst, line_at, lines};
 

@@ -1,3 +1,5 @@
+//! The line of an outcome.
+
 ghost use Rattle.std.specs.Prelude.{◌≡◌, ◌++◌, string_bytes, OnOk};
 ghost use Rattle.outcome.specs.Outcome.{outcome_of};
 ghost use Rattle.command_io.specs.OutcomeLine.{hex_of, line_of};

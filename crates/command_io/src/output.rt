@@ -1,3 +1,5 @@
+//! Writing a whole output.
+
 ghost use Rattle.std.specs.Prelude.{◌≡◌, OnOk, OnErr, IfErr};
 ghost use Rattle.std.specs.Io.KnownBytes.{Appends, Keeps};
 ghost use Rattle.command_io.specs.Traffic.{Begins};

@@ -1,3 +1,5 @@
+//! The payload that a line spells in hexadecimal.
+
 ghost use Rattle.std.specs.Prelude.{◌≡◌, IfOk, option_map};
 ghost use Rattle.std.specs.List.{list_any};
 ghost use Rattle.command_io.specs.Payload.{is_upper, payload_of};

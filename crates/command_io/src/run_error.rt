@@ -1,3 +1,5 @@
+//! Why a run of the program was broken off.
+
 ghost use Rattle.std.specs.Prelude.{◌≡◌};
 
 use std::alloc::{AllocError, AllocFailed};

@@ -1,3 +1,5 @@
+//! The line of a run of a program.
+
 ghost use Rattle.std.specs.Prelude.{◌≡◌, ◌++◌, string_bytes, OnOk};
 ghost use Rattle.command_io.specs.RunLine.{line_of_run, name_of_trap, text_of_end};
 

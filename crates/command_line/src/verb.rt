@@ -1,3 +1,5 @@
+//! The subcommands that answer lines.
+
 /// What to do with the input.
 #[derive(Clone, Copy, Debug, PartialEq, Eq)]
 pub enum Verb {

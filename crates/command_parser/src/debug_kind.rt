@@ -1,3 +1,5 @@
+//! The first words of lines of `debug`.
+
 ghost use Rattle.std.specs.Prelude.{◌≡◌};
 ghost use Rattle.command_parser.specs.Reading.{debug_kind_name, debug_kind_named};
 

@@ -1,3 +1,5 @@
+//! What a line of `debug` asks for.
+
 ghost use Rattle.std.specs.Prelude.{◌≡◌};
 ghost use Rattle.command_parser.specs.Reading.{debug_line, debug_line_of_kind};
 ghost use Rattle.command_parser.specs.Words.{words_left};

@@ -1,3 +1,5 @@
+//! The first words of lines of `replay`.
+
 ghost use Rattle.std.specs.Prelude.{◌≡◌};
 ghost use Rattle.command_parser.specs.Reading.{kind_name, kind_named};
 

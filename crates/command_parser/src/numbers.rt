@@ -1,3 +1,5 @@
+//! The numbers in a line.
+
 ghost use Rattle.std.specs.Prelude.{◌≡◌, ◌^◌, option_map};
 ghost use Rattle.command_parser.specs.Words.{first_number, last_number, last_rows, number_and_rows, number_below, two_numbers, words_left};
 

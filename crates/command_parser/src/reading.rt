@@ -1,3 +1,5 @@
+//! What a line of `replay` says, by its words.
+
 ghost use Rattle.std.specs.Prelude.{◌≡◌, IfErr, IfOk, Some, option_map};
 ghost use Rattle.command_parser.specs.ReplayLine.{replay_line_of};
 ghost use Rattle.command_parser.specs.Reading.{WantsMemory, kind_in, line_in, replay_line, slice_in};

@@ -1,3 +1,5 @@
+//! What a line of `replay` may say.
+
 use schema_registry::Level;
 
 /// What a line of `replay` says: an event, or what is to be told of a session.

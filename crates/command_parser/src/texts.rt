@@ -1,3 +1,5 @@
+//! The subjects, levels and schema texts in a line.
+
 ghost use Rattle.std.specs.Prelude.{◌≡◌, IfErr, IfOk, IsSome, Some, option_map, string_bytes};
 ghost use Rattle.command_parser.specs.ReplayLine.{Register, replay_line_of};
 ghost use Rattle.command_parser.specs.Reading.{HasSubject, level_in, piece_in, register_in, set_level};

@@ -1,3 +1,5 @@
+//! The words of a line.
+
 ghost use Rattle.std.specs.Prelude.{◌≡◌, ◌∷◌, [], MatchOption, option_map};
 ghost use Rattle.assembler.specs.Things.{at_end};
 ghost use Rattle.assembler_lexer.specs.Words.{words};

@@ -1,3 +1,5 @@
+//! Answering the lines of `debug`.
+
 ghost use Rattle.std.specs.Prelude.{◌≡◌, ◌≢◌, ◌++◌, ℕ, List, drop, string_bytes, Err, Ok, IfErr, IfOk, OnOk};
 ghost use Rattle.command_io.specs.Lines.{line_at, lines};
 ghost use Rattle.isa.specs.Program.{Program as Parted};

@@ -1,3 +1,5 @@
+//! Answering the lines of `replay`.
+
 ghost use Rattle.std.specs.Prelude.{◌≡◌, ◌++◌, string_bytes, IfOk, OnOk};
 ghost use Rattle.command_io.specs.Lines.{lines};
 ghost use Rattle.command_sessions.specs.Folding.{Grows};

@@ -1,3 +1,5 @@
+//! What a line of `replay` asks of a world.
+
 ghost use Rattle.std.specs.Prelude.{◌≡◌};
 ghost use Rattle.command_parser.specs.ReplayLine.{replay_line_of};
 ghost use Rattle.command_sessions.specs.Request.{asks, request_of};

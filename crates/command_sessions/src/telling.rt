@@ -1,3 +1,5 @@
+//! The texts that answer a line: refusals, states, listings, ends.
+
 ghost use Rattle.std.specs.Prelude.{◌≡◌, ◌++◌, string_bytes, OnOk};
 ghost use Rattle.command_sessions.specs.Folding.{Grows};
 ghost use Rattle.command_sessions.specs.Telling.{Tells, code_text, end_line, end_text, refused_line, state_text};

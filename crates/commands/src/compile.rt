@@ -1,3 +1,5 @@
+//! Answering `compile`.
+
 ghost use Rattle.std.specs.Prelude.{◌≡◌, ◌++◌, ◌⊎◌, ◌∷◌, [], string_bytes, IfOk, IfErr, Some, None};
 ghost use Rattle.hex.specs.Hex.{encode_lower};
 ghost use Rattle.avro_loader.specs.Image.{image_of};

@@ -1,3 +1,5 @@
+//! Answering `debug`, from the payload's line on.
+
 ghost use Rattle.std.specs.Prelude.{◌≢◌, ◌++◌, ◌∷◌, [], string_bytes, IfErr, IfOk};
 ghost use Rattle.command_io.specs.Lines.{lines};
 ghost use Rattle.commands.specs.Output.{IsDebug};

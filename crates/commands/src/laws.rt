@@ -1,3 +1,5 @@
+//! The law that an input has one output. It does nothing when it runs.
+
 ghost use Rattle.commands.specs.Output.{HasOneOutput, HasOutput};
 ghost use Rattle.commands.specs.Running.{StopInOneState};
 

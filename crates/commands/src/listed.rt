@@ -1,3 +1,5 @@
+//! The listing at the front of an input of `run`.
+
 ghost use Rattle.std.specs.Prelude.{◌≡◌, codes};
 ghost use Rattle.std.specs.Str.{bytes_eq};
 ghost use Rattle.command_io.specs.Lines.{lines};

@@ -1,3 +1,5 @@
+//! Why a whole input is not answered.
+
 ghost use Rattle.std.specs.Prelude.{◌≡◌, ◌≢◌, ◌++◌, ◌∷◌, [], string_bytes, IfOk};
 ghost use Rattle.commands.specs.Names.{name_of_fault};
 ghost use Rattle.commands.specs.Refusal.{text_of};

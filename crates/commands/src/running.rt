@@ -1,3 +1,5 @@
+//! Answering `run`.
+
 ghost use Rattle.std.specs.Prelude.{◌≡◌, ◌≤◌, ◌<◌, ◌++◌, ◌⊎◌, ℕ, List, string_bytes, true, is_some, IfErr, IfOk, OnOk, Err, Ok};
 ghost use Rattle.std.specs.List.{concat};
 ghost use Rattle.assembler.specs.Assembling.{assembled};

@@ -1,3 +1,5 @@
+//! The two schemas at the front of an input.
+
 ghost use Rattle.std.specs.Prelude.{◌≡◌, ◌≢◌, Err, Ok, IfOk, IfErr, drop};
 ghost use Rattle.avro_schema_names.specs.declared.error.SchemaError.TheVariants.{NoMemory};
 ghost use Rattle.command_io.specs.Lines.{lines};

@@ -1,3 +1,5 @@
+//! How the program ends.
+
 ghost use Rattle.std.specs.Prelude.{◌≡◌};
 ghost use Rattle.commands.specs.Status.{exit_code_of};
 

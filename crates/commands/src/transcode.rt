@@ -1,3 +1,5 @@
+//! Answering `transcode`.
+
 ghost use Rattle.std.specs.Prelude.{◌≡◌, ◌⊎◌, string_bytes, IfErr, IfOk, Some, None};
 ghost use Rattle.isa.specs.Program.{Program};
 ghost use Rattle.program_definition.specs.Code.{code_of};

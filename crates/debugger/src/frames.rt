@@ -1,3 +1,5 @@
+//! The lines of open frames.
+
 ghost use Rattle.std.specs.Prelude.{◌≡◌, ◌++◌, length, option_map, option_to_list, reverse, slice_get, string_bytes, OnOk, Some};
 ghost use Rattle.std.specs.List.{flat_map};
 ghost use Rattle.isa.specs.State.{SkipBlocks};

@@ -1,3 +1,5 @@
+//! The text that shows a state, and the listing of its program.
+
 ghost use Rattle.std.specs.Prelude.{◌≡◌, ◌++◌, string_bytes, IfOk, OnOk};
 ghost use Rattle.assembler.specs.Listing.{listing_of};
 ghost use Rattle.debugger.specs.Show.{first_line, name_of_state, out_line, places, shown, told};

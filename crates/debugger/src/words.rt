@@ -1,3 +1,5 @@
+//! The words of these texts.
+
 ghost use Rattle.std.specs.Prelude.{◌≡◌, ◌++◌, is_some, option_map, string_bytes, true, OnOk, Some};
 ghost use Rattle.machine_store.specs.Viewing.{buffer_of};
 ghost use Rattle.machine_stepper.specs.Running.{part_of};

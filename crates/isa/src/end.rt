@@ -1,3 +1,5 @@
+//! How a run ends.
+
 use outcome::Outcome;
 
 /// What stops a program, though no program of two schemas.

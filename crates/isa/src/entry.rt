@@ -1,3 +1,5 @@
+//! What a symbol of the writer's becomes.
+
 /// What a symbol of the writer's becomes.
 #[derive(Clone, Copy, Debug, PartialEq, Eq)]
 pub enum Entry {

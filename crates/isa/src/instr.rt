@@ -1,3 +1,5 @@
+//! The 31 instructions.
+
 /// An instruction. Those that add need a current buffer, and those that skip add nothing.
 #[derive(Clone, Copy, Debug, PartialEq, Eq)]
 pub enum Instr {

@@ -1,3 +1,5 @@
+//! Laws of the instruction table. They do nothing when they run.
+
 ghost use Rattle.std.specs.Prelude.{◌≡◌, ◌↔◌, ◌≢◌, ◌≤◌, ◌+◌, ◌++◌, ℕ, Bool, List, None, Some, is_some, length, true, false};
 ghost use Rattle.isa.specs.declared.instr.Instr.{Instr};
 ghost use Rattle.isa.specs.declared.operation.Operation.{Operation};

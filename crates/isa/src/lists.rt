@@ -1,3 +1,5 @@
+//! Lists of lists in one piece of memory.
+
 ghost use Rattle.std.specs.Prelude.{◌≡◌, ◌<◌, ◌++◌, ◌∷◌, [], Bool, List, length, option_map, slice_get, slice_index_or, nat_le, None, Some, OnOk, OnErr};
 ghost use Rattle.isa.specs.Judging.{are_within, first_empty, first_out, first_out_in};
 ghost use Rattle.isa.specs.Lists.{total_length};

@@ -1,3 +1,5 @@
+//! What an instruction does whatever its operand: its code, its name, the operand that it has.
+
 ghost use Rattle.std.specs.Prelude.{◌≡◌, slice_get};
 ghost use Rattle.isa.specs.Operation.{code_of, instr_of, name_of, operand_of, operation_of, shape_of, at_code};
 

@@ -1,3 +1,5 @@
+//! What a program is made of.
+
 use crate::entry::Entry;
 use crate::instr::Instr;
 use crate::lists::Lists;

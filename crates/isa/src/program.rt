@@ -1,3 +1,5 @@
+//! A program, whose parts are in range and within the limits.
+
 ghost use Rattle.std.specs.Prelude.{◌≡◌, ◌↔◌, is_ok, length, slice_get, true};
 ghost use Rattle.isa.specs.Judging.{address_out_of_range, entry_out_of_range, first_error, first_out_of_range, instr_out_of_range, is_within_limits, judged, miss_out_of_range};
 ghost use Rattle.isa.specs.Program.{program_of};

@@ -1,3 +1,5 @@
+//! Whether what names things by number names things that are there.
+
 ghost use Rattle.std.specs.Prelude.{◌≡◌, Bool};
 ghost use Rattle.isa.specs.declared.range.Sizes.{Sizes};
 ghost use Rattle.isa.specs.Judging.{entry_is_in_range, first_out, first_out_in, instr_is_in_range, is_address, miss_is_in_range};

@@ -1,3 +1,5 @@
+//! A run of a program on bytes that come in pieces.
+
 ghost use Rattle.std.specs.Prelude.{◌≡◌, ◌≤◌, ◌<◌, ◌+◌, ◌++◌, length, slice_get, OnOk, OnErr, option_map, Some, false, true};
 ghost use Rattle.isa.specs.Row.{row_of};
 ghost use Rattle.program_definition.specs.Code.{code_of};

@@ -1,3 +1,5 @@
+//! Lists of segments that are joined without being copied.
+
 ghost use Rattle.std.specs.Prelude.{◌≡◌, ◌<◌, ◌-◌, ◌^◌, List, [], ◌∷◌, ◌++◌, length, slice_get, OnOk, OnErr, IfOk};
 ghost use Rattle.machine_ropes.specs.Ropes.{counted, rope_at};
 ghost use Rattle.machine_ropes.specs.Segments.{AreWithin, bytes_of};

@@ -1,3 +1,5 @@
+//! A segment of the arena.
+
 /// The bytes of the arena from a place up to an end.
 #[derive(Clone, Copy, Debug, PartialEq, Eq)]
 pub struct Segment {

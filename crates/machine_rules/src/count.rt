@@ -1,3 +1,5 @@
+//! The count of rows.
+
 /// How many rows a run has taken.
 #[derive(Clone, Copy)]
 pub struct RowCount {

@@ -1,3 +1,5 @@
+//! How a run ends at a fault or where the program halts.
+
 ghost use Rattle.std.specs.Prelude.{◌≡◌, ◌≢◌};
 ghost use Rattle.avro_bytes.specs.declared.fault.Fault.TheVariants.{NoMemory};
 ghost use Rattle.isa.specs.Program.{miss_of};

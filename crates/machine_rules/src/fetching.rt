@@ -1,3 +1,5 @@
+//! The instruction at an address.
+
 ghost use Rattle.std.specs.Prelude.{◌≡◌, slice_get, Some, None, IfOk, IfErr, OnErr};
 ghost use Rattle.isa.specs.declared.end.Trap.TheVariants.{OffEnd};
 

@@ -1,3 +1,5 @@
+//! What stands around the items of one block.
+
 ghost use Rattle.std.specs.Prelude.{◌≡◌, ◌∷◌, ◌++◌, [], length, IfOk, OnOk};
 ghost use Rattle.avro_bytes.specs.Written.{block_count};
 

@@ -1,3 +1,5 @@
+//! How much of a content one row moves.
+
 ghost use Rattle.std.specs.Prelude.{◌≤◌, length};
 ghost use Rattle.machine_rules.specs.Pieces.{HasMoved, IsPiece, part_of};
 ghost use Rattle.machine_rules.specs.Text.{check_of};

@@ -1,3 +1,5 @@
+//! Where a slice stops.
+
 ghost use Rattle.std.specs.Prelude.{◌≡◌, ◌≢◌, ◌⊎◌, ◌-◌, ◌^◌, ◌==◌, ◌&&◌, false, not, true};
 ghost use Rattle.std.specs.List.{list_any};
 

@@ -1,3 +1,5 @@
+//! What is known of a text that moves: the bytes of a cut character.
+
 ghost use Rattle.std.specs.Prelude.{◌≡◌, ◌≤◌, ◌-◌, length, take, drop, true, []};
 ghost use Rattle.std.specs.Str.{is_utf8};
 

@@ -1,3 +1,5 @@
+//! The rows of misses, calls, returns, jumps and the halt.
+
 #![tactic(auto, using(crate::proofs::Appending::finishes, crate::proofs::Appending::same_arena))]
 
 ghost use Rattle.std.specs.Prelude.{◌≡◌, ◌≢◌, ◌≤◌, ◌<◌, length, Some, None};

@@ -1,3 +1,5 @@
+//! The law of machines. It does nothing when it runs.
+
 ghost use Rattle.std.specs.Prelude.{ℕ, List, ◌++◌};
 ghost use Rattle.isa.specs.Program.{Program};
 ghost use Rattle.machine_stepper.specs.Running.{IsOn, IsUnder, Running, start};

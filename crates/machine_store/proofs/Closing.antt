@@ -10,8 +10,8 @@ use Rattle.isa.specs.Lists.{total_length}
 use Rattle.isa.specs.State as state
 use Rattle.isa.specs.State.{Store, add, append, empty_buffers, emptied, frames_size, is_done, total}
 use Rattle.isa.specs.Table.{items_closed}
-use Rattle.machine_store.specs.declared.buffers.Place.{Place}
-use Rattle.machine_store.specs.declared.buffers.Place.TheVariants as places
+use Rattle.machine_store.specs.declared.buffers.TargetBuffer.{TargetBuffer}
+use Rattle.machine_store.specs.declared.buffers.TargetBuffer.TheVariants as places
 use Rattle.machine_store.specs.declared.store.Frame.{Frame}
 use Rattle.machine_store.specs.declared.store.Frame.TheVariants as frames
 use Rattle.machine_store.specs.Buffers.{AreLaid, IsPlace, Laid, with_closed, with_fewer}
@@ -152,7 +152,7 @@ module _ (top : Frame) (rest : List Frame) (laid : Laid) (lost units : ℕ) (mar
 
   -- ---- where there is room
 
-  module _ (into : Place) (are : AreLaid laid) (d : is_done mark over ≡ false) (fits : length around ≤ MOST_OUTPUT - total (held_of (top ∷ rest) laid units mark over).store) (p : newest_place rest ≡ Some into) where
+  module _ (into : TargetBuffer) (are : AreLaid laid) (d : is_done mark over ≡ false) (fits : length around ≤ MOST_OUTPUT - total (held_of (top ∷ rest) laid units mark over).store) (p : newest_place rest ≡ Some into) where
     into-there : (fs : List Frame) (n : ℕ) → AreFrames fs n → newest_place fs ≡ Some into → IsPlace n into
     into-there [] n f e = absurd f
     into-there (t ∷ below) n f e = placed t below n into f e
@@ -160,11 +160,11 @@ module _ (top : Frame) (rest : List Frame) (laid : Laid) (lost units : ℕ) (mar
     pub there : IsPlace first into
     there = into-there rest first rest-are.0 p
 
-    closed-slots : (q : Place) → length (with_closed first q around before laid).slots ≡ first
+    closed-slots : (q : TargetBuffer) → length (with_closed first q around before laid).slots ≡ first
     closed-slots places.Out = fewer-slots top rest laid lost units mark over first k fe
     closed-slots (places.Slot i) = length-set (take first laid.slots) i _ ∙ fewer-slots top rest laid lost units mark over first k fe
 
-    closed-arena : (q : Place) → (with_closed first q around before laid).arena ≡ laid.arena ++ around
+    closed-arena : (q : TargetBuffer) → (with_closed first q around before laid).arena ≡ laid.arena ++ around
     closed-arena places.Out = refl
     closed-arena (places.Slot i) = refl
 

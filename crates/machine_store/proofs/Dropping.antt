@@ -7,8 +7,8 @@ use Rattle.outcome.specs.declared.limits.TheConstants.{MOST_OUTPUT}
 use Rattle.isa.specs.Lists.{total_length}
 use Rattle.isa.specs.State as state
 use Rattle.isa.specs.State.{Store, add, emptied, is_done, total}
-use Rattle.machine_store.specs.declared.buffers.Place.{Place}
-use Rattle.machine_store.specs.declared.buffers.Place.TheVariants as places
+use Rattle.machine_store.specs.declared.buffers.TargetBuffer.{TargetBuffer}
+use Rattle.machine_store.specs.declared.buffers.TargetBuffer.TheVariants as places
 use Rattle.machine_ropes.specs.declared.segment.Segment.{Segment}
 use Rattle.machine_store.specs.declared.store.Frame.{Frame}
 use Rattle.machine_store.specs.declared.store.Frame.TheVariants as frames
@@ -48,7 +48,7 @@ one-buffer (frames.Blocks a walk items) rest texts first f e w =
 one-buffer (frames.SkipBlocks walk) rest texts first f e w = absurd cc
 
 -- what was written is as long as the buffer
-pub written-length : (place : Place) (laid : Laid) (old new : List ℕ) (n : ℕ) → old ≡ [] → new ≡ old ++ bytes_of laid.arena (segments_at laid place) → n ≡ length new → n ≡ length (bytes_of laid.arena (segments_at laid place))
+pub written-length : (place : TargetBuffer) (laid : Laid) (old new : List ℕ) (n : ℕ) → old ≡ [] → new ≡ old ++ bytes_of laid.arena (segments_at laid place) → n ≡ length new → n ≡ length (bytes_of laid.arena (segments_at laid place))
 written-length place laid old new n o e is = is ∙ ap (λ (x : List ℕ). length x) (e ∙ ap (λ (x : List ℕ). x ++ bytes_of laid.arena (segments_at laid place)) o)
 
 module _ (top : Frame) (rest : List Frame) (laid : Laid) (lost units : ℕ) (mark : Option ℕ) (over : Bool) (first : ℕ) (h : Held) (is : held_of (top ∷ rest) laid units mark over ≡ h) (k : IsKept (top ∷ rest) laid lost units mark over) (fe : first_of top ≡ Some first) (w : is_some (walk_of h.store.frames) ≡ true) where
@@ -81,8 +81,8 @@ module _ (top : Frame) (rest : List Frame) (laid : Laid) (lost units : ℕ) (mar
     too-much much = omega (arith, left-total, much, ap total (shown-dropped top rest laid units mark over first h is fe))
 
     -- where there is room for it
-    module _ (into : Place) (are : AreLaid laid) (d : is_done mark over ≡ false) (some : total h.store - n ≢ MOST_OUTPUT) where
-      commutes : (q : Place) → IsPlace first q → with_fewer first (with_added q (0 ∷ []) laid) ≡ with_added q (0 ∷ []) (with_fewer first laid)
+    module _ (into : TargetBuffer) (are : AreLaid laid) (d : is_done mark over ≡ false) (some : total h.store - n ≢ MOST_OUTPUT) where
+      commutes : (q : TargetBuffer) → IsPlace first q → with_fewer first (with_added q (0 ∷ []) laid) ≡ with_added q (0 ∷ []) (with_fewer first laid)
       commutes places.Out p = refl
       commutes (places.Slot i) p =
           let s : Segment = record { place = length laid.arena; end = length laid.arena + 1 } in
@@ -111,7 +111,7 @@ module _ (top : Frame) (rest : List Frame) (laid : Laid) (lost units : ℕ) (mar
       shown-byte [] p g r = absurd cc
       shown-byte (t ∷ below) p g r = shown-added t below (with_fewer first laid) (lost + n) units mark over (0 ∷ []) into g fewer-are d p r _ refl
 
-      longer : (q : Place) → length (with_fewer first (with_added q (0 ∷ []) laid)).arena ≡ length laid.arena + 1
+      longer : (q : TargetBuffer) → length (with_fewer first (with_added q (0 ∷ []) laid)).arena ≡ length laid.arena + 1
       longer places.Out = length-append laid.arena (0 ∷ [])
       longer (places.Slot i) = length-append laid.arena (0 ∷ [])
 

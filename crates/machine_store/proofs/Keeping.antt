@@ -8,8 +8,8 @@ use Rattle.outcome.specs.declared.limits.TheConstants.{MOST_OUTPUT}
 use Rattle.isa.specs.Lists.{total_length}
 use Rattle.isa.specs.State as state
 use Rattle.isa.specs.State.{Store, add, append, emptied, is_done, marked, miss, total}
-use Rattle.machine_store.specs.declared.buffers.Place.{Place}
-use Rattle.machine_store.specs.declared.buffers.Place.TheVariants as places
+use Rattle.machine_store.specs.declared.buffers.TargetBuffer.{TargetBuffer}
+use Rattle.machine_store.specs.declared.buffers.TargetBuffer.TheVariants as places
 use Rattle.machine_store.specs.declared.store.Frame.{Frame}
 use Rattle.machine_store.specs.declared.store.Frame.TheVariants as frames
 use Rattle.machine_store.specs.declared.store.Opening.{Opening}
@@ -73,14 +73,14 @@ pub add-great : (x : List ℕ) (s : Store) → is_done s.mark s.over ≡ false �
 add-great x s d lt = sym (add-over x s d (omega (arith, lt)))
 
 -- no more
-module _ (top : Frame) (below : List Frame) (laid : Laid) (lost units : ℕ) (mark : Option ℕ) (over : Bool) (x : List ℕ) (place : Place) (k : IsKept (top ∷ below) laid lost units mark over) (are : AreLaid laid) (d : is_done mark over ≡ false) (p : place_of top ≡ Some place) (le : length x ≤ MOST_OUTPUT - total (held_of (top ∷ below) laid units mark over).store) where
+module _ (top : Frame) (below : List Frame) (laid : Laid) (lost units : ℕ) (mark : Option ℕ) (over : Bool) (x : List ℕ) (place : TargetBuffer) (k : IsKept (top ∷ below) laid lost units mark over) (are : AreLaid laid) (d : is_done mark over ≡ false) (p : place_of top ≡ Some place) (le : length x ≤ MOST_OUTPUT - total (held_of (top ∷ below) laid units mark over).store) where
   there : IsPlace (length laid.slots) place
   there = placed top below (length laid.slots) place k.places p
 
   there-texts : IsPlace (length (texts_of laid)) place
   there-texts = subst (λ (n : ℕ). IsPlace n place) (sym (length-map laid.slots _)) there
 
-  same-many : (q : Place) → length (with_added q x laid).slots ≡ length laid.slots
+  same-many : (q : TargetBuffer) → length (with_added q x laid).slots ≡ length laid.slots
   same-many places.Out = refl
   same-many (places.Slot i) = length-set laid.slots i _
 
@@ -100,7 +100,7 @@ module _ (top : Frame) (below : List Frame) (laid : Laid) (lost units : ℕ) (ma
           ∙ ap (λ (y : List ℕ). total_length (texts_with place x (texts_of laid)) + length y) (out-added laid x are place there)
           ∙ total-with place x (out_of laid) (texts_of laid) there-texts
 
-      arena-added : (q : Place) → length (with_added q x laid).arena ≡ length laid.arena + length x
+      arena-added : (q : TargetBuffer) → length (with_added q x laid).arena ≡ length laid.arena + length x
       arena-added places.Out = length-append laid.arena x
       arena-added (places.Slot i) = length-append laid.arena x
 

@@ -5,8 +5,8 @@ use Rattle.std.specs.List.{AllByRecursion}
 use Rattle.std.proofs.lemmas.List.{drop-map, get_or-map, length-map, map-append, map-set, take-map, take_all}
 use Rattle.machine_store.specs.declared.buffers.Buffer.{Buffer}
 use Rattle.machine_store.specs.declared.buffers.Buffer.TheVariants as buffers
-use Rattle.machine_store.specs.declared.buffers.Place.{Place}
-use Rattle.machine_store.specs.declared.buffers.Place.TheVariants as places
+use Rattle.machine_store.specs.declared.buffers.TargetBuffer.{TargetBuffer}
+use Rattle.machine_store.specs.declared.buffers.TargetBuffer.TheVariants as places
 use Rattle.machine_ropes.specs.declared.segment.Segment.{Segment}
 use Rattle.machine_store.specs.Buffers.{AllHeld, AreLaid, IsHeld, IsLaid, IsLater, IsPlace, Laid, buffer_at, laid_of, segments_at, segments_of, with_added, with_closed, with_none, with_opened}
 use Rattle.machine_ropes.specs.Segments.{AreSegments, AreWithin, with_bytes, with_lists}
@@ -121,25 +121,25 @@ shown-slot arena grown more old new out b slots i segments f g =
 
 -- ---- the buffer at a place
 
-pub held-place : (arena : List ℕ) (ropes : List (List Segment)) (out : Buffer) (slots : List Buffer) (place : Place) → IsLaid arena ropes out slots → IsPlace (length slots) place → IsHeld ropes (buffer_at out slots place)
+pub held-place : (arena : List ℕ) (ropes : List (List Segment)) (out : Buffer) (slots : List Buffer) (place : TargetBuffer) → IsLaid arena ropes out slots → IsPlace (length slots) place → IsHeld ropes (buffer_at out slots place)
 held-place arena ropes out slots places.Out f p = f.first
 held-place arena ropes out slots (places.Slot i) f p = held-at ropes slots i buffers.Empty f.rest p
 
-pub segments-place : (arena : List ℕ) (ropes : List (List Segment)) (out : Buffer) (slots : List Buffer) (place : Place) (laid : Laid) → laid_of arena ropes out slots ≡ laid → IsPlace (length slots) place → segments_of ropes (buffer_at out slots place) ≡ segments_at laid place
+pub segments-place : (arena : List ℕ) (ropes : List (List Segment)) (out : Buffer) (slots : List Buffer) (place : TargetBuffer) (laid : Laid) → laid_of arena ropes out slots ≡ laid → IsPlace (length slots) place → segments_of ropes (buffer_at out slots place) ≡ segments_at laid place
 segments-place arena ropes out slots places.Out laid is p = ap (λ (x : Laid). x.out) is
 segments-place arena ropes out slots (places.Slot i) laid is p = sym (get_or-map (segments_of ropes) slots i buffers.Empty [] p) ∙ ap (λ (x : Laid). get_or x.slots i []) is
 
-pub are-place : (arena : List ℕ) (ropes : List (List Segment)) (out : Buffer) (slots : List Buffer) (place : Place) → IsLaid arena ropes out slots → IsPlace (length slots) place → AreSegments (length arena) (segments_of ropes (buffer_at out slots place))
+pub are-place : (arena : List ℕ) (ropes : List (List Segment)) (out : Buffer) (slots : List Buffer) (place : TargetBuffer) → IsLaid arena ropes out slots → IsPlace (length slots) place → AreSegments (length arena) (segments_of ropes (buffer_at out slots place))
 are-place arena ropes out slots places.Out f p = f.laid.out
 are-place arena ropes out slots (places.Slot i) f p =
     subst (AreSegments (length arena)) (get_or-map (segments_of ropes) slots i buffers.Empty [] p) (all-at (AreSegments (length arena)) (map (segments_of ropes) slots) i [] f.laid.slots (omega (arith, p, length-map slots (segments_of ropes))))
 
-pub place-there : (arena : List ℕ) (ropes : List (List Segment)) (out : Buffer) (slots : List Buffer) (place : Place) (laid : Laid) → laid_of arena ropes out slots ≡ laid → IsPlace (length laid.slots) place → IsPlace (length slots) place
+pub place-there : (arena : List ℕ) (ropes : List (List Segment)) (out : Buffer) (slots : List Buffer) (place : TargetBuffer) (laid : Laid) → laid_of arena ropes out slots ≡ laid → IsPlace (length laid.slots) place → IsPlace (length slots) place
 place-there arena ropes out slots place laid is p = subst (λ (n : ℕ). IsPlace n place) (sym (ap (λ (x : Laid). length x.slots) is) ∙ length-map slots (segments_of ropes)) p
 
 -- ---- bytes added
 
-pub added-became : (arena grown bytes : List ℕ) (old new : List (List Segment)) (out b : Buffer) (slots : List Buffer) (place : Place) (from end : ℕ) → IsLaid arena old out slots → IsPlace (length slots) place → from ≡ length arena → end ≡ from + length bytes →
+pub added-became : (arena grown bytes : List ℕ) (old new : List (List Segment)) (out b : Buffer) (slots : List Buffer) (place : TargetBuffer) (from end : ℕ) → IsLaid arena old out slots → IsPlace (length slots) place → from ≡ length arena → end ≡ from + length bytes →
     IsLater old new → grown ≡ arena ++ bytes → IsHeld new b → segments_of new b ≡ with_bytes (segments_of old (buffer_at out slots place)) (record { place = from; end = end }) →
     Became arena grown bytes old new b (with_bytes (segments_of old (buffer_at out slots place)) (record { place = length arena; end = length arena + length bytes }))
 added-became arena grown bytes old new out b slots place from end f p fe ee l g h e = record {
@@ -193,7 +193,7 @@ closing-are arena grown around front lists before g le f r =
     (longer-lists (length arena) (length grown) lists up r))
     (omega (arith, le)) (omega (arith, n))
 
-pub closed-became : (arena grown around : List ℕ) (old one two new : List (List Segment)) (out b c d : Buffer) (slots : List Buffer) (into : Place) (first before from : ℕ) → IsLaid arena old out slots → IsPlace (length slots) into → from ≡ length arena → before ≤ length around → grown ≡ arena ++ around →
+pub closed-became : (arena grown around : List ℕ) (old one two new : List (List Segment)) (out b c d : Buffer) (slots : List Buffer) (into : TargetBuffer) (first before from : ℕ) → IsLaid arena old out slots → IsPlace (length slots) into → from ≡ length arena → before ≤ length around → grown ≡ arena ++ around →
     IsLater old one → segments_of one b ≡ with_bytes (segments_of old (buffer_at out slots into)) (record { place = from; end = from + before }) →
     IsLater one two → segments_of two c ≡ with_lists (segments_of one b) (map (segments_of one) (drop first slots)) →
     IsLater two new → segments_of new d ≡ with_bytes (segments_of two c) (record { place = from + before; end = from + length around }) → IsHeld new d → IsLater old new →
@@ -280,7 +280,7 @@ on_resized (Ok a) arena ropes out slots new more n m laid is s e r = shows-opene
 on_resized (Err e) arena ropes out slots new more n m laid is s d r = tt
 
 -- the buffer at a place lies in the arena
-pub within-place : (arena : List ℕ) (ropes : List (List Segment)) (out : Buffer) (slots : List Buffer) (place : Place) (b : Buffer) → IsLaid arena ropes out slots → IsPlace (length slots) place → b ≡ buffer_at out slots place → AreWithin (length arena) (segments_of ropes b)
+pub within-place : (arena : List ℕ) (ropes : List (List Segment)) (out : Buffer) (slots : List Buffer) (place : TargetBuffer) (b : Buffer) → IsLaid arena ropes out slots → IsPlace (length slots) place → b ≡ buffer_at out slots place → AreWithin (length arena) (segments_of ropes b)
 within-place arena ropes out slots place b f p e =
     subst (λ (x : Buffer). AreWithin (length arena) (segments_of ropes x)) (sym e) (within-segments (length arena) (segments_of ropes (buffer_at out slots place)) (are-place arena ropes out slots place f p))
 

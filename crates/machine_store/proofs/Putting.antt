@@ -3,8 +3,8 @@ use Rattle.std.proofs.Common.{◌≡◌, ◌≤◌, ◌<◌, ℕ, ◌+◌, ◌-�
 use Rattle.std.proofs.lemmas.List.{append-nil, length-map, take_rest}
 use Rattle.machine_store.specs.declared.buffers.Buffer.{Buffer}
 use Rattle.machine_store.specs.declared.buffers.Buffer.TheVariants as buffers
-use Rattle.machine_store.specs.declared.buffers.Place.{Place}
-use Rattle.machine_store.specs.declared.buffers.Place.TheVariants as places
+use Rattle.machine_store.specs.declared.buffers.TargetBuffer.{TargetBuffer}
+use Rattle.machine_store.specs.declared.buffers.TargetBuffer.TheVariants as places
 use Rattle.machine_ropes.specs.declared.segment.Segment.{Segment}
 use Rattle.machine_store.specs.Buffers.{AllHeld, IsHeld, IsLaid, IsLater, IsPlace, Laid, buffer_at, laid_of, segments_at, segments_of, with_added, with_closed}
 use Rattle.machine_ropes.specs.Ropes.{rope_at}
@@ -18,7 +18,7 @@ module _ (arena : List ℕ) (old : List (List Segment)) (out : Buffer) (slots : 
   -- ---- bytes added
 
   -- the buffer that was there, and what it became
-  pub record Added (grown bytes : List ℕ) (new : List (List Segment)) (r b : Buffer) (place : Place) (from : ℕ) : Type 0 where
+  pub record Added (grown bytes : List ℕ) (new : List (List Segment)) (r b : Buffer) (place : TargetBuffer) (from : ℕ) : Type 0 where
     pub there : IsPlace (length laid.slots) place
     pub begins : from ≡ length arena
     pub at : r ≡ buffer_at out slots place
@@ -27,27 +27,27 @@ module _ (arena : List ℕ) (old : List (List Segment)) (out : Buffer) (slots : 
     pub later : IsLater old new
     pub longer : grown ≡ arena ++ bytes
 
-  became : (grown bytes : List ℕ) (new : List (List Segment)) (r b : Buffer) (place : Place) (from : ℕ) → Added grown bytes new r b place from →
+  became : (grown bytes : List ℕ) (new : List (List Segment)) (r b : Buffer) (place : TargetBuffer) (from : ℕ) → Added grown bytes new r b place from →
       Became arena grown bytes old new b (with_bytes (segments_of old (buffer_at out slots place)) (record { place = length arena; end = length arena + length bytes }))
   became grown bytes new r b place from a =
       added-became arena grown bytes old new out b slots place from (from + length bytes) keeps (place-there arena old out slots place laid is a.there) a.begins refl a.later a.longer a.held
       (a.segments ∙ ap (λ (x : Buffer). with_bytes (segments_of old x) (record { place = from; end = from + length bytes })) a.at)
 
-  pub added-out : (grown bytes : List ℕ) (new : List (List Segment)) (r b : Buffer) (place : Place) (from : ℕ) → Added grown bytes new r b place from → place ≡ places.Out →
+  pub added-out : (grown bytes : List ℕ) (new : List (List Segment)) (r b : Buffer) (place : TargetBuffer) (from : ℕ) → Added grown bytes new r b place from → place ≡ places.Out →
       IsLaid grown new b slots × (laid_of grown new b slots ≡ with_added place bytes laid)
   added-out grown bytes new r b place from a e =
-      let g = subst (λ (x : Place). Became arena grown bytes old new b (with_bytes (segments_of old (buffer_at out slots x)) (record { place = length arena; end = length arena + length bytes }))) e (became grown bytes new r b place from a) in (
+      let g = subst (λ (x : TargetBuffer). Became arena grown bytes old new b (with_bytes (segments_of old (buffer_at out slots x)) (record { place = length arena; end = length arena + length bytes }))) e (became grown bytes new r b place from a) in (
         put-out arena grown bytes old new out b slots (with_bytes (segments_of old out) (record { place = length arena; end = length arena + length bytes })) keeps g,
-        shows-added-out arena grown bytes old new out b slots laid is keeps g ∙ ap (λ (x : Place). with_added x bytes laid) (sym e),
+        shows-added-out arena grown bytes old new out b slots laid is keeps g ∙ ap (λ (x : TargetBuffer). with_added x bytes laid) (sym e),
       )
 
-  pub added-slot : (grown bytes : List ℕ) (new : List (List Segment)) (r b : Buffer) (place : Place) (from i : ℕ) → Added grown bytes new r b place from → place ≡ places.Slot i →
+  pub added-slot : (grown bytes : List ℕ) (new : List (List Segment)) (r b : Buffer) (place : TargetBuffer) (from i : ℕ) → Added grown bytes new r b place from → place ≡ places.Slot i →
       IsLaid grown new out (set slots i b) × (laid_of grown new out (set slots i b) ≡ with_added place bytes laid)
   added-slot grown bytes new r b place from i a e =
-      let g = subst (λ (x : Place). Became arena grown bytes old new b (with_bytes (segments_of old (buffer_at out slots x)) (record { place = length arena; end = length arena + length bytes }))) e (became grown bytes new r b place from a) in
-      let lt : i < length slots = subst (λ (x : Place). IsPlace (length slots) x) e (place-there arena old out slots place laid is a.there) in (
+      let g = subst (λ (x : TargetBuffer). Became arena grown bytes old new b (with_bytes (segments_of old (buffer_at out slots x)) (record { place = length arena; end = length arena + length bytes }))) e (became grown bytes new r b place from a) in
+      let lt : i < length slots = subst (λ (x : TargetBuffer). IsPlace (length slots) x) e (place-there arena old out slots place laid is a.there) in (
         put-slot arena grown bytes old new out b slots i (with_bytes (segments_of old (buffer_at out slots (places.Slot i))) (record { place = length arena; end = length arena + length bytes })) keeps g,
-        shows-added-slot arena grown bytes old new out b slots i laid is keeps lt g ∙ ap (λ (x : Place). with_added x bytes laid) (sym e),
+        shows-added-slot arena grown bytes old new out b slots i laid is keeps lt g ∙ ap (λ (x : TargetBuffer). with_added x bytes laid) (sym e),
       )
 
   -- ---- slots closed
@@ -57,7 +57,7 @@ module _ (arena : List ℕ) (old : List (List Segment)) (out : Buffer) (slots : 
       subst (λ (x : List Buffer). AllHeld one (take (length x - first) (drop first x))) (sym e)
       (subst (AllHeld one) (sym (take_rest slots first)) (AllHeld-later old one (drop first slots) l (all-drop (IsHeld old) first slots keeps.rest)))
 
-  pub record Closed (grown around : List ℕ) (one two new : List (List Segment)) (r b c d : Buffer) (into : Place) (first before from : ℕ) : Type 0 where
+  pub record Closed (grown around : List ℕ) (one two new : List (List Segment)) (r b c d : Buffer) (into : TargetBuffer) (first before from : ℕ) : Type 0 where
     pub there : IsPlace first into
     pub some : first ≤ length laid.slots
     pub fits : before ≤ length around
@@ -74,14 +74,14 @@ module _ (arena : List ℕ) (old : List (List Segment)) (out : Buffer) (slots : 
     pub later3 : IsLater two new
     pub longer : grown ≡ arena ++ around
 
-  place-below : (first n : ℕ) (into : Place) → first ≤ n → IsPlace first into → IsPlace n into
+  place-below : (first n : ℕ) (into : TargetBuffer) → first ≤ n → IsPlace first into → IsPlace n into
   place-below first n places.Out le p = tt
   place-below first n (places.Slot i) le p = omega (arith, le, p)
 
   how-many : length slots ≡ length laid.slots
   how-many = sym (length-map slots (segments_of old)) ∙ ap (λ (x : Laid). length x.slots) is
 
-  closed : (grown around : List ℕ) (one two new : List (List Segment)) (r b c d : Buffer) (into : Place) (first before from : ℕ) → Closed grown around one two new r b c d into first before from →
+  closed : (grown around : List ℕ) (one two new : List (List Segment)) (r b c d : Buffer) (into : TargetBuffer) (first before from : ℕ) → Closed grown around one two new r b c d into first before from →
       Became arena grown around old new d (closing arena (segments_of old (buffer_at out slots into)) (drop first (map (segments_of old) slots)) around before)
   closed grown around one two new r b c d into first before from a =
       let there : IsPlace (length slots) into = place-below first (length slots) into (omega (arith, a.some, how-many)) a.there in
@@ -90,33 +90,33 @@ module _ (arena : List ℕ) (old : List (List Segment)) (out : Buffer) (slots : 
       (a.middle ∙ ap (λ (x : List Buffer). with_lists (segments_of one b) (map (segments_of one) (take (length x - first) (drop first x)))) a.same ∙ ap (λ (x : List Buffer). with_lists (segments_of one b) (map (segments_of one) x)) (take_rest slots first))
       a.later3 a.back a.held (later-later old two new (later-later old one two a.later1 a.later2) a.later3)
 
-  pub closed-out : (grown around : List ℕ) (one two new : List (List Segment)) (r b c d : Buffer) (into : Place) (first before from : ℕ) → Closed grown around one two new r b c d into first before from → into ≡ places.Out →
+  pub closed-out : (grown around : List ℕ) (one two new : List (List Segment)) (r b c d : Buffer) (into : TargetBuffer) (first before from : ℕ) → Closed grown around one two new r b c d into first before from → into ≡ places.Out →
       IsLaid grown new d (take first slots) × (laid_of grown new d (take first slots) ≡ with_closed first into around before laid)
   closed-out grown around one two new r b c d into first before from a e =
-      let g = subst (λ (x : Place). Became arena grown around old new d (closing arena (segments_of old (buffer_at out slots x)) (drop first (map (segments_of old) slots)) around before)) e (closed grown around one two new r b c d into first before from a) in (
+      let g = subst (λ (x : TargetBuffer). Became arena grown around old new d (closing arena (segments_of old (buffer_at out slots x)) (drop first (map (segments_of old) slots)) around before)) e (closed grown around one two new r b c d into first before from a) in (
         put-out arena grown around old new out d (take first slots) (closing arena (segments_of old out) (drop first (map (segments_of old) slots)) around before) (fewer-laid arena old out slots first keeps) g,
-        shows-closed-out arena grown around old new out d slots first before laid is keeps g ∙ ap (λ (x : Place). with_closed first x around before laid) (sym e),
+        shows-closed-out arena grown around old new out d slots first before laid is keeps g ∙ ap (λ (x : TargetBuffer). with_closed first x around before laid) (sym e),
       )
 
-  pub closed-slot : (grown around : List ℕ) (one two new : List (List Segment)) (r b c d : Buffer) (into : Place) (first before from i : ℕ) → Closed grown around one two new r b c d into first before from → into ≡ places.Slot i →
+  pub closed-slot : (grown around : List ℕ) (one two new : List (List Segment)) (r b c d : Buffer) (into : TargetBuffer) (first before from i : ℕ) → Closed grown around one two new r b c d into first before from → into ≡ places.Slot i →
       IsLaid grown new out (set (take first slots) i d) × (laid_of grown new out (set (take first slots) i d) ≡ with_closed first into around before laid)
   closed-slot grown around one two new r b c d into first before from i a e =
-      let g = subst (λ (x : Place). Became arena grown around old new d (closing arena (segments_of old (buffer_at out slots x)) (drop first (map (segments_of old) slots)) around before)) e (closed grown around one two new r b c d into first before from a) in
-      let lt : i < length slots = subst (λ (x : Place). IsPlace (length slots) x) e (place-below first (length slots) into (omega (arith, a.some, how-many)) a.there) in (
+      let g = subst (λ (x : TargetBuffer). Became arena grown around old new d (closing arena (segments_of old (buffer_at out slots x)) (drop first (map (segments_of old) slots)) around before)) e (closed grown around one two new r b c d into first before from a) in
+      let lt : i < length slots = subst (λ (x : TargetBuffer). IsPlace (length slots) x) e (place-below first (length slots) into (omega (arith, a.some, how-many)) a.there) in (
         put-slot arena grown around old new out d (take first slots) i (closing arena (segments_of old (buffer_at out slots (places.Slot i))) (drop first (map (segments_of old) slots)) around before) (fewer-laid arena old out slots first keeps) g,
-        shows-closed-slot arena grown around old new out d slots i first before laid is keeps lt g ∙ ap (λ (x : Place). with_closed first x around before laid) (sym e),
+        shows-closed-slot arena grown around old new out d slots i first before laid is keeps lt g ∙ ap (λ (x : TargetBuffer). with_closed first x around before laid) (sym e),
       )
 
   -- ---- a buffer of more segments, as it is written
 
-  pub record Wide (first : Segment) (middle : ℕ) (last : Segment) (place : Place) : Type 0 where
+  pub record Wide (first : Segment) (middle : ℕ) (last : Segment) (place : TargetBuffer) : Type 0 where
     pub front : IsSegment (length arena) first
     pub there : middle < length old
     pub rope : AreWithin (length arena) (rope_at old middle)
     pub back : IsSegment (length arena) last
     pub bytes : bytes_at arena first ++ (bytes_of arena (rope_at old middle) ++ bytes_at arena last) ≡ bytes_of laid.arena (segments_at laid place)
 
-  pub wide : (first last : Segment) (middle : ℕ) (place : Place) → IsPlace (length laid.slots) place → buffers.More first middle last ≡ buffer_at out slots place → Wide first middle last place
+  pub wide : (first last : Segment) (middle : ℕ) (place : TargetBuffer) → IsPlace (length laid.slots) place → buffers.More first middle last ≡ buffer_at out slots place → Wide first middle last place
   wide first last middle place p e =
       let b : Buffer = buffers.More first middle last in
       let q = place-there arena old out slots place laid is p in

@@ -7,8 +7,8 @@ use Rattle.std.proofs.Math.Seq.{drop-cons}
 use Rattle.avro_bytes.specs.Walk.{Walk}
 use Rattle.isa.specs.Lists.{total_length}
 use Rattle.isa.specs.State as state
-use Rattle.machine_store.specs.declared.buffers.Place.{Place}
-use Rattle.machine_store.specs.declared.buffers.Place.TheVariants as places
+use Rattle.machine_store.specs.declared.buffers.TargetBuffer.{TargetBuffer}
+use Rattle.machine_store.specs.declared.buffers.TargetBuffer.TheVariants as places
 use Rattle.machine_ropes.specs.declared.segment.Segment.{Segment}
 use Rattle.machine_store.specs.declared.store.Frame.{Frame}
 use Rattle.machine_store.specs.declared.store.Frame.TheVariants as frames
@@ -282,12 +282,12 @@ got : {A : Type 0} (xs : List A) (first slot to : ℕ) (d : A) → slot < to - f
 got xs first slot to d lt = get_or-drop first (take to xs) slot d ∙ get_or-take to xs (first + slot) d (omega (arith, lt))
 
 -- a place is that of a buffer that is there
-pub record IsPlaced (fs : List Frame) (laid : Laid) (b : BufferAt) (n : ℕ) (place : Place) : Type 0 where
+pub record IsPlaced (fs : List Frame) (laid : Laid) (b : BufferAt) (n : ℕ) (place : TargetBuffer) : Type 0 where
   pub there : IsPlace n place
   pub bytes : buffer_of b (record { frames = frames_in fs (texts_of laid); out = out_of laid; mark = None; over = false }) ≡ Some (bytes_of laid.arena (segments_at laid place))
   pub segments : segments_of_buffer b (record { arena = laid.arena; out = laid.out; frames = segments_in fs laid.slots }) ≡ segments_at laid place
 
-abbrev pub Places : List Frame → Laid → BufferAt → Option Place → Type 0
+abbrev pub Places : List Frame → Laid → BufferAt → Option TargetBuffer → Type 0
 Places fs laid b (Some place) = IsPlaced fs laid b (length laid.slots) place
 Places fs laid b None = buffer_of b (record { frames = frames_in fs (texts_of laid); out = out_of laid; mark = None; over = false }) ≡ None
 
@@ -390,25 +390,25 @@ in-total [] i = omega arith
 in-total (x ∷ texts) zero = omega arith
 in-total (x ∷ texts) (suc i) = omega (arith, in-total texts i)
 
-pub few-segments : (laid : Laid) (place : Place) (n : ℕ) → AreLaid laid → IsPlace (length laid.slots) place → total_length (texts_of laid) + length (out_of laid) ≤ n → length (segments_at laid place) ≤ n
+pub few-segments : (laid : Laid) (place : TargetBuffer) (n : ℕ) → AreLaid laid → IsPlace (length laid.slots) place → total_length (texts_of laid) + length (out_of laid) ≤ n → length (segments_at laid place) ≤ n
 few-segments laid places.Out n are p e = omega (arith, no-more laid.arena laid.out are.out, e)
 few-segments laid (places.Slot i) n are p e =
     omega (arith, no-more laid.arena (get_or laid.slots i []) (all-at (AreSegments (length laid.arena)) laid.slots i [] are.slots p), in-total (texts_of laid) i, ap (λ (x : List ℕ). length x) (text-at laid i p), e)
 
 -- ---- what the functions answer
 
-some-placed : (fs : List Frame) (laid : Laid) (b : BufferAt) (o : Option Place) → Places fs laid b o → is_some o ≡ is_some (buffer_of b (record { frames = frames_in fs (texts_of laid); out = out_of laid; mark = None; over = false }))
+some-placed : (fs : List Frame) (laid : Laid) (b : BufferAt) (o : Option TargetBuffer) → Places fs laid b o → is_some o ≡ is_some (buffer_of b (record { frames = frames_in fs (texts_of laid); out = out_of laid; mark = None; over = false }))
 some-placed fs laid b None p = ap is_some (sym p)
 some-placed fs laid b (Some place) p = ap is_some (sym p.bytes)
 
-module _ (top : Frame) (below xs : List Frame) (laid : Laid) (b : BufferAt) (k : ℕ) (o : Option Place) (f : AreFrames (top ∷ reverse below) (length laid.slots)) (same : xs ≡ below) (many : k ≡ length laid.slots) (e : o ≡ place_named b (top ∷ reverse xs) k) where
+module _ (top : Frame) (below xs : List Frame) (laid : Laid) (b : BufferAt) (k : ℕ) (o : Option TargetBuffer) (f : AreFrames (top ∷ reverse below) (length laid.slots)) (same : xs ≡ below) (many : k ≡ length laid.slots) (e : o ≡ place_named b (top ∷ reverse xs) k) where
   places-told : Places (top ∷ reverse below) laid b o
   places-told =
       subst (Places (top ∷ reverse below) laid b)
       (sym (e ∙ ap (λ (x : List Frame). place_named b (top ∷ reverse x) k) same ∙ ap (λ (n : ℕ). place_named b (top ∷ reverse below) n) many))
       (placed laid (top ∷ reverse below) b f)
 
-  pub is-placed : (place : Place) → o ≡ Some place → IsPlaced (top ∷ reverse below) laid b (length laid.slots) place
+  pub is-placed : (place : TargetBuffer) → o ≡ Some place → IsPlaced (top ∷ reverse below) laid b (length laid.slots) place
   is-placed place is = subst (Places (top ∷ reverse below) laid b) is places-told
 
   pub is-there : is_some o ≡ is_some (buffer_of b (record { frames = frames_in (top ∷ reverse below) (texts_of laid); out = out_of laid; mark = None; over = false }))
@@ -442,7 +442,7 @@ pub same-on-err : {A E : Type 0} (r : Result A E) (new old more : List ℕ) → 
 same-on-err (Ok x) new old more e = tt
 same-on-err (Err x) new old more e = e
 
-pub segments-named : (fs : List Frame) (laid : Laid) (units : ℕ) (mark : Option ℕ) (over : Bool) (b : BufferAt) (held : Held) (place : Place) → held_of fs laid units mark over ≡ held → IsPlaced fs laid b (length laid.slots) place → segments_of_buffer b held.layout ≡ segments_at laid place
+pub segments-named : (fs : List Frame) (laid : Laid) (units : ℕ) (mark : Option ℕ) (over : Bool) (b : BufferAt) (held : Held) (place : TargetBuffer) → held_of fs laid units mark over ≡ held → IsPlaced fs laid b (length laid.slots) place → segments_of_buffer b held.layout ≡ segments_at laid place
 segments-named fs laid units mark over b held place is p = ap (λ (h : Held). segments_of_buffer b h.layout) (sym is) ∙ p.segments
 
 -- ---- how a buffer lies
@@ -452,7 +452,7 @@ pub record Lies (b : BufferAt) (held : Held) : Type 0 where
   pub bytes : buffer_of b held.store ≡ Some (bytes_of held.layout.arena (segments_of_buffer b held.layout))
   pub segments : AreSegments (length held.layout.arena) (segments_of_buffer b held.layout)
 
-laid-at : (laid : Laid) (place : Place) → AreLaid laid → IsPlace (length laid.slots) place → AreSegments (length laid.arena) (segments_at laid place)
+laid-at : (laid : Laid) (place : TargetBuffer) → AreLaid laid → IsPlace (length laid.slots) place → AreSegments (length laid.arena) (segments_at laid place)
 laid-at laid places.Out are there = are.out
 laid-at laid (places.Slot number) are there = all-at (AreSegments (length laid.arena)) laid.slots number [] are.slots there
 
@@ -460,7 +460,7 @@ module _ (fs : List Frame) (laid : Laid) (units : ℕ) (mark : Option ℕ) (over
   abbrev shown-held : Held
   shown-held = held_of fs laid units mark over
 
-  lies-at : (o : Option Place) → Places fs laid b o → AreLaid laid → is_some (buffer_of b shown-held.store) ≡ true → Lies b shown-held
+  lies-at : (o : Option TargetBuffer) → Places fs laid b o → AreLaid laid → is_some (buffer_of b shown-held.store) ≡ true → Lies b shown-held
   lies-at None p are there = absurd (none-named (buffer_of b shown-held.store) there (same-buffer b (frames_in fs (texts_of laid)) (out_of laid) mark over ∙ p))
   lies-at (Some place) p are there = record {
     bytes = same-buffer b (frames_in fs (texts_of laid)) (out_of laid) mark over ∙ p.bytes ∙ ap (λ (x : List Segment). Some (bytes_of laid.arena x)) (sym p.segments);

@@ -2,8 +2,8 @@
 use Rattle.std.specs.Prelude.{ℕ, ◌+◌, ◌-◌, List, [], ◌∷◌, length, get_or, reverse, slice_get, Option, Some, None, ◌==◌, nat_lt, if◌then◌else◌}
 use Rattle.isa.specs.State as state
 use Rattle.isa.specs.State.{Store}
-use Rattle.machine_store.specs.declared.buffers.Place.{Place}
-use Rattle.machine_store.specs.declared.buffers.Place.TheVariants as places
+use Rattle.machine_store.specs.declared.buffers.TargetBuffer.{TargetBuffer}
+use Rattle.machine_store.specs.declared.buffers.TargetBuffer.TheVariants as places
 use Rattle.machine_ropes.specs.declared.segment.Segment.{Segment}
 use Rattle.machine_store.specs.declared.store.Frame.{Frame}
 use Rattle.machine_store.specs.declared.store.Frame.TheVariants as frames
@@ -76,16 +76,16 @@ abbrev pub view_in : Option (Frame × ℕ) → Option FrameView
 view_in (Some found) = view_at found.0 found.1
 view_in None = None
 
-abbrev pub slot_place : ℕ → Option (Frame × ℕ) → Option Place
+abbrev pub slot_place : ℕ → Option (Frame × ℕ) → Option TargetBuffer
 slot_place slot (Some (frames.Record first selected, end)) =
     if nat_lt slot (end - first) then Some (places.Slot (first + slot)) else None
 slot_place slot found = None
 
-abbrev pub gathered_place : Option (Frame × ℕ) → Option Place
+abbrev pub gathered_place : Option (Frame × ℕ) → Option TargetBuffer
 gathered_place (Some (frames.Blocks first walk items, end)) = Some (places.Slot first)
 gathered_place found = None
 
-abbrev pub place_named : BufferAt → List Frame → ℕ → Option Place
+abbrev pub place_named : BufferAt → List Frame → ℕ → Option TargetBuffer
 place_named at.Out fs end = Some places.Out
 place_named (at.Slot frame slot) fs end = slot_place slot (frame_numbered frame fs end)
 place_named (at.Gathered frame) fs end = gathered_place (frame_numbered frame fs end)

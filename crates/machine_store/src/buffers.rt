@@ -1,3 +1,5 @@
+//! Buffers, as segments of one arena.
+
 ghost use Rattle.std.specs.Prelude.{◌≡◌, ◌≢◌, ◌+◌, ◌-◌, ◌^◌, ◌<◌, ◌≤◌, [], ◌++◌, length, map, slice_get, OnErr, OnOk, IfOk};
 ghost use Rattle.isa.specs.declared.limits.TheConstants.{MOST_SLOTS};
 ghost use Rattle.machine_store.specs.declared.buffers.Buffer.TheVariants.{Empty};
@@ -23,7 +25,7 @@ pub enum Buffer {
 
 /// Which buffer: the output, or a slot.
 #[derive(Clone, Copy)]
-pub enum Place {
+pub enum TargetBuffer {
     Out,
     Slot(usize),
 }
@@ -155,13 +157,13 @@ fn joined_buffers(
 }
 
 /// The buffer at a place.
-fn buffer_at(out: Buffer, slots: &[Buffer], place: Place) -> Buffer
+fn buffer_at(out: Buffer, slots: &[Buffer], place: TargetBuffer) -> Buffer
     requires { IsPlace (length slots.now) place }
     ensures { result ≡ buffer_at out slots.now place }
 {
     match place {
-        Place::Out => out,
-        Place::Slot(number) => slots[number],
+        TargetBuffer::Out => out,
+        TargetBuffer::Slot(number) => slots[number],
     }
 }
 
@@ -247,7 +249,7 @@ impl Buffers {
     }
 
     /// Appends bytes to a buffer.
-    pub fn add(&mut self, place: Place, bytes: &[u8]) -> Result<(), AllocError>
+    pub fn add(&mut self, place: TargetBuffer, bytes: &[u8]) -> Result<(), AllocError>
         requires { IsPlace (length self.old.slots) place }
         ensures added { OnOk result (self.new ≡ with_added place bytes.now self.old) }
         ensures refused { OnErr result (self.new ≡ self.old) }
@@ -261,8 +263,8 @@ impl Buffers {
         let buffer = joined_bytes(&mut self.ropes, buffer, segment)?;
         self.arena.extend_from_slice(bytes)?;
         match place {
-            Place::Out => self.out = buffer,
-            Place::Slot(number) => self.slots[number] = buffer,
+            TargetBuffer::Out => self.out = buffer,
+            TargetBuffer::Slot(number) => self.slots[number] = buffer,
         }
         Ok(())
     }
@@ -282,7 +284,7 @@ impl Buffers {
     pub fn close(
         &mut self,
         first: usize,
-        into: Place,
+        into: TargetBuffer,
         around: &[u8],
         before: usize,
     ) -> Result<(), AllocError>
@@ -308,8 +310,8 @@ impl Buffers {
         self.arena.extend_from_slice(around)?;
         self.slots.truncate(first);
         match into {
-            Place::Out => self.out = buffer,
-            Place::Slot(number) => self.slots[number] = buffer,
+            TargetBuffer::Out => self.out = buffer,
+            TargetBuffer::Slot(number) => self.slots[number] = buffer,
         }
         Ok(())
     }
@@ -332,7 +334,7 @@ impl Buffers {
     }
 
     /// Appends the bytes of a buffer to others. What stands behind those after an `Err` is not said.
-    pub fn write(&self, alloc: Global, place: Place, out: &mut Vec<u8>) -> Result<(), AllocError>
+    pub fn write(&self, alloc: Global, place: TargetBuffer, out: &mut Vec<u8>) -> Result<(), AllocError>
         requires { IsPlace (length self.now.slots) place }
         ensures { OnOk result (out.new.items ≡ out.old.items
             ++ bytes_of self.now.arena (segments_at self.now place)) }
@@ -353,7 +355,7 @@ impl Buffers {
     }
 
     /// A segment of a buffer, by its number, where there are so many. It takes no memory.
-    pub fn segment(&self, place: Place, number: usize) -> Option<Segment>
+    pub fn segment(&self, place: TargetBuffer, number: usize) -> Option<Segment>
         requires there { IsPlace (length self.now.slots) place }
         requires few { number < 2 ^ 64 - 1 }
         ensures { result ≡ slice_get (segments_at self.now place) number }

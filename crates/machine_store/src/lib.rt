@@ -5,6 +5,6 @@ mod buffers;
 mod store;
 mod views;
 
-pub use buffers::{Buffer, Buffers, Place};
+pub use buffers::{Buffer, Buffers, TargetBuffer};
 pub use store::{Frame, Opening, Store};
 pub use views::{BufferAt, FrameView};

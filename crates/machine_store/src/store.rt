@@ -1,3 +1,5 @@
+//! The frames that are open, and the buffers that they add to.
+
 ghost use Rattle.std.specs.Prelude.{◌≡◌, ◌+◌, ◌-◌, ◌<◌, ◌≤◌, true, false, [], ◌∷◌, length, is_some, reverse, vec_len, Some, None, OnErr, OnOk, IfOk};
 ghost use Rattle.avro_bytes.specs.declared.limits.TheConstants.{MOST_DEPTH};
 ghost use Rattle.outcome.specs.declared.limits.TheConstants.{MOST_OUTPUT};
@@ -5,7 +7,7 @@ ghost use Rattle.isa.specs.State.{add, emptied, has_current, is_done, total};
 ghost use Rattle.machine_store.specs.Frames.{FewSlots, HasSlot, HoldsBuffers, first_of, frame_of, has_current_below, is_skip, is_skipped, items_of, newest_place, opened_at, place_of, skip_walk_of, slots_of, slots_opened, walk_of};
 ghost use Rattle.machine_store.specs.Store.{Appends, around_items, close_blocks, close_record, closed_between, leave, meter_of, next_item, next_skipped, select, with_frames};
 
-use crate::buffers::{Buffers, Place};
+use crate::buffers::{Buffers, TargetBuffer};
 use avro_bytes::{BlockWalk, Meter};
 use outcome::MOST_OUTPUT;
 use machine_rules::spell_around;
@@ -48,16 +50,16 @@ pub enum Opening {
 
 impl Frame {
     /// The current buffer, where it is the newest frame.
-    fn place(self) -> Option<Place>
+    fn place(self) -> Option<TargetBuffer>
         ensures { result ≡ place_of self }
     {
         match self {
-            Frame::Bottom => Some(Place::Out),
+            Frame::Bottom => Some(TargetBuffer::Out),
             Frame::Record { selected, .. } => match selected {
-                Some(at) => Some(Place::Slot(at)),
+                Some(at) => Some(TargetBuffer::Slot(at)),
                 None => None,
             },
-            Frame::Blocks { first, .. } => Some(Place::Slot(first)),
+            Frame::Blocks { first, .. } => Some(TargetBuffer::Slot(first)),
             _ => None,
         }
     }
@@ -106,7 +108,7 @@ impl Opening {
 }
 
 /// The current buffer, where the last of these frames is the newest.
-fn newest_place(frames: &[Frame]) -> Option<Place>
+fn newest_place(frames: &[Frame]) -> Option<TargetBuffer>
     ensures { result ≡ newest_place (reverse frames.now) }
 {
     frames.last()?.place()
@@ -494,7 +496,7 @@ impl Store {
             unreachable!()
         };
         scratch.clear();
-        self.buffers.write(alloc, Place::Slot(first), scratch)?;
+        self.buffers.write(alloc, TargetBuffer::Slot(first), scratch)?;
         let held = self.held() - scratch.len();
         if held == MOST_OUTPUT {
             self.pass_limit();
@@ -542,7 +544,7 @@ impl Store {
         ensures { IfOk result (λ out. out.items ≡ self.now.store.out) }
     {
         let mut out = Vec::with_capacity(alloc, self.buffers.arena().len())?;
-        self.buffers.write(alloc, Place::Out, &mut out)?;
+        self.buffers.write(alloc, TargetBuffer::Out, &mut out)?;
         Ok(out)
     }
 }

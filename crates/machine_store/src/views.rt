@@ -1,8 +1,10 @@
+//! What a debugger reads off a store.
+
 ghost use Rattle.std.specs.Prelude.{◌≡◌, ◌++◌, ◌∷◌, length, Some, reverse, slice_get, option_map, is_some, true, OnErr, OnOk};
 ghost use Rattle.machine_ropes.specs.Segments.{AreSegments, bytes_of};
 ghost use Rattle.machine_store.specs.Viewing.{buffer_of, end_below, end_over, frame_numbered, place_named, segments_of_buffer, view_at, view_in, view_of};
 
-use crate::buffers::Place;
+use crate::buffers::TargetBuffer;
 use crate::store::{Frame, Store};
 use avro_bytes::BlockWalk;
 use outcome::MOST_OUTPUT;
@@ -108,19 +110,19 @@ fn view_in(found: Option<(Frame, usize)>) -> Option<FrameView>
 }
 
 /// Where a buffer is.
-fn place_named(top: Frame, below: &[Frame], slots: usize, at: BufferAt) -> Option<Place>
+fn place_named(top: Frame, below: &[Frame], slots: usize, at: BufferAt) -> Option<TargetBuffer>
     ensures { result ≡ place_named at (top ∷ reverse below.now) slots }
 {
     match at {
-        BufferAt::Out => Some(Place::Out),
+        BufferAt::Out => Some(TargetBuffer::Out),
         BufferAt::Slot { frame, slot } => match frame_numbered(top, below, slots, frame)? {
             (Frame::Record { first, .. }, end) if slot < end.saturating_sub(first) => {
-                Some(Place::Slot(first + slot))
+                Some(TargetBuffer::Slot(first + slot))
             }
             _ => None,
         },
         BufferAt::Gathered { frame } => match frame_numbered(top, below, slots, frame)? {
-            (Frame::Blocks { first, .. }, _) => Some(Place::Slot(first)),
+            (Frame::Blocks { first, .. }, _) => Some(TargetBuffer::Slot(first)),
             _ => None,
         },
     }

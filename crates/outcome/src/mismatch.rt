@@ -1,3 +1,5 @@
+//! Why a datum has no place with the reader.
+
 /// Why a writer's datum has no place with the reader.
 #[derive(Clone, Copy, Debug, PartialEq, Eq)]
 pub enum MismatchKind {

@@ -1,3 +1,5 @@
+//! What becomes of a payload.
+
 use crate::mismatch::Mismatch;
 use avro_bytes::MalformedKind;
 

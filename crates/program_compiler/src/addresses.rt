@@ -1,3 +1,5 @@
+//! Addresses of lines, and the jump tables.
+
 ghost use Rattle.std.specs.Prelude.{◌≡◌, ◌+◌, ◌++◌, List, map, IfOk, MatchOption};
 ghost use Rattle.avro_types.specs.Node.{Node};
 ghost use Rattle.program_definition.specs.Numbering.{jumps_from, jumps_of};

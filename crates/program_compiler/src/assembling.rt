@@ -1,3 +1,5 @@
+//! Putting the program of all sections together.
+
 ghost use Rattle.std.specs.Prelude.{◌≡◌, ◌≤◌, List, length, true};
 ghost use Rattle.avro_types.specs.Node.{Node};
 ghost use Rattle.program_definition.specs.Numbering.{constants_in, misses_in, numbered};

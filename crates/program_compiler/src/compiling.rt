@@ -1,3 +1,5 @@
+//! Compiling a pair of schemas.
+
 ghost use Rattle.program_compiler.specs.Compiling.{Compiles};
 
 use crate::assembling::parts_of_lines;

@@ -1,3 +1,5 @@
+//! The constants of a program, as bytes.
+
 ghost use Rattle.std.specs.Prelude.{◌≡◌, ◌<◌, ◌∷◌, [], List, None, length, slice_get, IfOk, IfSome, MatchOption};
 ghost use Rattle.avro_datum.specs.Writing.{written};
 ghost use Rattle.avro_types.specs.Datum.{datum_of};

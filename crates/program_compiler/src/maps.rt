@@ -1,3 +1,5 @@
+//! What the symbols of enums become: the maps of a program.
+
 ghost use Rattle.std.specs.Prelude.{◌≡◌, ◌≤◌, ◌++◌, ◌∷◌, [], length, map, slice_get, string_bytes, IfOk, OnOk};
 ghost use Rattle.program_definition.specs.Numbering.{entry_of, maps_of, named_in};
 ghost use Rattle.program_ir.specs.Lines.{line_of, lines_in, symbols_of, targets_of};

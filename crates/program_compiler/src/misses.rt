@@ -1,3 +1,5 @@
+//! The misses of a program.
+
 ghost use Rattle.std.specs.Prelude.{◌≡◌, ◌∷◌, [], slice_get, IfOk, OnOk};
 ghost use Rattle.program_definition.specs.Numbering.{adding, lacked, misses_in, misses_of, same_miss};
 ghost use Rattle.program_definition.specs.Writing.{target};

@@ -13,8 +13,8 @@ use Rattle.outcome.specs.declared.mismatch.MismatchKind.TheVariants as kinds
 use Rattle.resolver_matching.proofs.Fitting.{is_a_union, node_fits}
 use Rattle.resolver_matching.proofs.Members.{found, member_in, never_else, no_union_at}
 use Rattle.resolver_matching.specs.declared.pairing.Route.{Route}
-use Rattle.resolver_matching.specs.declared.place.Place.{Place}
-use Rattle.resolver_matching.specs.declared.place.Place.TheVariants.{Straight, IntoMember, Nowhere, Unmatched}
+use Rattle.resolver_matching.specs.declared.place.Destination.{Destination}
+use Rattle.resolver_matching.specs.declared.place.Destination.TheVariants.{Straight, IntoMember, Nowhere, Unmatched}
 use Rattle.resolver_matching.specs.Matching.{first_member, matches, place, place_at}
 use Rattle.resolver_matching.specs.Options.{given, or_else}
 use Rattle.resolver_matching.specs.Partners.{routes}
@@ -74,16 +74,16 @@ module _ (W R : List Node) (formed : IsWellFormed W) (theirs : IsWellFormed R) w
 
   -- ---- what the place of a pair says
 
-  abbrev PlaceIs : ℕ → ℕ → Place → Type 0
+  abbrev PlaceIs : ℕ → ℕ → Destination → Type 0
   PlaceIs w r Straight = (is_union (slice_get R r) ≡ false) × (matches W R w r ≡ true)
   PlaceIs w r (IntoMember j m) = (m < length R) × (is_union (slice_get R m) ≡ false) × (matches W R w m ≡ true)
   PlaceIs w r Nowhere = Unit {0}
   PlaceIs w r Unmatched = Unit {0}
 
-  place_is : (w r : ℕ) (p : Place) → place W R w r ≡ p → PlaceIs w r p
+  place_is : (w r : ℕ) (p : Destination) → place W R w r ≡ p → PlaceIs w r p
   place_is w r p e = go (is_union (slice_get R r)) refl p e
     where
-      straight : (b : Bool) → matches W R w r ≡ b → is_union (slice_get R r) ≡ false → (p : Place) → cond b Straight Unmatched ≡ p → PlaceIs w r p
+      straight : (b : Bool) → matches W R w r ≡ b → is_union (slice_get R r) ≡ false → (p : Destination) → cond b Straight Unmatched ≡ p → PlaceIs w r p
       straight true is no_union Straight e = (no_union, is)
       straight true is no_union (IntoMember j m) e = absurd cc
       straight true is no_union Nowhere e = absurd cc
@@ -93,7 +93,7 @@ module _ (W R : List Node) (formed : IsWellFormed W) (theirs : IsWellFormed R) w
       straight false is no_union Nowhere e = absurd cc
       straight false is no_union Unmatched e = tt
 
-      member : (ms : List ℕ) → slice_get R r ≡ Some (UnionNode ms) → (p : Place) → first_member (matches W R w) 0 ms ≡ p → PlaceIs w r p
+      member : (ms : List ℕ) → slice_get R r ≡ Some (UnionNode ms) → (p : Destination) → first_member (matches W R w) 0 ms ≡ p → PlaceIs w r p
       member ms at Straight e = absurd (never_else (matches W R w) 0 ms Straight e refl)
       member ms at (IntoMember j m) e =
           let f = found (matches W R w) 0 ms j m e in
@@ -102,7 +102,7 @@ module _ (W R : List Node) (formed : IsWellFormed W) (theirs : IsWellFormed R) w
       member ms at Nowhere e = tt
       member ms at Unmatched e = tt
 
-      go : (b : Bool) → is_union (slice_get R r) ≡ b → (p : Place) → place W R w r ≡ p → PlaceIs w r p
+      go : (b : Bool) → is_union (slice_get R r) ≡ b → (p : Destination) → place W R w r ≡ p → PlaceIs w r p
       go true is p e = let u = is_a_union (slice_get R r) is in member u.0 u.1 p (sym (ap (λ (o : Option Node). place_at (matches W R w) o r) u.1) ∙ e)
       go false is p e = straight (matches W R w r) refl is p (sym (no_union_at (matches W R w) (slice_get R r) r is) ∙ e)
 
@@ -152,7 +152,7 @@ module _ (W R : List Node) (formed : IsWellFormed W) (theirs : IsWellFormed R) w
         (good_record w r lt (fs, fits.1) (theirs.each r (RecordNode fits.0 fits.1) fits.2).0 are (lacking fs fits.1) refl)
     straight_good r below apart match (Some (UnionNode members)) e plain = absurd cc
 
-    placed_good : (r : ℕ) → r < length R → is_union (slice_get W w) ≡ false → (p : Place) → place W R w r ≡ p → Good (placed_node W R F w r p)
+    placed_good : (r : ℕ) → r < length R → is_union (slice_get W w) ≡ false → (p : Destination) → place W R w r ≡ p → Good (placed_node W R F w r p)
     placed_good r below plain Straight e = let is = place_is w r Straight e in straight_good r below is.0 is.1 (slice_get W w) refl plain
     placed_good r below plain (IntoMember j m) e = let is = place_is w r (IntoMember j m) e in (some_shortest (pos j), straight_good m is.0 is.1 is.2 (slice_get W w) refl plain)
     placed_good r below plain Nowhere e = (miss_near kinds.NoBranch w r lt below, good_K W R formed w lt)

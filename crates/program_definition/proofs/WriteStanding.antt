@@ -5,8 +5,8 @@ use Rattle.std.specs.List.{AllByRecursion}
 use Rattle.avro_types.specs.Node.{Node, Names, FieldNode, NullNode, BooleanNode, IntNode, LongNode, BytesNode, TextNode, FixedNode, EnumNode, ArrayNode, MapNode, UnionNode, RecordNode}
 use Rattle.avro_types.specs.WellFormed.{IsMember, IsWellFormed, is_union}
 use Rattle.outcome.specs.declared.mismatch.MismatchKind.TheVariants as kinds
-use Rattle.resolver_matching.specs.declared.place.Place.{Place}
-use Rattle.resolver_matching.specs.declared.place.Place.TheVariants.{Straight, IntoMember, Nowhere, Unmatched}
+use Rattle.resolver_matching.specs.declared.place.Destination.{Destination}
+use Rattle.resolver_matching.specs.declared.place.Destination.TheVariants.{Straight, IntoMember, Nowhere, Unmatched}
 use Rattle.resolver_matching.specs.Matching.{place}
 use Rattle.resolver_matching.specs.Options.{given}
 use Rattle.resolver.specs.Resolution.{lacking, symbol_for}
@@ -129,7 +129,7 @@ module _ (W R : List Node) (P : Program) (Begins : Section → ℕ → Type 0) w
     straight_writes pc w r (Some (UnionNode members)) e h = absurd h.0
     straight_writes pc w r (Some (RecordNode name fs)) e h = record_writes pc w r name fs e (slice_get R r) refl h
 
-    placed_writes : (pc w r : ℕ) (p : Place) → place W R w r ≡ p → Here pc (placed_node W R X w r p) → PlainAt pc w r (pc + length (placed_node W R X w r p))
+    placed_writes : (pc w r : ℕ) (p : Destination) → place W R w r ≡ p → Here pc (placed_node W R X w r p) → PlainAt pc w r (pc + length (placed_node W R X w r p))
     placed_writes pc w r Straight is h = x_straight is (straight_writes pc w r (slice_get W w) refl h)
     placed_writes pc w r (IntoMember j m) is h =
         let z : pc + 1 + length (straight_node W R X w m (slice_get W w) (slice_get R m)) ≡ pc + length (placed_node W R X w r (IntoMember j m)) = omega arith in

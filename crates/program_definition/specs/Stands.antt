@@ -10,7 +10,7 @@ use Rattle.avro_datum.specs.Writing.{written}
 use Rattle.outcome.specs.declared.mismatch.MismatchKind.TheVariants as kinds
 use Rattle.resolver_matching.specs.declared.pairing.Partner.{Partner}
 use Rattle.resolver_matching.specs.declared.pairing.Route.{Route}
-use Rattle.resolver_matching.specs.declared.place.Place.TheVariants.{Straight, IntoMember, Nowhere, Unmatched}
+use Rattle.resolver_matching.specs.declared.place.Destination.TheVariants.{Straight, IntoMember, Nowhere, Unmatched}
 use Rattle.resolver_matching.specs.Matching.{place}
 use Rattle.resolver_matching.specs.Partners.{has_partner, routes}
 use Rattle.resolver.specs.Resolution.{lacking, symbol_for}

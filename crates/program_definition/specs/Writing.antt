@@ -6,8 +6,8 @@ use Rattle.avro_types.specs.Node.{Node, FieldNode, NullNode, BooleanNode, IntNod
 use Rattle.avro_datum.specs.Writing.{written}
 use Rattle.outcome.specs.declared.mismatch.MismatchKind.TheVariants as kinds
 use Rattle.resolver_matching.specs.declared.pairing.Route.{Route}
-use Rattle.resolver_matching.specs.declared.place.Place.{Place}
-use Rattle.resolver_matching.specs.declared.place.Place.TheVariants.{Straight, IntoMember, Nowhere, Unmatched}
+use Rattle.resolver_matching.specs.declared.place.Destination.{Destination}
+use Rattle.resolver_matching.specs.declared.place.Destination.TheVariants.{Straight, IntoMember, Nowhere, Unmatched}
 use Rattle.resolver_matching.specs.Matching.{both_items, both_values, place}
 use Rattle.resolver_matching.specs.Options.{given}
 use Rattle.resolver_matching.specs.Partners.{has_partner, routes}
@@ -67,7 +67,7 @@ module _ (W R : List Node) where
 
   -- r is a union: where member j is the first that matches, PUT of its position and X(w, j); where none matches, MISS
   -- NoBranch and K(w); no union and no match: MISS NoMatch and K(w)
-  abbrev pub placed_node : (ℕ → ℕ → List Line) → ℕ → ℕ → Place → List Line
+  abbrev pub placed_node : (ℕ → ℕ → List Line) → ℕ → ℕ → Destination → List Line
   placed_node X w r (IntoMember j member) =
       Put (shortest (pos j)) ∷ straight_node X w member (slice_get W w) (slice_get R member)
   placed_node X w r Nowhere = Miss (miss kinds.NoBranch w r) ∷ K W w

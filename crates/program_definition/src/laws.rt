@@ -1,3 +1,5 @@
+//! Laws of the program of a pair. They do nothing when they run.
+
 ghost use Rattle.program_definition.specs.Limits.{NoLineIsLost, NoneByLimitsAlone, SectionsAreFound};
 ghost use Rattle.program_definition.specs.Linking.{ProgramIsInRange, ProgramIsLinked};
 ghost use Rattle.program_definition.specs.Worked.{LongListHasItsProgram, PairHasItsProgram, ReaderHasItsProgram};

@@ -1,3 +1,5 @@
+//! The constants that lines name, each once.
+
 ghost use Rattle.std.specs.Prelude.{◌≡◌, ◌++◌, ◌∷◌, [], None, length, IfOk};
 ghost use Rattle.std.specs.Str.{bytes_eq};
 ghost use Rattle.program_definition.specs.Numbering.{adding, number};

@@ -1,3 +1,5 @@
+//! Lines of the intermediate representation, and how they make loops, branches, records and routines.
+
 ghost use Rattle.std.specs.Prelude.{◌≡◌, ◌++◌, ◌∷◌, ◌<◌, List, [], IfSome, OnOk, length, slice_get};
 ghost use Rattle.avro_types.specs.Node.{Node};
 ghost use Rattle.program_definition.specs.Lines.{branched, looped, miss};

@@ -1,3 +1,5 @@
+//! The misses that lines name, each once.
+
 ghost use Rattle.std.specs.Prelude.{◌≡◌, ◌++◌, ◌∷◌, [], None, length, OnErr, OnOk};
 ghost use Rattle.program_definition.specs.Numbering.{adding, number, same_miss};
 ghost use Rattle.program_ir.specs.Tables.{found};

@@ -1,3 +1,5 @@
+//! The sections that lines call, each once.
+
 ghost use Rattle.std.specs.Prelude.{◌≡◌, ◌++◌, ◌∷◌, List, [], None, Some, option_map, slice_get, IfOk, OnOk};
 ghost use Rattle.avro_types.specs.Node.{Node};
 ghost use Rattle.program_definition.specs.Lines.{Main, Skip, Write};

@@ -1,3 +1,5 @@
+//! What a writer's symbol becomes with a reader's enum.
+
 ghost use Rattle.std.specs.Prelude.{◌≡◌, ◌≤◌, length, map, slice_get, string_bytes, IfOk};
 ghost use Rattle.program_definition.specs.Numbering.{entry_of};
 ghost use Rattle.program_definition.specs.Writing.{target};

@@ -7,7 +7,7 @@ use Rattle.std.proofs.lemmas.Bool.Decides.{nat_tests}
 use Rattle.std.proofs.lemmas.List.Folds.{list_any_more}
 use Rattle.resolver_matching.specs.Matching.{first_member}
 use Rattle.resolver_matching.specs.Options.{or_else}
-use Rattle.resolver_matching.specs.declared.place.Place.TheVariants.{IntoMember, Nowhere}
+use Rattle.resolver_matching.specs.declared.place.Destination.TheVariants.{IntoMember, Nowhere}
 use Rattle.program_lowering.specs.Members.{least}
 use Rattle.program_lowering.specs.NamedTypes.{is_among}
 

@@ -5,7 +5,7 @@ use Rattle.std.specs.Global.{Vec}
 use Rattle.avro_types.specs.declared.kind.Kind.{Kind}
 use Rattle.avro_types.specs.declared.kind.Kind.TheVariants as kinds
 use Rattle.avro_types.specs.Node.{Node, FieldNode, node_of}
-use Rattle.resolver_matching.specs.declared.place.Place.{Place}
+use Rattle.resolver_matching.specs.declared.place.Destination.{Destination}
 use Rattle.resolver_matching.specs.Matching.{place}
 use Rattle.resolver_matching.specs.Options.{given}
 use Rattle.outcome.specs.declared.mismatch.MismatchKind.TheVariants as misses
@@ -17,7 +17,7 @@ use Rattle.resolver.specs.Resolution.{lacking}
 pub straight_more : (W R : List Node) (F : ℕ → ℕ → List Line) (w r : ℕ) (reader : Option Node) (node : Node) (old new code : List Line) → slice_get W w ≡ Some node → straight_node W R F w r (Some node) reader ≡ code → new ≡ old ++ code → new ≡ old ++ straight_node W R F w r (slice_get W w) reader
 straight_more W R F w r reader node old new code at is h = h ∙ ap (λ l. old ++ l) (sym is) ∙ ap (λ x. old ++ straight_node W R F w r x reader) (sym at)
 
-pub placed_more : (W R : List Node) (F : ℕ → ℕ → List Line) (w r : ℕ) (result p : Place) (old new code : List Line) → result ≡ place W R w r → result ≡ p → placed_node W R F w r p ≡ code → new ≡ old ++ code → new ≡ old ++ placed_node W R F w r (place W R w r)
+pub placed_more : (W R : List Node) (F : ℕ → ℕ → List Line) (w r : ℕ) (result p : Destination) (old new code : List Line) → result ≡ place W R w r → result ≡ p → placed_node W R F w r p ≡ code → new ≡ old ++ code → new ≡ old ++ placed_node W R F w r (place W R w r)
 placed_more W R F w r result p old new code e at is h = h ∙ ap (λ l. old ++ l) (sym is) ∙ ap (λ x. old ++ placed_node W R F w r x) (sym at ∙ e)
 
 pub parts_none : {A : Type 0} (parts : Option A) (f : A → List Line) (old new : List Line) → parts ≡ None → new ≡ old ++ Lost ∷ [] → new ≡ old ++ given parts (Lost ∷ []) f

@@ -1,3 +1,5 @@
+//! Whether a datum is written as no bytes.
+
 ghost use Rattle.std.specs.Prelude.{◌≡◌, ◌==◌, length};
 ghost use Rattle.avro_types.specs.Datum.{data_of, datum_of};
 ghost use Rattle.avro_datum.specs.Writing.{written, written_data};

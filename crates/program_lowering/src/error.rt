@@ -1,3 +1,5 @@
+//! Why a pair of schemas was not compiled.
+
 use std::alloc::{AllocError, AllocFailed};
 use thiserror::Error;
 

@@ -1,3 +1,5 @@
+//! What is kept of nodes that have met, so that each pair is looked at once.
+
 ghost use Rattle.std.specs.Prelude.{◌≡◌, ◌<◌, List, Some, length, slice_get, IfOk};
 ghost use Rattle.avro_types.specs.Node.{Node, UnionNode};
 ghost use Rattle.avro_types.specs.WellFormed.{full_name_of};
@@ -8,7 +10,7 @@ use crate::members::{name_of, positions_of};
 use crate::named_types::NamedTypes;
 use crate::schema_pair::SchemaPair;
 use avro_types::{Kind, Name, Nodes};
-use resolver_matching::{Place, matches_by_rule, place_of, routes};
+use resolver_matching::{Destination, matches_by_rule, place_of, routes};
 use resolver::{field_lists, first_lacking};
 use std::alloc::{AllocError, Global};
 use std::collections::BTreeMap;
@@ -99,7 +101,7 @@ impl Known {
         name: &Name,
         rn: usize,
         members: &[usize],
-    ) -> Place
+    ) -> Destination
         requires writer { wn < length pair.now.writer.now }
         requires name { full_name_of (slice_get pair.now.writer.now wn) ≡ Some name.now }
         requires reader { rn < length pair.now.reader.now }
@@ -127,7 +129,7 @@ impl Known {
         pair: &SchemaPair<'_>,
         wn: usize,
         rn: usize,
-    ) -> Result<Place, AllocError>
+    ) -> Result<Destination, AllocError>
         requires writer { wn < length pair.now.writer.now }
         requires reader { rn < length pair.now.reader.now }
         requires known { AreKnown pair.now.writer.now pair.now.reader.now self.old }

@@ -1,3 +1,5 @@
+//! The member of a union that a node goes into.
+
 ghost use Rattle.std.specs.Prelude.{◌≡◌, ◌<◌, ◌≤◌, ◌&&◌, None, if◌then◌else◌, length, option_map, slice_get, IfOk};
 ghost use Rattle.std.specs.BTreeMap.{get};
 ghost use Rattle.std.specs.List.{AllByRecursion};
@@ -9,7 +11,7 @@ ghost use Rattle.program_lowering.specs.NamedTypes.{is_among};
 
 use crate::schema_pair::SchemaPair;
 use avro_types::{Kind, MOST_NODES, Name, Nodes};
-use resolver_matching::{Place, matches};
+use resolver_matching::{Destination, matches};
 use std::alloc::{AllocError, Global};
 use std::collections::BTreeMap;
 
@@ -79,7 +81,7 @@ impl SchemaPair<'_> {
         members: &[usize],
         positions: &BTreeMap<usize, u32>,
         candidates: &[usize],
-    ) -> Place
+    ) -> Destination
         requires writer { wn < length self.now.writer.now }
         requires members { AllByRecursion (λ m. m < length self.now.reader.now) members.now }
         requires positions { ArePositionsOf members.now positions.now }
@@ -93,11 +95,11 @@ impl SchemaPair<'_> {
             first = least(first, self.matching_position(wn, positions, *candidate));
         }
         match first {
-            Some(position) => Place::IntoMember {
+            Some(position) => Destination::IntoMember {
                 position,
                 node: members[position as usize],
             },
-            None => Place::Nowhere,
+            None => Destination::Nowhere,
         }
     }
 }

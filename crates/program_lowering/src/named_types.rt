@@ -1,3 +1,5 @@
+//! The types of a schema by their unqualified names.
+
 ghost use Rattle.std.specs.Prelude.{◌≡◌, ◌==◌, ◌&&◌, ◌||◌, IfOk, OnOk, ℕ, List, Some};
 ghost use Rattle.std.specs.Str.{bytes_eq};
 ghost use Rattle.avro_types.specs.Node.{names_of, node_of};

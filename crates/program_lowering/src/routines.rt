@@ -1,3 +1,5 @@
+//! The routines of records: their fields and defaults.
+
 ghost use Rattle.std.specs.Prelude.{◌≡◌, ◌++◌, ◌∷◌, ◌<◌, ◌≤◌, ℕ, List, [], Some, false, length, slice_get, slice_index_or, IfOk, OnOk};
 ghost use Rattle.avro_types.specs.Node.{Node, field_of, fields_of};
 ghost use Rattle.avro_types.specs.WellFormed.{FieldsBelow};

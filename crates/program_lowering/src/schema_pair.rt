@@ -1,3 +1,5 @@
+//! A pair of schemas whose lines are made.
+
 use avro_types::Nodes;
 use std::alloc::Global;
 

@@ -1,3 +1,5 @@
+//! The lines that skip a node.
+
 ghost use Rattle.std.specs.Prelude.{◌≡◌, ◌++◌, ◌<◌, length, map, IfOk, OnOk};
 ghost use Rattle.std.specs.List.{AllByRecursion};
 ghost use Rattle.program_definition.specs.Skipping.{K, skip_within};

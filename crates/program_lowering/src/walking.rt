@@ -1,3 +1,5 @@
+//! The lines of all sections, in the order in which they are called for.
+
 ghost use Rattle.std.specs.Prelude.{◌≡◌, ◌∷◌, []};
 ghost use Rattle.program_definition.specs.Lines.{Main};
 ghost use Rattle.program_ir.specs.Lines.{section_of};

@@ -1,3 +1,5 @@
+//! The lines that write a pair of nodes.
+
 ghost use Rattle.std.specs.Prelude.{◌≡◌, ◌++◌, ◌∷◌, ◌<◌, [], List, if◌then◌else◌, length, map, slice_get, IfOk, IfSome, OnOk};
 ghost use Rattle.std.specs.List.{AllByRecursion};
 ghost use Rattle.avro_types.specs.Node.{Node};
@@ -15,7 +17,7 @@ use crate::known::Known;
 use crate::schema_pair::SchemaPair;
 use avro_types::Kind;
 use isa::Instr;
-use resolver_matching::{Place, both_items, both_values};
+use resolver_matching::{Destination, both_items, both_values};
 use outcome::MismatchKind;
 use program_ir::{Constant, Go, Line, miss, put, put_branched, put_loop, put_record};
 use resolver::field_lists;
@@ -193,16 +195,16 @@ impl SchemaPair<'_> {
         ensures known { AreKnown self.now.writer.now self.now.reader.now known.new }
     {
         match known.place_of(self, wn, rn)? {
-            Place::Straight => self.straight(known, wn, rn, steps, lines),
-            Place::IntoMember { position, node } => {
+            Destination::Straight => self.straight(known, wn, rn, steps, lines),
+            Destination::IntoMember { position, node } => {
                 put(lines, Line::Put(Constant::Position(position)))?;
                 self.straight(known, wn, node, steps, lines)
             }
-            Place::Nowhere => {
+            Destination::Nowhere => {
                 put(lines, Line::Miss(miss(MismatchKind::NoBranch, wn, rn)))?;
                 self.skip(wn, lines)
             }
-            Place::Unmatched => {
+            Destination::Unmatched => {
                 put(lines, Line::Miss(miss(MismatchKind::NoMatch, wn, rn)))?;
                 self.skip(wn, lines)
             }

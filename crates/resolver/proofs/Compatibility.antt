@@ -8,8 +8,8 @@ use Rattle.avro_types.specs.Conforming.{Conforms, ConformAll, ConformPairs}
 use Rattle.outcome.specs.declared.mismatch.MismatchKind.TheVariants.{NoMatch, NoSymbol, BytesNotText}
 use Rattle.resolver_matching.specs.declared.pairing.Partner.{Partner}
 use Rattle.resolver_matching.specs.declared.pairing.Route.{Route}
-use Rattle.resolver_matching.specs.declared.place.Place.{Place}
-use Rattle.resolver_matching.specs.declared.place.Place.TheVariants.{Straight, IntoMember, Nowhere, Unmatched}
+use Rattle.resolver_matching.specs.declared.place.Destination.{Destination}
+use Rattle.resolver_matching.specs.declared.place.Destination.TheVariants.{Straight, IntoMember, Nowhere, Unmatched}
 use Rattle.resolver_matching.specs.Matching.{both_items, both_values, matches, place, place_at}
 use Rattle.resolver_matching.specs.Options.{given}
 use Rattle.resolver_matching.specs.Partners.{routes}
@@ -69,7 +69,7 @@ module _ (W R : List Node) (formed : IsWellFormed R) (safe : IsSafe W R) where
         let m = member_in (IsMember R r) s.0 f.steps node (formed.each r (UnionNode s.0) s.1).0 f.member in
         no_union_at (matches W R w) (slice_get R node) node m.no_union ∙ ap (λ (b : Bool). cond b Straight Unmatched) f.matching
 
-    by_place : (r : ℕ) (p : Place) → place W R w r ≡ p → Reached W R (w, r) → IsReadable (placed p w r value)
+    by_place : (r : ℕ) (p : Destination) → place W R w r ≡ p → Reached W R (w, r) → IsReadable (placed p w r value)
     by_place r Straight e reach = inner r reach (record { no_union = u; straight = e })
     by_place r (IntoMember position node) e reach =
         let there = step (w, r) (w, node) reach (to_branch position u e) in

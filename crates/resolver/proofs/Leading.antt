@@ -4,8 +4,8 @@ use Rattle.avro_types.specs.Node.{Node, FieldNode, EnumNode, UnionNode}
 use Rattle.avro_types.specs.WellFormed.{is_union}
 use Rattle.resolver_matching.specs.declared.pairing.Partner.{Partner}
 use Rattle.resolver_matching.specs.declared.pairing.Route.{Route}
-use Rattle.resolver_matching.specs.declared.place.Place.{Place}
-use Rattle.resolver_matching.specs.declared.place.Place.TheVariants.{Straight, IntoMember, Nowhere, Unmatched}
+use Rattle.resolver_matching.specs.declared.place.Destination.{Destination}
+use Rattle.resolver_matching.specs.declared.place.Destination.TheVariants.{Straight, IntoMember, Nowhere, Unmatched}
 use Rattle.resolver_matching.specs.Matching.{both_items, both_values, place}
 use Rattle.resolver.specs.NextPairs.{Among, bad_from, is_bad, lacks_field, lacks_symbol, next_pairs, pairs_from, part_pairs, partner_pairs, placed_badly, placed_pairs, some_missing}
 use Rattle.resolver_matching.specs.Options.{given}
@@ -81,11 +81,11 @@ field_there (r ∷ routes) (suc i) route p at has = past r.partner (field_there 
 
 -- ---- the pairs that a pair leads to
 
-not_union : (p : Place) (w r : Option Node) (n m : ℕ) → is_union w ≡ false → pairs_from p w r n m ≡ placed_pairs p w r n
+not_union : (p : Destination) (w r : Option Node) (n m : ℕ) → is_union w ≡ false → pairs_from p w r n m ≡ placed_pairs p w r n
 not_union p (Some (UnionNode ms)) r n m u = absurd cc
 not_union p w r n m u = refl
 
-not_union_bad : (p : Place) (w r : Option Node) → is_union w ≡ false → bad_from p w r ≡ placed_badly p w r
+not_union_bad : (p : Destination) (w r : Option Node) → is_union w ≡ false → bad_from p w r ≡ placed_badly p w r
 not_union_bad p (Some (UnionNode ms)) r u = absurd cc
 not_union_bad p w r u = refl
 
@@ -113,7 +113,7 @@ module _ (W R : List Node) where
   pub among_leads : (p q : Pair) → Among q (next_pairs W R p) → LeadsTo W R p q
   unfolding next_pairs
   among_leads p q a = by_union (is_union (slice_get W p.0)) refl where
-    by_place : (is_union (slice_get W p.0) ≡ false) → (x : Place) → place W R p.0 p.1 ≡ x → Among q (placed_pairs x (slice_get W p.0) (slice_get R p.1) p.0) → LeadsTo W R p q
+    by_place : (is_union (slice_get W p.0) ≡ false) → (x : Destination) → place W R p.0 p.1 ≡ x → Among q (placed_pairs x (slice_get W p.0) (slice_get R p.1) p.0) → LeadsTo W R p q
     by_place u Straight is b = in_parts p.0 p.1 q (record { no_union = u; straight = is }) b
     by_place u (IntoMember position node) is (inl e) = subst (LeadsTo W R p) (sym e) (to_branch position u is)
     by_place u (IntoMember position node) is (inr b) = absurd b
@@ -129,12 +129,12 @@ module _ (W R : List Node) where
 
   straight_there : (w r : ℕ) (q : Pair) → GoesStraight W R w r → Among q (part_pairs (slice_get W w) (slice_get R r)) → Among q (next_pairs W R (w, r))
   unfolding next_pairs
-  straight_there w r q s a = subst (Among q) (sym (not_union (place W R w r) (slice_get W w) (slice_get R r) w r s.no_union ∙ ap (λ (x : Place). placed_pairs x (slice_get W w) (slice_get R r) w) s.straight)) a
+  straight_there w r q s a = subst (Among q) (sym (not_union (place W R w r) (slice_get W w) (slice_get R r) w r s.no_union ∙ ap (λ (x : Destination). placed_pairs x (slice_get W w) (slice_get R r) w) s.straight)) a
 
   pub leads_among : (p q : Pair) → LeadsTo W R p q → Among q (next_pairs W R p)
   unfolding next_pairs
   leads_among p q (to_member {w = w} {r = r} {member = m} i ms at is) = subst (λ (o : Option Node). Among (m, r) (pairs_from (place W R w r) o (slice_get R r) w r)) (sym at) (member_there ms i m r is)
-  leads_among p q (to_branch {w = w} {r = r} {node = node} position u is) = subst (Among (w, node)) (sym (not_union (place W R w r) (slice_get W w) (slice_get R r) w r u ∙ ap (λ (x : Place). placed_pairs x (slice_get W w) (slice_get R r) w) is)) (inl refl)
+  leads_among p q (to_branch {w = w} {r = r} {node = node} position u is) = subst (Among (w, node)) (sym (not_union (place W R w r) (slice_get W w) (slice_get R r) w r u ∙ ap (λ (x : Destination). placed_pairs x (slice_get W w) (slice_get R r) w) is)) (inl refl)
   leads_among p q (to_items {w = w} {r = r} s is) = straight_there w r q s (in_front q (option_to_list (both_items (slice_get W w) (slice_get R r)) ++ option_to_list (both_values (slice_get W w) (slice_get R r))) _ (in_front q (option_to_list (both_items (slice_get W w) (slice_get R r))) _ (one_there q (both_items (slice_get W w) (slice_get R r)) is)))
   leads_among p q (to_values {w = w} {r = r} s is) = straight_there w r q s (in_front q (option_to_list (both_items (slice_get W w) (slice_get R r)) ++ option_to_list (both_values (slice_get W w) (slice_get R r))) _ (after q (option_to_list (both_items (slice_get W w) (slice_get R r))) _ (one_there q (both_values (slice_get W w) (slice_get R r)) is)))
   leads_among p q (to_field {w = w} {r = r} i ws rs route partner s lists at has) = straight_there w r q s (after q (option_to_list (both_items (slice_get W w) (slice_get R r)) ++ option_to_list (both_values (slice_get W w) (slice_get R r))) _
@@ -197,7 +197,7 @@ module _ (W R : List Node) where
       | inr l ↦ (let f = missing_told (slice_get W p.0) (slice_get R p.1) l in no_symbol f.0 f.1 s f.2 f.3 f.4)
     ]
 
-    by_place : is_union (slice_get W p.0) ≡ false → (x : Place) → place W R p.0 p.1 ≡ x → placed_badly x (slice_get W p.0) (slice_get R p.1) ≡ true → IsBad W R p
+    by_place : is_union (slice_get W p.0) ≡ false → (x : Destination) → place W R p.0 p.1 ≡ x → placed_badly x (slice_get W p.0) (slice_get R p.1) ≡ true → IsBad W R p
     by_place u Straight is h = straight (record { no_union = u; straight = is }) h
     by_place u (IntoMember position node) is h = absurd cc
     by_place u Nowhere is h = no_branch u is
@@ -207,9 +207,9 @@ module _ (W R : List Node) where
     by_union true u = let m = is_a_union (slice_get W p.0) u in absurd (let clash : false ≡ true = sym (ap (λ (o : Option Node). bad_from (place W R p.0 p.1) o (slice_get R p.1)) m.1) ∙ e in cc)
     by_union false u = by_place u (place W R p.0 p.1) refl (sym (not_union_bad (place W R p.0 p.1) (slice_get W p.0) (slice_get R p.1) u) ∙ e)
 
-  bad_at : (w r : ℕ) (x : Place) → is_union (slice_get W w) ≡ false → place W R w r ≡ x → placed_badly x (slice_get W w) (slice_get R r) ≡ true → is_bad W R (w, r) ≡ true
+  bad_at : (w r : ℕ) (x : Destination) → is_union (slice_get W w) ≡ false → place W R w r ≡ x → placed_badly x (slice_get W w) (slice_get R r) ≡ true → is_bad W R (w, r) ≡ true
   unfolding is_bad
-  bad_at w r x u is h = not_union_bad (place W R w r) (slice_get W w) (slice_get R r) u ∙ ap (λ (x : Place). placed_badly x (slice_get W w) (slice_get R r)) is ∙ h
+  bad_at w r x u is h = not_union_bad (place W R w r) (slice_get W w) (slice_get R r) u ∙ ap (λ (x : Destination). placed_badly x (slice_get W w) (slice_get R r)) is ∙ h
 
   pub bad_told : (p : Pair) → IsBad W R p → is_bad W R p ≡ true
   bad_told p (no_match {w = w} {r = r} u is) = bad_at w r Unmatched u is refl

@@ -4,8 +4,8 @@ use Rattle.avro_types.specs.Node.{Node, UnionNode}
 use Rattle.avro_types.specs.WellFormed.{IsMember, IsWellFormed, is_union}
 use Rattle.avro_types.specs.Datum.{Datum, UnionDatum}
 use Rattle.avro_types.specs.Conforming.{Conforms}
-use Rattle.resolver_matching.specs.declared.place.Place.{Place}
-use Rattle.resolver_matching.specs.declared.place.Place.TheVariants.{Straight, IntoMember, Nowhere, Unmatched}
+use Rattle.resolver_matching.specs.declared.place.Destination.{Destination}
+use Rattle.resolver_matching.specs.declared.place.Destination.TheVariants.{Straight, IntoMember, Nowhere, Unmatched}
 use Rattle.resolver_matching.specs.Matching.{first_member, matches, place, place_at}
 use Rattle.resolver.specs.Resolution.{Resolved, ◌>>=◌, placed}
 use Rattle.resolver_matching.proofs.Fitting.{is_a_union}
@@ -17,7 +17,7 @@ wrapped (Ok d) position e h = (d, refl, cc)
 wrapped (Err m) position e h = absurd cc
 
 module _ (W R : List Node) (formed : IsWellFormed R) (w : ℕ) (value : ℕ → Resolved Datum) (inner : (node : ℕ) (d : Datum) → is_union (slice_get R node) ≡ false → matches W R w node ≡ true → value node ≡ Ok d → Conforms R node d) where
-  in_member : (r : ℕ) (ms : List ℕ) (p : Place) (e : Datum) → slice_get R r ≡ Some (UnionNode ms) → first_member (matches W R w) 0 ms ≡ p → placed p w r value ≡ Ok e → Conforms R r e
+  in_member : (r : ℕ) (ms : List ℕ) (p : Destination) (e : Datum) → slice_get R r ≡ Some (UnionNode ms) → first_member (matches W R w) 0 ms ≡ p → placed p w r value ≡ Ok e → Conforms R r e
   in_member r ms Straight e at is h = absurd (never_else (matches W R w) 0 ms Straight is refl)
   in_member r ms Nowhere e at is h = absurd cc
   in_member r ms Unmatched e at is h = absurd cc
@@ -37,7 +37,7 @@ module _ (W R : List Node) (formed : IsWellFormed R) (w : ℕ) (value : ℕ → 
       let u = is_a_union (slice_get R r) is in
       in_member r u.0 (first_member (matches W R w) 0 u.0) e u.1 refl (sym (ap (λ (o : Option Node). placed (place_at (matches W R w) o r) w r value) u.1) ∙ h)
   by_kind false r e is h =
-      let s = straight (matches W R w r) r e (sym (ap (λ (p : Place). placed p w r value) (no_union_at (matches W R w) (slice_get R r) r is)) ∙ h) in
+      let s = straight (matches W R w r) r e (sym (ap (λ (p : Destination). placed p w r value) (no_union_at (matches W R w) (slice_get R r) r is)) ∙ h) in
       inner r e is s.0 s.1
 
   pub placed_whole : (r : ℕ) (e : Datum) → placed (place W R w r) w r value ≡ Ok e → Conforms R r e

@@ -8,8 +8,8 @@ use Rattle.avro_types.specs.Datum.{Datum, Data, Pairs, NullDatum, BooleanDatum, 
 use Rattle.avro_types.specs.Sizes.{DefaultsHaveSizesWithin}
 use Rattle.avro_datum.specs.Conforming.{IsWritable, AreWritable, AreWritablePairs, most_items}
 use Rattle.outcome.specs.declared.mismatch.MismatchKind.{MismatchKind}
-use Rattle.resolver_matching.specs.declared.place.Place.{Place}
-use Rattle.resolver_matching.specs.declared.place.Place.TheVariants.{Straight, IntoMember, Nowhere, Unmatched}
+use Rattle.resolver_matching.specs.declared.place.Destination.{Destination}
+use Rattle.resolver_matching.specs.declared.place.Destination.TheVariants.{Straight, IntoMember, Nowhere, Unmatched}
 use Rattle.resolver_matching.specs.Matching.{both_items, both_values, place}
 use Rattle.resolver_matching.specs.Options.{given}
 use Rattle.resolver.specs.Resolution.{Resolved, mismatch, placed, int_for, text_for, bytes_for, symbol_at, member_at, field_lists, lacking, resolved, resolved_items, resolved_values, resolved_fields, Slots, filled, no_slots}
@@ -53,7 +53,7 @@ bytes_writable o w r bytes e s h = same_writable (BytesDatum bytes) e s h
 
 -- ---- places and fields
 
-placed_writable : (p : Place) (w r : ℕ) (value : ℕ → Resolved Datum) (e : Datum) → ((node : ℕ) (d : Datum) → value node ≡ Ok d → IsWritable d) → placed p w r value ≡ Ok e → IsWritable e
+placed_writable : (p : Destination) (w r : ℕ) (value : ℕ → Resolved Datum) (e : Datum) → ((node : ℕ) (d : Datum) → value node ≡ Ok d → IsWritable d) → placed p w r value ≡ Ok e → IsWritable e
 placed_writable Straight w r value e inner h = inner r e h
 placed_writable (IntoMember position node) w r value e inner h = let made = wrapped (value node) position e h in subst IsWritable made.2 (inner node made.0 made.1)
 placed_writable Nowhere w r value e inner h = absurd cc

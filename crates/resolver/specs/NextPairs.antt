@@ -1,8 +1,8 @@
 -- What the steps of `can_read` answer: the pairs that a pair leads to as a list, and whether it is bad.
 use Rattle.std.specs.Prelude.{◌≡◌, ℕ, Bool, true, false, ◌||◌, List, [], ◌∷◌, ◌++◌, map, Option, Some, is_none, is_some, option_to_list, slice_get, ◌⊎◌}
 use Rattle.avro_types.specs.Node.{Node, EnumNode, UnionNode}
-use Rattle.resolver_matching.specs.declared.place.Place.{Place}
-use Rattle.resolver_matching.specs.declared.place.Place.TheVariants.{Straight, IntoMember, Nowhere, Unmatched}
+use Rattle.resolver_matching.specs.declared.place.Destination.{Destination}
+use Rattle.resolver_matching.specs.declared.place.Destination.TheVariants.{Straight, IntoMember, Nowhere, Unmatched}
 use Rattle.resolver_matching.specs.Matching.{both_items, both_values, place}
 use Rattle.resolver_matching.specs.Options.{given}
 use Rattle.resolver_matching.specs.Partners.{routes}
@@ -28,14 +28,14 @@ part_pairs w r =
     ++ given (field_lists w r) [] (λ p. partner_pairs (routes p.0 p.1))
 
 -- where a datum goes straight into the reader's node, its parts; where it goes into a member, that member
-abbrev pub placed_pairs : Place → Option Node → Option Node → ℕ → List Pair
+abbrev pub placed_pairs : Destination → Option Node → Option Node → ℕ → List Pair
 placed_pairs Straight wk rk w = part_pairs wk rk
 placed_pairs (IntoMember position node) wk rk w = (w, node) ∷ []
 placed_pairs Nowhere wk rk w = []
 placed_pairs Unmatched wk rk w = []
 
 -- each member of a writer's union goes where the union goes
-abbrev pub pairs_from : Place → Option Node → Option Node → ℕ → ℕ → List Pair
+abbrev pub pairs_from : Destination → Option Node → Option Node → ℕ → ℕ → List Pair
 pairs_from place (Some (UnionNode members)) rk w r = map (λ m. (m, r)) members
 pairs_from place wk rk w r = placed_pairs place wk rk w
 
@@ -54,13 +54,13 @@ lacks_symbol _ _ = false
 abbrev pub lacks_field : Option Node → Option Node → Bool
 lacks_field w r = given (field_lists w r) false (λ p. is_some (lacking p.0 p.1))
 
-abbrev pub placed_badly : Place → Option Node → Option Node → Bool
+abbrev pub placed_badly : Destination → Option Node → Option Node → Bool
 placed_badly Straight wk rk = lacks_field wk rk || lacks_symbol wk rk
 placed_badly (IntoMember position node) wk rk = false
 placed_badly Nowhere wk rk = true
 placed_badly Unmatched wk rk = true
 
-abbrev pub bad_from : Place → Option Node → Option Node → Bool
+abbrev pub bad_from : Destination → Option Node → Option Node → Bool
 bad_from place (Some (UnionNode members)) rk = false
 bad_from place wk rk = placed_badly place wk rk
 

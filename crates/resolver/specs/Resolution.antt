@@ -4,8 +4,8 @@ use Rattle.std.specs.Str.{is_utf8}
 use Rattle.avro_types.specs.Node.{Node, FieldNode, LongNode, BytesNode, TextNode, EnumNode, UnionNode, RecordNode}
 use Rattle.avro_types.specs.Symbols.{place_of}
 use Rattle.avro_types.specs.Datum.{Datum, Data, Pairs, NullDatum, BooleanDatum, IntDatum, LongDatum, BytesDatum, TextDatum, FixedDatum, EnumDatum, ArrayDatum, MapDatum, UnionDatum, RecordDatum, no_more, more, no_pairs, pair}
-use Rattle.resolver_matching.specs.declared.place.Place.{Place}
-use Rattle.resolver_matching.specs.declared.place.Place.TheVariants.{Straight, IntoMember, Nowhere, Unmatched}
+use Rattle.resolver_matching.specs.declared.place.Destination.{Destination}
+use Rattle.resolver_matching.specs.declared.place.Destination.TheVariants.{Straight, IntoMember, Nowhere, Unmatched}
 use Rattle.outcome.specs.declared.mismatch.Mismatch.{Mismatch}
 use Rattle.outcome.specs.declared.mismatch.MismatchKind.{MismatchKind}
 use Rattle.outcome.specs.declared.mismatch.MismatchKind.TheVariants.{NoMatch, NoBranch, NoSymbol, NoDefault, BytesNotText}
@@ -29,7 +29,7 @@ abbrev pub mismatch : {A : Type 0} → MismatchKind → ℕ → ℕ → Resolved
 mismatch kind w r = Err (record { kind = kind; writer_node = w; reader_node = r })
 
 -- the value in its place
-abbrev pub placed : Place → ℕ → ℕ → (ℕ → Resolved Datum) → Resolved Datum
+abbrev pub placed : Destination → ℕ → ℕ → (ℕ → Resolved Datum) → Resolved Datum
 placed Straight w r value = value r
 placed (IntoMember position node) w r value = value node >>= λ e. Ok (UnionDatum position e)
 placed Nowhere w r value = mismatch NoBranch w r

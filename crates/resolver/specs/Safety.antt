@@ -6,7 +6,7 @@ use Rattle.avro_types.specs.WellFormed.{IsWellFormed, is_union}
 use Rattle.avro_types.specs.Datum.{Datum}
 use Rattle.avro_types.specs.Conforming.{Conforms}
 use Rattle.outcome.specs.declared.mismatch.MismatchKind.TheVariants.{BytesNotText}
-use Rattle.resolver_matching.specs.declared.place.Place.TheVariants.{Straight, IntoMember, Nowhere, Unmatched}
+use Rattle.resolver_matching.specs.declared.place.Destination.TheVariants.{Straight, IntoMember, Nowhere, Unmatched}
 use Rattle.resolver_matching.specs.Matching.{both_items, both_values, place}
 use Rattle.resolver_matching.specs.Partners.{routes}
 use Rattle.resolver_matching.specs.declared.pairing.Partner.{Partner}

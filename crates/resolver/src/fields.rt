@@ -1,3 +1,5 @@
+//! Which fields of two records go together, and which lack.
+
 ghost use Rattle.std.specs.Prelude.{◌≡◌, ◌<◌, ℕ, false, length, slice_get, slice_index_or, IfOk, IfSome, option_map};
 ghost use Rattle.avro_types.specs.Datum.{data_of, datum_of};
 ghost use Rattle.avro_types.specs.Node.{field_of, fields_of};

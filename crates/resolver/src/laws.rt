@@ -1,3 +1,5 @@
+//! Laws of resolution, safety and outcomes. They do nothing when they run.
+
 ghost use Rattle.std.specs.Prelude.{◌≡◌, ℕ, List};
 ghost use Rattle.avro_types.specs.Node.{Node};
 ghost use Rattle.outcome.specs.Outcome.{Outcome};

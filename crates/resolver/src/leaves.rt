@@ -1,3 +1,5 @@
+//! Data that hold no others, for a reader's node.
+
 ghost use Rattle.std.specs.Prelude.{◌≡◌, ◌<◌, length, slice_get, string_bytes};
 ghost use Rattle.avro_types.specs.Datum.{EnumDatum, IntDatum, datum_of};
 ghost use Rattle.resolver.specs.Resolution.{Resolves, bytes_for, int_for, text_for};

@@ -17,7 +17,7 @@ pub use laws::{
     answer_is_spelled, payload_has_one_outcome, resolution_is_whole, what_is_safe_can_be_read,
 };
 pub use resolver_matching::{
-    Partner, Place, Route, both_items, both_values, matches, matches_by_rule, partners,
+    Partner, Destination, Route, both_items, both_values, matches, matches_by_rule, partners,
     partners_by_rule, place_of, routes,
 };
 pub use mismatch::ResolveError;

@@ -1,3 +1,5 @@
+//! Why a datum was not resolved.
+
 ghost use Rattle.std.specs.Prelude.{◌≡◌};
 
 use outcome::{Mismatch, MismatchKind};

@@ -1,3 +1,5 @@
+//! Pairs of nodes, each once.
+
 ghost use Rattle.std.specs.Prelude.{◌≡◌, ◌<◌, ◌≤◌, ◌*◌, [], length, slice_index_or, IfOk, OnOk};
 ghost use Rattle.resolver.specs.Pairs.{Adds};
 

@@ -1,3 +1,5 @@
+//! Resolving a datum of the writer's for the reader.
+
 ghost use Rattle.std.specs.Prelude.{◌≡◌, ◌<◌, length, IfOk, IfSome, option_map};
 ghost use Rattle.avro_types.specs.Datum.{ArrayDatum, MapDatum, RecordDatum, data_of, datum_of, pairs_of};
 ghost use Rattle.resolver_matching.specs.Matching.{place};
@@ -10,7 +12,7 @@ use crate::leaves::{bytes_for, enum_for, int_for, text_for};
 use crate::mismatch::{ResolveError, mismatched};
 use crate::unions::member_of;
 use avro_types::{Datum, Nodes};
-use resolver_matching::{Place, Route, both_items, both_values, place_of, routes};
+use resolver_matching::{Destination, Route, both_items, both_values, place_of, routes};
 use outcome::MismatchKind;
 use std::alloc::Global;
 
@@ -54,14 +56,14 @@ fn resolve_placed(
         (placed (place w.now r.now wn rn) wn rn (λ node. inside w.now r.now wn node (datum_of datum))) }
 {
     match place_of(w, wn, r, rn) {
-        Place::Straight => resolve_inside(alloc, w, wn, r, rn, datum),
-        Place::IntoMember { position, node } => {
+        Destination::Straight => resolve_inside(alloc, w, wn, r, rn, datum),
+        Destination::IntoMember { position, node } => {
             let inner = resolve_inside(alloc, w, wn, r, node, datum)?;
             let inner = Box::new(alloc, inner)?;
             Ok(Datum::Union(position, inner))
         }
-        Place::Nowhere => Err(mismatched(MismatchKind::NoBranch, wn, rn)),
-        Place::Unmatched => Err(mismatched(MismatchKind::NoMatch, wn, rn)),
+        Destination::Nowhere => Err(mismatched(MismatchKind::NoBranch, wn, rn)),
+        Destination::Unmatched => Err(mismatched(MismatchKind::NoMatch, wn, rn)),
     }
 }
 

@@ -1,3 +1,5 @@
+//! Whether a reader can read all that a writer writes.
+
 ghost use Rattle.std.specs.Prelude.{◌≡◌, ◌<◌, ◌↔◌, [], ◌∷◌, length, map, slice_get, IfOk, IsTrue, OnOk};
 ghost use Rattle.avro_types.specs.Node.{fields_of};
 ghost use Rattle.resolver.specs.Pairs.{AddsAll, AreWithin};
@@ -9,7 +11,7 @@ use crate::fields::{field_lists, first_lacking};
 use crate::pairs::PairList;
 use crate::symbols::some_missing;
 use avro_types::{Field, Kind, Nodes};
-use resolver_matching::{Place, place_of, routes};
+use resolver_matching::{Destination, place_of, routes};
 use std::alloc::{AllocError, Global};
 
 /// Whether the reader's record has a field with neither a partner nor a default.
@@ -61,12 +63,12 @@ fn is_bad(alloc: Global, w: &Nodes, wn: usize, r: &Nodes, rn: usize) -> Result<b
     match w.kind(wn) {
         Kind::Union(_) => Ok(false),
         _ => match place_of(w, wn, r, rn) {
-            Place::Straight => {
+            Destination::Straight => {
                 Ok(lacks_field(alloc, w, wn, r, rn)? || lacks_symbol(w, wn, r, rn))
             }
-            Place::IntoMember { .. } => Ok(false),
-            Place::Nowhere => Ok(true),
-            Place::Unmatched => Ok(true),
+            Destination::IntoMember { .. } => Ok(false),
+            Destination::Nowhere => Ok(true),
+            Destination::Unmatched => Ok(true),
         },
     }
 }
@@ -149,10 +151,10 @@ fn next_pairs(
     match w.kind(wn) {
         Kind::Union(members) => member_pairs(alloc, members, rn),
         _ => match place_of(w, wn, r, rn) {
-            Place::Straight => part_pairs(alloc, w, wn, r, rn),
-            Place::IntoMember { node, .. } => one_pair(alloc, (wn, node)),
-            Place::Nowhere => Ok(Vec::new(alloc)),
-            Place::Unmatched => Ok(Vec::new(alloc)),
+            Destination::Straight => part_pairs(alloc, w, wn, r, rn),
+            Destination::IntoMember { node, .. } => one_pair(alloc, (wn, node)),
+            Destination::Nowhere => Ok(Vec::new(alloc)),
+            Destination::Unmatched => Ok(Vec::new(alloc)),
         },
     }
 }

@@ -1,3 +1,5 @@
+//! Symbols of enums: which a position names, and which the reader has.
+
 ghost use Rattle.std.specs.Prelude.{◌≡◌, ◌<◌, ◌≤◌, length, map, option_map, position, slice_get, string_bytes};
 ghost use Rattle.resolver.specs.Resolution.{symbol_at, symbol_for, symbol_in};
 ghost use Rattle.resolver.specs.NextPairs.{some_missing};

@@ -1,3 +1,5 @@
+//! The outcome of a payload on trees of data.
+
 ghost use Rattle.resolver.specs.Outcome.{Transcodes, WritesOutcome};
 ghost use Rattle.avro_types.specs.Datum.{datum_of};
 

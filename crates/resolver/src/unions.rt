@@ -1,3 +1,5 @@
+//! The member of a union at a position.
+
 ghost use Rattle.std.specs.Prelude.{◌≡◌, ◌<◌, length, slice_get, IfSome};
 ghost use Rattle.resolver.specs.Resolution.{member_at};
 

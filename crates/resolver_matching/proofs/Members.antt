@@ -3,8 +3,8 @@ use Rattle.std.proofs.Common.{◌≡◌, ℕ, zero, suc, ◌+◌, ◌<◌, Bool,
 use Rattle.std.specs.List.{AllByRecursion}
 use Rattle.avro_types.specs.Node.{Node, UnionNode}
 use Rattle.avro_types.specs.WellFormed.{IsMember, IsWellFormed, is_union}
-use Rattle.resolver_matching.specs.declared.place.Place.{Place}
-use Rattle.resolver_matching.specs.declared.place.Place.TheVariants.{Straight, IntoMember, Unmatched}
+use Rattle.resolver_matching.specs.declared.place.Destination.{Destination}
+use Rattle.resolver_matching.specs.declared.place.Destination.TheVariants.{Straight, IntoMember, Unmatched}
 use Rattle.resolver_matching.specs.Matching.{first_member, place_at}
 
 -- the first member that matches stands at its position
@@ -26,7 +26,7 @@ found match i (m ∷ ms) position node e = by_test (match m) refl (λ k. found m
       let f = rest e in
       record { steps = suc f.steps; at = omega (arith, f.at); member = f.member; matching = f.matching }
 
-pub never_else : (match : ℕ → Bool) (i : ℕ) (ms : List ℕ) (p : Place) → first_member match i ms ≡ p → (p ≡ Straight → ⊥)
+pub never_else : (match : ℕ → Bool) (i : ℕ) (ms : List ℕ) (p : Destination) → first_member match i ms ≡ p → (p ≡ Straight → ⊥)
 never_else match i [] p e = λ same. absurd cc
 never_else match i (m ∷ ms) p e = by_test (match m) (λ k. never_else match (suc i) ms p k) e where
   by_test : (b : Bool) → (first_member match (suc i) ms ≡ p → (p ≡ Straight → ⊥)) → cond b (IntoMember i m) (first_member match (suc i) ms) ≡ p → (p ≡ Straight → ⊥)

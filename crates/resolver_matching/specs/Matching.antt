@@ -6,8 +6,8 @@ use Rattle.avro_types.specs.Symbols.{is_used}
 use Rattle.avro_types.specs.Node.{Node, Names, NullNode, BooleanNode, IntNode, LongNode, BytesNode, TextNode, FixedNode, EnumNode, ArrayNode, MapNode, UnionNode, RecordNode}
 use Rattle.avro_types.specs.WellFormed.{IsWellFormed, is_union}
 use Rattle.resolver_matching.specs.Options.{given}
-use Rattle.resolver_matching.specs.declared.place.Place.{Place}
-use Rattle.resolver_matching.specs.declared.place.Place.TheVariants.{Straight, IntoMember, Nowhere, Unmatched}
+use Rattle.resolver_matching.specs.declared.place.Destination.{Destination}
+use Rattle.resolver_matching.specs.declared.place.Destination.TheVariants.{Straight, IntoMember, Nowhere, Unmatched}
 
 -- "the (unqualified) names match". This project's own rule: they match too where the writer's full name is one of the
 -- reader's aliases.
@@ -70,16 +70,16 @@ abbrev pub matches : List Node → List Node → ℕ → ℕ → Bool
 matches W R w r = matches_within W R (suc (length W)) w r
 
 -- "The first schema in the reader's union that matches"
-abbrev pub first_member : (ℕ → Bool) → ℕ → List ℕ → Place
+abbrev pub first_member : (ℕ → Bool) → ℕ → List ℕ → Destination
 first_member match i [] = Nowhere
 first_member match i (m ∷ ms) = if match m then IntoMember i m else first_member match (suc i) ms
 
-abbrev pub place_at : (ℕ → Bool) → Option Node → ℕ → Place
+abbrev pub place_at : (ℕ → Bool) → Option Node → ℕ → Destination
 place_at match (Some (UnionNode members)) r = first_member match 0 members
 place_at match _ r = if match r then Straight else Unmatched
 
 -- where a value of the writer's node w goes with the reader's node r
-abbrev pub place : List Node → List Node → ℕ → ℕ → Place
+abbrev pub place : List Node → List Node → ℕ → ℕ → Destination
 place W R w r = place_at (matches W R w) (slice_get R r) r
 
 -- nodes of both schemas
@@ -87,7 +87,7 @@ abbrev pub ArePair : List Node → List Node → ℕ × ℕ → Type 0
 ArePair W R p = (p.0 < length W) × (p.1 < length R)
 
 -- the node of a member is one of so many
-abbrev pub IsNodeOf : ℕ → Place → Type 0
+abbrev pub IsNodeOf : ℕ → Destination → Type 0
 IsNodeOf len (IntoMember position node) = node < len
 IsNodeOf len Straight = Unit {0}
 IsNodeOf len Nowhere = Unit {0}

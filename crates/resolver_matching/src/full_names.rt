@@ -1,3 +1,5 @@
+//! Whether the names of two types match.
+
 ghost use Rattle.std.specs.Prelude.{◌≡◌, ◌||◌};
 ghost use Rattle.std.specs.Str.{bytes_eq};
 ghost use Rattle.avro_types.specs.FullNames.{unqualified};

@@ -1,3 +1,5 @@
+//! Laws of matching and of partners. They do nothing when they run.
+
 ghost use Rattle.resolver_matching.specs.Matches.{MatchesWhereItHolds};
 ghost use Rattle.resolver_matching.specs.Matching.{MatchesByRule};
 ghost use Rattle.resolver_matching.specs.Partners.{AliasesAreTaken, EarlierAliasesWereTaken, NamesGoFirst, OthersGoByAlias, PartnersAreApart};

@@ -10,5 +10,5 @@ mod rule;
 
 pub use laws::{matches_by_rule, partners_by_rule};
 pub use pairing::{Partner, Route, partners, routes};
-pub use place::{Place, place_of};
+pub use place::{Destination, place_of};
 pub use rule::{both_items, both_values, matches};

@@ -1,3 +1,5 @@
+//! Which fields of two records are partners.
+
 ghost use Rattle.std.specs.Prelude.{◌≡◌, ◌<◌, length, map, position, string_bytes, IfOk, IfSome};
 ghost use Rattle.avro_types.specs.Node.{field_of, fields_of};
 ghost use Rattle.avro_types.specs.Symbols.{place_of};

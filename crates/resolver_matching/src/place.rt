@@ -1,3 +1,5 @@
+//! Where a value of a writer's node goes with a reader's node.
+
 ghost use Rattle.std.specs.Prelude.{◌≡◌, ◌<◌, ◌≤◌, length};
 ghost use Rattle.std.specs.List.{AllByRecursion};
 ghost use Rattle.resolver_matching.specs.Matching.{IsNodeOf, first_member, matches, place};
@@ -7,7 +9,7 @@ use avro_types::{Kind, MOST_NODES, Nodes};
 
 /// Where a value of a writer's node goes with a reader's node.
 #[derive(Clone, Copy, Debug, PartialEq, Eq)]
-pub enum Place {
+pub enum Destination {
     /// Into the reader's node itself.
     Straight,
     /// Into a member of the reader's union, at this position and of this node.
@@ -19,7 +21,7 @@ pub enum Place {
 }
 
 /// The first of a union's members that matches a writer's node.
-fn first_member(w: &Nodes, wn: usize, r: &Nodes, members: &[usize]) -> Place
+fn first_member(w: &Nodes, wn: usize, r: &Nodes, members: &[usize]) -> Destination
     requires writer { wn < length w.now }
     requires members { AllByRecursion (λ m. m < length r.now) members.now }
     requires few { length members.now ≤ MOST_NODES }
@@ -28,17 +30,17 @@ fn first_member(w: &Nodes, wn: usize, r: &Nodes, members: &[usize]) -> Place
 {
     for (position, node) in members.iter().enumerate() {
         if matches(w, wn, r, *node) {
-            return Place::IntoMember {
+            return Destination::IntoMember {
                 position: position as u32,
                 node: *node,
             };
         }
     }
-    Place::Nowhere
+    Destination::Nowhere
 }
 
 /// Where a value of a writer's node goes with a reader's node.
-pub fn place_of(w: &Nodes, wn: usize, r: &Nodes, rn: usize) -> Place
+pub fn place_of(w: &Nodes, wn: usize, r: &Nodes, rn: usize) -> Destination
     requires writer { wn < length w.now }
     requires reader { rn < length r.now }
     ensures place { result ≡ place w.now r.now wn rn }
@@ -48,9 +50,9 @@ pub fn place_of(w: &Nodes, wn: usize, r: &Nodes, rn: usize) -> Place
         Kind::Union(members) => first_member(w, wn, r, members),
         _ => {
             if matches(w, wn, r, rn) {
-                Place::Straight
+                Destination::Straight
             } else {
-                Place::Unmatched
+                Destination::Unmatched
             }
         }
     }

@@ -1,3 +1,5 @@
+//! Whether two nodes match.
+
 ghost use Rattle.std.specs.Prelude.{◌≡◌, ◌<◌, Some, false, length, slice_get, suc, IfSome};
 ghost use Rattle.avro_types.specs.Node.{node_of};
 ghost use Rattle.avro_types.specs.WellFormed.{is_union};

@@ -32,7 +32,7 @@ pub(crate) enum Asked {
     /// Whether the reader is safe with the writer.
     Safety,
     /// Whether the types match, and the place of the one in the other.
-    Place,
+    Destination,
     /// Whether the writer's fields go to the reader's at the same positions.
     Order,
 }
@@ -60,7 +60,7 @@ fn of_nodes(
         Asked::Outcome => outcome_line(alloc, w, r, &payload),
         Asked::Resolved => debug_line(alloc, resolved(alloc, w, r, &payload)),
         Asked::Safety => debug_line(alloc, readable(alloc, w, r)),
-        Asked::Place => debug_line(alloc, (matches(w, 0, r, 0), place_of(w, 0, r, 0))),
+        Asked::Destination => debug_line(alloc, (matches(w, 0, r, 0), place_of(w, 0, r, 0))),
         Asked::Order => debug_line(alloc, ordered(alloc, w, r)),
     }
 }

@@ -32,5 +32,5 @@ fn outcomes_of_pairs(rt: HostRuntime) -> Result<(), AllocError> {
 fn what_readers_make_of_data(rt: HostRuntime) -> Result<(), AllocError> {
     assert_rows(&rt, Some(Asked::Safety), SAFETY)?;
     assert_rows(&rt, Some(Asked::Resolved), RESOLVED)?;
-    assert_rows(&rt, Some(Asked::Place), PLACES)
+    assert_rows(&rt, Some(Asked::Destination), PLACES)
 }

@@ -1,3 +1,5 @@
+//! Levels of compatibility.
+
 ghost use Rattle.std.specs.Prelude.{◌≡◌, ◌≢◌, IfOk, IfErr, OnErr};
 ghost use Rattle.schema_registry.specs.Level.{is_transitive, level_name, new_reads_old, old_reads_new};
 

@@ -1,3 +1,5 @@
+//! A registry: schemas under ids, versions of subjects, levels.
+
 ghost use Rattle.std.specs.Prelude.{◌≡◌, ℕ, List, [], ◌∷◌, ◌++◌, length, map, OnOk, OnErr, IfErr, option_map};
 ghost use Rattle.schema_registry.specs.Accepting.{registry_after};
 ghost use Rattle.schema_registry.specs.Answer.{Gives};

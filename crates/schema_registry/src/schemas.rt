@@ -1,3 +1,5 @@
+//! Schemas under their ids, found by their texts.
+
 ghost use Rattle.std.specs.Prelude.{◌≡◌, ◌≤◌, ◌<◌, [], ◌∷◌, ◌++◌, length, None, option_map, IfOk, OnOk, OnErr, if◌then◌else◌, string_bytes};
 ghost use Rattle.std.specs.BTreeMap.{get_by_text};
 ghost use Rattle.std.specs.Vec.{vec_capacity, vec_len};

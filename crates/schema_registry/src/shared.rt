@@ -1,3 +1,5 @@
+//! A registry that threads share, and the receipts of its schemas.
+
 ghost use Rattle.std.specs.Prelude.{◌≡◌, ◌≢◌, ◌<◌, ◌≤◌, Some, IfErr, IfOk, IfSome, IsSome, length, string_bytes};
 ghost use Rattle.once_cell.specs.Once.{cell_name};
 ghost use Rattle.schema_registry.specs.Accepting.{compacted};

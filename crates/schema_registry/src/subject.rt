@@ -1,3 +1,5 @@
+//! The names that a subject may have.
+
 ghost use Rattle.std.specs.Prelude.{◌≡◌};
 ghost use Rattle.std.specs.List.{list_all};
 ghost use Rattle.schema_registry.specs.Subject.{is_subject, is_subject_byte};

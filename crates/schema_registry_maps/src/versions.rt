@@ -1,3 +1,5 @@
+//! The versions of a subject.
+
 ghost use Rattle.std.specs.Prelude.{◌≡◌, ◌≤◌, ◌<◌, ◌^◌, [], ◌∷◌, ◌++◌, length, None, IfOk, OnOk, OnErr};
 ghost use Rattle.schema_registry_maps.specs.declared.limits.TheConstants.{MOST_ID};
 ghost use Rattle.schema_registry_maps.specs.Maps.{number_of, numbered};

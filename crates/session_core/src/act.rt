@@ -1,3 +1,5 @@
+//! What happens to one session.
+
 /// What happens to one session.
 #[derive(Clone, Copy)]
 pub(crate) enum Act<'e> {

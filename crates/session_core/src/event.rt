@@ -1,3 +1,5 @@
+//! What happens to a world.
+
 use schema_registry::Level;
 
 /// What happens to a world of sessions.

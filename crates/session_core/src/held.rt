@@ -1,3 +1,5 @@
+//! A session beside the worker that holds it.
+
 ghost use Rattle.std.specs.Prelude.{◌≡◌};
 ghost use Rattle.session_core.specs.Acts.{Acts, reply_to};
 ghost use Rattle.session_core.specs.Event.{Slice, act_of};

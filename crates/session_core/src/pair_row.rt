@@ -1,3 +1,5 @@
+//! A store of programs in a row of cells.
+
 ghost use Rattle.std.specs.Prelude.{◌≡◌, Some, None, IfErr, IfOk, IfSome};
 ghost use Rattle.program_definition.specs.Code.{code_of};
 ghost use Rattle.session_core.specs.declared.publish_error.PublishError.TheVariants.{ProgramTooLarge};

@@ -1,3 +1,5 @@
+//! What a store of programs owes.
+
 ghost use Rattle.session_core.specs.Publishing.{IsPublished};
 
 use crate::publish_error::PublishError;

@@ -1,3 +1,5 @@
+//! Why a store has no program for a pair.
+
 use program_lowering::CompileError;
 use std::alloc::{AllocError, AllocFailed};
 use thiserror::Error;

@@ -1,3 +1,5 @@
+//! A published pair.
+
 use isa::Program;
 use std::marker::Model;
 

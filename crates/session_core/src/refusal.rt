@@ -1,3 +1,5 @@
+//! Why an event was refused.
+
 use crate::publish_error::PublishError;
 use schema_registry::Refusal;
 use session_state::SessionRefusal;

@@ -1,3 +1,5 @@
+//! What is replied to an event.
+
 use crate::refusal::EventRefusal;
 
 /// What is replied to an event.

@@ -1,3 +1,5 @@
+//! Sessions beside a registry, on one thread.
+
 ghost use Rattle.std.specs.Prelude.{◌≡◌, ◌≢◌, ℕ, IfOk, IfSome, IsSome, OnErr, option_map, slice_get, string_bytes};
 ghost use Rattle.schema_registry.specs.Accepting.{registry_after};
 ghost use Rattle.schema_registry.specs.Answer.{unless_refused};

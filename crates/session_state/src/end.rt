@@ -1,3 +1,5 @@
+//! How a session ends.
+
 use isa::Trap;
 use outcome::Outcome;
 

@@ -1,3 +1,5 @@
+//! Why a call of a session was refused.
+
 use std::alloc::{AllocError, AllocFailed};
 use thiserror::Error;
 

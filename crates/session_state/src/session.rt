@@ -1,3 +1,5 @@
+//! A program run on bytes that come in pieces, with breakpoints.
+
 ghost use Rattle.std.specs.Prelude.{◌≡◌, ◌≤◌, ◌<◌, ◌+◌, false, length, is_some, option_map, Some, IfErr};
 ghost use Rattle.outcome.specs.declared.limits.TheConstants.{MOST_PAYLOAD};
 ghost use Rattle.program_definition.specs.Code.{code_of};

@@ -1,3 +1,5 @@
+//! Taking rows of a run, and telling want of memory apart.
+
 ghost use Rattle.std.specs.Prelude.{◌≡◌, ◌≤◌, ◌<◌, ◌+◌, MatchBool, slice_get, true};
 ghost use Rattle.isa.specs.Row.{row_of};
 ghost use Rattle.session_state.specs.Rows.{slice_from};

@@ -1,3 +1,5 @@
+//! The commands that change nothing.
+
 ghost use Rattle.std.specs.Prelude.{◌≡◌, ◌≢◌, ◌+◌, ◌<◌, [], List, ℕ, Ok, Err, Some, None, true, IfErr, IfOk, MatchResult, OnOk, option_map, string_bytes};
 ghost use Rattle.schema_registry.specs.Accepting.{registry_after};
 ghost use Rattle.schema_registry.specs.Answer.{Answer, Gives, IsAnswer, IsReply, Told, where_askable, where_version};

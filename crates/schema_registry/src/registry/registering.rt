@@ -1,3 +1,5 @@
+//! Registering a schema.
+
 ghost use Rattle.std.specs.Prelude.{◌≡◌, ◌<◌, ◌≢◌, ◌↔◌, ◌≤◌, [], ◌∷◌, ◌++◌, Ok, Err, Some, None, true, false, IfErr, IfOk, IsTrue, MatchResult, OnOk, OnErr, length, option_map, string_bytes};
 ghost use Rattle.avro_schema_names.specs.declared.error.SchemaError.{SchemaError};
 ghost use Rattle.avro_types.specs.declared.limits.TheConstants.{MOST_TEXT};

@@ -2,7 +2,7 @@ use Rattle.std.proofs.Common.{rules, ◌≡◌, ◌≢◌, ◌∙◌, ◌∷◌,
 use Rattle.std.specs.Prelude.{vec_len}
 use Rattle.outcome.specs.declared.limits.TheConstants.{MOST_OUTPUT}
 use Rattle.isa.specs.State.{Store, add, is_done, total}
-use Rattle.machine_store.specs.declared.buffers.Place.TheVariants.{Slot}
+use Rattle.machine_store.specs.declared.buffers.TargetBuffer.TheVariants.{Slot}
 use Rattle.machine_store.specs.declared.store.Frame.{Frame}
 use Rattle.machine_store.specs.Buffers.{with_added, with_fewer}
 use Rattle.machine_store.specs.Frames.{newest_place}

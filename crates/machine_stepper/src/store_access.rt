@@ -1,3 +1,5 @@
+//! What a machine asks of its store.
+
 #![tactic(auto, using(crate::proofs::Appending::goes_on, crate::proofs::Appending::no_more, crate::proofs::Appending::stays_open, crate::proofs::Appending::same_arena))]
 
 ghost use Rattle.std.specs.Prelude.{◌≡◌, ◌≢◌, ◌≤◌, ◌<◌, ◌+◌, [], length, is_some, IfOk, Some, true};

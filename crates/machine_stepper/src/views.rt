@@ -1,3 +1,5 @@
+//! What a debugger reads off a machine.
+
 ghost use Rattle.std.specs.Prelude.{◌≡◌, ◌++◌, length, reverse, slice_get, option_map, is_some, false, true, None, Some, OnErr, OnOk};
 ghost use Rattle.machine_store.specs.Segments.{AreSegments, bytes_of};
 ghost use Rattle.machine_store.specs.Viewing.{buffer_of, place_and_length, segments_of_buffer, view_of};
