@@ -1,3 +1,5 @@
+//! Programs; used by `debugger`, `command_parser`, `commands`.
+//!
 //! The listings of programs: their text.
 #![tactic(auto)]
 

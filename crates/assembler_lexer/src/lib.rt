@@ -1,3 +1,5 @@
+//! Programs; used by `assembler`, `command_parser`.
+//!
 //! The words of a listing's lines: what stands between separators, numbers, and the words that name an operation or a
 //! kind.
 #![tactic(auto)]

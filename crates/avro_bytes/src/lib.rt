@@ -1,3 +1,5 @@
+//! Bytes and data; used by `outcome`, `avro_datum`, `program_compiler` and 6 others.
+//!
 //! The parts of Avro's binary encoding, each read, skipped and written on its own (Avro 1.11 Specification,
 //! "Binary Encoding").
 #![tactic(auto)]

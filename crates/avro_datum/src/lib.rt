@@ -1,3 +1,5 @@
+//! Bytes and data; used by `resolver`, `program_lowering`, `program_compiler`.
+//!
 //! Data by a schema: reading, skipping and writing them (Avro 1.11 Specification, "Binary Encoding").
 #![tactic(auto)]
 

@@ -1,3 +1,5 @@
+//! Programs; used by `commands`.
+//!
 //! The images of programs: their bytes in a file.
 #![tactic(auto)]
 

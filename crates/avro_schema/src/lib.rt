@@ -1,3 +1,5 @@
+//! Schemas; used by `schema_registry`, `session_core`, `commands`, `gateway_transcoders`.
+//!
 //! Avro schemas, and data by their kinds (Avro 1.11 Specification, "Schema Declaration").
 #![tactic(auto)]
 

@@ -1,3 +1,5 @@
+//! Schemas; used by `avro_schema`.
+//!
 //! The data of fields' defaults (Avro 1.11 Specification, "Complex Types", the table of default values by type).
 #![tactic(auto)]
 

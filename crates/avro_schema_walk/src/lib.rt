@@ -1,3 +1,5 @@
+//! Schemas; used by `avro_schema`.
+//!
 //! The walk over the JSON of a schema, and what its values declare (Avro 1.11 Specification, "Schema Declaration").
 #![tactic(auto)]
 

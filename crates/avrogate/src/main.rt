@@ -1,3 +1,5 @@
+//! Edge; the program.
+//!
 //! Avro transcoding, from standard input to standard output or over HTTP.
 #![tactic(auto)]
 

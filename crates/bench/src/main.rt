@@ -1,3 +1,5 @@
+//! Tests and bench; a program.
+//!
 //! Measures calls in process, as the scripts in `bench/` ask for it by its words. It ends with status 1 where something
 //! else came.
 //!

@@ -1,3 +1,5 @@
+//! Edge: lines and commands; used by `command_sessions`, `commands`, `gateway_server`.
+//!
 //! What commands read and write: a whole input, its lines, payloads in hexadecimal, the answers to them, how a run
 //! ended, and a whole output.
 #![tactic(auto)]

@@ -1,6 +1,9 @@
+//! Edge: lines and commands; used by `commands`, `avrogate`.
+//!
 //! The words of the program's command line, and what they ask for.
 #![tactic(auto)]
 
+mod help;
 mod task;
 mod verb;
 
@@ -15,6 +18,9 @@ const MOST_STEPS: i64 = 1_000_000_000;
 /// How many rows it takes at most where the words do not say.
 const STEPS: &str = "1000000";
 
+/// The version of the program.
+const VERSION: &str = "0.1.0";
+
 /// The subcommand that prints a program, with its flag.
 fn compile<'a>(alloc: Global) -> Result<Command<'a>, AllocError> {
     let image = Arg::new(alloc, "image")
@@ -23,6 +29,7 @@ fn compile<'a>(alloc: Global) -> Result<Command<'a>, AllocError> {
         .help("Prints the image in one line of hexadecimal, in place of the listing");
     Command::new(alloc, "compile")
         .about("Prints the program that transcodes from a writer's schema to a reader's")
+        .after_help(help::COMPILE)
         .arg(image)
 }
 
@@ -37,6 +44,7 @@ fn run<'a>(alloc: Global) -> Result<Command<'a>, AllocError> {
         .help("How many rows the run on a payload takes at most");
     Command::new(alloc, "run")
         .about("Runs the program of a listing on payloads, whose pieces are parted by bars")
+        .after_help(help::RUN)
         .arg(steps)
 }
 
@@ -78,10 +86,16 @@ fn serve<'a>(alloc: Global) -> Result<Command<'a>, AllocError> {
     let timeout = "How many seconds a request may take to come, and its answer to go";
     Command::new(alloc, "serve")
         .about("Serves the schema registry's API over HTTP, and rewrites messages")
+        .after_help(help::SERVE)
         .arg(numbered(alloc, "port", 0, MOST_PORT, "8081", port))?
         .arg(numbered(alloc, "clients", 1, MOST_CLIENTS, "4", clients))?
         .arg(numbered(alloc, "each", 0, MOST_EACH, "0", each))?
         .arg(numbered(alloc, "request-timeout", 1, MOST_TIMEOUT, "10", timeout))
+}
+
+/// A subcommand without flags, what it does and what lines it reads and writes.
+fn of_lines<'a>(alloc: Global, name: &'a str, about: &'a str, lines: &'a str) -> Command<'a> {
+    Command::new(alloc, name).about(about).after_help(lines)
 }
 
 /// The command line: its subcommands, their flags and values, and their help.
@@ -91,12 +105,13 @@ pub fn cli<'a>(alloc: Global) -> Result<Command<'a>, AllocError> {
     let replay = "Replies to events of a registry and of sessions, one after another";
     Command::new(alloc, "avrogate")
         .about("Transcodes Avro data, and serves the schemas that it goes by")
+        .version(VERSION)
         .subcommand_required(true)
-        .subcommand(Command::new(alloc, "transcode").about(transcode))?
+        .subcommand(of_lines(alloc, "transcode", transcode, help::TRANSCODE))?
         .subcommand(compile(alloc)?)?
         .subcommand(run(alloc)?)?
-        .subcommand(Command::new(alloc, "debug").about(debug))?
-        .subcommand(Command::new(alloc, "replay").about(replay))?
+        .subcommand(of_lines(alloc, "debug", debug, help::DEBUG))?
+        .subcommand(of_lines(alloc, "replay", replay, help::REPLAY))?
         .subcommand(serve(alloc)?)
 }
 

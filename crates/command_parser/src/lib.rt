@@ -1,3 +1,5 @@
+//! Edge: lines and commands; used by `command_sessions`.
+//!
 //! The lines that the commands for sessions read: the events of `replay`, and what `debug` is asked.
 #![tactic(auto)]
 

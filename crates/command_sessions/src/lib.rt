@@ -1,3 +1,5 @@
+//! Edge: lines and commands; used by `commands`.
+//!
 //! The commands for sessions: a debugger of one, and a world of them that lines change.
 #![tactic(auto)]
 

@@ -1,3 +1,5 @@
+//! Edge: lines and commands; used by `avrogate`.
+//!
 //! What the program does with its input: each command reads it whole, makes its whole output, and then writes it.
 #![tactic(auto)]
 

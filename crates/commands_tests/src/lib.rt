@@ -1,4 +1,6 @@
-//! Tests of `program_compiler`, `machine`, `session_commands` and `commands` for what no row of `worked_rows` can show,
+//! Tests and bench; run by `rt ci`.
+//!
+//! Tests of `program_compiler`, `machine`, `command_sessions` and `commands` for what no row of `worked_rows` can show,
 //! in one crate over them, so that each library is proved once.
 #![tactic(auto)]
 

@@ -1,3 +1,5 @@
+//! Sessions; used by `command_sessions`.
+//!
 //! What a debugger shows: the state of a run, and the listing of its program, as text.
 #![tactic(auto)]
 

@@ -1,3 +1,5 @@
+//! Edge: HTTP; used by `gateway_transcoders`, `gateway_server`.
+//!
 //! One request, one answer, over any reader and any writer.
 #![tactic(auto)]
 

@@ -1,3 +1,5 @@
+//! Edge: HTTP; used by `gateway_requests`, `gateway`.
+//!
 //! The answers of the HTTP interface: faults with their codes, statuses and texts, the JSON of replies, and an answer's
 //! bytes.
 #![tactic(auto)]

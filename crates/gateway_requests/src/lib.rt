@@ -1,3 +1,5 @@
+//! Edge: HTTP; used by `gateway`, `gateway_server`.
+//!
 //! What a request asks of the service, read off its head and its body, or the first of its faults.
 #![tactic(auto)]
 

@@ -1,3 +1,5 @@
+//! Edge: HTTP; used by `avrogate`.
+//!
 //! The service on a listener: a thread a client, which accepts connections and answers one request on each.
 #![tactic(auto)]
 

@@ -1,3 +1,5 @@
+//! Edge: HTTP; used by `gateway_server`.
+//!
 //! How messages are transcoded for requests: by their pair's program, which all threads share.
 #![tactic(auto)]
 

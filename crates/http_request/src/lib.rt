@@ -1,3 +1,5 @@
+//! Edge: HTTP; used by `gateway_requests`, `gateway`.
+//!
 //! Reading an HTTP/1.1 request from any reader: its head, how long its body is, and its body.
 #![tactic(auto)]
 

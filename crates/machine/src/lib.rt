@@ -1,3 +1,5 @@
+//! Machine; used by `session_state`, `command_io`, `commands` and 2 others.
+//!
 //! Programs run on bytes, and payloads transcoded by the program of their pair of schemas.
 #![tactic(auto)]
 

@@ -1,3 +1,5 @@
+//! Machine; used by `machine_store`.
+//!
 //! Lists of segments of an arena, which are joined without being copied.
 #![tactic(auto)]
 

@@ -1,3 +1,5 @@
+//! Machine; used by `machine_store`, `machine_stepper`.
+//!
 //! Parts of what rows and slices do, which know no machine.
 #![tactic(auto)]
 

@@ -1,3 +1,5 @@
+//! Machine; used by `machine`, `debugger`, `command_io`.
+//!
 //! The machine: rows of the instruction table, taken one by one or in slices.
 #![tactic(auto)]
 

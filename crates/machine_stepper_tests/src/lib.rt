@@ -1,5 +1,7 @@
-//! Tests of `isa`, `assembler`, `avro_loader`, `stepper` and `debugger`, in a crate of their own, so that the libraries
-//! are proved once.
+//! Tests and bench; run by `rt ci`.
+//!
+//! Tests of `isa`, `assembler`, `avro_loader`, `machine_stepper` and `debugger`, in a crate of their own, so that the
+//! libraries are proved once.
 #![tactic(auto)]
 
 #[cfg(test)]

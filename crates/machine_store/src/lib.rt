@@ -1,3 +1,5 @@
+//! Machine; used by `machine_stepper`.
+//!
 //! What a run holds: open frames, and buffers whose bytes lie in one arena.
 #![tactic(auto)]
 

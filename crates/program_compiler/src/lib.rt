@@ -1,3 +1,5 @@
+//! Programs; used by `machine`, `session_core`, `command_sessions` and 2 others.
+//!
 //! The compiler: from a pair of schemas to their program.
 #![tactic(auto)]
 

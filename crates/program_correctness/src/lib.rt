@@ -1,3 +1,5 @@
+//! Programs; used by `machine`, `session_state`, `commands`.
+//!
 //! The simulation: the program of a pair of schemas, run alone, ends with the outcome of its payload.
 #![tactic(auto)]
 

@@ -1,3 +1,5 @@
+//! Programs; used by `program_correctness`, `program_lowering`, `program_compiler`.
+//!
 //! The program of a pair of schemas.
 #![tactic(auto)]
 

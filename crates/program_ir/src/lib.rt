@@ -1,3 +1,5 @@
+//! Programs; used by `program_lowering`, `program_compiler`.
+//!
 //! The lines of a pair's code, and what they name: routines, constants and misses, each once and with its number, and
 //! what the symbols of a pair of enums become.
 #![tactic(auto)]

@@ -1,3 +1,5 @@
+//! Programs; used by `program_compiler`, `session_core`.
+//!
 //! The lines of a pair of schemas: the code of each section that is called for, before its numbers and addresses are
 //! known.
 #![tactic(auto)]

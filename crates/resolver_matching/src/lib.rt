@@ -1,3 +1,5 @@
+//! Resolution; used by `resolver`, `program_ir`, `program_lowering`.
+//!
 //! Which nodes of a writer's and a reader's schema match, and which fields of their records are partners (Avro 1.11
 //! Specification, "Schema Resolution", "Aliases").
 #![tactic(auto)]

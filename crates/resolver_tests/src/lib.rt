@@ -1,3 +1,5 @@
+//! Tests and bench; run by `rt ci`.
+//!
 //! Tests of `avro_bytes`, `avro_schema`, `avro_datum` and `resolver`, in a crate of their own, so that the libraries
 //! are proved once.
 #![tactic(auto)]

@@ -1,3 +1,5 @@
+//! Registry; used by `session_core`, `command_parser`, `command_sessions` and 4 others.
+//!
 //! Schemas under ids, and the versions of subjects (Confluent Schema Registry API, "Subjects", "Compatibility").
 #![tactic(auto)]
 

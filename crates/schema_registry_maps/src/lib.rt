@@ -1,3 +1,5 @@
+//! Registry; used by `schema_registry`.
+//!
 //! Texts under ids, the versions of subjects, what is set for a subject, and which versions a new one is compared with.
 #![tactic(auto)]
 

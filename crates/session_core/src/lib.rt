@@ -1,3 +1,5 @@
+//! Sessions; used by `command_sessions`.
+//!
 //! Sessions beside a registry, and what happens to them, one event after another.
 #![tactic(auto)]
 

@@ -1,3 +1,5 @@
+//! Tests and bench; run by `rt ci`.
+//!
 //! Tests of `session_core` and of `schema_registry` for what no row of `worked_rows` can show, in one crate over both,
 //! so that each library is proved once.
 #![tactic(auto)]

@@ -1,3 +1,5 @@
+//! Sessions; used by `session_core`, `command_sessions`.
+//!
 //! Sessions: a program run on bytes that come in pieces, with breakpoints, until it ends or memory does.
 #![tactic(auto)]
 

@@ -75,8 +75,8 @@ impl<'p> Session<'p> {
         }
     }
 
-    /// Appends bytes to the payload. `TooLarge` where all bytes would pass `MOST_PAYLOAD`, and then `Ended` where no more were to come. A
-    /// session that has ended takes them too. No bytes take no memory.
+    /// Appends bytes to the payload. `TooLarge` where all bytes would pass `MOST_PAYLOAD`, and then `Ended` where no more were
+    /// to come. A session that has ended takes them too. No bytes take no memory.
     pub fn piece(&mut self, bytes: &[u8]) -> Result<(), SessionRefusal>
         ensures taken { Maybe (piece_refusal bytes.now self.old) (with_piece bytes.now self.old) result
             self.old self.new }

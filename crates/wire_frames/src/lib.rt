@@ -1,3 +1,5 @@
+//! Edge: HTTP; used by `gateway_answers`, `gateway`.
+//!
 //! Messages in the wire format of the registry: a magic byte, the id of the schema that wrote the payload, the payload.
 #![tactic(auto)]
 

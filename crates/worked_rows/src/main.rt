@@ -1,3 +1,5 @@
+//! Tests and bench; a program.
+//!
 //! Obeys commands of `avrogate`, one after another, each on its own part of standard input, and prints what they write.
 //!
 //! A line of `# ` and a command as it is typed begins a part, and the lines up to the next such line are its

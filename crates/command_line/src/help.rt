@@ -1,0 +1,60 @@
+//! What the subcommands read and write, as their help shows it.
+
+/// The lines of `transcode`.
+pub(crate) const TRANSCODE: &str =
+    "Reads the writer's schema in one line, the reader's in the next, and then payloads,
+a line each, in lower-case hexadecimal. Writes a line for each payload: `done HEX`,
+`mismatch KIND W R`, `malformed KIND at N`, `output too large`, `bad hex` or `too large`.
+
+Example:
+  printf '%s\\n' '\"int\"' '\"long\"' 36 | avrogate transcode
+  done 36";
+
+/// The lines of `compile`.
+pub(crate) const COMPILE: &str =
+    "Reads the writer's schema in one line and the reader's in the next. Writes the listing
+of the program that transcodes between them, or with --image its image.
+
+Example:
+  printf '%s\\n' '\"int\"' '\"long\"' | avrogate compile
+  avro program 1
+  0 INT
+  1 HALT";
+
+/// The lines of `run`.
+pub(crate) const RUN: &str =
+    "Reads a listing, the line `end`, and then payloads, a line each, in lower-case hexadecimal,
+whose pieces bars part. Writes a line for each payload: how the program ended, and ` count N`.
+
+Example:
+  printf '%s\\n' 'avro program 1' '0 INT' '1 HALT' end 36 | avrogate run
+  done 36 count 2";
+
+/// The lines of `debug`.
+pub(crate) const DEBUG: &str =
+    "Reads two schemas and a payload, a line each, and then commands, a line each: `break A`,
+`clear A`, `step N`, `go N`, `show`, `list`. Writes what `show` and `list` ask for.
+
+Example:
+  printf '%s\\n' '\"int\"' '\"int\"' 36 list | avrogate debug
+  avro program 1
+  0 INT
+  1 HALT";
+
+/// The lines of `replay`.
+pub(crate) const REPLAY: &str =
+    "Reads events, a line each: `register S TEXT`, `publish W R`, `begin W R`, `piece S HEX`,
+`slice S K N`, `result S` and others. Writes a reply to each.
+
+Example:
+  printf '%s\\n' 'register s \"int\"' | avrogate replay
+  id 1";
+
+/// What `serve` answers and prints.
+pub(crate) const SERVE: &str =
+    "Answers HTTP on 127.0.0.1: the routes of the schema registry, and POST /transcode/ID.
+Prints `listening P`, and `served N` at the end.
+
+Example:
+  avrogate serve --port 8081 &
+  curl localhost:8081/subjects";
