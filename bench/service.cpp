@@ -67,17 +67,24 @@ struct Payload {
     string_view text();
 };
 
+// how many bytes of the table of well-formed UTF-8 begin here, or 0
+size_t utf8_length(const unsigned char* at, const unsigned char* end) {
+    auto between = [&](int i, unsigned low, unsigned high) { return at + i < end && at[i] >= low && at[i] <= high; };
+    if (*at < 0x80) return 1;
+    if (*at >= 0xc2 && *at <= 0xdf) return between(1, 0x80, 0xbf) ? 2 : 0;
+    if (*at >= 0xe0 && *at <= 0xef) return between(1, *at == 0xe0 ? 0xa0 : 0x80, *at == 0xed ? 0x9f : 0xbf) && between(2, 0x80, 0xbf) ? 3 : 0;
+    if (*at < 0xf0 || *at > 0xf4) return 0;
+    return between(1, *at == 0xf0 ? 0x90 : 0x80, *at == 0xf4 ? 0x8f : 0xbf) && between(2, 0x80, 0xbf) && between(3, 0x80, 0xbf) ? 4 : 0;
+}
+
 bool is_utf8(string_view text) {
     auto at = reinterpret_cast<const unsigned char*>(text.data()), end = at + text.size();
-    auto follows = [&](int i) { return at + i < end && (at[i] & 0xc0) == 0x80; };
     while (at < end) {
         uint64_t eight;
-        if (end - at >= 8 && (memcpy(&eight, at, 8), (eight & 0x8080808080808080) == 0)) at += 8;
-        else if (*at < 0x80) at += 1;
-        else if (*at >= 0xc2 && *at < 0xe0 && follows(1)) at += 2;
-        else if (*at >= 0xe0 && *at < 0xf0 && follows(1) && follows(2) && (*at != 0xe0 || at[1] >= 0xa0) && (*at != 0xed || at[1] < 0xa0)) at += 3;
-        else if (*at >= 0xf0 && *at < 0xf5 && follows(1) && follows(2) && follows(3) && (*at != 0xf0 || at[1] >= 0x90) && (*at != 0xf4 || at[1] < 0x90)) at += 4;
-        else return false;
+        bool is_ascii = end - at >= 8 && (memcpy(&eight, at, 8), (eight & 0x8080808080808080) == 0);
+        size_t length = is_ascii ? 8 : utf8_length(at, end);
+        if (length == 0) return false;
+        at += length;
     }
     return true;
 }

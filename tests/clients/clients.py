@@ -65,12 +65,10 @@ def left_out(name, want, call):
         print("FAILED not in the profile: %s: %.300r, wanted %.300r" % (name, got, want))
 
 
-def field(name, kind, *default):
-    return dict(zip(("name", "type", "default"), (name, kind) + default))
-
-
 def record(name, *fields, **more):
-    return {"type": "record", "name": name, "fields": list(fields), **more}
+    """A record of fields, each a name, a type and maybe a default, or as JSON has it."""
+    fields = [field if isinstance(field, dict) else dict(zip(("name", "type", "default"), field)) for field in fields]
+    return {"type": "record", "name": name, "fields": fields, **more}
 
 
 def enum(name, *symbols, **more):
@@ -98,10 +96,10 @@ def registered(found):
     return found.schema_id, found.schema.schema_str, found.subject, found.version
 
 
-FIRST = record("T", field("a", "long"), field("b", "string"))
-WORSE = record("T", field("a", "long"), field("b", "string"), field("c", "int"))
-BETTER = record("T", field("a", "long"), field("b", "string"), field("c", "int", 0))
-OTHER = record("T", field("a", "string"))
+FIRST = record("T", ("a", "long"), ("b", "string"))
+WORSE = record("T", ("a", "long"), ("b", "string"), ("c", "int"))
+BETTER = record("T", ("a", "long"), ("b", "string"), ("c", "int", 0))
+OTHER = record("T", ("a", "string"))
 
 
 def new_client():
@@ -136,17 +134,20 @@ def new_client():
     check("get_subjects", ["py.new-key", s], lambda: [name for name in client().get_subjects() if name.startswith("py.new")])
     check("test_compatibility", [True, True, False], lambda: [client().test_compatibility(s, each) for each in (better, worse, other)])
     check("test_compatibility with a version", [True, False], lambda: [client().test_compatibility(s, each, 1) for each in (better, worse)])
-    check("test_compatibility with no version", (404, 40402, "version not found"), lambda: told_by_post("compatibility/subjects/%s/versions/9" % s, FIRST))
+    check("test_compatibility with no version", (404, 40402, "version not found"),
+          lambda: told_by_post("compatibility/subjects/%s/versions/9" % s, FIRST))
     check("get_compatibility", "BACKWARD", lambda: client().get_compatibility())
     check("get_compatibility of a subject without a level", "BACKWARD", lambda: client().get_compatibility(s))
     for level in ("NONE", "BACKWARD", "BACKWARD_TRANSITIVE", "FORWARD", "FORWARD_TRANSITIVE", "FULL", "FULL_TRANSITIVE"):
         check("set_compatibility " + level, ({"compatibility": level}, level),
               lambda: (client().set_compatibility(s, level), client().get_compatibility(s)))
     check("set_compatibility of all subjects", ({"compatibility": "FULL"}, "FULL", {"compatibility": "BACKWARD"}),
-          lambda: (client().set_compatibility(level="FULL"), client().get_compatibility("py.none"), client().set_compatibility(level="BACKWARD")))
+          lambda: (client().set_compatibility(level="FULL"), client().get_compatibility("py.none"),
+                   client().set_compatibility(level="BACKWARD")))
     check("set_compatibility to no level", (422, 42203, "invalid level"), lambda: client().set_compatibility(s, "SOMETIMES"))
     check("set_compatibility NONE, then what was incompatible", ((409, 409, "incompatible schema"), "NONE", one + 2),
-          lambda: (told(lambda: client().register_schema(s, other)), client().set_compatibility(s, "NONE")["compatibility"], client().register_schema(s, other)))
+          lambda: (told(lambda: client().register_schema(s, other)), client().set_compatibility(s, "NONE")["compatibility"],
+                   client().register_schema(s, other)))
 
     out = (405, 405, "method not allowed")
     left_out("delete_subject", out, lambda: client().delete_subject(s))
@@ -156,8 +157,10 @@ def new_client():
     left_out("schemas of type JSON", body, lambda: client().register_schema(s, schema({"type": "object"}, "JSON")))
     left_out("schemas of type PROTOBUF", body, lambda: client().register_schema(s, Schema('syntax = "proto3";', "PROTOBUF")))
     for kind in ("float", "double", {"type": "error", "name": "E", "fields": []}):
-        left_out("type " + (kind if isinstance(kind, str) else "error"), (422, 42201, "invalid schema: OutOfProfile"), lambda: client().register_schema("py.out", schema(kind)))
-    left_out("a subject outside letters, digits, '.', '_', '-' (the client sends %3A)", (422, 42261, "invalid subject"), lambda: client().register_schema("py:new", first))
+        left_out("type " + (kind if isinstance(kind, str) else "error"), (422, 42201, "invalid schema: OutOfProfile"),
+                 lambda: client().register_schema("py.out", schema(kind)))
+    left_out("a subject outside letters, digits, '.', '_', '-' (the client sends %3A)", (422, 42261, "invalid subject"),
+             lambda: client().register_schema("py:new", first))
 
 
 def old_client():
@@ -167,7 +170,8 @@ def old_client():
     s, first, worse, better = "py.old-value", *(loads(json.dumps(each)) for each in (FIRST, WORSE, BETTER))
     one = client().register(s, first)
     print("ok register")
-    check("register, incompatible", "Incompatible Avro schema:409 message:{'error_code': 409, 'message': 'incompatible schema'}", lambda: client().register(s, worse))
+    check("register, incompatible", "Incompatible Avro schema:409 message:{'error_code': 409, 'message': 'incompatible schema'}",
+          lambda: client().register(s, worse))
     two = client().register(s, better)
     check("check_registration", [one, two], lambda: [client().check_registration(s, each) for each in (first, better)])
     check("check_registration of none", "Schema or subject not found:404", lambda: client().check_registration(s, worse))
@@ -177,7 +181,8 @@ def old_client():
     check("get_latest_schema, no subject", (None, None, None), lambda: client().get_latest_schema("py.none"))
     check("get_by_version", (one, first, 1), lambda: client().get_by_version(s, 1))
     check("get_version of a schema", [1, 2, None], lambda: [client().get_version(s, each) for each in (first, better, worse)])
-    check("test_compatibility of the old client", [True, False], lambda: [client().test_compatibility(s, each, 1) for each in (better, worse)])
+    check("test_compatibility of the old client", [True, False],
+          lambda: [client().test_compatibility(s, each, 1) for each in (better, worse)])
     check("update_compatibility", ["FULL", "FULL"], lambda: [client().update_compatibility("FULL", s), client().get_compatibility(s)])
     check("update_compatibility of all subjects", ["FORWARD", "FORWARD", "BACKWARD"],
           lambda: [client().update_compatibility("FORWARD"), client().get_compatibility(), client().update_compatibility("BACKWARD")])
@@ -207,7 +212,8 @@ def by_requests():
     check("POST /subjects/{s} by requests", found, lambda: told_by_post("subjects/" + s, FIRST))
     check("GET /subjects by requests", True, lambda: s in asked("GET", "subjects"))
     check("GET /subjects/{s}/versions by requests", [1], lambda: asked("GET", "subjects/%s/versions" % s))
-    check("GET /subjects/{s}/versions/{v} by requests", [found, found], lambda: [asked("GET", "subjects/%s/versions/%s" % (s, v)) for v in (1, "latest")])
+    check("GET /subjects/{s}/versions/{v} by requests", [found, found],
+          lambda: [asked("GET", "subjects/%s/versions/%s" % (s, v)) for v in (1, "latest")])
     check("GET /schemas/ids/{id} by requests", {"schema": compact(FIRST)}, lambda: asked("GET", "schemas/ids/%d" % one))
     check("POST /compatibility by requests", [{"is_compatible": False}, {"is_compatible": True}],
           lambda: [told_by_post("compatibility/subjects/%s/versions/%s" % (s, v), each) for v, each in (("latest", WORSE), (1, BETTER))])
@@ -220,7 +226,8 @@ def by_requests():
     message, rewritten = (b"\0" + id.to_bytes(4, "big") + payload for id, payload in ((one, b"\x36\x06foo"), (two, b"\x36\x06foo\0")))
     check("POST /transcode/{id} by requests", rewritten, lambda: asked("POST", "transcode/%d" % two, message))
     check("a message that is cut", (422, 42250, "malformed Truncated at 4"), lambda: asked("POST", "transcode/%d" % two, message[:-1]))
-    check("a message with a byte too many", (422, 42250, "malformed Trailing at 5"), lambda: asked("POST", "transcode/%d" % two, message + b"\0"))
+    check("a message with a byte too many", (422, 42250, "malformed Trailing at 5"),
+          lambda: asked("POST", "transcode/%d" % two, message + b"\0"))
     check("a message that has no place in the reader", (422, 42251, "mismatch NoDefault 0 3"),
           lambda: asked("POST", "transcode/%d" % told_by_post("subjects/py.worse/versions", WORSE)["id"], message))
     check("a message without its envelope", (422, 42253, "bad envelope: BadMagic"), lambda: asked("POST", "transcode/%d" % two, b"\x36\x06foo"))
@@ -231,8 +238,9 @@ def by_requests():
     check("a body without a schema", (422, 42201, "invalid schema: Body"), lambda: asked("POST", "subjects/%s/versions" % s, {"schemas": 1}))
 
     none, method = (404, 404, "no such route"), (405, 405, "method not allowed")
-    for path in ("", "schemas", "schemas/types", "schemas/ids/%d/schema" % one, "schemas/ids/%d/subjects" % one, "schemas/ids/%d/versions" % one,
-                 "subjects/%s/versions/1/schema" % s, "subjects/%s/versions/1/referencedby" % s, "mode", "mode/" + s, "contexts", "exporters", "v1/metadata/id"):
+    for path in ("", "schemas", "schemas/types", *("schemas/ids/%d/%s" % (one, more) for more in ("schema", "subjects", "versions")),
+                 *("subjects/%s/versions/1/%s" % (s, more) for more in ("schema", "referencedby")),
+                 "mode", "mode/" + s, "contexts", "exporters", "v1/metadata/id"):
         left_out("GET /" + path.replace(s, "{s}"), none, lambda: asked("GET", path))
     left_out("PUT /mode", none, lambda: asked("PUT", "mode", {"mode": "READONLY"}))
     left_out("POST /compatibility/subjects/{s}/versions", none, lambda: told_by_post("compatibility/subjects/%s/versions" % s, FIRST))
@@ -241,10 +249,12 @@ def by_requests():
     left_out("bodies in chunks", (400, 400, "bad request"), lambda: chunked("subjects/%s/versions" % s))
     for query in ("deleted=true", "subjectPrefix=x", "deletedOnly=true"):
         left_out("GET /subjects?%s, which is dropped" % query, "answered as without", lambda: same("GET", "subjects", query))
-    left_out("POST /subjects/{s}/versions?normalize=true, which is dropped", "answered as without", lambda: same("POST", "subjects/%s/versions" % s, "normalize=true"))
+    left_out("POST /subjects/{s}/versions?normalize=true, which is dropped", "answered as without",
+             lambda: same("POST", "subjects/%s/versions" % s, "normalize=true"))
     left_out("POST /compatibility?verbose=true, which is dropped", "answered as without",
              lambda: same("POST", "compatibility/subjects/%s/versions/latest" % s, "verbose=true"))
-    left_out("GET /config/{s}?defaultToGlobal=true, which is dropped", "answered as without", lambda: same("GET", "config/py.none", "defaultToGlobal=true"))
+    left_out("GET /config/{s}?defaultToGlobal=true, which is dropped", "answered as without",
+             lambda: same("GET", "config/py.none", "defaultToGlobal=true"))
 
 
 def many(path):
@@ -263,46 +273,74 @@ def same(method, path, query):
     return "answered as without" if one == two else two
 
 
-POINT = record("Point", field("x", "int"), field("y", "int"))
-POINT_L = record("Point", field("y", "long"), field("label", "string", "none"), field("x", "long"))
-LIST = record("LongList", field("value", "long"), field("next", ["null", "LongList"]))
+POINT = record("Point", ("x", "int"), ("y", "int"))
+LABELLED = record("Point", ("y", "long"), ("label", "string", "none"), ("x", "long"))
+LONG = "größer 中文 😀 " * 20000
+
+
+def point(x, y):
+    return {"x": x, "y": y}
+
+
+def labelled(x, y):
+    return {"x": x, "y": y, "label": "none"}
+
+
+def linked(*values, **more):
+    """A list of records of these values."""
+    return {"value": values[0], "next": linked(*values[1:], **more) if values[1:] else None, **more}
+
 
 # name, the writer's schema, the reader's, what is written, what is read; and whether Apache Avro for Python, given the
 # reader's schema, reads the writer's message so too (it has no aliases, no defaults of enums, no promoted items)
 PAIRS = [
-    ("fields dropped, added and reordered", record("T", field("a", "long"), field("b", "string"), field("c", "boolean")),
-     record("T", field("b", "string"), field("d", "int", 7), field("a", "long")), {"a": 27, "b": "foo", "c": True}, {"a": 27, "b": "foo", "d": 7}, True),
-    ("int to long, string to bytes, bytes to string", record("P", field("i", "int"), field("s", "string"), field("b", "bytes")),
-     record("P", field("i", "long"), field("s", "bytes"), field("b", "string")), {"i": -2**31, "s": "größer", "b": "naïve".encode()},
-     {"i": -2**31, "s": "größer".encode(), "b": "naïve"}, False),
-    ("unions", record("U", field("a", ["null", "string"]), field("b", ["null", "string"]), field("c", "int"), field("d", ["int", "string"])),
-     record("U", field("a", ["string", "null"]), field("b", ["null", "string"]), field("c", ["null", "long", "string"]), field("d", ["string", "long"])),
+    ("fields dropped, added and reordered",
+     record("T", ("a", "long"), ("b", "string"), ("c", "boolean")), record("T", ("b", "string"), ("d", "int", 7), ("a", "long")),
+     {"a": 27, "b": "foo", "c": True}, {"a": 27, "b": "foo", "d": 7}, True),
+    ("int to long, string to bytes, bytes to string",
+     record("P", ("i", "int"), ("s", "string"), ("b", "bytes")), record("P", ("i", "long"), ("s", "bytes"), ("b", "string")),
+     {"i": -2**31, "s": "größer", "b": "naïve".encode()}, {"i": -2**31, "s": "größer".encode(), "b": "naïve"}, False),
+    ("unions",
+     record("U", ("a", ["null", "string"]), ("b", ["null", "string"]), ("c", "int"), ("d", ["int", "string"])),
+     record("U", ("a", ["string", "null"]), ("b", ["null", "string"]), ("c", ["null", "long", "string"]), ("d", ["string", "long"])),
      {"a": "x", "b": None, "c": 5, "d": 6}, {"a": "x", "b": None, "c": 5, "d": 6}, True),
-    ("an enum with a default", record("S", field("e", enum("E", "A", "B", "C")), field("f", "E")),
-     record("S", field("e", enum("E", "C", "A", default="A")), field("f", "E")), {"e": "B", "f": "C"}, {"e": "A", "f": "C"}, False),
-    ("arrays and maps of records", record("M", field("ps", array(POINT)), field("m", map_of("Point")), field("none", array("int")), field("empty", map_of("int"))),
-     record("M", field("m", map_of(POINT_L)), field("ps", array("Point")), field("none", array("long")), field("empty", map_of("long"))),
-     {"ps": [{"x": 1, "y": 2}, {"x": -3, "y": 4}], "m": {"p": {"x": 5, "y": 6}, "q": {"x": 7, "y": 8}}, "none": [], "empty": {}},
-     {"ps": [{"x": 1, "y": 2, "label": "none"}, {"x": -3, "y": 4, "label": "none"}], "none": [], "empty": {},
-      "m": {"p": {"x": 5, "y": 6, "label": "none"}, "q": {"x": 7, "y": 8, "label": "none"}}}, False),
-    ("fixed", record("F", field("f", fixed("F4", 4)), field("g", array("F4")), field("h", fixed("Dropped", 16))), record("F", field("g", array(fixed("F4", 4))), field("f", "F4")),
+    ("an enum with a default",
+     record("S", ("e", enum("E", "A", "B", "C")), ("f", "E")), record("S", ("e", enum("E", "C", "A", default="A")), ("f", "E")),
+     {"e": "B", "f": "C"}, {"e": "A", "f": "C"}, False),
+    ("arrays and maps of records",
+     record("M", ("ps", array(POINT)), ("m", map_of("Point")), ("none", array("int")), ("empty", map_of("int"))),
+     record("M", ("m", map_of(LABELLED)), ("ps", array("Point")), ("none", array("long")), ("empty", map_of("long"))),
+     {"ps": [point(1, 2), point(-3, 4)], "m": {"p": point(5, 6), "q": point(7, 8)}, "none": [], "empty": {}},
+     {"ps": [labelled(1, 2), labelled(-3, 4)], "m": {"p": labelled(5, 6), "q": labelled(7, 8)}, "none": [], "empty": {}}, False),
+    ("fixed",
+     record("F", ("f", fixed("F4", 4)), ("g", array("F4")), ("h", fixed("Dropped", 16))), record("F", ("g", array(fixed("F4", 4))), ("f", "F4")),
      {"f": b"\0\xff\1\xfe", "g": [b"abcd", b"efgh"], "h": bytes(16)}, {"f": b"\0\xff\1\xfe", "g": [b"abcd", b"efgh"]}, True),
-    ("aliases", record("Old", field("was", "int"), field("e", enum("Hue", "RED", "BLUE")), namespace="n.old"),
-     record("New", {**field("is", "long"), "aliases": ["other", "was"]}, field("e", enum("Color", "BLUE", "RED", aliases=["n.old.Hue"])), aliases=["n.old.Old"]),
+    ("aliases",
+     record("Old", ("was", "int"), ("e", enum("Hue", "RED", "BLUE")), namespace="n.old"),
+     record("New", {"name": "is", "type": "long", "aliases": ["other", "was"]}, ("e", enum("Color", "BLUE", "RED", aliases=["n.old.Hue"])),
+            aliases=["n.old.Old"]),
      {"was": 3, "e": "BLUE"}, {"is": 3, "e": "BLUE"}, False),
-    ("a list of records", LIST, record("LongList", field("next", ["null", "LongList"]), field("value", "long"), field("n", "int", -1)),
-     {"value": 1, "next": {"value": 2, "next": {"value": 3, "next": None}}},
-     {"value": 1, "n": -1, "next": {"value": 2, "n": -1, "next": {"value": 3, "n": -1, "next": None}}}, True),
-    ("defaults of every type", record("D", field("keep", "null")),
-     record("D", field("b", "boolean", True), field("i", "int", -1), field("l", "long", 2**40), field("s", "string", "ß"), field("y", "bytes", "\u00ff\u0000"),
-            field("f", fixed("F2", 2), "\u0001\u00fe"), field("e", enum("E", "A", "B"), "B"), field("a", array("int"), [1, 2]), field("m", map_of("int"), {"k": 1}),
-            field("p", record("P", field("x", "int"), field("y", "int")), {"x": 1, "y": 2}), field("u", ["null", "int"], None), field("v", ["int", "null"], 9), field("keep", "null")),
-     {"keep": None}, {"b": True, "i": -1, "l": 2**40, "s": "ß", "y": b"\xff\0", "f": b"\1\xfe", "e": "B", "a": [1, 2], "m": {"k": 1}, "p": {"x": 1, "y": 2}, "u": None, "v": 9,
-                      "keep": None}, False),
-    ("names in other namespaces", record("a.b.T", field("e", enum("E", "X"))), record("T", field("e", enum("E", "X", "Y", namespace="c")), namespace="d"), {"e": "X"}, {"e": "X"}, False),
-    ("a long text", record("L", field("s", "string"), field("n", "int")), record("L", field("n", "long"), field("s", "string")),
-     {"s": "größer 中文 😀 " * 20000, "n": 2**31 - 1}, {"s": "größer 中文 😀 " * 20000, "n": 2**31 - 1}, True),
-    ("many items", record("I", field("a", array("int"))), record("I", field("a", array("long"))), {"a": list(range(-5000, 5000))}, {"a": list(range(-5000, 5000))}, False),
+    ("a list of records",
+     record("Linked", ("value", "long"), ("next", ["null", "Linked"])),
+     record("Linked", ("next", ["null", "Linked"]), ("value", "long"), ("n", "int", -1)),
+     linked(1, 2, 3), linked(1, 2, 3, n=-1), True),
+    ("defaults of simple types",
+     record("D", ("keep", "null")),
+     record("D", ("b", "boolean", True), ("i", "int", -1), ("l", "long", 2**40), ("s", "string", "ß"), ("y", "bytes", "\u00ff\u0000"),
+            ("n", "null", None), ("f", fixed("F2", 2), "\u0001\u00fe"), ("e", enum("E", "A", "B"), "B"), ("keep", "null")),
+     {"keep": None}, {"b": True, "i": -1, "l": 2**40, "s": "ß", "y": b"\xff\0", "n": None, "f": b"\1\xfe", "e": "B", "keep": None}, False),
+    ("defaults of types with parts",
+     record("C", ("keep", "int")),
+     record("C", ("a", array("int"), [1, 2]), ("m", map_of("int"), {"k": 1}), ("p", POINT, point(3, 4)), ("u", ["null", "int"], None),
+            ("v", ["int", "null"], 9), ("keep", "int")),
+     {"keep": 5}, {"a": [1, 2], "m": {"k": 1}, "p": point(3, 4), "u": None, "v": 9, "keep": 5}, True),
+    ("names in other namespaces",
+     record("a.b.T", ("e", enum("E", "X"))), record("T", ("e", enum("E", "X", "Y", namespace="c")), namespace="d"), {"e": "X"}, {"e": "X"}, False),
+    ("a long text",
+     record("L", ("s", "string"), ("n", "int")), record("L", ("n", "long"), ("s", "string")),
+     {"s": LONG, "n": 2**31 - 1}, {"s": LONG, "n": 2**31 - 1}, True),
+    ("many items",
+     record("I", ("a", array("int"))), record("I", ("a", array("long"))), {"a": list(range(-5000, 5000))}, {"a": list(range(-5000, 5000))}, False),
 ]
 
 
