@@ -23,7 +23,7 @@ lines=$folder/lines
 port=
 for _ in $(seq 100); do
   port=$(sed -n 's/^listening //p' "$folder/told")
-  [ -z "$port" ] || break
+  [ -z "$port" ] && kill -0 "$server" 2>/dev/null || break
   sleep 0.1
 done
 [ -n "$port" ] || { echo "the server did not say where it listens: $(cat "$folder/told" "$folder/err")"; exit 1; }

@@ -37,9 +37,9 @@ def check(name, want, call):
     try:
         got = call()
         ok, why = (got == want), "%.200r, wanted %.200r" % (got, want)
-        alive = ask("GET", "/subjects")[0]
-        if alive != 200:
-            ok, why = False, why + "; then GET /subjects: %r" % alive
+        after = ask("GET", "/subjects")
+        if after[0] != 200:
+            ok, why = False, why + "; then GET /subjects: %r" % (after,)
     except Exception as fault:
         ok, why = False, repr(fault)
     print("ok " + name if ok else "FAILED %s: %s" % (name, why), flush=True)
