@@ -19,6 +19,7 @@ trap '[ -z "$server" ] || kill "$server" 2>/dev/null || true; rm -rf "$folder"' 
 lines=$folder/lines
 : >"$lines"
 
+: >"$folder/told"
 "$program" serve --port 0 >"$folder/told" 2>"$folder/err" & server=$!
 port=
 for _ in $(seq 100); do

@@ -10,6 +10,7 @@ program=$(realpath "${1:-$here/../crates/avrogate/out/avrogate}")
 folder=$(mktemp -d)
 server=
 trap '[ -z "$server" ] || kill "$server" 2>/dev/null || true; rm -rf "$folder"' EXIT
+: >"$folder/told"
 "$program" serve --port 0 --clients 2 --request-timeout 2 >"$folder/told" 2>"$folder/err" & server=$!
 port=
 for _ in $(seq 100); do
