@@ -189,7 +189,7 @@ def crossed_unions(members, levels):
 
 
 def unions_of_many_members():
-    for members, levels in ((775, 61), (1000, 20)):
+    for members, levels in ((775, 61), (980, 20)):
         writer, payload = crossed_unions(members, levels)
         reader = writer.replace('"size":1', '"doc":"", "size":1', 1)
         texts = {"writer": writer, "reader": reader}
