@@ -28,7 +28,7 @@ def ask(method, path, body=b""):
     head = "%s %s HTTP/1.1\r\ncontent-length: %d\r\n\r\n" % (method, path, len(body))
     head, _, answer = exchange(head.encode() + body).partition(b"\r\n\r\n")
     if not head:
-        return "no answer"
+        return 0, "no answer"
     status = int(head.split(b" ")[1])
     return (status, answer) if status == 200 else (status, json.loads(answer)["message"])
 
