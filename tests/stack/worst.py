@@ -199,6 +199,28 @@ def unions_of_many_members():
               lambda: transcode(*(register("crossed-%d.%s" % (members, text), texts[text]) for text in texts), payload[:-levels]))
 
 
+def registered(name, text, *parts):
+    """The ids of a text with each of these parts in it."""
+    return [register("%s-%d" % (name, i), text % part) for i, part in enumerate(parts)]
+
+
+def many_data():
+    """Data of as many items as there may be, and of records that are turned round."""
+    [nulls] = registered("nulls", '{"type":"array","items":"%s"}', "null")
+    check("2^20 items", (200, number(1 << 20) + b"\0"), lambda: transcode(nulls, nulls, number(1 << 20) + b"\0"))
+    check("2^20 + 1 items", (422, "malformed TooMany at 4"), lambda: transcode(nulls, nulls, number((1 << 20) + 1) + b"\0"))
+    ints, longs = registered("numbers", '{"type":"array","items":"%s"}', "int", "long")
+    check("2^20 blocks of an item", (200, number(1 << 20) + b"\6" * (1 << 20) + b"\0"), lambda: transcode(ints, longs, b"\2\6" * (1 << 20) + b"\0"))
+    a, b, rows = '{"name":"a","type":"int"}', '{"name":"b","type":"string"}', (1 << 19) - 1
+    pairs, turned = registered("pairs", '{"type":"array","items":{"type":"record","name":"P","fields":[%s,%s]}}', (a, b), (b, a))
+    check("2^19 - 1 records, each turned round", (200, number(rows) + b"\2k\6" * rows + b"\0"),
+          lambda: transcode(pairs, turned, number(rows) + b"\6\2k" * rows + b"\0"))
+    b = '{"name":"b","type":["null","R"]}'
+    lists, backs = registered("lists", '{"type":"record","name":"R","fields":[%s,%s]}', (a, b), (b, a))
+    check("a record in itself, each turned round, %d levels" % LEVELS, (200, b"\2" * (LEVELS - 1) + b"\0" + b"\6" * LEVELS),
+          lambda: transcode(lists, backs, b"\6\2" * (LEVELS - 1) + b"\6\0"))
+
+
 def deep_data():
     plain = '{"type":"record","name":"R","fields":[{"name":"r","type":["null","R"]}]}'
     listed = '{"type":"record","name":"R","fields":[{"name":"r","type":{"type":"array","items":"R"}}]}'
@@ -213,9 +235,6 @@ def deep_data():
             check("a record in itself by %s, %d levels" % (name, levels * step), want, lambda: transcode(one, two, payload))
     endless = register("endless", '{"type":"record","name":"R","fields":[{"name":"r","type":"R"}]}')
     check("a record in itself", (422, "malformed TooDeep at 0"), lambda: transcode(endless, endless, b""))
-    many, items = register("many", '{"type":"array","items":"null"}'), number(1 << 20) + b"\0"
-    check("2^20 items", (200, items), lambda: transcode(many, many, items))
-    check("2^20 + 1 items", (422, "malformed TooMany at 4"), lambda: transcode(many, many, number((1 << 20) + 1) + b"\0"))
 
 
 def fields(count, kind, first="", pad="PAD", default=""):
@@ -285,7 +304,7 @@ def cut_heads():
     check("%r, left idle at each of %d places, is closed" % (whole[:12], len(whole)), [], idle)
 
 
-for part in shapes, unions_of_many_members, deep_data, wide_records, deep_bodies, cut_heads:
+for part in shapes, unions_of_many_members, deep_data, many_data, wide_records, deep_bodies, cut_heads:
     if len(sys.argv) == 3 or part.__name__ in sys.argv[3:]:
         try:
             part()
