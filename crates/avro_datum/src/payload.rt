@@ -22,7 +22,7 @@ pub enum PayloadError {
 pub fn read_all(alloc: Global, nodes: &Nodes, payload: &[u8]) -> Result<Datum, PayloadError>
     ensures { ReadsAll nodes.now payload.now result }
 {
-    nodes.is_well_formed();
+    nodes.is_well_formed(); // law
     match read_node(alloc, nodes, 0, payload, 0, Meter::START) {
         Ok((datum, to, _)) => {
             if to != payload.len() {

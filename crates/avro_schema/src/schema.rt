@@ -126,7 +126,7 @@ impl Schema {
         ensures compact { (value : Data) × IsCompact self.now.text value }
         ensures nodes { ReadsAsSchema self.now.text self.now.nodes }
     {
-        let _opened = &self.parts;
+        let _opened = &self.parts; // read for the proof
     }
 
     /// The law that schemas of the same compact text have the same nodes.
@@ -134,8 +134,8 @@ impl Schema {
         requires { self.now.text ≡ other.now.text }
         ensures { self.now.nodes ≡ other.now.nodes }
     {
-        let _opened = &self.parts;
-        let _other = &other.parts;
+        let _opened = &self.parts; // read for the proof
+        let _other = &other.parts; // read for the proof
     }
 }
 

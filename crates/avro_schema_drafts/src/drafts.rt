@@ -84,7 +84,7 @@ impl<'v> Drafts<'v> {
         ensures once { AreOnce (heads_of self.now) }
         ensures begins_none { BeginWithNoDot (heads_of self.now) }
     {
-        let _opened = &self.nodes;
+        let _opened = &self.nodes; // read for the proof
     }
 
     /// The node of a name that stands in a namespace, given by its last part.
@@ -169,7 +169,7 @@ impl<'v> Drafts<'v> {
         ensures nodes { OnOk result (self.new ≡ self.old ++ draft_of draft.entry ∷ []) }
         ensures refused { OnErr result (self.new ≡ self.old) }
     {
-        name.has_two_parts();
+        name.has_two_parts(); // law
         let scope = &mut self.scopes[number];
         add_named(alloc, &mut self.nodes, scope, name.last(), draft)?;
         Ok(())
@@ -187,7 +187,7 @@ impl<'v> Drafts<'v> {
         ensures nodes { OnOk result (self.new ≡ self.old ++ draft_of draft.entry ∷ []) }
         ensures refused { OnErr result (self.new ≡ self.old) }
     {
-        name.has_two_parts();
+        name.has_two_parts(); // law
         let (nodes, numbers, scopes) = (&mut self.nodes, &mut self.numbers, &mut self.scopes);
         let (namespace, last) = (name.namespace(), name.last());
         add_first_named(alloc, nodes, numbers, scopes, namespace, last, draft)?;

@@ -194,7 +194,7 @@ pub fn defined_node(text: &str, enclosing: &Namespace, drafts: &Drafts) -> Optio
     match text.rsplit_once('.') {
         Some((namespace, last)) => {
             if namespace.is_empty() {
-                drafts.names_are_apart();
+                drafts.names_are_apart(); // law
                 return None;
             }
             drafts.defined_by(namespace, last)

@@ -103,7 +103,7 @@ fn is_apart(
         (map (head_at (heads_of drafts.now)) others.now)))) }
     ensures named { IfOk result (λ b. AreNamedMembers named.new (others.now ++ member ∷ []) (heads_of drafts.now)) }
 {
-    drafts.names_are_apart();
+    drafts.names_are_apart(); // law
     let nodes = drafts.as_slice();
     let Some(draft) = nodes.get(member) else {
         return Ok(false);

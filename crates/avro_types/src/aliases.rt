@@ -164,7 +164,7 @@ impl Aliases {
         if self.texts.is_empty() {
             return false;
         }
-        name.has_two_parts();
+        name.has_two_parts(); // law
         let (namespace, last) = (name.namespace(), name.last());
         is_relative(&self.namespace, &self.relative, namespace, last)
             || stands_under(&self.qualified, namespace, last)

@@ -60,7 +60,7 @@ impl Name {
         ensures parts { AreParts (namespace_of self.now) (unqualified self.now) }
         ensures joined { inside (namespace_of self.now) (unqualified self.now) ≡ self.now }
     {
-        let _opened = &self.last;
+        let _opened = &self.last; // read for the proof
     }
 
     /// What stands before the last dot; the null namespace is the empty text.

@@ -64,14 +64,14 @@ impl Nodes {
     pub fn is_well_formed(&self)
         ensures { IsWellFormed self.now }
     {
-        let _opened = &self.kinds;
+        let _opened = &self.kinds; // read for the proof
     }
 
     /// The law that each default of a field is of the field's type.
     pub fn defaults_conform(&self)
         ensures { DefaultsConform self.now }
     {
-        let _opened = &self.kinds;
+        let _opened = &self.kinds; // read for the proof
     }
 
     /// The law that no text, byte string or key in a default is longer, and no array or map in it of more items, than
@@ -79,6 +79,6 @@ impl Nodes {
     pub fn defaults_are_short(&self)
         ensures { DefaultsHaveSizesWithin MOST_TEXT MOST_TEXT self.now }
     {
-        let _opened = &self.kinds;
+        let _opened = &self.kinds; // read for the proof
     }
 }

@@ -10,7 +10,7 @@ pub fn input_has_one_output()
     ensures some { HasOutput }
     ensures one { HasOneOutput }
 {
-    resolver::payload_has_one_outcome();
-    isa::row_or_end_is_there();
-    program_correctness::runs_alone_are_counted_and_stay();
+    resolver::payload_has_one_outcome(); // law
+    isa::row_or_end_is_there(); // law
+    program_correctness::runs_alone_are_counted_and_stay(); // law
 }

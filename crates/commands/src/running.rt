@@ -31,7 +31,7 @@ fn take_rows(run: &mut Run, steps: u64) -> Result<(), AllocError>
 {
     let left = steps - run.machine().count();
     let slice = run.slice(&[], left);
-    row_or_end_is_there();
+    row_or_end_is_there(); // law
     if slice.why == Why::NoMemory {
         return Err(AllocError);
     }
@@ -54,7 +54,7 @@ fn run_on<'p>(
     }
     run.close();
     take_rows(&mut run, steps)?;
-    run.is_alone();
+    run.is_alone(); // law
     Ok(run)
 }
 

@@ -56,8 +56,8 @@ impl PairProgram {
         if self.writer.text() != writer.text() || self.reader.text() != reader.text() {
             return false;
         }
-        self.writer.same_text_has_same_nodes(writer);
-        self.reader.same_text_has_same_nodes(reader);
+        self.writer.same_text_has_same_nodes(writer); // law
+        self.reader.same_text_has_same_nodes(reader); // law
         true
     }
 

@@ -214,6 +214,6 @@ impl Program {
     pub fn is_in_range(&self)
         ensures { IsProgram self.now }
     {
-        let _opened = &self.parts;
+        let _opened = &self.parts; // read for the proof
     }
 }

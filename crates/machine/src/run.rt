@@ -45,7 +45,7 @@ impl<'p> Run<'p> {
     pub fn new(alloc: Global, program: &'p Program) -> Run<'p>
         ensures { result ≡ begun program.now }
     {
-        machines_go_on_with_more_input();
+        machines_go_on_with_more_input(); // law
         Run {
             program,
             input: Vec::new(alloc),
@@ -58,7 +58,7 @@ impl<'p> Run<'p> {
     pub fn reset(&mut self)
         ensures { self.new ≡ begun self.old.program }
     {
-        machines_go_on_with_more_input();
+        machines_go_on_with_more_input(); // law
         self.input.clear();
         self.ended = false;
         self.machine.reset();
@@ -74,8 +74,8 @@ impl<'p> Run<'p> {
         if piece.is_empty() {
             return Ok(());
         }
-        machines_go_on_with_more_input();
-        runs_alone_are_counted_and_stay();
+        machines_go_on_with_more_input(); // law
+        runs_alone_are_counted_and_stay(); // law
         self.input.extend_from_slice(piece)
     }
 
@@ -83,7 +83,7 @@ impl<'p> Run<'p> {
     pub fn close(&mut self)
         ensures { self.new ≡ record self.old { ended = true } }
     {
-        runs_alone_are_counted_and_stay();
+        runs_alone_are_counted_and_stay(); // law
         self.ended = true;
     }
 
@@ -102,7 +102,7 @@ impl<'p> Run<'p> {
             (row_of self.old.program self.old.input self.old.ended self.new.machine.state) }
         ensures kept { self.new ≡ record self.old { machine = self.new.machine } }
     {
-        runs_alone_are_counted_and_stay();
+        runs_alone_are_counted_and_stay(); // law
         self.machine
             .slice(self.program, &self.input, self.ended, breaks, k)
     }
@@ -112,7 +112,7 @@ impl<'p> Run<'p> {
         ensures { run_alone self.now.program self.now.input self.now.ended self.now.machine.state.count
             ≡ Some self.now.machine.state }
     {
-        let _opened = &self.machine;
+        let _opened = &self.machine; // read for the proof
     }
 
     /// The law that where its program is that of a pair of schemas, it ends with the outcome of the bytes that came,
@@ -127,10 +127,10 @@ impl<'p> Run<'p> {
         ensures count { HasEndedWithinBound self.now }
         ensures slice { EndsInOneSlice w.now r.now self.now }
     {
-        let _opened = &self.machine;
-        program_ends_with_the_outcome(w, r);
-        runs_alone_are_counted_and_stay();
-        row_or_end_is_there();
+        let _opened = &self.machine; // read for the proof
+        program_ends_with_the_outcome(w, r); // law
+        runs_alone_are_counted_and_stay(); // law
+        row_or_end_is_there(); // law
     }
 
     /// The program that is run.

@@ -112,7 +112,7 @@ impl Machine {
             ≡ Some (bytes_of self.now.layout.arena (segments_of_buffer at self.now.layout)) }
         ensures segments { AreSegments (length self.now.layout.arena) (segments_of_buffer at self.now.layout) }
     {
-        self.store.are_laid(at);
+        self.store.are_laid(at); // law
     }
 
     /// The place in the arena and the length of a segment of a buffer, by its number, where there are so many. It takes

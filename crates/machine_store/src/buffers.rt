@@ -245,7 +245,7 @@ impl Buffers {
     pub fn are_laid(&self)
         ensures { AreLaid self.now }
     {
-        let _opened = &self.arena;
+        let _opened = &self.arena; // read for the proof
     }
 
     /// Appends bytes to a buffer.

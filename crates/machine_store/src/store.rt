@@ -299,7 +299,7 @@ impl Store {
             self.pass_limit();
             return Ok(());
         }
-        self.buffers.are_laid();
+        self.buffers.are_laid(); // law
         match self.top.place() {
             Some(place) => self.buffers.add(place, bytes),
             None => unreachable!(),
@@ -356,7 +356,7 @@ impl Store {
         ensures units { self.new.units ≡ self.old.units }
         ensures arena { self.new.layout.arena ≡ self.old.layout.arena }
     {
-        let _slots = self.buffers.len();
+        let _slots = self.buffers.len(); // read for the proof
         if let Frame::Record { first, .. } = self.top {
             self.top = Frame::Record {
                 first,
@@ -456,7 +456,7 @@ impl Store {
         let Some(into) = newest_place(&self.below) else {
             unreachable!()
         };
-        self.buffers.are_laid();
+        self.buffers.are_laid(); // law
         self.buffers.close(first, into, around, before)?;
         self.top = popped(&mut self.below);
         Ok(())
@@ -503,7 +503,7 @@ impl Store {
             self.drop_newest();
             return Ok(());
         }
-        self.buffers.are_laid();
+        self.buffers.are_laid(); // law
         self.buffers.add(into, &[0])?;
         self.buffers.shorten(first);
         self.lost = self.buffers.arena().len() - (held + 1);

@@ -171,7 +171,7 @@ impl Store {
             ≡ Some (bytes_of self.now.layout.arena (segments_of_buffer at self.now.layout)) }
         ensures segments { AreSegments (length self.now.layout.arena) (segments_of_buffer at self.now.layout) }
     {
-        self.buffers.are_laid();
+        self.buffers.are_laid(); // law
     }
 
     /// A segment of a buffer, by its number, where there are so many. It takes no memory.
@@ -182,7 +182,7 @@ impl Store {
         let Some(place) = place_named(self.top, &self.below, self.buffers.len(), at) else {
             unreachable!()
         };
-        self.buffers.are_laid();
+        self.buffers.are_laid(); // law
         if number >= MOST_OUTPUT {
             return None;
         }

@@ -15,7 +15,7 @@ use std::alloc::Global;
 pub fn compile(alloc: Global, w: &Nodes, r: &Nodes) -> Result<Program, CompileError>
     ensures { Compiles w.now r.now result }
 {
-    program_is_in_range(w, r);
+    program_is_in_range(w, r); // law
     let section_lines = match walk(alloc, w, r) {
         Ok(section_lines) => section_lines,
         Err(error) => return Err(error),

@@ -14,11 +14,11 @@ pub fn program_ends_with_the_outcome(w: &Nodes, r: &Nodes)
     ensures each_end { EachEndIsOutcome w.now r.now }
     ensures early_end { EarlyEndIsOutcome w.now r.now }
 {
-    w.is_well_formed();
-    program_definition::program_is_linked(w, r);
-    program_definition::program_is_in_range(w, r);
-    isa::rows_stay_within_bounds();
-    isa::row_stays_on_longer_input();
+    w.is_well_formed(); // law
+    program_definition::program_is_linked(w, r); // law
+    program_definition::program_is_in_range(w, r); // law
+    isa::rows_stay_within_bounds(); // law
+    isa::row_stays_on_longer_input(); // law
 }
 
 /// The law of what holds of every program that is run alone: its count is that of its rows, it goes on from where it
@@ -30,7 +30,7 @@ pub fn runs_alone_are_counted_and_stay()
     ensures inside { RunsStayInside }
     ensures stay { RunsStay }
 {
-    isa::row_stays_on_longer_input();
+    isa::row_stays_on_longer_input(); // law
 }
 
 /// The law of what a worked program comes to, run alone: its end, with no row behind it; that it waits before its input

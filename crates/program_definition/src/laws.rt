@@ -12,15 +12,15 @@ use avro_types::Nodes;
 pub fn program_is_linked(w: &Nodes, r: &Nodes)
     ensures { ProgramIsLinked w.now r.now }
 {
-    w.is_well_formed();
+    w.is_well_formed(); // law
 }
 
 /// The law that the program of a pair of schemas names nothing that it has not: `isa` takes it as it is.
 pub fn program_is_in_range(w: &Nodes, r: &Nodes)
     ensures { ProgramIsInRange w.now r.now }
 {
-    w.is_well_formed();
-    r.is_well_formed();
+    w.is_well_formed(); // law
+    r.is_well_formed(); // law
 }
 
 /// The law that each pair of schemas has a whole program, all of whose sections are found and none of whose lines is
@@ -30,8 +30,8 @@ pub fn no_program_only_past_a_limit(w: &Nodes, r: &Nodes)
     ensures lines { NoLineIsLost w.now r.now }
     ensures limit { NoneByLimitsAlone w.now r.now }
 {
-    w.is_well_formed();
-    r.is_well_formed();
+    w.is_well_formed(); // law
+    r.is_well_formed(); // law
 }
 
 /// The law that worked pairs have the programs that the compiler's table gives them: two records to themselves, one to

@@ -86,7 +86,7 @@ impl Known {
         if self.positions.contains_key(&rn) {
             return Ok(());
         }
-        r.is_well_formed();
+        r.is_well_formed(); // law
         let positions = positions_of(alloc, members)?;
         self.positions.insert(rn, positions)?;
         Ok(())
@@ -117,9 +117,9 @@ impl Known {
         if candidates.len() > FEW {
             return place_of(pair.writer, wn, pair.reader, rn);
         }
-        pair.writer.is_well_formed();
-        pair.reader.is_well_formed();
-        matches_by_rule();
+        pair.writer.is_well_formed(); // law
+        pair.reader.is_well_formed(); // law
+        matches_by_rule(); // law
         pair.find_member(wn, members, positions, candidates)
     }
 

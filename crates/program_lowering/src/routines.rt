@@ -194,8 +194,8 @@ impl SchemaPair<'_> {
             (λ p. write_routine self.now.writer.now self.now.reader.now p.0 p.1)) }
         ensures known { AreKnown self.now.writer.now self.now.reader.now known.new }
     {
-        self.writer.is_well_formed();
-        self.reader.is_well_formed();
+        self.writer.is_well_formed(); // law
+        self.reader.is_well_formed(); // law
         let Some((ws, rs)) = field_lists(self.writer, wn, self.reader, rn) else {
             return put(lines, Line::Lost);
         };
@@ -232,8 +232,8 @@ impl SchemaPair<'_> {
             ++ section self.now.writer.now self.now.reader.now (section_of part)) }
         ensures known { AreKnown self.now.writer.now self.now.reader.now known.new }
     {
-        self.writer.is_well_formed();
-        self.reader.is_well_formed();
+        self.writer.is_well_formed(); // law
+        self.reader.is_well_formed(); // law
         match part {
             Section::Main => {
                 self.write(known, 0, 0, lines)?;

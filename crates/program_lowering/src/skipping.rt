@@ -79,7 +79,7 @@ impl SchemaPair<'_> {
         ensures { OnOk result (lines_in self.now.writer.now self.now.reader.now lines.new.items
             ≡ lines_in self.now.writer.now self.now.reader.now lines.old.items ++ K self.now.writer.now n) }
     {
-        self.writer.is_well_formed();
+        self.writer.is_well_formed(); // law
         self.skip_within(n, self.writer.len() + 1, lines)
     }
 }

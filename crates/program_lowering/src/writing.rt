@@ -282,7 +282,7 @@ impl SchemaPair<'_> {
             ++ X self.now.writer.now self.now.reader.now wn rn) }
         ensures known { AreKnown self.now.writer.now self.now.reader.now known.new }
     {
-        self.writer.is_well_formed();
+        self.writer.is_well_formed(); // law
         self.write_within(known, wn, rn, self.writer.len() + 1, lines)
     }
 }

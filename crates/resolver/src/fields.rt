@@ -25,8 +25,8 @@ pub fn field_lists<'a, 'b>(
     ensures writer { IfSome result (λ p. AreFields (length w.now) (fields_of p.0.now)) }
     ensures reader { IfSome result (λ p. AreFields (length r.now) (fields_of p.1.now)) }
 {
-    w.is_well_formed();
-    r.is_well_formed();
+    w.is_well_formed(); // law
+    r.is_well_formed(); // law
     match (w.kind(wn), r.kind(rn)) {
         (Kind::Record { fields: ws, .. }, Kind::Record { fields: rs, .. }) => {
             Some((ws.as_slice(), rs.as_slice()))

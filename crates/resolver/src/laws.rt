@@ -13,19 +13,19 @@ use avro_types::Nodes;
 pub fn resolution_is_whole(w: &Nodes, r: &Nodes)
     ensures { ResolutionIsWhole w.now r.now }
 {
-    r.is_well_formed();
-    r.defaults_conform();
+    r.is_well_formed(); // law
+    r.defaults_conform(); // law
 }
 
 /// The law that an answer spells, by the reader's schema, what comes of the payload's datum.
 pub fn answer_is_spelled(w: &Nodes, r: &Nodes)
     ensures { AnswersAreSpelled w.now r.now }
 {
-    r.is_well_formed();
-    r.defaults_are_short();
-    resolution_is_whole(w, r);
-    avro_datum::spelled_datum_conforms();
-    avro_datum::written_form_is_the_shortest_spelling();
+    r.is_well_formed(); // law
+    r.defaults_are_short(); // law
+    resolution_is_whole(w, r); // law
+    avro_datum::spelled_datum_conforms(); // law
+    avro_datum::written_form_is_the_shortest_spelling(); // law
 }
 
 /// The law that each datum of a writer that a reader is safe with is read, but for bytes that are no UTF-8.
@@ -39,5 +39,5 @@ pub fn payload_has_one_outcome()
     ensures one { (W R : List Node) (payload : List ℕ) (a b : Outcome) →
         IsOutcome W R payload a → IsOutcome W R payload b → a ≡ b }
 {
-    avro_datum::payload_is_spelled_or_faulty();
+    avro_datum::payload_is_spelled_or_faulty(); // law
 }

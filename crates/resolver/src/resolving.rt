@@ -285,7 +285,7 @@ fn resolve_field(
 pub fn resolve(alloc: Global, w: &Nodes, r: &Nodes, datum: Datum) -> Result<Datum, ResolveError>
     ensures { Resolves datum_of result (resolved w.now r.now 0 0 (datum_of datum)) }
 {
-    w.is_well_formed();
-    r.is_well_formed();
+    w.is_well_formed(); // law
+    r.is_well_formed(); // law
     resolve_at(alloc, w, 0, r, 0, datum)
 }

@@ -175,8 +175,8 @@ fn add_all(pairs: &mut PairList, more: &[(usize, usize)]) -> Result<(), AllocErr
 pub fn can_read(alloc: Global, w: &Nodes, r: &Nodes) -> Result<bool, AllocError>
     ensures { IfOk result (λ yes. IsTrue yes ↔ IsSafe w.now r.now) }
 {
-    w.is_well_formed();
-    r.is_well_formed();
+    w.is_well_formed(); // law
+    r.is_well_formed(); // law
     let mut pairs = PairList::new(alloc, w.len(), r.len())?;
     pairs.add((0, 0))?;
     let mut place = 0;

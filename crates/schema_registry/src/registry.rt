@@ -133,7 +133,7 @@ impl Registry {
     pub fn is_accepted(&self)
         ensures { AreAccepted self.now }
     {
-        let _opened = &self.global;
+        let _opened = &self.global; // read for the proof
     }
 
     /// The law that the versions of each subject are 1, 2, 3 .. without gaps.
@@ -141,6 +141,6 @@ impl Registry {
         ensures { (subject : List ℕ) → map (λ e. e.version) (versions_of subject (registry_after self.now).entries)
             ≡ numbers_from 1 (length (versions_of subject (registry_after self.now).entries)) }
     {
-        let _opened = &self.global;
+        let _opened = &self.global; // read for the proof
     }
 }

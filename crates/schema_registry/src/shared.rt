@@ -239,7 +239,7 @@ impl SharedRegistry {
         ensures { IsSomeAnswer (command_of command) (answer_of result) }
     {
         let mut registry = self.registry.lock(rt);
-        registry.is_accepted();
+        registry.is_accepted(); // law
         registry.apply(command)
     }
 }

@@ -86,8 +86,8 @@ impl Entry {
         if self.writer.text() != writer.text() || self.reader.text() != reader.text() {
             return None;
         }
-        self.writer.same_text_has_same_nodes(writer);
-        self.reader.same_text_has_same_nodes(reader);
+        self.writer.same_text_has_same_nodes(writer); // law
+        self.reader.same_text_has_same_nodes(reader); // law
         Some(&self.program)
     }
 }

@@ -46,10 +46,10 @@ pub fn run_events<'p, P: Programs>(
     ensures own { IfOk result (λ r. (session : ℕ) →
         IsItsOwn session (steps_of (map event_of events.now) r.1.items) r.0) }
 {
-    sessions_are_their_own();
+    sessions_are_their_own(); // law
     let mut world = World::new(alloc);
     let mut replies = Vec::new(alloc);
     take_events(programs, events, &mut world, &mut replies)?;
-    world.sessions_end_with_their_outcomes();
+    world.sessions_end_with_their_outcomes(); // law
     Ok((world, replies))
 }

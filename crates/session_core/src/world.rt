@@ -107,7 +107,7 @@ impl<'p> World<'p> {
         ) else {
             return;
         };
-        held.session.ends_with_the_outcome(w.nodes(), r.nodes());
+        held.session.ends_with_the_outcome(w.nodes(), r.nodes()); // law
     }
 
     /// The law that this holds of each session.
@@ -115,7 +115,7 @@ impl<'p> World<'p> {
         ensures { (session : ℕ) → SessionEndsWithOutcome self.now session }
     {
         for session in 0..self.sessions.len() {
-            self.ends_with_the_outcome(session);
+            self.ends_with_the_outcome(session); // law
         }
     }
 

@@ -134,7 +134,7 @@ impl<'p> Session<'p> {
     pub fn refuse(&mut self)
         ensures { self.new ≡ refused self.old }
     {
-        self.run.is_alone();
+        self.run.is_alone(); // law
         if self.run.machine().end().is_none() {
             self.out_of_memory = true;
         }
@@ -148,10 +148,10 @@ impl<'p> Session<'p> {
         if self.out_of_memory {
             return 0;
         }
-        self.run.is_alone();
+        self.run.is_alone(); // law
         let taken = take(&mut self.run, &self.breaks, k);
         if taken.is_short {
-            self.run.is_alone();
+            self.run.is_alone(); // law
             self.out_of_memory = true;
         }
         taken.rows
@@ -165,10 +165,10 @@ impl<'p> Session<'p> {
         if self.out_of_memory {
             return 0;
         }
-        self.run.is_alone();
+        self.run.is_alone(); // law
         let taken = take(&mut self.run, &[], n);
         if taken.is_short {
-            self.run.is_alone();
+            self.run.is_alone(); // law
             self.out_of_memory = true;
         }
         taken.rows
@@ -182,8 +182,8 @@ impl<'p> Session<'p> {
         if n == 0 {
             return 0;
         }
-        runs_alone_are_counted_and_stay();
-        self.run.is_alone();
+        runs_alone_are_counted_and_stay(); // law
+        self.run.is_alone(); // law
         if self.step(1) == 0 {
             return 0;
         }
@@ -223,7 +223,7 @@ impl<'p> Session<'p> {
         ensures state { state_of self.now ≡ Some result.now.state }
         ensures count { result.now.state.count ≡ self.now.count }
     {
-        self.run.is_alone();
+        self.run.is_alone(); // law
         self.run.machine()
     }
 
@@ -238,7 +238,7 @@ impl<'p> Session<'p> {
     pub fn has_ended(&self) -> bool
         ensures { result ≡ is_some (end_in self.now) }
     {
-        self.run.is_alone();
+        self.run.is_alone(); // law
         self.out_of_memory || self.run.machine().end().is_some()
     }
 
@@ -254,7 +254,7 @@ impl<'p> Session<'p> {
         ensures end { option_map end_of result.0 ≡ end_in self.entry }
         ensures bytes { result.1.items ≡ self.entry.bytes }
     {
-        self.run.is_alone();
+        self.run.is_alone(); // law
         let (end, bytes) = self.run.into_parts();
         if self.out_of_memory {
             return (Some(SessionEnd::NoMemory), bytes);
@@ -272,7 +272,7 @@ impl<'p> Session<'p> {
         ensures bytes { length self.now.bytes ≤ MOST_PAYLOAD }
         ensures breaks { length self.now.breaks ≤ MOST_BREAKS }
     {
-        let _opened = &self.breaks;
+        let _opened = &self.breaks; // read for the proof
     }
 
     /// The law that where its program is that of a pair of schemas and its machine has ended, it is with the outcome of
@@ -283,7 +283,7 @@ impl<'p> Session<'p> {
         ensures early { EarlyEndIsOutcome w.now r.now self.now }
         ensures bound { EndsWithinBound w.now r.now self.now }
     {
-        self.run.is_alone();
-        self.run.ends_with_the_outcome(w, r);
+        self.run.is_alone(); // law
+        self.run.ends_with_the_outcome(w, r); // law
     }
 }

@@ -28,10 +28,10 @@ pub(crate) fn take(run: &mut Run, breaks: &[u32], k: u64) -> Taken
         (row_of run.old.program run.old.input run.old.ended run.new.machine.state) }
     ensures kept { run.new ≡ record run.old { machine = run.new.machine } }
 {
-    runs_alone_are_counted_and_stay();
-    run.is_alone();
+    runs_alone_are_counted_and_stay(); // law
+    run.is_alone(); // law
     let slice = run.slice(breaks, k);
-    let _counted = run.machine().count();
+    let _counted = run.machine().count(); // read for the proof
     let is_short = matches!(slice.why, Why::NoMemory);
     Taken {
         rows: slice.rows,

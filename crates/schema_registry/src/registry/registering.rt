@@ -160,7 +160,7 @@ impl Registry {
         ensures ok { OnOk result (self.new ≡ self.old ++ command_of command ∷ []) }
         ensures err { OnErr result (self.new ≡ self.old) }
     {
-        self.is_accepted();
+        self.is_accepted(); // law
         let history = self.history.and(&command);
         self.register_asked(command, schema, history)
     }

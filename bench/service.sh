@@ -1,0 +1,114 @@
+#!/usr/bin/env bash
+# `avrogate serve` beside a small server by hand (bench/service.cpp), each with 4 client threads and one request a
+# connection, under the load of wrk (Debian's package, which is installed if it is missing): a schema by its id, and a
+# message of about 100 bytes to a reader with a promoted and an added field. First both have to answer the same bytes;
+# then come 3 rounds of 3 seconds, in each of which all come in turn. It prints, of each, the median of requests a second
+# and of processor time a request (user and system, of the server alone). wrk shares the machine, so that requests a
+# second say less than processor time. It takes under a minute. Not part of the gate.
+# Usage: bench/service.sh [PROGRAM]   (crates/avrogate/out/avrogate if it is left out)
+set -euo pipefail
+export PYTHONDONTWRITEBYTECODE=1 PYTHONPATH=$(dirname "$(realpath "$0")")
+here=$(dirname "$(realpath "$0")")
+program=$(realpath "${1:-$here/../crates/avrogate/out/avrogate}")
+command -v wrk >/dev/null || { apt-get update -qq && DEBIAN_FRONTEND=noninteractive apt-get install -y -qq --no-install-recommends wrk; } >&2
+folder=$(mktemp -d)
+trap 'rm -rf "$folder"' EXIT
+g++ -std=c++17 -O2 -pthread -o "$folder/service" "$here/service.cpp"
+python3 - "$program" "$folder" <<'PYTHON'
+import json, os, re, statistics, subprocess, sys, time
+from avro_encoding import number, text
+
+program, folder = sys.argv[1:]
+ROUNDS, SECONDS, THREADS, CONNECTIONS = 3, 3, 2, 16
+
+
+def schema(*fields):
+    fields = [dict(zip(("name", "type", "default"), field)) for field in fields]
+    return json.dumps({"type": "record", "name": "Event", "fields": fields}, separators=(",", ":"), sort_keys=True)
+
+
+SHARED = ("id", "long"), ("name", "string"), ("tags", {"type": "array", "items": "string"})
+writer = schema(*SHARED, ("score", "int"))
+reader = schema(*SHARED, ("score", "long"), ("source", "string", "none"))
+TAGS = ["alpha-%d" % n * 2 for n in range(4)]
+payload = number(1 << 40) + text("Grüße aus dem Büro im Hof") + number(4) + b"".join(map(text, TAGS)) + b"\0" + number(-1234567)
+message = b"\0\0\0\0\1" + payload
+SPOILT = [message[:-1], message + b"\0", message[:5] + b"\x80" * 10 + payload, message.replace(b"\xc3", b"\xff", 1), message[:4], b"\1" + message[1:],
+          b"\0\0\0\0\1" + payload.replace(number(4) + text(TAGS[0]), number(-4) + number(1) + text(TAGS[0]))]
+
+
+def start(words):
+    server = subprocess.Popen(words, stdout=subprocess.PIPE)
+    servers.append(server)
+    told = server.stdout.readline().split()
+    assert told[:1] == [b"listening"], told
+    return server.pid, "http://127.0.0.1:%d" % int(told[1])
+
+
+# the answer's bytes, head and all
+def curl(url, *words, data=None):
+    words = [*words, "--data-binary", "@-"] if data is not None else words
+    return subprocess.run(["curl", "-sSi", "--max-time", "10", *words, url], input=data, capture_output=True, check=True).stdout
+
+
+def same(path, *words, data=None):
+    one, two = (curl(url + path, *words, data=data) for _, url in pair)
+    assert one == two, (path, one, two)
+    return one
+
+
+# processor seconds of a process so far
+def processor_time(pid):
+    with open("/proc/%d/stat" % pid) as stat:
+        times = stat.read().rsplit(")", 1)[1].split()[11:13]
+    return sum(map(int, times)) / os.sysconf("SC_CLK_TCK")
+
+
+# requests a second, and processor microseconds a request
+def load(server, path, script):
+    pid, url = server
+    before = processor_time(pid)
+    said = subprocess.run(["wrk", "-t%d" % THREADS, "-c%d" % CONNECTIONS, "-d%ds" % SECONDS, "-H", "Connection: close", *script, url + path],
+                          capture_output=True, text=True, check=True).stdout
+    took = processor_time(pid) - before
+    requests = int(re.search(r"(\d+) requests in", said)[1])
+    faults.update(line.strip() for line in said.splitlines() if "Socket errors" in line or "Non-2xx" in line)
+    return float(re.search(r"Requests/sec:\s*([\d.]+)", said)[1]), took / max(requests, 1) * 1e6
+
+
+servers, faults = [], set()
+try:
+    pair = start([program, "serve", "--port", "0", "--clients", "4"]), start([folder + "/service", "0", "4"])
+    for text_of in (writer, reader):
+        assert b'\r\n\r\n{"id":' in same("/subjects/events/versions", data=json.dumps({"schema": text_of}).encode())
+    assert b"200 OK" in same("/schemas/ids/1") and b"200 OK" in same("/schemas/ids/2") and b"40403" in same("/schemas/ids/3")
+    assert b"200 OK" in same("/transcode/2", data=message)
+    for spoilt in SPOILT:
+        assert b"422 " in same("/transcode/2", data=spoilt)
+    print("both answer the same bytes to %d requests; a message has %d bytes, and is rewritten to %d" % (6 + len(SPOILT), len(payload), len(payload) + 5))
+    with open(folder + "/message", "wb") as out:
+        out.write(message)
+    with open(folder + "/post.lua", "w") as out:
+        out.write('wrk.method = "POST"\nwrk.headers["Content-Type"] = "application/octet-stream"\nwrk.body = io.open("%s/message", "rb"):read("*a")\n' % folder)
+    LOADS = [("GET /schemas/ids/1", "/schemas/ids/1", []), ("POST /transcode/2", "/transcode/2", ["-s", folder + "/post.lua"])]
+    taken = {}
+    for _ in range(ROUNDS):
+        for name, path, script in LOADS:
+            for which, server in enumerate(pair):
+                taken.setdefault((name, which), []).append(load(server, path, script))
+    print("%-20s %12s %12s %7s   %14s %12s %7s" % ("", "requests/s", "by hand", "ratio", "processor us", "by hand", "ratio"))
+    for name, _, _ in LOADS:
+        (rate, micros), (their_rate, their_micros) = ([statistics.median(column) for column in zip(*taken[name, which])] for which in (0, 1))
+        print("%-20s %12.0f %12.0f %7.2f   %14.1f %12.1f %7.2f" % (name, rate, their_rate, rate / their_rate, micros, their_micros, micros / their_micros))
+    with open("/proc/sys/net/ipv4/ip_local_port_range") as ports:
+        low, high = map(int, ports.read().split())
+    for fault in sorted(faults):
+        print("wrk told: %s (the kernel has %d ports for connections)" % (fault, high - low + 1))
+    for server in servers:
+        assert server.poll() is None, "a server ended with status %s" % server.returncode
+finally:
+    for server in servers:
+        server.kill()
+        server.wait()
+sys.exit(1 if faults else 0)
+PYTHON

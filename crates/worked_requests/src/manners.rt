@@ -1,0 +1,198 @@
+//! The manners in which a request is answered, and what each has to make of it.
+
+use crate::calls::{AT_ONCE, Behaviour, Trouble};
+use crate::printing::{push_answer, push_difference};
+use crate::row::Row;
+use crate::service::{Served, Service};
+use gateway::ServeError;
+use gateway_server::RunError;
+use std::alloc::{AllocError, Global};
+use std::sync::Wait;
+
+/// How many calls a device is let fail at, one after another.
+const MOST_CALLS: u32 = 40;
+
+/// In how many pieces devices that fail move their bytes, about.
+const PIECES: usize = 16;
+
+/// A device that fails.
+#[derive(Clone, Copy, Debug, PartialEq, Eq)]
+enum Failing {
+    Reader,
+    Writer,
+    /// A writer that takes no byte.
+    FullWriter,
+}
+
+/// A manner in which a request is answered.
+#[derive(Drop)]
+struct Manner {
+    name: String,
+    reading: Behaviour,
+    writing: Behaviour,
+}
+
+/// Whether the bytes of an answer begin with its status line.
+fn has_status_line(alloc: Global, served: &Served) -> Result<bool, AllocError> {
+    match served.status {
+        Ok(status) => {
+            let start = format!(in alloc; "HTTP/1.1 {status} ")?;
+            Ok(served.bytes.starts_with(start.as_bytes()))
+        }
+        Err(_) => Ok(served.bytes.is_empty()),
+    }
+}
+
+/// Whether a request was answered as it should be, by how it is answered at once.
+fn is_right(served: &Served, at_once: &Served) -> bool {
+    let sent = served.bytes.len();
+    if served.reader_failed {
+        return sent == 0 && served.status == Err(ServeError::ReadFault);
+    }
+    if served.writer_failed {
+        return served.status == Err(ServeError::WriteFault { sent })
+            && at_once.bytes.starts_with(&served.bytes);
+    }
+    served.status == at_once.status && served.bytes.as_slice() == at_once.bytes.as_slice()
+}
+
+/// Answers a request in a manner, and appends a line where that differs. Whether a device failed.
+fn try_manner<R: Wait>(
+    rt: &R,
+    alloc: Global,
+    output: &mut Vec<u8>,
+    service: &mut Service<'_>,
+    row: &Row,
+    at_once: &Served,
+    manner: &Manner,
+) -> Result<bool, RunError> {
+    let served = service.serve(rt, alloc, row, manner.reading, manner.writing);
+    if !is_right(&served, at_once) {
+        push_difference(alloc, output, &manner.name, &served)?;
+    }
+    Ok(served.reader_failed || served.writer_failed)
+}
+
+/// Devices in which nothing fails, or everything.
+fn steady_manners(alloc: Global) -> Result<[Manner; 4], AllocError> {
+    let of = |piece: usize, trouble: Trouble| Behaviour { piece, trouble };
+    Ok([
+        Manner {
+            name: String::from_str(alloc, "a byte at a time")?,
+            reading: of(1, Trouble::Nothing),
+            writing: of(1, Trouble::Nothing),
+        },
+        Manner {
+            name: String::from_str(alloc, "interrupted before each call")?,
+            reading: of(7, Trouble::Interruptions),
+            writing: of(7, Trouble::Interruptions),
+        },
+        Manner {
+            name: String::from_str(alloc, "a reader interrupted for good")?,
+            reading: of(7, Trouble::InterruptedForGood),
+            writing: AT_ONCE,
+        },
+        Manner {
+            name: String::from_str(alloc, "a writer interrupted for good")?,
+            reading: AT_ONCE,
+            writing: of(7, Trouble::InterruptedForGood),
+        },
+    ])
+}
+
+/// The manner in which a device fails at its call of that number.
+fn failing_manner(
+    alloc: Global,
+    device: Failing,
+    call: u32,
+    request: usize,
+    answer: usize,
+) -> Result<Manner, AllocError> {
+    let reading = Behaviour {
+        piece: (request / PIECES).saturating_add(1),
+        trouble: Trouble::FailsAt(call),
+    };
+    let piece = (answer / PIECES).saturating_add(1);
+    let (name, reading, writing) = match device {
+        Failing::Reader => ("a reader that fails", reading, AT_ONCE),
+        Failing::Writer => {
+            let trouble = Trouble::FailsAt(call);
+            ("a writer that fails", AT_ONCE, Behaviour { piece, trouble })
+        }
+        Failing::FullWriter => {
+            let trouble = Trouble::MovesNothingAt(call);
+            ("a full writer", AT_ONCE, Behaviour { piece, trouble })
+        }
+    };
+    Ok(Manner {
+        name: format!(in alloc; "{name} at call {call}")?,
+        reading,
+        writing,
+    })
+}
+
+/// Lets a device fail at its first call, at its second, and so on, until it makes no call of that number.
+fn try_failing<R: Wait>(
+    rt: &R,
+    alloc: Global,
+    output: &mut Vec<u8>,
+    service: &mut Service<'_>,
+    row: &Row,
+    at_once: &Served,
+    device: Failing,
+) -> Result<(), RunError> {
+    for call in 1..=MOST_CALLS {
+        let (request, answer) = (row.request.len(), at_once.bytes.len());
+        let manner = failing_manner(alloc, device, call, request, answer)?;
+        if !try_manner(rt, alloc, output, service, row, at_once, &manner)? {
+            return Ok(());
+        }
+    }
+    Ok(())
+}
+
+/// Answers a request at once and appends the line of the answer; then in each other manner, and appends a line for each
+/// that differs. Gives the answer.
+pub(crate) fn push_row<R: Wait>(
+    rt: &R,
+    alloc: Global,
+    output: &mut Vec<u8>,
+    service: &mut Service<'_>,
+    row: &Row,
+) -> Result<Vec<u8>, RunError> {
+    let at_once = service.serve(rt, alloc, row, AT_ONCE, AT_ONCE);
+    push_answer(alloc, output, &at_once.bytes, row.shows_whole)?;
+    if !has_status_line(alloc, &at_once)? {
+        push_difference(alloc, output, "at once", &at_once)?;
+    }
+    if row.is_once {
+        return Ok(at_once.bytes);
+    }
+    for manner in &steady_manners(alloc)? {
+        try_manner(rt, alloc, output, service, row, &at_once, manner)?;
+    }
+    for device in [Failing::Reader, Failing::Writer, Failing::FullWriter] {
+        try_failing(rt, alloc, output, service, row, &at_once, device)?;
+    }
+    Ok(at_once.bytes)
+}
+
+/// Serves a reader that ends at once, and appends a line where that is not told or a byte is written.
+pub(crate) fn push_closed<R: Wait>(
+    rt: &R,
+    alloc: Global,
+    output: &mut Vec<u8>,
+    service: &mut Service<'_>,
+) -> Result<(), RunError> {
+    let row = Row {
+        request: Vec::new(alloc),
+        is_open: false,
+        shows_whole: true,
+        is_once: true,
+    };
+    let served = service.serve(rt, alloc, &row, AT_ONCE, AT_ONCE);
+    if served.status != Err(ServeError::Closed) || !served.bytes.is_empty() {
+        push_difference(alloc, output, "a reader that ends at once", &served)?;
+    }
+    Ok(())
+}
