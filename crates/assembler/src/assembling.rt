@@ -9,8 +9,8 @@ ghost use Rattle.assembler_lexer.specs.Words.{parts};
 
 use crate::draft::{Draft, fault};
 use crate::fault::{AsmError, AsmErrorKind};
-use isa::Program;
 use assembler_lexer::{is_text, split_line};
+use isa::Program;
 use std::alloc::Global;
 
 /// Takes the lines after the header.

@@ -10,11 +10,11 @@ ghost use Rattle.assembler.specs.declared.fault.AsmError.TheVariants as errors;
 
 use crate::fault::{AsmError, AsmErrorKind, AsmFault};
 use crate::things::{first_number, instr_of, miss_of, numbered_constant, numbered_list};
+use assembler_lexer::{is_text, number_of, split_word};
 use isa::{
     Lists, MOST_CONSTANT_BYTES, MOST_ENTRIES, MOST_INSTRS, MOST_TABLES, Parts, Program,
     ProgramError,
 };
-use assembler_lexer::{is_text, number_of, split_word};
 use std::alloc::Global;
 use std::marker::Model;
 

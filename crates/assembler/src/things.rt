@@ -4,9 +4,9 @@ ghost use Rattle.std.specs.Prelude.{◌≡◌, ℕ, List, Option, IfOk, option_m
 ghost use Rattle.assembler.specs.Things.{at_end, bytes_in, constant_in, each_in, entry_in, first_number, instr_in, miss_in, numbered, operand_in};
 ghost use Rattle.assembler_lexer.specs.Words.{later, number_in};
 
+use assembler_lexer::{kind_named, next_word, number_of, operation_named};
 use hex::FromHexError;
 use isa::{Entry, Instr, Shape};
-use assembler_lexer::{kind_named, next_word, number_of, operation_named};
 use outcome::Mismatch;
 use std::alloc::{AllocError, Global};
 

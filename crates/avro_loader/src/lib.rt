@@ -11,8 +11,8 @@ mod reading;
 mod saving;
 mod thing;
 
-pub use fault::LoadError;
 pub use avro_loader_format::{ImageFault, Version};
+pub use fault::LoadError;
 pub use laws::image_is_of_one_program;
 pub use loading::{load, migrate};
 pub use saving::save;

@@ -7,7 +7,7 @@ mod laws;
 mod numbers;
 mod schema;
 
+pub use avro_schema_names::SchemaError;
 pub use avro_types::{Aliases, Datum, Field, Kind, Name, Nodes, Symbols};
 pub use laws::parsed_schema_is_declared;
 pub use schema::Schema;
-pub use avro_schema_names::SchemaError;

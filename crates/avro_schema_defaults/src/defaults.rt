@@ -10,9 +10,9 @@ ghost use Rattle.avro_schema_drafts.specs.Draft.{HasFewSymbols, HaveFewSymbols, 
 ghost use Rattle.avro_schema_names.specs.Fault.{Tells};
 ghost use Rattle.avro_types.specs.Node.{UnionNode, node_of};
 
-use avro_types::{Datum, Kind};
 use avro_schema_drafts::{Draft, DraftField};
 use avro_schema_names::{SchemaError, default_member};
+use avro_types::{Datum, Kind};
 use serde_json::{Map, Number, Value};
 use std::alloc::Global;
 

@@ -9,9 +9,9 @@ ghost use Rattle.avro_schema_names.specs.Fault.{Tells};
 ghost use Rattle.avro_types.specs.Node.{fields_of, node_of, nodes_of};
 
 use crate::defaults::default_at;
-use avro_types::{Datum, Field, Kind};
 use avro_schema_drafts::{Draft, DraftField};
 use avro_schema_names::SchemaError;
+use avro_types::{Datum, Field, Kind};
 use std::alloc::{AllocError, Global};
 
 /// The datum of a field's default, where it has one.

@@ -15,8 +15,8 @@ ghost use Rattle.avro_schema_drafts.specs.Index.{IsNamespaceOf, IsNumbered, text
 use crate::error::SchemaError;
 use crate::names::{NewName, is_full_name, new_name};
 use crate::type_attributes::{are_names, texts_of};
-use avro_types::{Aliases, Name};
 use avro_schema_drafts::{Drafts, Namespace};
+use avro_types::{Aliases, Name};
 use serde_json::Value;
 use std::alloc::Global;
 

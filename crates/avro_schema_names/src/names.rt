@@ -14,8 +14,8 @@ ghost use Rattle.avro_schema_names.specs.Word.{is_primitive, word_of};
 
 use crate::error::SchemaError;
 use crate::word::Word;
-use avro_types::Name;
 use avro_schema_drafts::{Drafts, FieldList, Namespace};
+use avro_types::Name;
 use serde_json::Value;
 use std::alloc::Global;
 use std::sync::ArcStr;

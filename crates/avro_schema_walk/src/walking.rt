@@ -11,12 +11,12 @@ ghost use Rattle.avro_types.specs.Node.{node_of};
 ghost use Rattle.avro_schema_walk.specs.Walk.{leaf, reference, named, walk, members, if_room, union_of, or_unknown, fields, fields_after, field};
 
 use crate::holder::Holder;
-use avro_types::{Aliases, Kind, MOST_FIELDS, MOST_NODES};
 use avro_schema_drafts::{Draft, DraftField, Drafts, FieldList, Namespace};
 use avro_schema_names::{
     Form, SchemaError, Word, are_apart, default_symbol, defined_node, field_aliases, field_name,
     new_names, size_of, symbols_of,
 };
+use avro_types::{Aliases, Kind, MOST_FIELDS, MOST_NODES};
 use serde_json::Value;
 use std::alloc::Global;
 

@@ -5,9 +5,9 @@ ghost use Rattle.command_io.specs.RunLine.{line_of_run, name_of_trap, text_of_en
 
 use crate::outcome_line::push_outcome;
 use isa::{End, Trap};
+use machine_stepper::Machine;
 use std::alloc::{AllocError, Global};
 use std::fmt::Write;
-use machine_stepper::Machine;
 
 /// The name of a trap.
 fn name_of_trap(trap: Trap) -> &'static str

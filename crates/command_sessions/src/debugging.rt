@@ -7,8 +7,8 @@ ghost use Rattle.command_sessions.specs.Debugging.{AnswersCommand, IsDebugged, O
 ghost use Rattle.command_sessions.specs.Folding.{Grows};
 
 use crate::telling::{push_code, push_refusal, push_state};
-use command_io::{payload_of, split_line, split_line_or_empty};
 use avro_types::Nodes;
+use command_io::{payload_of, split_line, split_line_or_empty};
 use command_parser::{DebugLine, read_debug_line};
 use isa::Program;
 use program_compiler::{CompileError, compile};

@@ -15,8 +15,8 @@ mod schemas;
 mod status;
 mod transcode;
 
-pub use command_io::{MOST_READS, MOST_WRITES, RunError};
 pub use command::run;
+pub use command_io::{MOST_READS, MOST_WRITES, RunError};
 pub use command_line::Verb;
 pub use laws::input_has_one_output;
 pub use status::Status;

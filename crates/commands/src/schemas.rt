@@ -6,8 +6,8 @@ ghost use Rattle.command_io.specs.Lines.{lines};
 ghost use Rattle.commands.specs.Schemas.{schema_of_line, schemas_of};
 
 use crate::refusal::Refusal;
-use command_io::split_line_or_empty;
 use avro_schema::{Schema, SchemaError};
+use command_io::split_line_or_empty;
 use std::alloc::Global;
 
 /// The schemas of an input, and what follows their lines.

@@ -7,8 +7,8 @@ ghost use Rattle.command_io.specs.Answer.{IsAnswers};
 ghost use Rattle.command_io.specs.Lines.{lines};
 
 use crate::refusal::Refusal;
-use command_io::{push_answer, split_line};
 use avro_types::Nodes;
+use command_io::{push_answer, split_line};
 use machine::Transcoder;
 use program_compiler::CompileError;
 use std::alloc::{AllocError, Global};

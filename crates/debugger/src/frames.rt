@@ -9,9 +9,9 @@ ghost use Rattle.debugger.specs.Words.{bytes};
 
 use crate::words::{push_buffer, push_number, push_walk};
 use avro_bytes::BlockWalk;
+use machine_stepper::{BufferAt, FrameView, Machine};
 use std::alloc::{AllocError, Global};
 use std::fmt::Write;
-use machine_stepper::{BufferAt, FrameView, Machine};
 
 /// Appends the slots of a frame, of which there are so many.
 fn push_slots(

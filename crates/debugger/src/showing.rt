@@ -8,10 +8,10 @@ use crate::frames::{push_calls, push_frames};
 use crate::words::{push_buffer, push_mark, push_part, push_truth};
 use assembler::disassemble;
 use isa::{End, Program};
+use machine_stepper::{BufferAt, Machine};
 use outcome::Outcome;
 use std::alloc::{AllocError, Global};
 use std::fmt::Write;
-use machine_stepper::{BufferAt, Machine};
 
 /// Whether a run goes on, or how it ended.
 fn name_of_state(machine: &Machine, no_memory: bool) -> &'static str

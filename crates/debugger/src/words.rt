@@ -6,9 +6,9 @@ ghost use Rattle.machine_stepper.specs.Running.{part_of};
 ghost use Rattle.debugger.specs.Words.{bytes, number, number_or_none, part, size_or_none, truth, walk};
 
 use avro_bytes::BlockWalk;
+use machine_stepper::{BufferAt, Machine, Part};
 use std::alloc::{AllocError, Global};
 use std::fmt::Write;
-use machine_stepper::{BufferAt, Machine, Part};
 
 /// Appends a number, and `-` for none.
 pub(crate) fn push_number(output: &mut String, number: Option<usize>) -> Result<(), AllocError>

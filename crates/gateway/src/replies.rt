@@ -6,11 +6,11 @@ ghost use Rattle.schema_registry.specs.Command.{Command};
 ghost use Rattle.schema_registry.specs.Reply.{reply_of};
 ghost use Rattle.gateway.specs.Replies.{SetsLevel, fault_of, reply_data};
 
+use avro_schema_names::SchemaError;
 use gateway_answers::{
     Fault, compatibility_text, entry_text, id_text, level_text, names_text, new_level_text,
     numbers_text, schema_text,
 };
-use avro_schema_names::SchemaError;
 use schema_registry::{Refusal, Reply};
 use std::alloc::{AllocError, Global};
 

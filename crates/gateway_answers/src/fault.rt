@@ -6,8 +6,8 @@ ghost use Rattle.gateway_answers.specs.declared.fault.Fault.TheVariants.{BadEnve
 
 use crate::status::Status;
 use avro_bytes::MalformedKind;
-use outcome::Mismatch;
 use avro_schema_names::SchemaError;
+use outcome::Mismatch;
 use std::alloc::{AllocError, AllocFailed, Global};
 use wire_frames::EnvelopeError;
 

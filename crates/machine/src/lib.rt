@@ -7,10 +7,10 @@ mod run;
 mod transcoder;
 mod transcoding;
 
-pub use resolver::{Outcome, TranscodeError};
-pub use run::Run;
 pub use machine_stepper::{
     BufferAt, FrameView, Machine, Part, Slice, Step, Why, machines_go_on_with_more_input,
 };
+pub use resolver::{Outcome, TranscodeError};
+pub use run::Run;
 pub use transcoder::{Transcoder, transcode_by};
 pub use transcoding::{PairError, transcode};

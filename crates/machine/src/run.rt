@@ -12,10 +12,10 @@ ghost use Rattle.machine.specs.Ending.{EarlyEndIsOutcome, EndIsOutcome, EndsInOn
 
 use avro_types::Nodes;
 use isa::{End, Program, row_or_end_is_there};
+use machine_stepper::{Machine, Slice, Why, machines_go_on_with_more_input};
 use program_correctness::{program_ends_with_the_outcome, runs_alone_are_counted_and_stay};
 use std::alloc::{AllocError, Global};
 use std::marker::Model;
-use machine_stepper::{Machine, Slice, Why, machines_go_on_with_more_input};
 
 /// A run of a program on bytes that come in pieces.
 ///

@@ -17,8 +17,8 @@ use crate::machine::Machine;
 use crate::step::Step;
 use avro_bytes::{MalformedKind, read_length};
 use isa::{End, MOST_PIECE, Program, Trap};
-use outcome::Outcome;
 use machine_rules::{Part, Piece, TextCheck, piece_at};
+use outcome::Outcome;
 use std::alloc::AllocError;
 
 /// How a content moves.

@@ -17,12 +17,12 @@ ghost use Rattle.machine_stepper.specs.Running.{end_of};
 use crate::step::Step;
 use avro_bytes::{Fault, Meter, put_long};
 use isa::{End, Program, Trap};
-use outcome::Outcome;
-use machine_store::Store;
+use machine_lookahead::{Found, is_tight};
 use machine_rules::{Ending, Part, RowCount, TextCheck, Verdict};
+use machine_store::Store;
+use outcome::Outcome;
 use std::alloc::{AllocError, Global};
 use std::marker::Model;
-use machine_lookahead::{Found, is_tight};
 
 /// A run of a program: callers see it as a state of the instruction table, and how that is kept.
 #[derive(Drop)]

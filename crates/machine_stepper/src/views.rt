@@ -8,8 +8,8 @@ ghost use Rattle.machine_stepper.specs.Running.{carried, end_of};
 
 use crate::machine::Machine;
 use isa::End;
-use machine_store::{BufferAt, FrameView};
 use machine_rules::Part;
+use machine_store::{BufferAt, FrameView};
 use std::alloc::AllocError;
 
 impl Machine {

@@ -4,9 +4,9 @@
 use crate::programs::push_hex;
 use crate::rows::assert_questions;
 use isa::Program;
+use machine_stepper::Machine;
 use std::alloc::{AllocError, Global};
 use std::test::Fail;
-use machine_stepper::Machine;
 
 /// Slots in their order are found at once. Where the first value is skipped, slots come in another order and one has a
 /// default, from the second time on; the same where a slot's bytes stand in neither the payload nor a constant. What is

@@ -7,10 +7,10 @@ use crate::programs::push_hex;
 use crate::rows::{assert_questions, assert_rows};
 use debugger::show;
 use isa::Program;
+use machine_stepper::{BufferAt, Machine, Step};
 use std::alloc::{AllocError, Global};
 use std::fmt::Write;
 use std::test::Fail;
-use machine_stepper::{BufferAt, Machine, Step};
 
 /// More segments than any buffer of these tests has.
 const SEGMENTS: usize = 4;

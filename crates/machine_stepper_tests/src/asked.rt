@@ -9,8 +9,8 @@ use crate::programs::{push_words, run};
 use crate::show_tests::{push_listing, push_shown, push_shown_after};
 use crate::slice_tests::{TURNS, WAITING, push_messages, push_turns};
 use isa::Program;
-use std::alloc::{AllocError, Global};
 use machine_stepper::{BufferAt, Machine};
+use std::alloc::{AllocError, Global};
 
 /// The number that a word is.
 fn number(word: Option<&str>) -> u64 {

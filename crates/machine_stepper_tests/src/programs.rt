@@ -8,10 +8,10 @@ use crate::texts::push_text;
 use assembler::{AsmError, assemble};
 use hex::FromHexError;
 use isa::{End, Program, Trap};
+use machine_stepper::{Machine, Why};
 use outcome::Outcome;
 use std::alloc::{AllocError, Global};
 use std::fmt::Write;
-use machine_stepper::{Machine, Why};
 
 /// More turns than any test takes.
 const TURNS: usize = 20_000;

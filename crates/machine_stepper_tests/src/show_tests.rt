@@ -6,9 +6,9 @@ ghost use Rattle.machine_stepper.specs.Running.{start};
 use crate::rows::{assert_questions, assert_rows};
 use debugger::{list, show};
 use isa::Program;
+use machine_stepper::{Machine, Why};
 use std::alloc::{AllocError, Global};
 use std::test::Fail;
-use machine_stepper::{Machine, Why};
 
 /// A number is decoded, a text is begun, a block by its count, a block with its size, one that is skipped, an output, a
 /// mismatch, bad bytes, a trap, and want of memory.

@@ -5,10 +5,10 @@ ghost use Rattle.machine_stepper.specs.Running.{IsOn, IsUnder};
 use crate::programs::push_words;
 use crate::rows::assert_questions;
 use isa::Program;
+use machine_stepper::{Machine, Why};
 use std::alloc::{AllocError, Global};
 use std::fmt::Write;
 use std::test::Fail;
-use machine_stepper::{Machine, Why};
 
 /// After six rows a content is begun: the breakpoint at its instruction does not stop it. A slice waits for bytes, and
 /// a machine that is reset takes its message again.

@@ -334,7 +334,12 @@ impl Buffers {
     }
 
     /// Appends the bytes of a buffer to others. What stands behind those after an `Err` is not said.
-    pub fn write(&self, alloc: Global, place: TargetBuffer, out: &mut Vec<u8>) -> Result<(), AllocError>
+    pub fn write(
+        &self,
+        alloc: Global,
+        place: TargetBuffer,
+        out: &mut Vec<u8>,
+    ) -> Result<(), AllocError>
         requires { IsPlace (length self.now.slots) place }
         ensures { OnOk result (out.new.items ≡ out.old.items
             ++ bytes_of self.now.arena (segments_at self.now place)) }

@@ -9,8 +9,8 @@ ghost use Rattle.machine_store.specs.Store.{Appends, around_items, close_blocks,
 
 use crate::buffers::{Buffers, TargetBuffer};
 use avro_bytes::{BlockWalk, Meter};
-use outcome::MOST_OUTPUT;
 use machine_rules::spell_around;
+use outcome::MOST_OUTPUT;
 use std::alloc::{AllocError, Global};
 use std::marker::Model;
 
@@ -496,7 +496,8 @@ impl Store {
             unreachable!()
         };
         scratch.clear();
-        self.buffers.write(alloc, TargetBuffer::Slot(first), scratch)?;
+        self.buffers
+            .write(alloc, TargetBuffer::Slot(first), scratch)?;
         let held = self.held() - scratch.len();
         if held == MOST_OUTPUT {
             self.pass_limit();

@@ -7,8 +7,8 @@ ghost use Rattle.machine_store.specs.Viewing.{buffer_of, end_below, end_over, fr
 use crate::buffers::TargetBuffer;
 use crate::store::{Frame, Store};
 use avro_bytes::BlockWalk;
-use outcome::MOST_OUTPUT;
 use machine_ropes::Segment;
+use outcome::MOST_OUTPUT;
 use std::alloc::{AllocError, Global};
 
 /// What a frame is, less the bytes of its buffers.

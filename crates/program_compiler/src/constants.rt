@@ -15,8 +15,8 @@ ghost use Rattle.program_ir.specs.Lines.{bytes_of as bytes_of_constant};
 use avro_bytes::put_long;
 use avro_datum::{WriteError, write};
 use avro_types::{Datum, Kind, Nodes};
-use program_lowering::{Constant, Line};
 use program_ir::Constants;
+use program_lowering::{Constant, Line};
 use std::alloc::{AllocError, Global};
 use std::collections::BTreeMap;
 

@@ -7,8 +7,8 @@ ghost use Rattle.program_compiler.specs.Tables.{AreShared};
 
 use avro_types::{Kind, Nodes};
 use isa::{Entry, Lists, MOST_TABLES};
-use program_lowering::Line;
 use program_ir::{Misses, entries};
+use program_lowering::Line;
 use std::alloc::{AllocError, Global};
 use std::collections::BTreeMap;
 

@@ -6,8 +6,8 @@ ghost use Rattle.program_definition.specs.Lines.{branched, looped, miss};
 ghost use Rattle.program_ir.specs.Lines.{HasSlot, go_of, jump_lines, line_of, lines_in, parts_in, record_line, routine_lines, slot_lines};
 
 use isa::Instr;
-use resolver_matching::Route;
 use outcome::{Mismatch, MismatchKind};
+use resolver_matching::Route;
 use std::alloc::{AllocError, Global};
 
 /// A part of the code.

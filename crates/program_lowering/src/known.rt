@@ -10,8 +10,8 @@ use crate::members::{name_of, positions_of};
 use crate::named_types::NamedTypes;
 use crate::schema_pair::SchemaPair;
 use avro_types::{Kind, Name, Nodes};
-use resolver_matching::{Destination, matches_by_rule, place_of, routes};
 use resolver::{field_lists, first_lacking};
+use resolver_matching::{Destination, matches_by_rule, place_of, routes};
 use std::alloc::{AllocError, Global};
 use std::collections::BTreeMap;
 

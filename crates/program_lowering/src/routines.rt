@@ -20,9 +20,9 @@ use crate::known::Known;
 use crate::schema_pair::SchemaPair;
 use avro_types::{Field, Kind, MOST_FIELDS};
 use isa::Instr;
-use resolver_matching::{Route, routes};
 use program_ir::{Constant, Line, Section, put, put_routine, put_slot};
 use resolver::field_lists;
+use resolver_matching::{Route, routes};
 use std::alloc::{AllocError, Global};
 
 /// Which of so many reader's fields have partners.

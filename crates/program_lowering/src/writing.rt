@@ -17,10 +17,10 @@ use crate::known::Known;
 use crate::schema_pair::SchemaPair;
 use avro_types::Kind;
 use isa::Instr;
-use resolver_matching::{Destination, both_items, both_values};
 use outcome::MismatchKind;
 use program_ir::{Constant, Go, Line, miss, put, put_branched, put_loop, put_record};
 use resolver::field_lists;
+use resolver_matching::{Destination, both_items, both_values};
 use std::alloc::AllocError;
 
 impl SchemaPair<'_> {

@@ -12,8 +12,8 @@ use crate::leaves::{bytes_for, enum_for, int_for, text_for};
 use crate::mismatch::{ResolveError, mismatched};
 use crate::unions::member_of;
 use avro_types::{Datum, Nodes};
-use resolver_matching::{Destination, Route, both_items, both_values, place_of, routes};
 use outcome::MismatchKind;
+use resolver_matching::{Destination, Route, both_items, both_values, place_of, routes};
 use std::alloc::Global;
 
 /// Resolves a datum of a writer's node for a reader's node. A writer's union goes first.
