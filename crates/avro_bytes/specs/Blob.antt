@@ -16,7 +16,7 @@ abbrev pub FaultyFixed : ℕ → List ℕ → Defect → Type 0
 FaultyFixed size bytes (Malformed kind offset) = ⊥
 FaultyFixed size bytes Need = length bytes < size
 
--- the bytes of a fixed at a place
+-- the bytes of a fixed at an offset
 unfoldable pub fixed_at : ℕ → List ℕ → ℕ → Meter → Decoding (List ℕ)
 fixed_at size bytes at m =
     if nat_lt (length bytes - at) size then Failed Need
@@ -32,6 +32,6 @@ pub record IsBlob (value bytes : List ℕ) : Type 0 where
   pub number : IsNumber64 (pos (length value)) len
   pub short : length value ≤ MOST_CONTENT
 
--- the content after the length at a place: a fixed of that size
+-- the content after the length at an offset: a fixed of that size
 unfoldable pub content_at : List ℕ → ℕ → Meter → Decoding (List ℕ)
 content_at bytes at m = length_at bytes at m >>= λ n to after. fixed_at n bytes to after

@@ -10,7 +10,7 @@ use Rattle.avro_bytes.specs.Number.{long_limit}
 use Rattle.avro_bytes.specs.NumberDecoding.{number_at}
 use Rattle.avro_bytes.specs.Walk.{Walk, first_walk}
 
--- what beginning at a place answers, where the meter opens so
+-- what beginning at an offset answers, where the meter opens so
 abbrev pub Begins : ℕ → Result (Walk × Meter) Fault → Result Meter Fault → Type 0
 Begins at (Ok r) opening = (opening ≡ Ok r.1) × (r.0 ≡ first_walk at)
 Begins at (Err e) opening = opening ≡ Err e
@@ -25,7 +25,7 @@ has_size None len = true
 has_size (Some (pos n)) len = n == len
 has_size (Some (negsuc n)) len = false
 
--- whether the items that end at a place have their block's size
+-- whether the items that end at an offset have their block's size
 abbrev pub is_met : Walk → ℕ → Bool
 is_met walk at = has_size walk.size (at - walk.items_at)
 

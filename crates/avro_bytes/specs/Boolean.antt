@@ -23,7 +23,7 @@ abbrev pub FaultyBoolean : List ℕ → Defect → Type 0
 FaultyBoolean bytes (Malformed kind offset) = IsAboveOne bytes × (kind ≡ BadBoolean) × (offset ≡ 0)
 FaultyBoolean bytes Need = bytes ≡ []
 
--- the boolean that begins a list, which stands at a place
+-- the boolean that begins a list, which stands at an offset
 abbrev pub boolean_of : ℕ → Meter → List ℕ → Decoding Bool
 boolean_of at m [] = Failed Need
 boolean_of at m (byte ∷ rest) =
@@ -31,6 +31,6 @@ boolean_of at m (byte ∷ rest) =
     else if byte == 1 then Complete true (at + 1) m
     else Failed (Malformed BadBoolean at)
 
--- the boolean at a place
+-- the boolean at an offset
 unfoldable pub boolean_at : List ℕ → ℕ → Meter → Decoding Bool
 boolean_at bytes at m = boolean_of at m (drop at bytes)

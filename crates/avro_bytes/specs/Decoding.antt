@@ -1,4 +1,4 @@
--- What decoding the bytes at a place gives (Avro 1.11, "Binary Encoding").
+-- What decoding the bytes at an offset gives (Avro 1.11, "Binary Encoding").
 -- This project's own rule: why it gives no value.
 use Rattle.std.specs.Prelude.{◌≡◌, ℕ, ◌+◌, List, ◌++◌, length, drop, Result, Ok, Err}
 use Rattle.avro_bytes.specs.declared.meter.Meter.{Meter}
@@ -12,8 +12,8 @@ pub data Defect : Type 0 where
   Malformed : MalformedKind → ℕ → Defect
   Need : Defect
 
--- a value, with the place after its spelling and the meter there; or why there is none, whose place is counted from the
--- first byte
+-- a value, with the offset after its spelling and the meter there; or why there is none, whose offset is counted from
+-- the first byte
 pub data Decoding (V : Type 0) : Type 0 where
   Complete : V → ℕ → Meter → Decoding V
   Failed : Defect → Decoding V

@@ -14,7 +14,7 @@ abbrev pub shifted : ℕ → Defect → Defect
 shifted len (Malformed kind offset) = Malformed kind (len + offset)
 shifted len Need = Need
 
--- what decoding gives at a defect of the bytes from a place on
+-- what decoding gives at a defect of the bytes from an offset on
 abbrev pub failing : {V : Type 0} → ℕ → Defect → Decoding V
 failing at d = Failed (shifted at d)
 

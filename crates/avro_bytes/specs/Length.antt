@@ -8,12 +8,12 @@ use Rattle.avro_bytes.specs.Decoding.{Complete, Decoding, Failed, Malformed, ◌
 use Rattle.avro_bytes.specs.Number.{IsNumber64, long_limit}
 use Rattle.avro_bytes.specs.NumberDecoding.{number_at}
 
--- a number, where it is a length, which stands at a place before
+-- a number, where it is a length, which stands at an offset before
 abbrev pub length_of : ℕ → ℤ → ℕ → Meter → Decoding ℕ
 length_of at (pos n) to m = if nat_lt MOST_CONTENT n then Failed (Malformed BadLength at) else Complete n to m
 length_of at (negsuc n) to m = Failed (Malformed BadLength at)
 
--- the length at a place
+-- the length at an offset
 unfoldable pub length_at : List ℕ → ℕ → Meter → Decoding ℕ
 length_at bytes at m = number_at long_limit bytes at m >>= length_of at
 

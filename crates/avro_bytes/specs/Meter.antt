@@ -12,20 +12,20 @@ use Rattle.avro_bytes.specs.Decoding.{Defect, Malformed}
 abbrev pub start : Meter
 start = record { depth = 0; units = 0 }
 
--- inside a record that begins at a place: one deeper, and one unit more
+-- inside a record that begins at an offset: one deeper, and one unit more
 abbrev pub opened_record : ℕ → Meter → Result Meter Fault
 opened_record at m =
     if nat_le MOST_DEPTH m.depth then Err (fault.Malformed TooDeep at)
     else if nat_le MOST_UNITS m.units then Err (fault.Malformed TooMany at)
     else Ok (record { depth = m.depth + 1; units = m.units + 1 })
 
--- at an array item or a map pair that begins at a place: one unit more
+-- at an array item or a map pair that begins at an offset: one unit more
 abbrev pub opened_item : ℕ → Meter → Result Meter Fault
 opened_item at m =
     if nat_le MOST_UNITS m.units then Err (fault.Malformed TooMany at)
     else Ok (record { depth = m.depth; units = m.units + 1 })
 
--- inside an array or a map that begins at a place: one deeper
+-- inside an array or a map that begins at an offset: one deeper
 abbrev pub opened_blocks : ℕ → Meter → Result Meter Fault
 opened_blocks at m =
     if nat_le MOST_DEPTH m.depth then Err (fault.Malformed TooDeep at)

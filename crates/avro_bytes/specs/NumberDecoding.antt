@@ -36,11 +36,11 @@ number_of at m (Ends bytes) = Complete (from_zigzag (groups_sum bytes)) (at + le
 number_of at m TooGreat = Failed (Malformed BadNumber at)
 number_of at m Open = Failed Need
 
--- the number at a place
+-- the number at an offset
 unfoldable pub number_at : Limit → List ℕ → ℕ → Meter → Decoding ℤ
 number_at limit bytes at m = number_of at m (number_front limit.most limit.top (drop at bytes))
 
--- for a private clause: the groups of a number put together, and the place after its bytes
+-- for a private clause: the groups of a number put together, and the offset after its bytes
 abbrev pub GivesGroups : Result (ℕ × ℕ) Fault → ℕ → Front → Type 0
 GivesGroups (Ok r) at front =
     (bytes : List ℕ) × (front ≡ Ends bytes) × (r.0 ≡ groups_sum bytes) × (r.1 ≡ at + length bytes)

@@ -30,11 +30,11 @@ FaultyPosition bad many bytes (Malformed kind offset) =
     FaultyNumber int_limit bytes (Malformed kind offset) ⊎ (IsBadPosition many bytes × (kind ≡ bad) × (offset ≡ 0))
 FaultyPosition bad many bytes Need = FaultyNumber int_limit bytes Need
 
--- a number, where it is a position, which stands at a place before
+-- a number, where it is a position, which stands at an offset before
 abbrev pub position_of : MalformedKind → ℕ → ℕ → ℤ → ℕ → Meter → Decoding ℕ
 position_of bad many at (pos n) to m = if nat_lt n many then Complete n to m else Failed (Malformed bad at)
 position_of bad many at (negsuc n) to m = Failed (Malformed bad at)
 
--- the position at a place
+-- the position at an offset
 unfoldable pub position_at : MalformedKind → ℕ → List ℕ → ℕ → Meter → Decoding ℕ
 position_at bad many bytes at m = number_at int_limit bytes at m >>= position_of bad many at

@@ -21,6 +21,6 @@ abbrev pub utf8_only : List ℕ → ℕ → Meter → Decoding (List ℕ)
 utf8_only content to m =
     if is_utf8 content then Complete content to m else Failed (Malformed BadText (to - length content))
 
--- the text at a place
+-- the text at an offset
 unfoldable pub text_at : List ℕ → ℕ → Meter → Decoding (List ℕ)
 text_at bytes at m = content_at bytes at m >>= utf8_only

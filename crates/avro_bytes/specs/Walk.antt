@@ -12,6 +12,6 @@ pub record Walk : Type 0 where
   -- how many bytes the block says that its items have, where it says so
   pub size : Option ℤ
 
--- before the first block, which begins at a place
+-- before the first block, which begins at an offset
 abbrev pub first_walk : ℕ → Walk
 first_walk at = record { left = 0; count_at = at; items_at = at; size = None }

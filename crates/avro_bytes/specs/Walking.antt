@@ -6,7 +6,7 @@ use Rattle.avro_bytes.specs.BlockDecoding.{item_at, next_item}
 use Rattle.avro_bytes.specs.Blocks.{IsItems, SizeIs, joined}
 use Rattle.avro_bytes.specs.Walk.{Walk}
 
--- the items that end at a place have their block's size
+-- the items that end at an offset have their block's size
 abbrev pub IsMet : Walk → ℕ → Type 0
 IsMet walk at = SizeIs walk.size (at - walk.items_at)
 

@@ -15,7 +15,7 @@ use crate::length::read_length;
 use crate::meter::Meter;
 use std::alloc::Global;
 
-/// So many bytes at a place.
+/// So many bytes at an offset.
 #[tactic(auto, unfolding(crate::specs::Blob::fixed_at))]
 fn fixed(bytes: &[u8], size: usize, at: usize, m: Meter) -> Result<(&[u8], usize, Meter), Fault>
     requires { at ≤ length bytes.now }
@@ -31,7 +31,7 @@ fn fixed(bytes: &[u8], size: usize, at: usize, m: Meter) -> Result<(&[u8], usize
     Ok((&bytes[at..at + size], at + size, m))
 }
 
-/// The content after the length at a place.
+/// The content after the length at an offset.
 #[tactic(auto, unfolding(crate::specs::Blob::content_at))]
 pub(crate) fn content(bytes: &[u8], at: usize, m: Meter) -> Result<(&[u8], usize, Meter), Fault>
     requires { at ≤ length bytes.now }

@@ -36,7 +36,8 @@ impl BlockWalk {
     ghost use Rattle.avro_bytes.specs.Contract.{Finds};
     ghost use Rattle.avro_bytes.specs.Meter.{opened_blocks};
 
-    /// A walk over the blocks at a place, and the meter inside them. `TooDeep` inside `MOST_DEPTH` others, told there.
+    /// A walk over the blocks at an offset, and the meter inside them. `TooDeep` inside `MOST_DEPTH` others, told
+    /// there.
     pub fn begin(at: usize, m: Meter) -> Result<(BlockWalk, Meter), Fault>
         ensures { Begins at result (opened_blocks at m) }
     {
@@ -136,7 +137,7 @@ impl BlockWalk {
         BlockWalk::next_block(bytes, at, m)
     }
 
-    /// Whether the items that end at a place have the block's size.
+    /// Whether the items that end at an offset have the block's size.
     fn is_met(self, at: usize) -> bool
         ensures { result ≡ is_met self at }
     {
@@ -146,7 +147,7 @@ impl BlockWalk {
         }
     }
 
-    /// The walk inside the block at a place, or none after the blocks.
+    /// The walk inside the block at an offset, or none after the blocks.
     #[tactic(auto, unfolding(crate::specs::BlockDecoding::next_block))]
     fn next_block(
         bytes: &[u8],

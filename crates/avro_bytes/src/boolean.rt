@@ -13,7 +13,7 @@ use crate::meter::Meter;
 #[derive(Clone, Copy, Debug)]
 pub struct Bool;
 
-/// The boolean at a place. It takes no memory.
+/// The boolean at an offset. It takes no memory.
 #[tactic(auto, using(crate::specs::Laws::Booleans::boolean_past, crate::specs::Laws::Booleans::boolean_there))]
 pub fn read_boolean(bytes: &[u8], at: usize, m: Meter) -> Result<(bool, usize, Meter), Fault>
     requires { at ≤ length bytes.now }

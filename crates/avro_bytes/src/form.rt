@@ -9,7 +9,7 @@ ghost use Rattle.avro_bytes.specs.Fault.{HasDefect, failing};
 use crate::fault::Fault;
 use crate::meter::Meter;
 
-/// A way of spelling values as bytes. Places are offsets from the start of the bytes.
+/// A way of spelling values as bytes. Offsets are counted from the start of the bytes.
 pub trait WireForm {
     type Value;
 
@@ -21,19 +21,19 @@ pub trait WireForm {
     /// Which bytes spell a value.
     ghost spells: { Self → Meaning → List ℕ → Type 0 };
 
-    /// Which bytes, from a place with a meter on, begin no spelling, and what is the first fault of them.
+    /// Which bytes, from an offset with a meter on, begin no spelling, and what is the first fault of them.
     ghost faulty: { Self → List ℕ → Meter → Defect → Type 0 };
 
     /// That a value stays within the limits after a meter, and the meter after it.
     ghost counts: { Meaning → Meter → Meter → Type 0 };
 
-    /// What decoding gives at a place of the bytes.
+    /// What decoding gives at an offset of the bytes.
     ghost decoding: { Self → List ℕ → ℕ → Meter → Decoding Meaning };
 
     /// How decoding may come out where reading runs out of memory; in no way, where reading takes none.
     ghost lacks: { Self → Decoding Meaning → Type 0 };
 
-    /// The value at a place, the place after its spelling, and the meter there; else the first fault.
+    /// The value at an offset, the offset after its spelling, and the meter there; else the first fault.
     fn read(&self, bytes: &[u8], at: usize, m: Meter) -> Result<(Self::Value, usize, Meter), Fault>
         requires { at ≤ length bytes.now }
         ensures reads { Reads meaning (lacks self.now) result (decoding self.now bytes.now at m) }

@@ -9,7 +9,7 @@ use crate::limits::MOST_CONTENT;
 use crate::meter::Meter;
 use crate::number::read_long;
 
-/// The length at a place, of a content that stands after it. It takes no memory.
+/// The length at an offset, of a content that stands after it. It takes no memory.
 #[tactic(auto, unfolding(crate::specs::Length::length_at))]
 pub fn read_length(bytes: &[u8], at: usize, m: Meter) -> Result<(usize, usize, Meter), Fault>
     requires { at ≤ length bytes.now }

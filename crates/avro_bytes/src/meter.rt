@@ -19,15 +19,16 @@ impl Meter {
     /// The meter before a message.
     pub const START: Meter = Meter { depth: 0, units: 0 };
 
-    /// The meter inside a record that begins at a place. `TooDeep` inside `MOST_DEPTH` others, and else `TooMany` after
-    /// `MOST_UNITS` units, either told there.
+    /// The meter inside a record that begins at an offset. `TooDeep` inside `MOST_DEPTH` others, and else `TooMany`
+    /// after `MOST_UNITS` units, either told there.
     pub fn enter_record(self, at: usize) -> Result<Meter, Fault>
         ensures { result ≡ opened_record at self }
     {
         self.enter_blocks(at)?.enter_item(at)
     }
 
-    /// The meter at an array item or a map pair that begins at a place. `TooMany` after `MOST_UNITS` units, told there.
+    /// The meter at an array item or a map pair that begins at an offset. `TooMany` after `MOST_UNITS` units, told
+    /// there.
     pub fn enter_item(self, at: usize) -> Result<Meter, Fault>
         ensures { result ≡ opened_item at self }
     {
@@ -43,7 +44,7 @@ impl Meter {
         })
     }
 
-    /// The meter inside an array or a map that begins at a place. `TooDeep` inside `MOST_DEPTH` others, told there.
+    /// The meter inside an array or a map that begins at an offset. `TooDeep` inside `MOST_DEPTH` others, told there.
     pub fn enter_blocks(self, at: usize) -> Result<Meter, Fault>
         ensures { result ≡ opened_blocks at self }
     {

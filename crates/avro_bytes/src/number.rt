@@ -22,7 +22,7 @@ pub struct Int;
 #[derive(Clone, Copy, Debug)]
 pub struct Long;
 
-/// The groups of seven bits of the number at a place, put together, and the place after it.
+/// The groups of seven bits of the number at an offset, put together, and the offset after it.
 fn read_groups(bytes: &[u8], at: usize, most: usize, top: u8) -> Result<(u64, usize), Fault>
     requires in_bounds { at ≤ length bytes.now }
     requires some { 0 < most }
@@ -72,7 +72,7 @@ fn signed_32(groups: u64) -> i32
     if groups % 2 == 0 { half } else { -half - 1 }
 }
 
-/// The number of 64 bits at a place. It takes no memory.
+/// The number of 64 bits at an offset. It takes no memory.
 #[tactic(auto, unfolding(crate::specs::NumberDecoding::number_at))]
 pub fn read_long(bytes: &[u8], at: usize, m: Meter) -> Result<(i64, usize, Meter), Fault>
     requires { at ≤ length bytes.now }
@@ -85,7 +85,7 @@ pub fn read_long(bytes: &[u8], at: usize, m: Meter) -> Result<(i64, usize, Meter
     Ok((signed(groups), to, m))
 }
 
-/// The number of 32 bits at a place. It takes no memory.
+/// The number of 32 bits at an offset. It takes no memory.
 #[tactic(auto, unfolding(crate::specs::NumberDecoding::number_at))]
 pub fn read_int(bytes: &[u8], at: usize, m: Meter) -> Result<(i32, usize, Meter), Fault>
     requires { at ≤ length bytes.now }

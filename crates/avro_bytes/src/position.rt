@@ -18,7 +18,7 @@ pub struct Position {
     pub many: usize,
 }
 
-/// The position at a place, of so many symbols or members; any other number is bad. It takes no memory.
+/// The position at an offset, of so many symbols or members; any other number is bad. It takes no memory.
 #[tactic(auto, unfolding(crate::specs::Position::position_at))]
 pub fn read_position(
     bad: MalformedKind,

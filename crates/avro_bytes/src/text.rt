@@ -20,7 +20,7 @@ pub struct Text {
     pub alloc: Global,
 }
 
-/// The text at a place, in the bytes themselves.
+/// The text at an offset, in the bytes themselves.
 #[tactic(auto, using(crate::specs::Laws::Texts::text_complete_is, crate::specs::Laws::Texts::text_bad), unfolding(crate::specs::Text::text_at))]
 fn valid_text(bytes: &[u8], at: usize, m: Meter) -> Result<(&str, usize, Meter), Fault>
     requires { at ≤ length bytes.now }

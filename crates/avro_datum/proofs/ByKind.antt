@@ -1,4 +1,4 @@
--- What decoding gives at a place, by the kind of its node.
+-- What decoding gives at an offset, by the kind of its node.
 use Rattle.std.proofs.Common.{inl, ◌≡◌, ℕ, zero, suc, ◌-◌, List, [], ◌∷◌, length, Option, Some, false, Result, Ok, Err, refl, sym, ap, ◌∙◌, arith, slice_get, subst, String, Global, string_bytes}
 use Rattle.std.specs.Global.{Vec}
 use Rattle.std.specs.List.{AllByRecursion}
@@ -117,7 +117,7 @@ array_is v = ap ArrayDatum (from_each v.items) ∙ sym (datum_of-Array v)
 map_is : (v : Vec (String Global × rust.Datum)) → map_of (each_pair v.items) ≡ datum_of (rust.Map v)
 map_is v = ap MapDatum (from_each_pair v.items) ∙ sym (datum_of-Map v)
 
--- the blocks at a place, inside what was opened
+-- the blocks at an offset, inside what was opened
 pub blocks_are : {A : Type 0} (make : Decoder → Reader A) (nodes : List Node) (bytes : List ℕ) (at : ℕ) (m within : Meter) → opened_blocks at m ≡ Ok within
     → blocks_at (make (below (MOST_DEPTH - m.depth) nodes bytes)) bytes at m ≡ items_at (steps_left within) (make (node_at (MOST_DEPTH - within.depth) nodes bytes)) bytes (first_walk at) at within
 blocks_are make nodes bytes at m within h =

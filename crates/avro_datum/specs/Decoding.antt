@@ -1,4 +1,4 @@
--- Decoding a datum of a node at a place of the bytes (Avro 1.11, "Binary Encoding").
+-- Decoding a datum of a node at an offset of the bytes (Avro 1.11, "Binary Encoding").
 use Rattle.std.specs.Prelude.{ℕ, zero, suc, ◌-◌, List, [], ◌∷◌, length, Option, Some, None, slice_get}
 use Rattle.avro_bytes.specs.declared.fault.MalformedKind.TheVariants.{BadEnum, BadBranch}
 use Rattle.avro_bytes.specs.declared.meter.Meter.{Meter}
@@ -15,7 +15,7 @@ use Rattle.avro_datum.specs.ItemDecoding.{Reader, blocks_at}
 use Rattle.avro_bytes.specs.Position.{position_at}
 use Rattle.avro_bytes.specs.Decoding.{Complete, Decoding, Failed, Need, inside, map_decoding, ◌>>=◌}
 
--- what decodes a datum of a node at a place
+-- what decodes a datum of a node at an offset
 abbrev pub Decoder : Type 0
 Decoder = ℕ → ℕ → Meter → Decoding Datum
 

@@ -40,7 +40,7 @@ module _ (nodes : List Node) where
       -- a number that is no node's: nothing spells it, and no byte is faulty
       no_node : {node : ℕ} {bytes : List ℕ} {m : Meter} → slice_get nodes node ≡ None → FaultyDatum node bytes m Need
 
-    -- the bytes from a place on are faulty for a kind, with the meter there
+    -- the bytes from an offset on are faulty for a kind, with the meter there
     pub data FaultyKind : Node → List ℕ → Meter → Defect → Type 0 where
       faulty_boolean : {bytes : List ℕ} {m : Meter} {d : Defect} → FaultyBoolean bytes d
           → FaultyKind BooleanNode bytes m d

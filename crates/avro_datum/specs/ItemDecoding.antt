@@ -7,7 +7,7 @@ use Rattle.avro_bytes.specs.BlockDecoding.{next_item}
 use Rattle.avro_bytes.specs.Meter.{opened_blocks}
 use Rattle.avro_bytes.specs.Decoding.{Complete, Decoding, Failed, Need, inside, map_decoding, ◌>>=◌}
 
--- what decodes an item at a place
+-- what decodes an item at an offset
 abbrev pub Reader : Type 0 → Type 0
 Reader A = ℕ → Meter → Decoding A
 
@@ -28,7 +28,7 @@ items_at (suc left) reader bytes walk at m =
 abbrev pub steps_left : Meter → ℕ
 steps_left m = suc (MOST_UNITS - m.units)
 
--- the items of the blocks at a place, which open one level
+-- the items of the blocks at an offset, which open one level
 abbrev pub blocks_at : {A : Type 0} → Reader A → List ℕ → ℕ → Meter → Decoding (List A)
 blocks_at reader bytes at m =
     inside (opened_blocks at m) (λ within. items_at (steps_left within) reader bytes (first_walk at) at within)

@@ -63,7 +63,7 @@ pub(crate) fn read_leaf(
     }
 }
 
-/// The place after the datum of a kind that holds no others. It takes no memory.
+/// The offset after the datum of a kind that holds no others. It takes no memory.
 pub(crate) fn skip_leaf(
     alloc: Global,
     kind: &Kind,

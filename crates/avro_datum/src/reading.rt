@@ -17,7 +17,7 @@ use avro_bytes::{
 use avro_types::{Datum, Field, Kind, Nodes};
 use std::alloc::Global;
 
-/// The datum of a node at a place.
+/// The datum of a node at an offset.
 #[cycle(read)]
 pub(crate) fn read_node(
     alloc: Global,

@@ -14,7 +14,7 @@ use avro_bytes::{
 use avro_types::{Field, Kind, Nodes};
 use std::alloc::Global;
 
-/// The place after the datum of a node.
+/// The offset after the datum of a node.
 #[cycle(skip)]
 pub(crate) fn skip_node(
     alloc: Global,
@@ -38,7 +38,7 @@ pub(crate) fn skip_node(
     skip_plain(alloc, nodes, members[n as usize], bytes, to, after)
 }
 
-/// The place after the datum of a node that is no union.
+/// The offset after the datum of a node that is no union.
 #[cycle(skip)]
 fn skip_plain(
     alloc: Global,
@@ -80,7 +80,7 @@ fn skip_plain(
     }
 }
 
-/// The place after the data of fields.
+/// The offset after the data of fields.
 #[cycle(skip)]
 fn skip_fields(
     alloc: Global,
@@ -108,7 +108,7 @@ fn skip_fields(
     Ok((to, so_far))
 }
 
-/// The place after the items that a walk over blocks comes to, before any of which it is.
+/// The offset after the items that a walk over blocks comes to, before any of which it is.
 #[cycle(skip)]
 fn skip_items(
     alloc: Global,
@@ -142,7 +142,7 @@ fn skip_items(
     }
 }
 
-/// The place after the pairs that a walk over blocks comes to, before any of which it is.
+/// The offset after the pairs that a walk over blocks comes to, before any of which it is.
 #[cycle(skip)]
 fn skip_pairs(
     alloc: Global,
@@ -177,7 +177,7 @@ fn skip_pairs(
     }
 }
 
-/// The place after a key and the datum of a node.
+/// The offset after a key and the datum of a node.
 #[cycle(skip)]
 fn skip_pair(
     alloc: Global,

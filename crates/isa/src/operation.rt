@@ -88,7 +88,7 @@ pub const OPERATIONS: [Operation; 31] = [
     Operation::Halt,
 ];
 
-/// The operation at a place of a table.
+/// The operation at an offset of a table.
 fn in_table(table: &[Operation], place: usize) -> Option<Operation>
     ensures { result ≡ slice_get table.now place }
 {

@@ -20,7 +20,7 @@ none-of (Some x) e = absurd cc
 pub nothing-cut : EndsIn [] []
 nothing-cut = record { front = []; parts = refl; utf8 = IsUtf8-nil; short = omega arith; none = none-in-nothing; faultless = nothing-faultless }
 
--- the bytes between two places
+-- the bytes between two offsets
 abbrev pub between : List ℕ → ℕ → ℕ → List ℕ
 between input from to = take (to - from) (drop from input)
 

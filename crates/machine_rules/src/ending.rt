@@ -82,7 +82,7 @@ impl Ending<'_> {
         Verdict::Done
     }
 
-    /// Where the program halts at a place, with so many frames and calls open.
+    /// Where the program halts at an offset, with so many frames and calls open.
     pub fn halted(&self, frames: u32, calls: usize, pos: usize) -> Verdict
         ensures { (s : State) → IsAt s frames calls pos self.now.mark self.now.over
             → told result s ≡ halt self.now.program.now self.now.input.now self.now.ended s s.store.frames s.calls }

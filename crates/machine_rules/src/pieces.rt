@@ -25,7 +25,7 @@ pub enum Piece {
     Rest,
 }
 
-/// How much of a content the row at a place moves. While it is cut, no fault of it is told.
+/// How much of a content the row at an offset moves. While it is cut, no fault of it is told.
 pub fn piece_at(part: Part, check: TextCheck, input: &[u8], pos: usize) -> Result<Piece, Fault>
     requires within { pos ≤ length input.now }
     requires part { HasMoved input.now pos (check_of check) (part_of part) }

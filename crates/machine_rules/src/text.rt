@@ -48,7 +48,7 @@ impl Carry {
         }
     }
 
-    /// These are the last bytes up to a place, and the bytes up to another one pass.
+    /// These are the last bytes up to an offset, and the bytes up to another one pass.
     fn pass(self, input: &[u8], from: usize, pos: usize, to: usize) -> TextCheck
         requires begun { from ≤ pos }
         requires order { pos ≤ to }
@@ -89,7 +89,7 @@ impl TextCheck {
         }
     }
 
-    /// What is known up to a place, and the bytes up to another one pass.
+    /// What is known up to an offset, and the bytes up to another one pass.
     pub fn pass(self, input: &[u8], from: usize, pos: usize, to: usize) -> TextCheck
         requires begun { from ≤ pos }
         requires order { pos ≤ to }
@@ -104,7 +104,7 @@ impl TextCheck {
         }
     }
 
-    /// Whether the whole content is UTF-8, whose last bytes stand between two places.
+    /// Whether the whole content is UTF-8, whose last bytes stand between two offsets.
     pub fn is_text(self, input: &[u8], from: usize, pos: usize, to: usize) -> bool
         requires begun { from ≤ pos }
         requires order { pos ≤ to }

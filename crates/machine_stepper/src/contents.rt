@@ -86,7 +86,7 @@ impl Machine {
         self.check
     }
 
-    /// At a place, behind which a content goes on.
+    /// At an offset, behind which a content goes on.
     fn goes_on(&mut self, part: Part, check: TextCheck, to: usize) -> Step
         ensures step { result ≡ Step.Moved }
         ensures moved { self.new ≡ record self.old

@@ -38,7 +38,7 @@ pub struct Machine {
     pub(crate) scratch: Vec<u8>,
     /// What was found ahead.
     pub(crate) found: Found,
-    /// Up to this place looking ahead went before, and took nothing.
+    /// Up to this offset looking ahead went before, and took nothing.
     pub(crate) looked: usize,
     pub(crate) alloc: Global,
 }
@@ -103,7 +103,7 @@ impl Machine {
         self.count.rows
     }
 
-    /// The place of the next byte.
+    /// The offset of the next byte.
     pub fn pos(&self) -> usize
         ensures { result ≡ self.now.state.pos }
     {
@@ -205,7 +205,7 @@ impl Machine {
         self.conclude(verdict)
     }
 
-    /// At the next instruction, with the bytes up to a place read.
+    /// At the next instruction, with the bytes up to an offset read.
     pub(crate) fn next(&mut self, to: usize) -> Step
         requires { self.old.state.pc < MOST_INSTRS }
         ensures step { result ≡ Step.Moved }
@@ -216,7 +216,7 @@ impl Machine {
         Step::Moved
     }
 
-    /// At an address, with the bytes up to a place read.
+    /// At an address, with the bytes up to an offset read.
     pub(crate) fn jump(&mut self, address: usize, to: usize) -> Step
         ensures step { result ≡ Step.Moved }
         ensures jumped { self.new ≡ record self.old { state = record self.old.state { pc = address; pos = to } } }
@@ -282,7 +282,7 @@ impl Machine {
         self.store.add(&self.scratch)
     }
 
-    /// Bytes at the end of the current buffer: the run is at the next instruction then, with the bytes up to a place
+    /// Bytes at the end of the current buffer: the run is at the next instruction then, with the bytes up to an offset
     /// read.
     pub(crate) fn move_bytes(&mut self, bytes: &[u8], to: usize) -> Step
         requires pc { self.old.state.pc < MOST_INSTRS }

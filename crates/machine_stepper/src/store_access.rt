@@ -137,7 +137,7 @@ impl Machine {
         self.store.leave();
     }
 
-    /// At the next item of the newest array or map, with the bytes up to a place read.
+    /// At the next item of the newest array or map, with the bytes up to an offset read.
     #[tactic(auto, using(crate::proofs::Appending::next_many, crate::proofs::Appending::same_arena))]
     pub(crate) fn gather(&mut self, walk: BlockWalk, to: usize, inside: Meter) -> Step
         requires pc { self.old.state.pc < MOST_INSTRS }
@@ -156,7 +156,7 @@ impl Machine {
         Step::Moved
     }
 
-    /// At the next item of the newest array or map, which is skipped, with the bytes up to a place read.
+    /// At the next item of the newest array or map, which is skipped, with the bytes up to an offset read.
     pub(crate) fn pass(&mut self, walk: BlockWalk, to: usize, inside: Meter) -> Step
         requires pc { self.old.state.pc < MOST_INSTRS }
         requires blocks { is_some (skip_walk_of self.old.state.store.frames) ≡ true }
@@ -172,7 +172,7 @@ impl Machine {
         Step::Moved
     }
 
-    /// The newest array or map is closed, with the bytes up to a place read, and the run goes on at an address.
+    /// The newest array or map is closed, with the bytes up to an offset read, and the run goes on at an address.
     pub(crate) fn close_blocks(&mut self, address: usize, to: usize) -> Step
         requires blocks { is_some (walk_of self.old.state.store.frames) ≡ true }
         requires below { has_current_below self.old.state.store.frames ≡ true }

@@ -119,7 +119,7 @@ shown-slot arena grown more old new out b slots i segments f g =
     ∙ ap (λ (x : List (List Segment)). record { arena = arena ++ more; out = segments_of old out; slots = x })
     (map-set (segments_of new) slots i b ∙ ap (λ (x : List Segment). set (map (segments_of new) slots) i x) g.is ∙ ap (λ (x : List (List Segment)). set x i segments) (all-later old new slots g.later f.rest))
 
--- ---- the buffer at a place
+-- ---- the buffer at an offset
 
 pub held-place : (arena : List ℕ) (ropes : List (List Segment)) (out : Buffer) (slots : List Buffer) (place : TargetBuffer) → IsLaid arena ropes out slots → IsPlace (length slots) place → IsHeld ropes (buffer_at out slots place)
 held-place arena ropes out slots places.Out f p = f.first
@@ -279,7 +279,7 @@ pub on_resized : {A E : Type 0} (r : Result A E) (arena : List ℕ) (ropes : Lis
 on_resized (Ok a) arena ropes out slots new more n m laid is s e r = shows-opened arena ropes out slots new more n m laid is s e r
 on_resized (Err e) arena ropes out slots new more n m laid is s d r = tt
 
--- the buffer at a place lies in the arena
+-- the buffer at an offset lies in the arena
 pub within-place : (arena : List ℕ) (ropes : List (List Segment)) (out : Buffer) (slots : List Buffer) (place : TargetBuffer) (b : Buffer) → IsLaid arena ropes out slots → IsPlace (length slots) place → b ≡ buffer_at out slots place → AreWithin (length arena) (segments_of ropes b)
 within-place arena ropes out slots place b f p e =
     subst (λ (x : Buffer). AreWithin (length arena) (segments_of ropes x)) (sym e) (within-segments (length arena) (segments_of ropes (buffer_at out slots place)) (are-place arena ropes out slots place f p))

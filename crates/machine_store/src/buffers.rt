@@ -156,7 +156,7 @@ fn joined_buffers(
     Ok(joined)
 }
 
-/// The buffer at a place.
+/// The buffer at an offset.
 fn buffer_at(out: Buffer, slots: &[Buffer], place: TargetBuffer) -> Buffer
     requires { IsPlace (length slots.now) place }
     ensures { result ≡ buffer_at out slots.now place }

@@ -58,7 +58,7 @@ failing_shifted at len Need = refl
 
 -- ---- places
 
--- what stands after bytes that begin at a place
+-- what stands after bytes that begin at an offset
 pub rest_after : (bytes rest all : List ℕ) (at mid : ℕ) → drop at all ≡ bytes ++ rest → mid ≡ at + length bytes → drop mid all ≡ rest
 rest_after bytes rest all at mid parts end = ap (λ (k : ℕ). drop k all) end ∙ sym (drop-drop (length bytes) at all) ∙ ap (drop (length bytes)) parts ∙ drop_at bytes rest (length bytes) refl
 

@@ -79,7 +79,7 @@ sized_again before count size more left len m c s =
     ∙ ap (λ x. x >>= λ size items after. item_at (record { left = left; count_at = length before; items_at = items; size = Some size }) items after) second
     ∙ ap made end
 
--- the walk that a head begins at a place
+-- the walk that a head begins at an offset
 abbrev pub headed : ℕ → ℕ → Option ℤ → List ℕ → Walk
 headed left at said head = record { left = left; count_at = at; items_at = at + length head; size = said }
 

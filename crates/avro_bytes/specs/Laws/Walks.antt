@@ -36,7 +36,7 @@ pub size_met : (met : Bool) (bytes : List ℕ) (count_at at : ℕ) (m : Meter) (
 size_met true bytes count_at at m step to after e = (refl, e)
 size_met false bytes count_at at m step to after e = absurd cc
 
--- what a step leaves, where a count was read at a place: the head of a block begins there, and its items after it
+-- what a step leaves, where a count was read at an offset: the head of a block begins there, and its items after it
 pub record FromHead (at : ℕ) (m : Meter) (next : Walk) (to : ℕ) (after : Meter) : Type 0 where
   pub count_at : next.count_at ≡ at
   pub items_at : next.items_at ≡ to

@@ -19,7 +19,7 @@ use Rattle.avro_bytes.specs.declared.limits.TheConstants.{MOST_DEPTH}
 
 -- ---- the head of a block that is passed
 
--- a block begins at a place: its head stands there, and its first item after that
+-- a block begins at an offset: its head stands there, and its first item after that
 pub record Heads (all : List ℕ) (at : ℕ) (m : Meter) (next : Walk) (to : ℕ) (after : Meter) : Type 0 where
   pub head : List ℕ
   pub rest : List ℕ

@@ -49,7 +49,7 @@ module _ {A : Type 0} (Spelled : A → List ℕ → Type 0) (deep units : A → 
       pub counts : Counts (deepest deep vs) (units_all units vs) m0 m
       pub state : InBlock walk now said head earlier
 
-    -- an item begins at a place
+    -- an item begins at an offset
     pub record Advanced (m : Meter) (next : Walk) (mid : ℕ) (opened : Meter) : Type 0 where
       pub blocks : List (List (List ℕ))
       pub now : List (List ℕ)

@@ -54,7 +54,7 @@ module _ {A : Type 0} (Spelled : A → List ℕ → Type 0) (deep units : A → 
           ∙ ap (λ x. x >>= λ v to after. map_decoding (λ vs. v ∷ vs) (items_at fuel reader all next to after)) read;
     }
 
-    -- an item that is spelled at a place
+    -- an item that is spelled at an offset
     reads_there : (v : A) (before bytes rest : List ℕ) (at : ℕ) (m after : Meter) → left ≡ MOST_DEPTH - m.depth → at ≡ length before → all ≡ before ++ (bytes ++ rest) → Spelled v bytes → Counts (deep v) (units v) m after → reader at m ≡ Complete v (at + length bytes) after
     reads_there v before bytes rest at m after l e is s t = subst (λ (k : ℕ). reader k m ≡ Complete v (k + length bytes) after) (sym e) (complete v before bytes rest m after l is s t)
 
