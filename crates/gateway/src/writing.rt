@@ -28,6 +28,20 @@ fn write_once<W: Write>(writer: &mut W, bytes: &[u8]) -> Result<usize, CutShort>
     Err(CutShort { sent: 0 })
 }
 
+/// Passes on what the writer holds back. Whether it did: not where it fails, or was interrupted `MOST_TRIES` times.
+fn flush<W: Write>(writer: &mut W) -> bool
+    ensures { Keeps (W.contents writer.old) (W.contents writer.new) }
+{
+    for _try in 0..MOST_TRIES {
+        match writer.flush() {
+            Ok(()) => return true,
+            Err(error) if error.kind() == ErrorKind::Interrupted => {}
+            Err(_) => return false,
+        }
+    }
+    false
+}
+
 /// Writes all bytes and passes on what the writer holds back; or the first of them, where it fails or takes none.
 pub(crate) fn write_all<W: Write>(writer: &mut W, bytes: &[u8]) -> Result<(), CutShort>
     ensures ok { OnOk result (Appends (W.contents writer.old) (W.contents writer.new) bytes.now) }
@@ -41,8 +55,9 @@ pub(crate) fn write_all<W: Write>(writer: &mut W, bytes: &[u8]) -> Result<(), Cu
             _ => return Err(CutShort { sent }),
         }
     }
-    match writer.flush() {
-        Ok(()) => Ok(()),
-        Err(_) => Err(CutShort { sent }),
+    if flush(writer) {
+        Ok(())
+    } else {
+        Err(CutShort { sent })
     }
 }

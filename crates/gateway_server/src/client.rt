@@ -12,7 +12,11 @@ use machine::Machine;
 use std::alloc::{AllocError, Global};
 use std::net::TcpListener;
 use std::sync::Wait;
-use std::time::Clock;
+use std::thread;
+use std::time::{Clock, Duration};
+
+/// How many milliseconds a client waits where no connection can be accepted, as where no more files can be open.
+const PAUSE: u64 = 10;
 
 /// Accepts connections, as many as the options say, and answers one request on each: how many were answered. One that
 /// cannot be accepted counts as accepted.
@@ -32,10 +36,14 @@ fn serve_connections<R: Wait + Clock, T: Transcode, G: Gate>(
     let mut answered: u64 = 0;
     let mut accepted: u32 = 0;
     for stream in listener.incoming() {
-        if let Ok(stream) = stream
-            && serve_connection(rt, alloc, app, seat, gate, &stream, options.request_timeout)
-        {
-            answered = answered.saturating_add(1);
+        match stream {
+            Ok(stream) => {
+                let time = options.request_timeout;
+                if serve_connection(rt, alloc, app, seat, gate, &stream, time) {
+                    answered = answered.saturating_add(1);
+                }
+            }
+            Err(_) => thread::sleep(rt, Duration::from_millis(PAUSE)),
         }
         accepted = accepted.wrapping_add(1);
         if options.each != 0 && accepted == options.each {
