@@ -23,6 +23,18 @@ printf '"float"\n' | "$program" transcode >"$out" 2>"$err"; want 'bad schema' 1 
 "$program" $'tr\xffans' </dev/null >"$out" 2>"$err"; want 'a word that is no UTF-8' 2 none some
 "$program" --help </dev/null >"$out" 2>"$err"; want help 0 some none
 "$program" --help </dev/null >/dev/full 2>"$err"; status=$?; : >"$out"; (exit $status); want 'help to a full device' 3 none none
+"$program" --version </dev/null >"$out" 2>"$err"; want version 0 some none
+# Each help ends with an example, a call of `avrogate` with what it writes: so it does.
+avrogate() { "$program" "$@"; }
+for subcommand in transcode compile run debug replay; do
+  "$program" "$subcommand" --help </dev/null >"$out" 2>"$err"; want "help of $subcommand" 0 some none
+  sed -n '/^Example:/,$s/^  //p' "$out" >"$folder/example"
+  if [ "$(eval "$(head -n 1 "$folder/example")")" = "$(tail -n +2 "$folder/example")" ] && [ "$(wc -l <"$folder/example")" -gt 1 ]; then
+    passed=$((passed + 1))
+  else
+    echo "the example of $subcommand's help"; failed=$((failed + 1))
+  fi
+done
 printf '%s03\n' "$schemas" | "$program" transcode >/dev/full 2>"$err"; status=$?; : >"$out"; (exit $status); want 'full device' 3 none none
 "$program" transcode <&- >"$out" 2>"$err"; want 'closed input' 3 none none
 printf '%s' "$schemas" | "$program" transcode >"$out" 2>"$err"; want 'no payload' 0 none none
