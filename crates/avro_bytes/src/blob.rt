@@ -33,16 +33,16 @@ fn fixed(bytes: &[u8], size: usize, at: usize, m: Meter) -> Result<(&[u8], usize
 
 /// The content after the length at an offset.
 #[tactic(auto, unfolding(crate::specs::Blob::content_at))]
-pub(crate) fn content(bytes: &[u8], at: usize, m: Meter) -> Result<(&[u8], usize, Meter), Fault>
+pub(crate) fn content(bytes: &[u8], at: usize, meter: Meter) -> Result<(&[u8], usize, Meter), Fault>
     requires { at ≤ length bytes.now }
-    ensures finds { Finds (λ content. content.now) result (content_at bytes.now at m) }
+    ensures finds { Finds (λ content. content.now) result (content_at bytes.now at meter) }
     ensures before { IfOk result (λ r. length r.0.now ≤ r.1) }
     ensures within { IfOk result (λ r. r.1 ≤ length bytes.now) }
-    ensures depth { IfOk result (λ r. r.2.depth ≡ m.depth) }
-    ensures units { IfOk result (λ r. m.units ≤ r.2.units) }
+    ensures depth { IfOk result (λ r. r.2.depth ≡ meter.depth) }
+    ensures units { IfOk result (λ r. meter.units ≤ r.2.units) }
 {
-    let (len, to, m) = read_length(bytes, at, m)?;
-    fixed(bytes, len, to, m)
+    let (len, to, meter) = read_length(bytes, at, meter)?;
+    fixed(bytes, len, to, meter)
 }
 
 /// Bytes after their length.

@@ -38,11 +38,11 @@ impl BlockWalk {
 
     /// A walk over the blocks at an offset, and the meter inside them. `TooDeep` inside `MOST_DEPTH` others, told
     /// there.
-    pub fn begin(at: usize, m: Meter) -> Result<(BlockWalk, Meter), Fault>
-        ensures { Begins at result (opened_blocks at m) }
+    pub fn begin(at: usize, meter: Meter) -> Result<(BlockWalk, Meter), Fault>
+        ensures { Begins at result (opened_blocks at meter) }
     {
         let walk = BlockWalk::walk_of(0, at, at, None);
-        Ok((walk, m.enter_blocks(at)?))
+        Ok((walk, meter.enter_blocks(at)?))
     }
 
     /// The walk of these parts.
@@ -89,25 +89,30 @@ impl BlockWalk {
     /// After an `Err` the walk is where it was: `Need` where bytes are missing, `BadNumber` of a count or a size,
     /// `BadBlock` of a block that ends, `TooMany` of an item.
     #[tactic(auto, using(crate::specs::Laws::Walks::item_meter, crate::specs::Laws::Walks::end_meter, crate::specs::Laws::Walks::head_places, crate::specs::Laws::Walks::inside_keeps, crate::specs::Laws::Walks::end_takes))]
-    pub fn next(&mut self, bytes: &[u8], at: usize, m: Meter) -> Result<(bool, usize, Meter), Fault>
+    pub fn next(
+        &mut self,
+        bytes: &[u8],
+        at: usize,
+        meter: Meter,
+    ) -> Result<(bool, usize, Meter), Fault>
         requires in_bounds { at ≤ length bytes.now }
-        requires deep { 0 < m.depth }
-        ensures walks { Walks result self.old self.new (next_item self.old bytes.now at m) }
+        requires deep { 0 < meter.depth }
+        ensures walks { Walks result self.old self.new (next_item self.old bytes.now at meter) }
         ensures head { IfOk result (λ r. IsTrue r.0 → self.old.left ≡ 0 →
             (self.new.count_at ≡ at) × (self.new.items_at ≡ r.1)) }
         ensures inside { IfOk result (λ r. 0 < self.old.left →
             (self.old ≡ record self.new { left = suc self.new.left }) × (r.1 ≡ at)) }
         ensures within { IfOk result (λ r. r.1 ≤ length bytes.now) }
         ensures item { IfOk result (λ r. IsTrue r.0 →
-            (r.2.depth ≡ m.depth) × (r.2.units ≡ m.units + 1) × (m.units < MOST_UNITS)) }
-        ensures end { IfOk result (λ r. r.0 ≡ false → (r.2.depth + 1 ≡ m.depth) × (r.2.units ≡ m.units)) }
+            (r.2.depth ≡ meter.depth) × (r.2.units ≡ meter.units + 1) × (meter.units < MOST_UNITS)) }
+        ensures end { IfOk result (λ r. r.0 ≡ false → (r.2.depth + 1 ≡ meter.depth) × (r.2.units ≡ meter.units)) }
     {
-        match self.step(bytes, at, m)? {
-            (Some(walk), to, m) => {
+        match self.step(bytes, at, meter)? {
+            (Some(walk), to, meter) => {
                 *self = walk;
-                Ok((true, to, m))
+                Ok((true, to, meter))
             }
-            (None, to, m) => Ok((false, to, m)),
+            (None, to, meter) => Ok((false, to, meter)),
         }
     }
 

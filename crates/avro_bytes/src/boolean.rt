@@ -15,12 +15,12 @@ pub struct Bool;
 
 /// The boolean at an offset. It takes no memory.
 #[tactic(auto, using(crate::specs::Laws::Booleans::boolean_past, crate::specs::Laws::Booleans::boolean_there))]
-pub fn read_boolean(bytes: &[u8], at: usize, m: Meter) -> Result<(bool, usize, Meter), Fault>
+pub fn read_boolean(bytes: &[u8], at: usize, meter: Meter) -> Result<(bool, usize, Meter), Fault>
     requires { at ≤ length bytes.now }
-    ensures finds { Finds (λ value. value) result (boolean_at bytes.now at m) }
+    ensures finds { Finds (λ value. value) result (boolean_at bytes.now at meter) }
     ensures within { IfOk result (λ r. r.1 ≤ length bytes.now) }
-    ensures depth { IfOk result (λ r. r.2.depth ≡ m.depth) }
-    ensures units { IfOk result (λ r. m.units ≤ r.2.units) }
+    ensures depth { IfOk result (λ r. r.2.depth ≡ meter.depth) }
+    ensures units { IfOk result (λ r. meter.units ≤ r.2.units) }
 {
     if at == bytes.len() {
         return Err(Fault::Need);
@@ -35,7 +35,7 @@ pub fn read_boolean(bytes: &[u8], at: usize, m: Meter) -> Result<(bool, usize, M
             });
         }
     };
-    Ok((value, at + 1, m))
+    Ok((value, at + 1, meter))
 }
 
 impl WireForm for Bool {

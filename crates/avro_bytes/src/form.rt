@@ -82,17 +82,17 @@ pub fn read_and_skip<F: WireForm>(
     form: &F,
     bytes: &[u8],
     at: usize,
-    m: Meter,
+    meter: Meter,
 ) -> (
     Result<(F::Value, usize, Meter), Fault>,
     Result<(usize, Meter), Fault>,
 )
     requires { at ≤ length bytes.now }
-    ensures reads { Reads F.meaning (F.lacks form.now) result.0 (F.decoding form.now bytes.now at m) }
-    ensures skips { result.1 ≡ skipped (F.decoding form.now bytes.now at m) }
+    ensures reads { Reads F.meaning (F.lacks form.now) result.0 (F.decoding form.now bytes.now at meter) }
+    ensures skips { result.1 ≡ skipped (F.decoding form.now bytes.now at meter) }
     ensures alike { AnswersAlike result.0 result.1 }
 {
-    let read = form.read(bytes, at, m);
-    let skip = form.skip(bytes, at, m);
+    let read = form.read(bytes, at, meter);
+    let skip = form.skip(bytes, at, meter);
     (read, skip)
 }

@@ -11,20 +11,20 @@ use crate::number::read_long;
 
 /// The length at an offset, of a content that stands after it. It takes no memory.
 #[tactic(auto, unfolding(crate::specs::Length::length_at))]
-pub fn read_length(bytes: &[u8], at: usize, m: Meter) -> Result<(usize, usize, Meter), Fault>
+pub fn read_length(bytes: &[u8], at: usize, meter: Meter) -> Result<(usize, usize, Meter), Fault>
     requires { at ≤ length bytes.now }
-    ensures finds { Finds (λ n. n) result (length_at bytes.now at m) }
+    ensures finds { Finds (λ n. n) result (length_at bytes.now at meter) }
     ensures most { IfOk result (λ r. r.0 ≤ MOST_CONTENT) }
     ensures within { IfOk result (λ r. r.1 ≤ length bytes.now) }
-    ensures depth { IfOk result (λ r. r.2.depth ≡ m.depth) }
-    ensures units { IfOk result (λ r. m.units ≤ r.2.units) }
+    ensures depth { IfOk result (λ r. r.2.depth ≡ meter.depth) }
+    ensures units { IfOk result (λ r. meter.units ≤ r.2.units) }
 {
-    let (n, to, m) = read_long(bytes, at, m)?;
+    let (n, to, meter) = read_long(bytes, at, meter)?;
     if n < 0 || n > MOST_CONTENT as i64 {
         return Err(Fault::Malformed {
             kind: MalformedKind::BadLength,
             at,
         });
     }
-    Ok((n as usize, to, m))
+    Ok((n as usize, to, meter))
 }

@@ -74,28 +74,28 @@ fn signed_32(groups: u64) -> i32
 
 /// The number of 64 bits at an offset. It takes no memory.
 #[tactic(auto, unfolding(crate::specs::NumberDecoding::number_at))]
-pub fn read_long(bytes: &[u8], at: usize, m: Meter) -> Result<(i64, usize, Meter), Fault>
+pub fn read_long(bytes: &[u8], at: usize, meter: Meter) -> Result<(i64, usize, Meter), Fault>
     requires { at ≤ length bytes.now }
-    ensures finds { Finds (λ n. n) result (number_at long_limit bytes.now at m) }
+    ensures finds { Finds (λ n. n) result (number_at long_limit bytes.now at meter) }
     ensures within { IfOk result (λ r. r.1 ≤ length bytes.now) }
-    ensures depth { IfOk result (λ r. r.2.depth ≡ m.depth) }
-    ensures units { IfOk result (λ r. m.units ≤ r.2.units) }
+    ensures depth { IfOk result (λ r. r.2.depth ≡ meter.depth) }
+    ensures units { IfOk result (λ r. meter.units ≤ r.2.units) }
 {
     let (groups, to) = read_groups(bytes, at, LONG_BYTES, LONG_LAST)?;
-    Ok((signed(groups), to, m))
+    Ok((signed(groups), to, meter))
 }
 
 /// The number of 32 bits at an offset. It takes no memory.
 #[tactic(auto, unfolding(crate::specs::NumberDecoding::number_at))]
-pub fn read_int(bytes: &[u8], at: usize, m: Meter) -> Result<(i32, usize, Meter), Fault>
+pub fn read_int(bytes: &[u8], at: usize, meter: Meter) -> Result<(i32, usize, Meter), Fault>
     requires { at ≤ length bytes.now }
-    ensures finds { Finds (λ n. n) result (number_at int_limit bytes.now at m) }
+    ensures finds { Finds (λ n. n) result (number_at int_limit bytes.now at meter) }
     ensures within { IfOk result (λ r. r.1 ≤ length bytes.now) }
-    ensures depth { IfOk result (λ r. r.2.depth ≡ m.depth) }
-    ensures units { IfOk result (λ r. m.units ≤ r.2.units) }
+    ensures depth { IfOk result (λ r. r.2.depth ≡ meter.depth) }
+    ensures units { IfOk result (λ r. meter.units ≤ r.2.units) }
 {
     let (groups, to) = read_groups(bytes, at, INT_BYTES, INT_LAST)?;
-    Ok((signed_32(groups), to, m))
+    Ok((signed_32(groups), to, meter))
 }
 
 impl WireForm for Long {

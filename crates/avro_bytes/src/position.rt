@@ -25,20 +25,20 @@ pub fn read_position(
     many: usize,
     bytes: &[u8],
     at: usize,
-    m: Meter,
+    meter: Meter,
 ) -> Result<(u32, usize, Meter), Fault>
     requires { at ≤ length bytes.now }
-    ensures finds { Finds (λ n. n) result (position_at bad many bytes.now at m) }
+    ensures finds { Finds (λ n. n) result (position_at bad many bytes.now at meter) }
     ensures position { IfOk result (λ r. r.0 < many) }
     ensures within { IfOk result (λ r. r.1 ≤ length bytes.now) }
-    ensures depth { IfOk result (λ r. r.2.depth ≡ m.depth) }
-    ensures units { IfOk result (λ r. m.units ≤ r.2.units) }
+    ensures depth { IfOk result (λ r. r.2.depth ≡ meter.depth) }
+    ensures units { IfOk result (λ r. meter.units ≤ r.2.units) }
 {
-    let (n, to, m) = read_int(bytes, at, m)?;
+    let (n, to, meter) = read_int(bytes, at, meter)?;
     if n < 0 || n as usize >= many {
         return Err(Fault::Malformed { kind: bad, at });
     }
-    Ok((n as u32, to, m))
+    Ok((n as u32, to, meter))
 }
 
 impl WireForm for Position {

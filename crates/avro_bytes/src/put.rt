@@ -48,21 +48,21 @@ fn groups_len(n: u64) -> usize
 
 /// How many bytes the shortest spelling of a number has.
 #[tactic(auto, unfolding(crate::specs::Shortest::shortest))]
-pub fn long_len(n: i64) -> usize
-    ensures len { result ≡ length (shortest n) }
+pub fn long_len(number: i64) -> usize
+    ensures len { result ≡ length (shortest number) }
     ensures most { result ≤ LONG_BYTES }
 {
-    groups_len(zigzag_of(n))
+    groups_len(zigzag_of(number))
 }
 
 /// Writes the shortest spelling of a number. An `Err` leaves the vector as it was.
 #[tactic(auto, unfolding(crate::specs::Shortest::shortest))]
-pub fn put_long(out: &mut Vec<u8>, n: i64) -> Result<(), AllocError>
-    ensures ok { OnOk result (out.new.items ≡ out.old.items ++ shortest n) }
+pub fn put_long(out: &mut Vec<u8>, number: i64) -> Result<(), AllocError>
+    ensures ok { OnOk result (out.new.items ≡ out.old.items ++ shortest number) }
     ensures err { OnErr result (out.new.items ≡ out.old.items) }
 {
     let len = out.len();
-    let put = put_groups(out, zigzag_of(n));
+    let put = put_groups(out, zigzag_of(number));
     if put.is_err() {
         out.truncate(len);
     }

@@ -19,45 +19,52 @@ pub(crate) fn read_leaf(
     kind: &Kind,
     bytes: &[u8],
     at: usize,
-    m: Meter,
+    meter: Meter,
 ) -> Result<(Datum, usize, Meter), Fault>
     requires leaf { IsLeaf (node_of kind.now) }
     requires in_bounds { at ≤ length bytes.now }
-    ensures reads { Reads datum_of (LeafLacks (node_of kind.now)) result (leaf_at bytes.now (node_of kind.now) at m) }
+    ensures reads { Reads datum_of (LeafLacks (node_of kind.now)) result
+        (leaf_at bytes.now (node_of kind.now) at meter) }
     ensures within { IfOk result (λ r. r.1 ≤ length bytes.now) }
-    ensures depth { IfOk result (λ r. r.2.depth ≡ m.depth) }
-    ensures units { IfOk result (λ r. m.units ≤ r.2.units) }
+    ensures depth { IfOk result (λ r. r.2.depth ≡ meter.depth) }
+    ensures units { IfOk result (λ r. meter.units ≤ r.2.units) }
 {
     match kind {
-        Kind::Null => Ok((Datum::Null, at, m)),
+        Kind::Null => Ok((Datum::Null, at, meter)),
         Kind::Boolean => {
-            let (value, to, m) = Bool.read(bytes, at, m)?;
-            Ok((Datum::Boolean(value), to, m))
+            let (value, to, meter) = Bool.read(bytes, at, meter)?;
+            Ok((Datum::Boolean(value), to, meter))
         }
         Kind::Int => {
-            let (n, to, m) = Int.read(bytes, at, m)?;
-            Ok((Datum::Int(n), to, m))
+            let (n, to, meter) = Int.read(bytes, at, meter)?;
+            Ok((Datum::Int(n), to, meter))
         }
         Kind::Long => {
-            let (n, to, m) = Long.read(bytes, at, m)?;
-            Ok((Datum::Long(n), to, m))
+            let (n, to, meter) = Long.read(bytes, at, meter)?;
+            Ok((Datum::Long(n), to, meter))
         }
         Kind::Bytes => {
-            let (value, to, m) = Blob { alloc }.read(bytes, at, m)?;
-            Ok((Datum::Bytes(value), to, m))
+            let (value, to, meter) = Blob { alloc }.read(bytes, at, meter)?;
+            Ok((Datum::Bytes(value), to, meter))
         }
         Kind::Text => {
-            let (text, to, m) = Text { alloc }.read(bytes, at, m)?;
-            Ok((Datum::Text(text), to, m))
+            let (text, to, meter) = Text { alloc }.read(bytes, at, meter)?;
+            Ok((Datum::Text(text), to, meter))
         }
         Kind::Fixed { size, .. } => {
             let form = FixedBytes { alloc, size: *size };
-            let (value, to, m) = form.read(bytes, at, m)?;
-            Ok((Datum::Fixed(value), to, m))
+            let (value, to, meter) = form.read(bytes, at, meter)?;
+            Ok((Datum::Fixed(value), to, meter))
         }
         Kind::Enum { symbols, .. } => {
-            let (n, to, m) = read_position(MalformedKind::BadEnum, symbols.len(), bytes, at, m)?;
-            Ok((Datum::Enum(n), to, m))
+            let (n, to, meter) = read_position(
+                MalformedKind::BadEnum,
+                symbols.len(),
+                bytes,
+                at,
+                meter,
+            )?;
+            Ok((Datum::Enum(n), to, meter))
         }
         Kind::Array(_) | Kind::Map(_) | Kind::Union(_) | Kind::Record { .. } => unreachable!(),
     }
@@ -69,26 +76,32 @@ pub(crate) fn skip_leaf(
     kind: &Kind,
     bytes: &[u8],
     at: usize,
-    m: Meter,
+    meter: Meter,
 ) -> Result<(usize, Meter), Fault>
     requires leaf { IsLeaf (node_of kind.now) }
     requires in_bounds { at ≤ length bytes.now }
-    ensures skips { result ≡ skipped (leaf_at bytes.now (node_of kind.now) at m) }
+    ensures skips { result ≡ skipped (leaf_at bytes.now (node_of kind.now) at meter) }
     ensures within { IfOk result (λ r. r.0 ≤ length bytes.now) }
-    ensures depth { IfOk result (λ r. r.1.depth ≡ m.depth) }
-    ensures units { IfOk result (λ r. m.units ≤ r.1.units) }
+    ensures depth { IfOk result (λ r. r.1.depth ≡ meter.depth) }
+    ensures units { IfOk result (λ r. meter.units ≤ r.1.units) }
 {
     match kind {
-        Kind::Null => Ok((at, m)),
-        Kind::Boolean => Bool.skip(bytes, at, m),
-        Kind::Int => Int.skip(bytes, at, m),
-        Kind::Long => Long.skip(bytes, at, m),
-        Kind::Bytes => Blob { alloc }.skip(bytes, at, m),
-        Kind::Text => Text { alloc }.skip(bytes, at, m),
-        Kind::Fixed { size, .. } => FixedBytes { alloc, size: *size }.skip(bytes, at, m),
+        Kind::Null => Ok((at, meter)),
+        Kind::Boolean => Bool.skip(bytes, at, meter),
+        Kind::Int => Int.skip(bytes, at, meter),
+        Kind::Long => Long.skip(bytes, at, meter),
+        Kind::Bytes => Blob { alloc }.skip(bytes, at, meter),
+        Kind::Text => Text { alloc }.skip(bytes, at, meter),
+        Kind::Fixed { size, .. } => FixedBytes { alloc, size: *size }.skip(bytes, at, meter),
         Kind::Enum { symbols, .. } => {
-            let (_, to, m) = read_position(MalformedKind::BadEnum, symbols.len(), bytes, at, m)?;
-            Ok((to, m))
+            let (_, to, meter) = read_position(
+                MalformedKind::BadEnum,
+                symbols.len(),
+                bytes,
+                at,
+                meter,
+            )?;
+            Ok((to, meter))
         }
         Kind::Array(_) | Kind::Map(_) | Kind::Union(_) | Kind::Record { .. } => unreachable!(),
     }

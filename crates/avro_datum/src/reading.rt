@@ -25,19 +25,19 @@ pub(crate) fn read_node(
     node: usize,
     bytes: &[u8],
     at: usize,
-    m: Meter,
+    meter: Meter,
 ) -> Result<(Datum, usize, Meter), Fault>
     requires node { node < length nodes.now }
     requires in_bounds { at ≤ length bytes.now }
-    ensures reads { Reads datum_of (Lacks nodes.now node) result (datum_at nodes.now bytes.now node at m) }
+    ensures reads { Reads datum_of (Lacks nodes.now node) result (datum_at nodes.now bytes.now node at meter) }
     ensures within { IfOk result (λ r. r.1 ≤ length bytes.now) }
-    ensures depth { IfOk result (λ r. r.2.depth ≡ m.depth) }
-    ensures units { IfOk result (λ r. m.units ≤ r.2.units) }
+    ensures depth { IfOk result (λ r. r.2.depth ≡ meter.depth) }
+    ensures units { IfOk result (λ r. meter.units ≤ r.2.units) }
 {
     let Kind::Union(members) = nodes.kind(node) else {
-        return read_plain(alloc, nodes, node, bytes, at, m);
+        return read_plain(alloc, nodes, node, bytes, at, meter);
     };
-    let (n, to, after) = read_position(MalformedKind::BadBranch, members.len(), bytes, at, m)?;
+    let (n, to, after) = read_position(MalformedKind::BadBranch, members.len(), bytes, at, meter)?;
     let member = members[n as usize];
     let (datum, end, last) = read_plain(alloc, nodes, member, bytes, to, after)?;
     let datum = Box::new(alloc, datum)?;

@@ -22,19 +22,19 @@ pub(crate) fn skip_node(
     node: usize,
     bytes: &[u8],
     at: usize,
-    m: Meter,
+    meter: Meter,
 ) -> Result<(usize, Meter), Fault>
     requires node { node < length nodes.now }
     requires in_bounds { at ≤ length bytes.now }
-    ensures skips { result ≡ skipped (datum_at nodes.now bytes.now node at m) }
+    ensures skips { result ≡ skipped (datum_at nodes.now bytes.now node at meter) }
     ensures within { IfOk result (λ r. r.0 ≤ length bytes.now) }
-    ensures depth { IfOk result (λ r. r.1.depth ≡ m.depth) }
-    ensures units { IfOk result (λ r. m.units ≤ r.1.units) }
+    ensures depth { IfOk result (λ r. r.1.depth ≡ meter.depth) }
+    ensures units { IfOk result (λ r. meter.units ≤ r.1.units) }
 {
     let Kind::Union(members) = nodes.kind(node) else {
-        return skip_plain(alloc, nodes, node, bytes, at, m);
+        return skip_plain(alloc, nodes, node, bytes, at, meter);
     };
-    let (n, to, after) = read_position(MalformedKind::BadBranch, members.len(), bytes, at, m)?;
+    let (n, to, after) = read_position(MalformedKind::BadBranch, members.len(), bytes, at, meter)?;
     skip_plain(alloc, nodes, members[n as usize], bytes, to, after)
 }
 

@@ -56,10 +56,10 @@ pub(crate) fn cut_run(
     program: &Program,
     payload: &[u8],
     size: usize,
-    k: u64,
+    limit: u64,
 ) -> Result<String, AllocError> {
     let mut run = Run::new(alloc, program);
-    drive(&mut run, payload, size, k)?;
+    drive(&mut run, payload, size, limit)?;
     words(alloc, &run)
 }
 

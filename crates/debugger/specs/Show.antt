@@ -3,7 +3,7 @@ use Rattle.std.specs.Prelude.{ℕ, Bool, true, false, List, [], ◌∷◌, ◌++
 use Rattle.std.specs.List.{flat_map}
 use Rattle.outcome.specs.Outcome.{Done, Malformed, Mismatched, OutputTooLarge}
 use Rattle.isa.specs.State.{Blocks, End, Frame, Out, Rec, Skip, SkipBlocks, State, Trapped}
-use Rattle.debugger.specs.Words.{bytes, number, number_or_none, part, truth, walk}
+use Rattle.debugger.specs.Words.{bytes, number, moving_content, number_or_none, truth, walk}
 
 -- whether a run goes on, and how it ended
 abbrev pub name_of_end : Option End → List ℕ
@@ -30,7 +30,7 @@ places s =
 -- what stands open, and what was told
 abbrev pub told : State → List ℕ
 told s =
-    codes " part" ++ part s.part ++ codes " mark" ++ number_or_none s.store.mark
+    codes " part" ++ moving_content s.content ++ codes " mark" ++ number_or_none s.store.mark
     ++ codes " over" ++ truth s.store.over
 
 abbrev pub first_line : State → Bool → List ℕ

@@ -3,7 +3,7 @@ use Rattle.std.specs.Prelude.{ℕ, ℤ, Bool, true, false, List, [], ◌∷◌, 
 use Rattle.std.specs.Fmt.{decimal, signed_decimal}
 use Rattle.hex.specs.Hex.{encode_lower}
 use Rattle.avro_bytes.specs.Walk.{Walk}
-use Rattle.isa.specs.State.{Part}
+use Rattle.isa.specs.State.{Content}
 
 -- a number, in decimals
 abbrev pub number : ℕ → List ℕ
@@ -20,9 +20,9 @@ size_or_none (Some n) = codes " " ++ signed_decimal n
 size_or_none None = codes " -"
 
 -- how many bytes of a content are still to move, and where its first byte stands
-abbrev pub part : Option Part → List ℕ
-part (Some p) = number p.left ++ number p.from
-part None = codes " -"
+abbrev pub moving_content : Option Content → List ℕ
+moving_content (Some p) = number p.left ++ number p.from
+moving_content None = codes " -"
 
 abbrev pub truth : Bool → List ℕ
 truth true = codes " 1"

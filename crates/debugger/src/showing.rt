@@ -5,7 +5,7 @@ ghost use Rattle.assembler.specs.Listing.{listing_of};
 ghost use Rattle.debugger.specs.Show.{first_line, name_of_state, out_line, places, shown, told};
 
 use crate::frames::{push_calls, push_frames};
-use crate::words::{push_buffer, push_mark, push_part, push_truth};
+use crate::words::{push_buffer, push_mark, push_moving, push_truth};
 use assembler::disassemble;
 use isa::{End, Program};
 use machine_stepper::{BufferAt, Machine};
@@ -44,7 +44,7 @@ fn push_told(output: &mut String, machine: &Machine) -> Result<(), AllocError>
     ensures { OnOk result (string_bytes output.new ≡ string_bytes output.old ++ told machine.now.state) }
 {
     output.push_str(" part")?;
-    push_part(output, machine.moving())?;
+    push_moving(output, machine.moving())?;
     output.push_str(" mark")?;
     push_mark(output, machine.mark())?;
     output.push_str(" over")?;

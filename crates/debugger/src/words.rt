@@ -2,11 +2,11 @@
 
 ghost use Rattle.std.specs.Prelude.{◌≡◌, ◌++◌, is_some, option_map, string_bytes, true, OnOk, Some};
 ghost use Rattle.machine_store.specs.Viewing.{buffer_of};
-ghost use Rattle.machine_stepper.specs.Running.{part_of};
-ghost use Rattle.debugger.specs.Words.{bytes, number, number_or_none, part, size_or_none, truth, walk};
+ghost use Rattle.machine_stepper.specs.Running.{content_of};
+ghost use Rattle.debugger.specs.Words.{bytes, moving_content, number, number_or_none, size_or_none, truth, walk};
 
 use avro_bytes::BlockWalk;
-use machine_stepper::{BufferAt, Machine, Part};
+use machine_stepper::{BufferAt, Content, Machine};
 use std::alloc::{AllocError, Global};
 use std::fmt::Write;
 
@@ -41,12 +41,13 @@ fn push_size(output: &mut String, size: Option<i64>) -> Result<(), AllocError>
 }
 
 /// Appends what is left of a content, and where it began.
-pub(crate) fn push_part(output: &mut String, moving: Option<Part>) -> Result<(), AllocError>
-    ensures { OnOk result (string_bytes output.new ≡ string_bytes output.old ++ part (option_map part_of moving)) }
+pub(crate) fn push_moving(output: &mut String, moving: Option<Content>) -> Result<(), AllocError>
+    ensures { OnOk result
+        (string_bytes output.new ≡ string_bytes output.old ++ moving_content (option_map content_of moving)) }
 {
     match moving {
-        Some(part) => {
-            let (left, from) = (part.left, part.from);
+        Some(content) => {
+            let (left, from) = (content.left, content.from);
             write!(output, " {left} {from}")
         }
         None => output.push_str(" -"),

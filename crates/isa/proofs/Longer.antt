@@ -23,10 +23,10 @@ use Rattle.isa.specs.declared.entry.Entry.TheVariants as entries
 use Rattle.isa.specs.declared.instr.Instr.{Instr}
 use Rattle.isa.specs.declared.instr.Instr.TheVariants as op
 use Rattle.isa.specs.declared.end.Trap.TheVariants.{NoBuffer}
-use Rattle.isa.specs.declared.limits.TheConstants.{MOST_PIECE}
+use Rattle.isa.specs.declared.limits.TheConstants.{MOST_CHUNK}
 use Rattle.isa.specs.Program.{Program, jumps_of, map_of}
-use Rattle.isa.specs.State.{Blocks, End, Frame, Out, Part, Rec, Skip, SkipBlocks, State, has_current, meter_of}
-use Rattle.isa.specs.Table.{Move, added, anything, begun, content, ends_part, entered, finished, fixed, gathered, halt, if_current, moved, moves, next, next_of, only_text, or_miss, passed, pushed, reads, skip_next_of, stop, trap, wait}
+use Rattle.isa.specs.State.{Blocks, End, Frame, Out, Content, Rec, Skip, SkipBlocks, State, has_current, meter_of}
+use Rattle.isa.specs.Table.{Move, added, anything, begun, prefixed, ends_content, entered, finished, fixed, gathered, halt, if_current, moved, moves, next, next_of, only_text, or_miss, passed, pushed, reads, skip_next_of, stop, trap, wait}
 use Rattle.isa.specs.Row.{counted, kept, row, row_at, row_of, skipped}
 
 lt_false : (a b : ℕ) → nat_lt a b ≡ false → b ≤ a
@@ -38,8 +38,8 @@ lt_no a b h = grind arith
 lt_more : (a b c : ℕ) → nat_lt a b ≡ true → b ≤ c → nat_lt a c ≡ true
 lt_more a b c h le = grind arith
 
-a_piece : (k l : ℕ) → nat_lt k l ≡ true → min k l ≡ k
-a_piece k l h = grind arith
+a_chunk : (k l : ℕ) → nat_lt k l ≡ true → min k l ≡ k
+a_chunk k l h = grind arith
 
 the_rest : (k l : ℕ) → nat_lt k l ≡ false → min k l ≡ l
 the_rest k l h = grind arith
@@ -79,43 +79,43 @@ module _ (P : Program) (p q : List ℕ) (ended : Bool) where
   part_same from to zero e le = refl
   part_same from to (suc k) e le = ap (take (suc k)) (drop-append-le from p q (omega arith)) ∙ take-append-le (suc k) (drop from p) q (omega (arith, length-drop from p))
 
-  moved_kept : (move : Move) (part : Part) (k : ℕ) (s : State) → s.pos + k ≤ length p → moved P r ended move part k s ≡ moved P p false move part k s
-  moved_kept move part k s le = rw (part_same s.pos (s.pos + k) k (omega arith) le) refl
+  moved_kept : (move : Move) (content : Content) (k : ℕ) (s : State) → s.pos + k ≤ length p → moved P r ended move content k s ≡ moved P p false move content k s
+  moved_kept move content k s le = rw (part_same s.pos (s.pos + k) k (omega arith) le) refl
 
-  ends_kept : (move : Move) (part : Part) (s : State) → s.pos + part.left ≤ length p → ends_part P r ended move part s ≡ ends_part P p false move part s
-  ends_kept move part s le =
-      let bytes = part_same s.pos (s.pos + part.left) part.left (omega arith) le in
-      let whole = part_same part.from (s.pos + part.left) (s.pos + part.left - part.from) refl le in
+  ends_kept : (move : Move) (content : Content) (s : State) → s.pos + content.left ≤ length p → ends_content P r ended move content s ≡ ends_content P p false move content s
+  ends_kept move content s le =
+      let bytes = part_same s.pos (s.pos + content.left) content.left (omega arith) le in
+      let whole = part_same content.from (s.pos + content.left) (s.pos + content.left - content.from) refl le in
       rw (bytes, whole) refl
 
-  moves_kept : (move : Move) (part : Part) (s : State) → Kept (moves P p false move part s) (moves P r ended move part s)
-  moves_kept move part s = by_test (nat_lt (length p) (s.pos + min MOST_PIECE part.left)) refl
+  moves_kept : (move : Move) (content : Content) (s : State) → Kept (moves P p false move content s) (moves P r ended move content s)
+  moves_kept move content s = by_test (nat_lt (length p) (s.pos + min MOST_CHUNK content.left)) refl
     where
       to_p : Bool → Option State
-      to_p b = cond b (Some (moved P p false move part MOST_PIECE s)) (ends_part P p false move part s)
+      to_p b = cond b (Some (moved P p false move content MOST_CHUNK s)) (ends_content P p false move content s)
 
-      by_size : (b : Bool) → nat_lt MOST_PIECE part.left ≡ b → s.pos + min MOST_PIECE part.left ≤ length p
-          → cond b (Some (moved P r ended move part MOST_PIECE s)) (ends_part P r ended move part s) ≡ cond b (Some (moved P p false move part MOST_PIECE s)) (ends_part P p false move part s)
-      by_size true e le = ap Some (moved_kept move part MOST_PIECE s (omega (arith, le, a_piece MOST_PIECE part.left e)))
-      by_size false e le = ends_kept move part s (omega (arith, le, the_rest MOST_PIECE part.left e))
+      by_size : (b : Bool) → nat_lt MOST_CHUNK content.left ≡ b → s.pos + min MOST_CHUNK content.left ≤ length p
+          → cond b (Some (moved P r ended move content MOST_CHUNK s)) (ends_content P r ended move content s) ≡ cond b (Some (moved P p false move content MOST_CHUNK s)) (ends_content P p false move content s)
+      by_size true e le = ap Some (moved_kept move content MOST_CHUNK s (omega (arith, le, a_chunk MOST_CHUNK content.left e)))
+      by_size false e le = ends_kept move content s (omega (arith, le, the_rest MOST_CHUNK content.left e))
 
-      by_test : (b : Bool) → nat_lt (length p) (s.pos + min MOST_PIECE part.left) ≡ b → Kept (cond b (wait P p false s) (cond (nat_lt MOST_PIECE part.left) (Some (moved P p false move part MOST_PIECE s)) (ends_part P p false move part s))) (moves P r ended move part s)
+      by_test : (b : Bool) → nat_lt (length p) (s.pos + min MOST_CHUNK content.left) ≡ b → Kept (cond b (wait P p false s) (cond (nat_lt MOST_CHUNK content.left) (Some (moved P p false move content MOST_CHUNK s)) (ends_content P p false move content s))) (moves P r ended move content s)
       by_test true h = tt
       by_test false h =
-          let le : s.pos + min MOST_PIECE part.left ≤ length p = lt_false _ _ h in
-          let fits : nat_lt (length r) (s.pos + min MOST_PIECE part.left) ≡ false = lt_no _ _ (omega (arith, le, length-append p q)) in
-          let x = cond (nat_lt MOST_PIECE part.left) (Some (moved P p false move part MOST_PIECE s)) (ends_part P p false move part s) in
-          kept_as x x _ (same x) (rw fits (by_size (nat_lt MOST_PIECE part.left) refl le))
+          let le : s.pos + min MOST_CHUNK content.left ≤ length p = lt_false _ _ h in
+          let fits : nat_lt (length r) (s.pos + min MOST_CHUNK content.left) ≡ false = lt_no _ _ (omega (arith, le, length-append p q)) in
+          let x = cond (nat_lt MOST_CHUNK content.left) (Some (moved P p false move content MOST_CHUNK s)) (ends_content P p false move content s) in
+          kept_as x x _ (same x) (rw fits (by_size (nat_lt MOST_CHUNK content.left) refl le))
 
-  content_kept : (move : Move) (s : State) (part : Option Part) → s.pos ≤ length p → Kept (content P p false move s part) (content P r ended move s part)
+  content_kept : (move : Move) (s : State) (content : Option Content) → s.pos ≤ length p → Kept (prefixed P p false move s content) (prefixed P r ended move s content)
   content_kept move s None i = read_kept s (length_at p s.pos (meter_of s)) (length_at r s.pos (meter_of s)) (λ n to m. Some (begun move n to s)) (length_steady p q s.pos (meter_of s) i)
-  content_kept move s (Some part) i = moves_kept move part s
+  content_kept move s (Some content) i = moves_kept move content s
 
-  fixed_kept : (move : Move) (n : ℕ) (s : State) (part : Option Part) → Kept (fixed P p false move n s part) (fixed P r ended move n s part)
+  fixed_kept : (move : Move) (n : ℕ) (s : State) (content : Option Content) → Kept (fixed P p false move n s content) (fixed P r ended move n s content)
   fixed_kept move zero s None = refl
   fixed_kept move (suc n) s None = moves_kept move (record { left = suc n; from = s.pos }) s
-  fixed_kept move zero s (Some part) = moves_kept move part s
-  fixed_kept move (suc n) s (Some part) = moves_kept move part s
+  fixed_kept move zero s (Some content) = moves_kept move content s
+  fixed_kept move (suc n) s (Some content) = moves_kept move content s
 
   next_kept : (a : ℕ) (s : State) (frames : List Frame) → s.pos ≤ length p → Kept (next_of P p false a s frames) (next_of P r ended a s frames)
   next_kept a s [] i = refl
@@ -152,17 +152,17 @@ module _ (P : Program) (p q : List ℕ) (ended : Bool) where
   row_kept op.Bool s i = with_kept s _ _ (read_kept s (boolean_at p s.pos (at s)) (boolean_at r s.pos (at s)) (λ b to m. Some (next to (added (boolean_byte b ∷ []) s))) (boolean_steady p q s.pos (at s) i))
   row_kept op.Int s i = with_kept s _ _ (read_kept s (number_at int_limit p s.pos (at s)) (number_at int_limit r s.pos (at s)) (λ n to m. Some (next to (added (shortest n) s))) (number_steady int_limit p q s.pos (at s) i))
   row_kept op.Long s i = with_kept s _ _ (read_kept s (number_at long_limit p s.pos (at s)) (number_at long_limit r s.pos (at s)) (λ n to m. Some (next to (added (shortest n) s))) (number_steady long_limit p q s.pos (at s) i))
-  row_kept op.Bytes s i = with_kept s _ _ (content_kept (kept anything) s s.part i)
-  row_kept op.Text s i = with_kept s _ _ (content_kept (kept only_text) s s.part i)
-  row_kept (op.BytesText m) s i = with_kept s _ _ (content_kept (kept (or_miss m)) s s.part i)
-  row_kept (op.Fixed n) s i = with_kept s _ _ (fixed_kept (kept anything) n s s.part)
+  row_kept op.Bytes s i = with_kept s _ _ (content_kept (kept anything) s s.content i)
+  row_kept op.Text s i = with_kept s _ _ (content_kept (kept only_text) s s.content i)
+  row_kept (op.BytesText m) s i = with_kept s _ _ (content_kept (kept (or_miss m)) s s.content i)
+  row_kept (op.Fixed n) s i = with_kept s _ _ (fixed_kept (kept anything) n s s.content)
   row_kept (op.Enum t) s i = with_kept s _ _ (read_kept s (position_at BadEnum (length (map_of P t)) p s.pos (at s)) (position_at BadEnum (length (map_of P t)) r s.pos (at s)) (λ k to m. Some (next to (entered (slice_index_or (map_of P t) k (entries.Position 0)) s))) (position_steady BadEnum (length (map_of P t)) p q s.pos (at s) i))
   row_kept op.SkipBool s i = read_kept s (boolean_at p s.pos (at s)) (boolean_at r s.pos (at s)) (λ b to m. Some (next to s)) (boolean_steady p q s.pos (at s) i)
   row_kept op.SkipInt s i = read_kept s (number_at int_limit p s.pos (at s)) (number_at int_limit r s.pos (at s)) (λ b to m. Some (next to s)) (number_steady int_limit p q s.pos (at s) i)
   row_kept op.SkipLong s i = read_kept s (number_at long_limit p s.pos (at s)) (number_at long_limit r s.pos (at s)) (λ b to m. Some (next to s)) (number_steady long_limit p q s.pos (at s) i)
-  row_kept op.SkipBytes s i = content_kept (skipped anything) s s.part i
-  row_kept op.SkipText s i = content_kept (skipped only_text) s s.part i
-  row_kept (op.SkipFixed n) s i = fixed_kept (skipped anything) n s s.part
+  row_kept op.SkipBytes s i = content_kept (skipped anything) s s.content i
+  row_kept op.SkipText s i = content_kept (skipped only_text) s s.content i
+  row_kept (op.SkipFixed n) s i = fixed_kept (skipped anything) n s s.content
   row_kept (op.SkipEnum n) s i = read_kept s (position_at BadEnum n p s.pos (at s)) (position_at BadEnum n r s.pos (at s)) (λ b to m. Some (next to s)) (position_steady BadEnum n p q s.pos (at s) i)
   row_kept (op.Put c) s i = same (row P p false (op.Put c) s)
   row_kept (op.Record k) s i = read_kept s _ _ (λ u to m. Some (next to (pushed (Rec None (replicate k [])) m s))) (λ c. refl)

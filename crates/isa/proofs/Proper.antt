@@ -26,11 +26,11 @@ use Rattle.isa.specs.declared.entry.Entry.{Entry}
 use Rattle.isa.specs.declared.entry.Entry.TheVariants as entries
 use Rattle.isa.specs.declared.instr.Instr.{Instr}
 use Rattle.isa.specs.declared.instr.Instr.TheVariants as op
-use Rattle.isa.specs.declared.limits.TheConstants.{MOST_CALLS, MOST_PIECE}
+use Rattle.isa.specs.declared.limits.TheConstants.{MOST_CALLS, MOST_CHUNK}
 use Rattle.isa.specs.Program.{Program, constant_of, jumps_of, map_of}
-use Rattle.isa.specs.State.{Blocks, End, Frame, Part, Rec, Skip, SkipBlocks, State, Store, has_current, meter_of, add, frames_size, size_of, miss, total, Out}
+use Rattle.isa.specs.State.{Blocks, End, Frame, Content, Rec, Skip, SkipBlocks, State, Store, has_current, meter_of, add, frames_size, size_of, miss, total, Out}
 use Rattle.isa.specs.Bounds.{AreBounded, IsBounded}
-use Rattle.isa.specs.Table.{Move, added, anything, begun, close_record, content, dropped, ends_part, entered, finished, fixed, gathered, halt, if_current, items_closed, leave, missed, moved, moves, next, next_of, only_text, opens, or_miss, passed, pushed, reads, return, select, skip_next_of, stop, trap, wait, with_frames}
+use Rattle.isa.specs.Table.{Move, added, anything, begun, close_record, prefixed, dropped, ends_content, entered, finished, fixed, gathered, halt, if_current, items_closed, leave, missed, moved, moves, next, next_of, only_text, opens, or_miss, passed, pushed, reads, return, select, skip_next_of, stop, trap, wait, with_frames}
 use Rattle.isa.specs.Row.{kept, row, row_at, skipped}
 use Rattle.isa.proofs.Held.{Holds, add_holds, miss_holds, new_slots}
 
@@ -157,33 +157,33 @@ module _ (P : Program) (p : List ℕ) (ended : Bool) (s : State) (running : s.en
   begun_steps move f zero to = goes (begun move zero to s) (f.put_runs (shortest (pos 0))) (f.put_bounded (shortest (pos 0)))
   begun_steps move f (suc n) to = goes (begun move (suc n) to s) (f.put_runs (shortest (pos (suc n)))) (f.put_bounded (shortest (pos (suc n))))
 
-  moves_proper : (move : Move) → Fine move → (part : Part) → Proper ended s (moves P p ended move part s)
-  moves_proper move f part = by_need (nat_lt (length p) (s.pos + min MOST_PIECE part.left))
+  moves_proper : (move : Move) → Fine move → (content : Content) → Proper ended s (moves P p ended move content s)
+  moves_proper move f content = by_need (nat_lt (length p) (s.pos + min MOST_CHUNK content.left))
     where
       all : List ℕ
-      all = take part.left (drop s.pos p)
+      all = take content.left (drop s.pos p)
 
-      by_text : (b : Bool) → Proper ended s (cond b (Some (record (next (s.pos + part.left) (move.put (take part.left (drop s.pos p)) s)) { part = None })) (move.unless_text part.from s (record (next (s.pos + part.left) (move.put (take part.left (drop s.pos p)) s)) { part = None })))
-      by_text true = goes (record (next (s.pos + part.left) (move.put (take part.left (drop s.pos p)) s)) { part = None }) (f.put_runs (take part.left (drop s.pos p))) (f.put_bounded (take part.left (drop s.pos p)))
-      by_text false = f.told part.from (record (next (s.pos + part.left) (move.put (take part.left (drop s.pos p)) s)) { part = None }) (f.put_runs (take part.left (drop s.pos p))) (f.put_bounded (take part.left (drop s.pos p)))
+      by_text : (b : Bool) → Proper ended s (cond b (Some (record (next (s.pos + content.left) (move.put (take content.left (drop s.pos p)) s)) { content = None })) (move.unless_text content.from s (record (next (s.pos + content.left) (move.put (take content.left (drop s.pos p)) s)) { content = None })))
+      by_text true = goes (record (next (s.pos + content.left) (move.put (take content.left (drop s.pos p)) s)) { content = None }) (f.put_runs (take content.left (drop s.pos p))) (f.put_bounded (take content.left (drop s.pos p)))
+      by_text false = f.told content.from (record (next (s.pos + content.left) (move.put (take content.left (drop s.pos p)) s)) { content = None }) (f.put_runs (take content.left (drop s.pos p))) (f.put_bounded (take content.left (drop s.pos p)))
 
-      by_piece : (b : Bool) → Proper ended s (cond b (Some (moved P p ended move part MOST_PIECE s)) (ends_part P p ended move part s))
-      by_piece true = goes (moved P p ended move part MOST_PIECE s) (f.put_runs (take MOST_PIECE (drop s.pos p))) (f.put_bounded (take MOST_PIECE (drop s.pos p)))
-      by_piece false = by_text (is_utf8 (take (s.pos + part.left - part.from) (drop part.from p)))
+      by_chunk : (b : Bool) → Proper ended s (cond b (Some (moved P p ended move content MOST_CHUNK s)) (ends_content P p ended move content s))
+      by_chunk true = goes (moved P p ended move content MOST_CHUNK s) (f.put_runs (take MOST_CHUNK (drop s.pos p))) (f.put_bounded (take MOST_CHUNK (drop s.pos p)))
+      by_chunk false = by_text (is_utf8 (take (s.pos + content.left - content.from) (drop content.from p)))
 
-      by_need : (b : Bool) → Proper ended s (cond b (wait P p ended s) (cond (nat_lt MOST_PIECE part.left) (Some (moved P p ended move part MOST_PIECE s)) (ends_part P p ended move part s)))
+      by_need : (b : Bool) → Proper ended s (cond b (wait P p ended s) (cond (nat_lt MOST_CHUNK content.left) (Some (moved P p ended move content MOST_CHUNK s)) (ends_content P p ended move content s)))
       by_need true = waits ended refl
-      by_need false = by_piece (nat_lt MOST_PIECE part.left)
+      by_need false = by_chunk (nat_lt MOST_CHUNK content.left)
 
-  content_proper : (move : Move) → Fine move → (part : Option Part) → Proper ended s (content P p ended move s part)
+  content_proper : (move : Move) → Fine move → (content : Option Content) → Proper ended s (prefixed P p ended move s content)
   content_proper move f None = reads_proper (length_at p s.pos (meter_of s)) (λ n to m. Some (begun move n to s)) (λ n to m e. begun_steps move f n to)
-  content_proper move f (Some part) = moves_proper move f part
+  content_proper move f (Some content) = moves_proper move f content
 
-  fixed_proper : (move : Move) → Fine move → (n : ℕ) (part : Option Part) → Proper ended s (fixed P p ended move n s part)
+  fixed_proper : (move : Move) → Fine move → (n : ℕ) (content : Option Content) → Proper ended s (fixed P p ended move n s content)
   fixed_proper move f zero None = goes (next s.pos s) refl (λ b. b)
   fixed_proper move f (suc n) None = moves_proper move f (record { left = suc n; from = s.pos })
-  fixed_proper move f zero (Some part) = moves_proper move f part
-  fixed_proper move f (suc n) (Some part) = moves_proper move f part
+  fixed_proper move f zero (Some content) = moves_proper move f content
+  fixed_proper move f (suc n) (Some content) = moves_proper move f content
 
   fine : (put : List ℕ → State → State) (text : ℕ → State → State → Option State) → ((x : List ℕ) → (put x s).end ≡ s.end) → ((x : List ℕ) → IsBounded s → IsBounded (put x s))
       → ((from : ℕ) (new : State) → new.end ≡ s.end → (IsBounded s → IsBounded new) → Proper ended s (text from s new)) → Fine (record { put = put; unless_text = text })
@@ -279,18 +279,18 @@ module _ (P : Program) (p : List ℕ) (ended : Bool) (s : State) (running : s.en
   row_proper op.Bool = with_proper _ (reads_proper (boolean_at p s.pos (meter_of s)) (λ b to m. Some (next to (added (boolean_byte b ∷ []) s))) (λ b to m e. goes (next to (added (boolean_byte b ∷ []) s)) refl (added_bounded (boolean_byte b ∷ []) s)))
   row_proper op.Int = with_proper _ (reads_proper (number_at int_limit p s.pos (meter_of s)) (λ n to m. Some (next to (added (shortest n) s))) (λ n to m e. goes (next to (added (shortest n) s)) refl (added_bounded (shortest n) s)))
   row_proper op.Long = with_proper _ (reads_proper (number_at long_limit p s.pos (meter_of s)) (λ n to m. Some (next to (added (shortest n) s))) (λ n to m e. goes (next to (added (shortest n) s)) refl (added_bounded (shortest n) s)))
-  row_proper op.Bytes = with_proper _ (content_proper (kept anything) (fine_kept anything told_anything) s.part)
-  row_proper op.Text = with_proper _ (content_proper (kept only_text) (fine_kept only_text told_text) s.part)
-  row_proper (op.BytesText m) = with_proper _ (content_proper (kept (or_miss m)) (fine_kept (or_miss m) (told_miss m)) s.part)
-  row_proper (op.Fixed n) = with_proper _ (fixed_proper (kept anything) (fine_kept anything told_anything) n s.part)
+  row_proper op.Bytes = with_proper _ (content_proper (kept anything) (fine_kept anything told_anything) s.content)
+  row_proper op.Text = with_proper _ (content_proper (kept only_text) (fine_kept only_text told_text) s.content)
+  row_proper (op.BytesText m) = with_proper _ (content_proper (kept (or_miss m)) (fine_kept (or_miss m) (told_miss m)) s.content)
+  row_proper (op.Fixed n) = with_proper _ (fixed_proper (kept anything) (fine_kept anything told_anything) n s.content)
   row_proper (op.Enum t) = with_proper _ (reads_proper (position_at BadEnum (length (map_of P t)) p s.pos (meter_of s)) (λ i to m. Some (next to (entered (slice_index_or (map_of P t) i (entries.Position 0)) s)))
       (λ i to m e. goes (next to (entered (slice_index_or (map_of P t) i (entries.Position 0)) s)) (entered_runs (slice_index_or (map_of P t) i (entries.Position 0))) (entered_bounded (slice_index_or (map_of P t) i (entries.Position 0)))))
   row_proper op.SkipBool = reads_proper (boolean_at p s.pos (meter_of s)) (λ b to m. Some (next to s)) (λ b to m e. goes (next to s) refl (λ k. k))
   row_proper op.SkipInt = reads_proper (number_at int_limit p s.pos (meter_of s)) (λ b to m. Some (next to s)) (λ b to m e. goes (next to s) refl (λ k. k))
   row_proper op.SkipLong = reads_proper (number_at long_limit p s.pos (meter_of s)) (λ b to m. Some (next to s)) (λ b to m e. goes (next to s) refl (λ k. k))
-  row_proper op.SkipBytes = content_proper (skipped anything) (fine_skipped anything told_anything) s.part
-  row_proper op.SkipText = content_proper (skipped only_text) (fine_skipped only_text told_text) s.part
-  row_proper (op.SkipFixed n) = fixed_proper (skipped anything) (fine_skipped anything told_anything) n s.part
+  row_proper op.SkipBytes = content_proper (skipped anything) (fine_skipped anything told_anything) s.content
+  row_proper op.SkipText = content_proper (skipped only_text) (fine_skipped only_text told_text) s.content
+  row_proper (op.SkipFixed n) = fixed_proper (skipped anything) (fine_skipped anything told_anything) n s.content
   row_proper (op.SkipEnum n) = reads_proper (position_at BadEnum n p s.pos (meter_of s)) (λ b to m. Some (next to s)) (λ b to m e. goes (next to s) refl (λ k. k))
   row_proper (op.Put c) = with_proper _ (goes (next s.pos (added (constant_of P c) s)) refl (added_bounded (constant_of P c) s))
   row_proper (op.Record k) = record_proper (Rec None (replicate k [])) (new_slots k)

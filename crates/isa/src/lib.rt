@@ -22,7 +22,7 @@ pub use laws::{
     row_that_ends_changes_nothing_else, rows_stay_within_bounds, worked_rows_come_out,
 };
 pub use limits::{
-    MOST_CALLS, MOST_CONSTANT_BYTES, MOST_ENTRIES, MOST_FIXED, MOST_INSTRS, MOST_NODES, MOST_PIECE,
+    MOST_CALLS, MOST_CHUNK, MOST_CONSTANT_BYTES, MOST_ENTRIES, MOST_FIXED, MOST_INSTRS, MOST_NODES,
     MOST_SLOTS, MOST_SYMBOLS, MOST_TABLES, limits_are_these,
 };
 pub use lists::Lists;

@@ -30,7 +30,7 @@ pub const MOST_NODES: usize = 1_024;
 pub const MOST_CALLS: usize = 1_024;
 
 /// How many bytes of a content one row moves at most.
-pub const MOST_PIECE: usize = 64;
+pub const MOST_CHUNK: usize = 64;
 
 /// The law of what the limits are.
 pub fn limits_are_these()
@@ -43,5 +43,5 @@ pub fn limits_are_these()
     ensures slots { MOST_SLOTS ≡ 1024 }
     ensures nodes { MOST_NODES ≡ 1024 }
     ensures calls { MOST_CALLS ≡ 1024 }
-    ensures piece { MOST_PIECE ≡ 64 }
+    ensures chunk { MOST_CHUNK ≡ 64 }
 {}

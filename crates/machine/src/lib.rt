@@ -8,7 +8,7 @@ mod transcoder;
 mod transcoding;
 
 pub use machine_stepper::{
-    BufferAt, FrameView, Machine, Part, Slice, Step, Why, machines_go_on_with_more_input,
+    BufferAt, Content, FrameView, Machine, Slice, Step, Why, machines_go_on_with_more_input,
 };
 pub use resolver::{Outcome, TranscodeError};
 pub use run::Run;

@@ -54,9 +54,14 @@ fn next_outcome(transcoder: &mut Transcoder<'_>, payload: &[u8]) -> Result<Outco
 
 /// The outcome of one payload, by the program of its pair of schemas. `ProgramTooLarge` where that would pass a limit,
 /// and then `TooLarge` where the payload does.
-pub fn transcode(alloc: Global, w: &Nodes, r: &Nodes, payload: &[u8]) -> Result<Outcome, PairError>
-    ensures { TranscodesPair w.now r.now payload.now result }
+pub fn transcode(
+    alloc: Global,
+    writer: &Nodes,
+    reader: &Nodes,
+    payload: &[u8],
+) -> Result<Outcome, PairError>
+    ensures { TranscodesPair writer.now reader.now payload.now result }
 {
-    let mut transcoder = Transcoder::new(alloc, w, r)?;
+    let mut transcoder = Transcoder::new(alloc, writer, reader)?;
     next_outcome(&mut transcoder, payload)
 }

@@ -1,3 +1,3 @@
 pub mod Ending
-pub mod Pieces
+pub mod Chunks
 pub mod Text

@@ -3,18 +3,18 @@
 //! Parts of what rows and slices do, which know no machine.
 #![tactic(auto)]
 
+mod chunks;
 mod count;
 mod ending;
 mod fetching;
 mod items;
-mod pieces;
 mod stops;
 mod text;
 
+pub use chunks::{Chunk, Content, chunk_at};
 pub use count::RowCount;
 pub use ending::{Ending, Verdict};
 pub use fetching::instr_at;
 pub use items::spell_around;
-pub use pieces::{Part, Piece, piece_at};
 pub use stops::{is_spent, stops_at};
 pub use text::{Carry, TextCheck};

@@ -19,11 +19,11 @@ impl Machine {
     pub(crate) fn blocks(&mut self, program: &Program, input: &[u8], ended: bool) -> Step
         requires pc { self.old.state.pc < MOST_INSTRS }
         requires within { self.old.state.pos ≤ length input.now }
-        requires whole { self.old.state.part ≡ None }
+        requires whole { self.old.state.content ≡ None }
         ensures takes { Takes (row program.now input.now ended op.Blocks self.old.state) result self.old self.new }
         ensures appends { OnlyAppends self.old self.new }
         ensures within { self.new.state.pos ≤ length input.now }
-        ensures whole { self.new.state.part ≡ None }
+        ensures whole { self.new.state.content ≡ None }
     {
         match BlockWalk::begin(self.pos(), self.meter()) {
             Ok((walk, inside)) => self.open(Opening::Blocks(walk), inside),
@@ -35,11 +35,11 @@ impl Machine {
     pub(crate) fn skip_blocks(&mut self, program: &Program, input: &[u8], ended: bool) -> Step
         requires pc { self.old.state.pc < MOST_INSTRS }
         requires within { self.old.state.pos ≤ length input.now }
-        requires whole { self.old.state.part ≡ None }
+        requires whole { self.old.state.content ≡ None }
         ensures takes { Takes (row program.now input.now ended op.SkipBlocks self.old.state) result self.old self.new }
         ensures appends { OnlyAppends self.old self.new }
         ensures within { self.new.state.pos ≤ length input.now }
-        ensures whole { self.new.state.part ≡ None }
+        ensures whole { self.new.state.content ≡ None }
     {
         match BlockWalk::begin(self.pos(), self.meter()) {
             Ok((walk, inside)) => self.open(Opening::SkipBlocks(walk), inside),
@@ -57,14 +57,14 @@ impl Machine {
     ) -> Step
         requires pc { self.old.state.pc < MOST_INSTRS }
         requires within { self.old.state.pos ≤ length input.now }
-        requires whole { self.old.state.part ≡ None }
+        requires whole { self.old.state.content ≡ None }
         ensures takes { Takes (row program.now input.now ended (op.Next after) self.old.state) result self.old
             self.new }
         ensures appends { OnlyAppends self.old self.new }
         ensures joins { AppendsThese (closing_bytes self.old.state.store.frames self.new.state.store.frames)
             self.old self.new }
         ensures within { self.new.state.pos ≤ length input.now }
-        ensures whole { self.new.state.part ≡ None }
+        ensures whole { self.new.state.content ≡ None }
     {
         let Some(mut walk) = self.walk() else {
             return self.trap(Trap::NoFrame);
@@ -87,12 +87,12 @@ impl Machine {
     ) -> Step
         requires pc { self.old.state.pc < MOST_INSTRS }
         requires within { self.old.state.pos ≤ length input.now }
-        requires whole { self.old.state.part ≡ None }
+        requires whole { self.old.state.content ≡ None }
         ensures takes { Takes (row program.now input.now ended (op.SkipNext after) self.old.state) result self.old
             self.new }
         ensures appends { OnlyAppends self.old self.new }
         ensures within { self.new.state.pos ≤ length input.now }
-        ensures whole { self.new.state.part ≡ None }
+        ensures whole { self.new.state.content ≡ None }
         ensures memory { result ≢ Step.NoMemory }
     {
         let Some(mut walk) = self.skip_walk() else {

@@ -5,19 +5,19 @@
 ghost use Rattle.std.specs.Prelude.{◌≡◌, ◌≤◌, ◌<◌, ◌+◌, ◌-◌, length, pos, [], OnOk, OnErr, Some, None, false};
 ghost use Rattle.avro_bytes.specs.declared.limits.TheConstants.{MOST_CONTENT};
 ghost use Rattle.avro_bytes.specs.Shortest.{shortest};
-ghost use Rattle.isa.specs.declared.limits.TheConstants.{MOST_INSTRS, MOST_PIECE};
-ghost use Rattle.isa.specs.Table.{begun, content, ends_part, fixed, if_current, moved, moves, next};
+ghost use Rattle.isa.specs.declared.limits.TheConstants.{MOST_INSTRS, MOST_CHUNK};
+ghost use Rattle.isa.specs.Table.{begun, prefixed, ends_content, fixed, if_current, moved, moves, next};
 ghost use Rattle.machine_stepper.specs.Contract.{AsksOf, HasRoom, asks, move_of, OnlyAppends, Stays, Takes};
 ghost use Rattle.machine_stepper.specs.Memory.{MayAdd};
-ghost use Rattle.machine_rules.specs.Pieces.{HasMoved, part_of};
+ghost use Rattle.machine_rules.specs.Chunks.{HasMoved, content_of};
 ghost use Rattle.machine_rules.specs.Text.{IsCheck, Unasked, check_of, is_asked};
 ghost use Rattle.machine_stepper.specs.Running.{IsOn};
 
 use crate::machine::Machine;
 use crate::step::Step;
 use avro_bytes::{MalformedKind, read_length};
-use isa::{End, MOST_PIECE, Program, Trap};
-use machine_rules::{Part, Piece, TextCheck, piece_at};
+use isa::{End, MOST_CHUNK, Program, Trap};
+use machine_rules::{Chunk, Content, TextCheck, chunk_at};
 use outcome::Outcome;
 use std::alloc::AllocError;
 
@@ -87,13 +87,15 @@ impl Machine {
     }
 
     /// At an offset, behind which a content goes on.
-    fn goes_on(&mut self, part: Part, check: TextCheck, to: usize) -> Step
+    fn goes_on(&mut self, content: Content, check: TextCheck, to: usize) -> Step
         ensures step { result ≡ Step.Moved }
-        ensures moved { self.new ≡ record self.old
-            { state = record self.old.state { pos = to; part = Some (part_of part) }; check = check_of check } }
+        ensures moved { self.new ≡ record self.old {
+          state = record self.old.state { pos = to; content = Some (content_of content) };
+          check = check_of check;
+        } }
     {
         self.pos = to;
-        self.part = Some(part);
+        self.content = Some(content);
         self.check = check;
         Step::Moved
     }
@@ -103,11 +105,11 @@ impl Machine {
         requires { self.old.state.pc < MOST_INSTRS }
         ensures step { result ≡ Step.Moved }
         ensures whole { self.new
-            ≡ record self.old { state = record (next to self.old.state) { part = None }; check = Unasked } }
+            ≡ record self.old { state = record (next to self.old.state) { content = None }; check = Unasked } }
     {
         self.pc += 1;
         self.pos = to;
-        self.part = None;
+        self.content = None;
         self.check = TextCheck::Unasked;
         Step::Moved
     }
@@ -118,7 +120,7 @@ impl Machine {
         requires room { HasRoom moving self.old.state }
         requires few { len ≤ MOST_CONTENT }
         requires within { to ≤ length input.now }
-        requires whole { self.old.state.part ≡ None }
+        requires whole { self.old.state.content ≡ None }
         requires on { IsOn input.now self.old }
         ensures takes { Takes (Some (begun (move_of moving) len to self.old.state)) result self.old self.new }
         ensures appends { OnlyAppends self.old self.new }
@@ -133,7 +135,7 @@ impl Machine {
             return self.next(to);
         }
         self.goes_on(
-            Part {
+            Content {
                 left: len,
                 from: to,
             },
@@ -143,23 +145,23 @@ impl Machine {
     }
 
     /// Some bytes of a content move, after which there are more, and this is known of it.
-    fn move_piece(
+    fn move_chunk(
         &mut self,
         moving: Moving,
-        part: Part,
+        content: Content,
         check: TextCheck,
         program: &Program,
         input: &[u8],
         ended: bool,
     ) -> Step
         requires room { HasRoom moving self.old.state }
-        requires there { self.old.state.pos + MOST_PIECE ≤ length input.now }
-        requires left { MOST_PIECE < part.left }
+        requires there { self.old.state.pos + MOST_CHUNK ≤ length input.now }
+        requires left { MOST_CHUNK < content.left }
         requires on { IsOn input.now self.old }
-        requires part { HasMoved input.now (self.old.state.pos + MOST_PIECE) (check_of check) (part_of part) }
+        requires content { HasMoved input.now (self.old.state.pos + MOST_CHUNK) (check_of check) (content_of content) }
         requires asked { is_asked (check_of check) ≡ asks moving }
-        requires stood { AsksOf moving self.old.check self.old.state.part }
-        ensures takes { Takes (Some (moved program.now input.now ended (move_of moving) (part_of part) MOST_PIECE
+        requires stood { AsksOf moving self.old.check self.old.state.content }
+        ensures takes { Takes (Some (moved program.now input.now ended (move_of moving) (content_of content) MOST_CHUNK
             self.old.state)) result self.old self.new }
         ensures appends { OnlyAppends self.old self.new }
         ensures on { IsOn input.now self.new }
@@ -167,22 +169,22 @@ impl Machine {
         ensures memory { result ≡ Step.NoMemory → MayAdd moving }
     {
         let pos = self.pos();
-        let to = pos + MOST_PIECE;
+        let to = pos + MOST_CHUNK;
         if self.put(moving, &input[pos..to]).is_err() {
             return Step::NoMemory;
         }
-        let left = Part {
-            left: part.left - MOST_PIECE,
-            from: part.from,
+        let left = Content {
+            left: content.left - MOST_CHUNK,
+            from: content.from,
         };
         self.goes_on(left, check, to)
     }
 
     /// The last bytes of a content move.
-    fn end_part(
+    fn end_content(
         &mut self,
         moving: Moving,
-        part: Part,
+        content: Content,
         check: TextCheck,
         program: &Program,
         input: &[u8],
@@ -190,12 +192,13 @@ impl Machine {
     ) -> Step
         requires pc { self.old.state.pc < MOST_INSTRS }
         requires room { HasRoom moving self.old.state }
-        requires there { self.old.state.pos + part.left ≤ length input.now }
+        requires there { self.old.state.pos + content.left ≤ length input.now }
         requires on { IsOn input.now self.old }
-        requires part { HasMoved input.now self.old.state.pos (check_of check) (part_of part) }
+        requires content { HasMoved input.now self.old.state.pos (check_of check) (content_of content) }
         requires asked { is_asked (check_of check) ≡ asks moving }
-        requires stood { AsksOf moving self.old.check self.old.state.part }
-        ensures takes { Takes (ends_part program.now input.now ended (move_of moving) (part_of part) self.old.state)
+        requires stood { AsksOf moving self.old.check self.old.state.content }
+        ensures takes { Takes
+            (ends_content program.now input.now ended (move_of moving) (content_of content) self.old.state)
             result self.old self.new }
         ensures appends { OnlyAppends self.old self.new }
         ensures on { IsOn input.now self.new }
@@ -203,7 +206,7 @@ impl Machine {
         ensures memory { result ≡ Step.NoMemory → MayAdd moving }
     {
         let pos = self.pos();
-        let to = pos + part.left;
+        let to = pos + content.left;
         let bytes = &input[pos..to];
         match moving {
             Moving::Bytes | Moving::SkipBytes => {
@@ -213,10 +216,10 @@ impl Machine {
                 self.pass_whole(to)
             }
             Moving::Text | Moving::SkipText => {
-                if !check.is_text(input, part.from, pos, to) {
+                if !check.is_text(input, content.from, pos, to) {
                     return self.stop(End::Out(Outcome::Malformed {
                         kind: MalformedKind::BadText,
-                        at: part.from,
+                        at: content.from,
                     }));
                 }
                 if self.put(moving, bytes).is_err() {
@@ -228,7 +231,7 @@ impl Machine {
                 if self.put(moving, bytes).is_err() {
                     return Step::NoMemory;
                 }
-                if !check.is_text(input, part.from, pos, to) {
+                if !check.is_text(input, content.from, pos, to) {
                     self.miss(miss);
                 }
                 self.pass_whole(to)
@@ -240,7 +243,7 @@ impl Machine {
     fn move_part(
         &mut self,
         moving: Moving,
-        part: Part,
+        content: Content,
         check: TextCheck,
         program: &Program,
         input: &[u8],
@@ -249,19 +252,22 @@ impl Machine {
         requires pc { self.old.state.pc < MOST_INSTRS }
         requires room { HasRoom moving self.old.state }
         requires on { IsOn input.now self.old }
-        requires part { HasMoved input.now self.old.state.pos (check_of check) (part_of part) }
+        requires content { HasMoved input.now self.old.state.pos (check_of check) (content_of content) }
         requires asked { is_asked (check_of check) ≡ asks moving }
-        requires stood { AsksOf moving self.old.check self.old.state.part }
-        ensures takes { Takes (moves program.now input.now ended (move_of moving) (part_of part) self.old.state) result
+        requires stood { AsksOf moving self.old.check self.old.state.content }
+        ensures takes { Takes (moves program.now input.now ended (move_of moving) (content_of content) self.old.state)
+            result
             self.old self.new }
         ensures appends { OnlyAppends self.old self.new }
         ensures on { IsOn input.now self.new }
         ensures stays { Stays moving self.old.state self.new }
         ensures memory { result ≡ Step.NoMemory → MayAdd moving }
     {
-        match piece_at(part, check, input, self.pos()) {
-            Ok(Piece::Full(check)) => self.move_piece(moving, part, check, program, input, ended),
-            Ok(Piece::Rest) => self.end_part(moving, part, check, program, input, ended),
+        match chunk_at(content, check, input, self.pos()) {
+            Ok(Chunk::Full(check)) => self.move_chunk(
+                moving, content, check, program, input, ended,
+            ),
+            Ok(Chunk::Rest) => self.end_content(moving, content, check, program, input, ended),
             Err(fault) => self.refuse(fault, program, input, ended),
         }
     }
@@ -277,8 +283,9 @@ impl Machine {
         requires pc { self.old.state.pc < MOST_INSTRS }
         requires room { HasRoom moving self.old.state }
         requires on { IsOn input.now self.old }
-        requires asked { AsksOf moving self.old.check self.old.state.part }
-        ensures takes { Takes (content program.now input.now ended (move_of moving) self.old.state self.old.state.part)
+        requires asked { AsksOf moving self.old.check self.old.state.content }
+        ensures takes { Takes
+            (prefixed program.now input.now ended (move_of moving) self.old.state self.old.state.content)
             result self.old self.new }
         ensures appends { OnlyAppends self.old self.new }
         ensures on { IsOn input.now self.new }
@@ -286,7 +293,7 @@ impl Machine {
         ensures memory { result ≡ Step.NoMemory → MayAdd moving }
     {
         match self.moving() {
-            Some(part) => self.move_part(moving, part, self.check(), program, input, ended),
+            Some(content) => self.move_part(moving, content, self.check(), program, input, ended),
             None => match read_length(input, self.pos(), self.meter()) {
                 Ok((len, to, _)) => self.begin(moving, len, to, input),
                 Err(fault) => self.refuse(fault, program, input, ended),
@@ -306,24 +313,24 @@ impl Machine {
         requires pc { self.old.state.pc < MOST_INSTRS }
         requires room { HasRoom moving self.old.state }
         requires on { IsOn input.now self.old }
-        requires asked { AsksOf moving self.old.check self.old.state.part }
+        requires asked { AsksOf moving self.old.check self.old.state.content }
         requires plain { asks moving ≡ false }
         ensures takes { Takes (fixed program.now input.now ended (move_of moving) size self.old.state
-            self.old.state.part) result self.old self.new }
+            self.old.state.content) result self.old self.new }
         ensures appends { OnlyAppends self.old self.new }
         ensures on { IsOn input.now self.new }
         ensures stays { Stays moving self.old.state self.new }
         ensures memory { result ≡ Step.NoMemory → MayAdd moving }
     {
         match self.moving() {
-            Some(part) => self.move_part(moving, part, self.check(), program, input, ended),
+            Some(content) => self.move_part(moving, content, self.check(), program, input, ended),
             None if size == 0 => self.next(self.pos()),
             None => {
-                let part = Part {
+                let content = Content {
                     left: size,
                     from: self.pos(),
                 };
-                self.move_part(moving, part, TextCheck::Unasked, program, input, ended)
+                self.move_part(moving, content, TextCheck::Unasked, program, input, ended)
             }
         }
     }
@@ -338,9 +345,9 @@ impl Machine {
     ) -> Step
         requires pc { self.old.state.pc < MOST_INSTRS }
         requires on { IsOn input.now self.old }
-        requires asked { AsksOf moving self.old.check self.old.state.part }
-        ensures takes { Takes (if_current self.old.state.store.frames self.old.state (content program.now input.now
-            ended (move_of moving) self.old.state self.old.state.part)) result self.old self.new }
+        requires asked { AsksOf moving self.old.check self.old.state.content }
+        ensures takes { Takes (if_current self.old.state.store.frames self.old.state (prefixed program.now input.now
+            ended (move_of moving) self.old.state self.old.state.content)) result self.old self.new }
         ensures appends { OnlyAppends self.old self.new }
         ensures on { IsOn input.now self.new }
         ensures stays { Stays moving self.old.state self.new }
@@ -361,9 +368,9 @@ impl Machine {
     ) -> Step
         requires pc { self.old.state.pc < MOST_INSTRS }
         requires on { IsOn input.now self.old }
-        requires asked { AsksOf Moving.Bytes self.old.check self.old.state.part }
+        requires asked { AsksOf Moving.Bytes self.old.check self.old.state.content }
         ensures takes { Takes (if_current self.old.state.store.frames self.old.state (fixed program.now input.now ended
-            (move_of Moving.Bytes) size self.old.state self.old.state.part)) result self.old self.new }
+            (move_of Moving.Bytes) size self.old.state self.old.state.content)) result self.old self.new }
         ensures appends { OnlyAppends self.old self.new }
         ensures on { IsOn input.now self.new }
         ensures stays { Stays Moving.Bytes self.old.state self.new }

@@ -23,11 +23,11 @@ impl Machine {
     ) -> Step
         requires pc { self.old.state.pc < MOST_INSTRS }
         requires within { self.old.state.pos ≤ length input.now }
-        requires whole { self.old.state.part ≡ None }
+        requires whole { self.old.state.content ≡ None }
         ensures takes { Takes (row program.now input.now ended (op.Miss miss) self.old.state) result self.old self.new }
         ensures appends { OnlyAppends self.old self.new }
         ensures within { self.new.state.pos ≤ length input.now }
-        ensures whole { self.new.state.part ≡ None }
+        ensures whole { self.new.state.content ≡ None }
         ensures memory { result ≢ Step.NoMemory }
     {
         self.miss(miss);
@@ -44,12 +44,12 @@ impl Machine {
     ) -> Step
         requires pc { self.old.state.pc < MOST_INSTRS }
         requires within { self.old.state.pos ≤ length input.now }
-        requires whole { self.old.state.part ≡ None }
+        requires whole { self.old.state.content ≡ None }
         ensures takes { Takes (row program.now input.now ended (op.Call address) self.old.state) result self.old
             self.new }
         ensures appends { OnlyAppends self.old self.new }
         ensures within { self.new.state.pos ≤ length input.now }
-        ensures whole { self.new.state.part ≡ None }
+        ensures whole { self.new.state.content ≡ None }
     {
         if self.calls() >= MOST_CALLS {
             return self.trap(Trap::TooManyCalls);
@@ -61,11 +61,11 @@ impl Machine {
     pub(crate) fn return_from_call(&mut self, program: &Program, input: &[u8], ended: bool) -> Step
         requires pc { self.old.state.pc < MOST_INSTRS }
         requires within { self.old.state.pos ≤ length input.now }
-        requires whole { self.old.state.part ≡ None }
+        requires whole { self.old.state.content ≡ None }
         ensures takes { Takes (row program.now input.now ended op.Return self.old.state) result self.old self.new }
         ensures appends { OnlyAppends self.old self.new }
         ensures within { self.new.state.pos ≤ length input.now }
-        ensures whole { self.new.state.part ≡ None }
+        ensures whole { self.new.state.content ≡ None }
         ensures memory { result ≢ Step.NoMemory }
     {
         match self.pop_call() {
@@ -84,12 +84,12 @@ impl Machine {
     ) -> Step
         requires pc { self.old.state.pc < MOST_INSTRS }
         requires within { self.old.state.pos ≤ length input.now }
-        requires whole { self.old.state.part ≡ None }
+        requires whole { self.old.state.content ≡ None }
         ensures takes { Takes (row program.now input.now ended (op.Jump address) self.old.state) result self.old
             self.new }
         ensures appends { OnlyAppends self.old self.new }
         ensures within { self.new.state.pos ≤ length input.now }
-        ensures whole { self.new.state.part ≡ None }
+        ensures whole { self.new.state.content ≡ None }
         ensures memory { result ≢ Step.NoMemory }
     {
         self.jump(address as usize, self.pos())
@@ -99,11 +99,11 @@ impl Machine {
     pub(crate) fn halt(&mut self, program: &Program, input: &[u8], ended: bool) -> Step
         requires pc { self.old.state.pc < MOST_INSTRS }
         requires within { self.old.state.pos ≤ length input.now }
-        requires whole { self.old.state.part ≡ None }
+        requires whole { self.old.state.content ≡ None }
         ensures takes { Takes (row program.now input.now ended op.Halt self.old.state) result self.old self.new }
         ensures appends { OnlyAppends self.old self.new }
         ensures within { self.new.state.pos ≤ length input.now }
-        ensures whole { self.new.state.part ≡ None }
+        ensures whole { self.new.state.content ≡ None }
     {
         let verdict = self
             .ending(program, input, ended)

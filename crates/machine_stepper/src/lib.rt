@@ -21,7 +21,7 @@ mod whole_output;
 
 pub use laws::machines_go_on_with_more_input;
 pub use machine::Machine;
-pub use machine_rules::Part;
+pub use machine_rules::Content;
 pub use machine_store::{BufferAt, FrameView};
 pub use slice::{Slice, Why};
 pub use step::Step;

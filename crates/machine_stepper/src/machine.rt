@@ -18,7 +18,7 @@ use crate::step::Step;
 use avro_bytes::{Fault, Meter, put_long};
 use isa::{End, Program, Trap};
 use machine_lookahead::{Found, is_tight};
-use machine_rules::{Ending, Part, RowCount, TextCheck, Verdict};
+use machine_rules::{Content, Ending, RowCount, TextCheck, Verdict};
 use machine_store::Store;
 use outcome::Outcome;
 use std::alloc::{AllocError, Global};
@@ -31,7 +31,7 @@ pub struct Machine {
     pub(crate) pos: usize,
     pub(crate) calls: Vec<usize>,
     pub(crate) store: Store,
-    pub(crate) part: Option<Part>,
+    pub(crate) content: Option<Content>,
     pub(crate) check: TextCheck,
     pub(crate) count: RowCount,
     pub(crate) end: Option<End>,
@@ -48,7 +48,7 @@ impl Model for Machine {
 
     ghost Value = { Running };
 
-    ghost view = { λ m. running_of m.pc m.pos m.calls.items m.store m.part m.check m.count.rows m.end };
+    ghost view = { λ m. running_of m.pc m.pos m.calls.items m.store m.content m.check m.count.rows m.end };
 }
 
 impl Machine {
@@ -63,7 +63,7 @@ impl Machine {
             pos: 0,
             calls: Vec::new(alloc),
             store: Store::new(alloc),
-            part: None,
+            content: None,
             check: TextCheck::Unasked,
             count: RowCount { rows: 0 },
             end: None,
@@ -82,7 +82,7 @@ impl Machine {
         self.pos = 0;
         self.calls.clear();
         self.store.reset();
-        self.part = None;
+        self.content = None;
         self.check = TextCheck::Unasked;
         self.count = RowCount { rows: 0 };
         self.end = None;
@@ -196,7 +196,7 @@ impl Machine {
         ensures takes { Takes (refused program.now input.now ended fault self.old.state) result self.old self.new }
         ensures layout { self.new.layout ≡ self.old.layout }
         ensures pos { self.new.state.pos ≡ self.old.state.pos }
-        ensures part { self.new.state.part ≡ self.old.state.part }
+        ensures content { self.new.state.content ≡ self.old.state.content }
         ensures check { self.new.check ≡ self.old.check }
         ensures memory { result ≢ Step.NoMemory }
         ensures store { self.new.state.store ≡ self.old.state.store }
@@ -240,7 +240,7 @@ impl Machine {
             { pc = address; calls = (self.old.state.pc + 1) ∷ self.old.state.calls })) result self.old self.new }
         ensures layout { self.new.layout ≡ self.old.layout }
         ensures pos { self.new.state.pos ≡ self.old.state.pos }
-        ensures part { self.new.state.part ≡ self.old.state.part }
+        ensures content { self.new.state.content ≡ self.old.state.content }
     {
         if self.calls.push(self.pc + 1).is_err() {
             return Step::NoMemory;
@@ -270,15 +270,15 @@ impl Machine {
     }
 
     /// The shortest spelling of a number at the end of the current buffer.
-    pub(crate) fn add_long(&mut self, n: i64) -> Result<(), AllocError>
+    pub(crate) fn add_long(&mut self, number: i64) -> Result<(), AllocError>
         requires { has_current self.old.state.store.frames ≡ true }
-        ensures added { OnOk result (self.new.state ≡ added (shortest n) self.old.state) }
+        ensures added { OnOk result (self.new.state ≡ added (shortest number) self.old.state) }
         ensures appends { OnlyAppends self.old self.new }
         ensures check { self.new.check ≡ self.old.check }
         ensures refused { OnErr result (self.new ≡ self.old) }
     {
         self.scratch.clear();
-        put_long(&mut self.scratch, n)?;
+        put_long(&mut self.scratch, number)?;
         self.store.add(&self.scratch)
     }
 
@@ -290,7 +290,7 @@ impl Machine {
         ensures takes { Takes (Some (next to (added bytes.now self.old.state))) result self.old self.new }
         ensures appends { OnlyAppends self.old self.new }
         ensures within { (len : ℕ) → self.old.state.pos ≤ len → to ≤ len → self.new.state.pos ≤ len }
-        ensures part { self.new.state.part ≡ self.old.state.part }
+        ensures content { self.new.state.content ≡ self.old.state.content }
     {
         if self.add(bytes).is_err() {
             return Step::NoMemory;
@@ -299,16 +299,16 @@ impl Machine {
     }
 
     /// The same of a number that was read, in its shortest spelling: its own, where that is the shortest.
-    pub(crate) fn move_number(&mut self, n: i64, spelling: &[u8], to: usize) -> Step
+    pub(crate) fn move_number(&mut self, number: i64, spelling: &[u8], to: usize) -> Step
         requires pc { self.old.state.pc < MOST_INSTRS }
         requires room { has_current self.old.state.store.frames ≡ true }
-        requires tight { IsTight spelling.now → spelling.now ≡ shortest n }
-        ensures takes { Takes (Some (next to (added (shortest n) self.old.state))) result self.old self.new }
+        requires tight { IsTight spelling.now → spelling.now ≡ shortest number }
+        ensures takes { Takes (Some (next to (added (shortest number) self.old.state))) result self.old self.new }
         ensures appends { OnlyAppends self.old self.new }
         ensures within { (len : ℕ) → self.old.state.pos ≤ len → to ≤ len → self.new.state.pos ≤ len }
-        ensures part { self.new.state.part ≡ self.old.state.part }
+        ensures content { self.new.state.content ≡ self.old.state.content }
     {
-        if self.add_spelled(n, spelling).is_err() {
+        if self.add_spelled(number, spelling).is_err() {
             return Step::NoMemory;
         }
         self.next(to)
@@ -316,10 +316,10 @@ impl Machine {
 
     /// The shortest spelling of a number that was read at the end of the current buffer: its own, where that is the
     /// shortest.
-    pub(crate) fn add_spelled(&mut self, n: i64, spelling: &[u8]) -> Result<(), AllocError>
+    pub(crate) fn add_spelled(&mut self, number: i64, spelling: &[u8]) -> Result<(), AllocError>
         requires room { has_current self.old.state.store.frames ≡ true }
-        requires tight { IsTight spelling.now → spelling.now ≡ shortest n }
-        ensures added { OnOk result (self.new.state ≡ added (shortest n) self.old.state) }
+        requires tight { IsTight spelling.now → spelling.now ≡ shortest number }
+        ensures added { OnOk result (self.new.state ≡ added (shortest number) self.old.state) }
         ensures appends { OnlyAppends self.old self.new }
         ensures check { self.new.check ≡ self.old.check }
         ensures refused { OnErr result (self.new ≡ self.old) }
@@ -327,6 +327,6 @@ impl Machine {
         if is_tight(spelling) {
             return self.add(spelling);
         }
-        self.add_long(n)
+        self.add_long(number)
     }
 }

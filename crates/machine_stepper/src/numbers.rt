@@ -19,11 +19,11 @@ impl Machine {
     pub(crate) fn boolean(&mut self, program: &Program, input: &[u8], ended: bool) -> Step
         requires pc { self.old.state.pc < MOST_INSTRS }
         requires within { self.old.state.pos ≤ length input.now }
-        requires whole { self.old.state.part ≡ None }
+        requires whole { self.old.state.content ≡ None }
         ensures takes { Takes (row program.now input.now ended op.Bool self.old.state) result self.old self.new }
         ensures appends { OnlyAppends self.old self.new }
         ensures within { self.new.state.pos ≤ length input.now }
-        ensures whole { self.new.state.part ≡ None }
+        ensures whole { self.new.state.content ≡ None }
     {
         if !self.has_current() {
             return self.trap(Trap::NoBuffer);
@@ -38,11 +38,11 @@ impl Machine {
     pub(crate) fn int(&mut self, program: &Program, input: &[u8], ended: bool) -> Step
         requires pc { self.old.state.pc < MOST_INSTRS }
         requires within { self.old.state.pos ≤ length input.now }
-        requires whole { self.old.state.part ≡ None }
+        requires whole { self.old.state.content ≡ None }
         ensures takes { Takes (row program.now input.now ended op.Int self.old.state) result self.old self.new }
         ensures appends { OnlyAppends self.old self.new }
         ensures within { self.new.state.pos ≤ length input.now }
-        ensures whole { self.new.state.part ≡ None }
+        ensures whole { self.new.state.content ≡ None }
     {
         if !self.has_current() {
             return self.trap(Trap::NoBuffer);
@@ -60,11 +60,11 @@ impl Machine {
     pub(crate) fn long(&mut self, program: &Program, input: &[u8], ended: bool) -> Step
         requires pc { self.old.state.pc < MOST_INSTRS }
         requires within { self.old.state.pos ≤ length input.now }
-        requires whole { self.old.state.part ≡ None }
+        requires whole { self.old.state.content ≡ None }
         ensures takes { Takes (row program.now input.now ended op.Long self.old.state) result self.old self.new }
         ensures appends { OnlyAppends self.old self.new }
         ensures within { self.new.state.pos ≤ length input.now }
-        ensures whole { self.new.state.part ≡ None }
+        ensures whole { self.new.state.content ≡ None }
     {
         if !self.has_current() {
             return self.trap(Trap::NoBuffer);
@@ -82,11 +82,11 @@ impl Machine {
     pub(crate) fn skip_boolean(&mut self, program: &Program, input: &[u8], ended: bool) -> Step
         requires pc { self.old.state.pc < MOST_INSTRS }
         requires within { self.old.state.pos ≤ length input.now }
-        requires whole { self.old.state.part ≡ None }
+        requires whole { self.old.state.content ≡ None }
         ensures takes { Takes (row program.now input.now ended op.SkipBool self.old.state) result self.old self.new }
         ensures appends { OnlyAppends self.old self.new }
         ensures within { self.new.state.pos ≤ length input.now }
-        ensures whole { self.new.state.part ≡ None }
+        ensures whole { self.new.state.content ≡ None }
         ensures memory { result ≢ Step.NoMemory }
     {
         match read_boolean(input, self.pos(), self.meter()) {
@@ -99,11 +99,11 @@ impl Machine {
     pub(crate) fn skip_int(&mut self, program: &Program, input: &[u8], ended: bool) -> Step
         requires pc { self.old.state.pc < MOST_INSTRS }
         requires within { self.old.state.pos ≤ length input.now }
-        requires whole { self.old.state.part ≡ None }
+        requires whole { self.old.state.content ≡ None }
         ensures takes { Takes (row program.now input.now ended op.SkipInt self.old.state) result self.old self.new }
         ensures appends { OnlyAppends self.old self.new }
         ensures within { self.new.state.pos ≤ length input.now }
-        ensures whole { self.new.state.part ≡ None }
+        ensures whole { self.new.state.content ≡ None }
         ensures memory { result ≢ Step.NoMemory }
     {
         match read_int(input, self.pos(), self.meter()) {
@@ -116,11 +116,11 @@ impl Machine {
     pub(crate) fn skip_long(&mut self, program: &Program, input: &[u8], ended: bool) -> Step
         requires pc { self.old.state.pc < MOST_INSTRS }
         requires within { self.old.state.pos ≤ length input.now }
-        requires whole { self.old.state.part ≡ None }
+        requires whole { self.old.state.content ≡ None }
         ensures takes { Takes (row program.now input.now ended op.SkipLong self.old.state) result self.old self.new }
         ensures appends { OnlyAppends self.old self.new }
         ensures within { self.new.state.pos ≤ length input.now }
-        ensures whole { self.new.state.part ≡ None }
+        ensures whole { self.new.state.content ≡ None }
         ensures memory { result ≢ Step.NoMemory }
     {
         match read_long(input, self.pos(), self.meter()) {

@@ -84,7 +84,7 @@ impl Machine {
             self.old self.new }
         ensures appends { OnlyAppends self.old self.new }
         ensures pos { self.new.state.pos ≡ self.old.state.pos }
-        ensures part { self.new.state.part ≡ self.old.state.part }
+        ensures content { self.new.state.content ≡ self.old.state.content }
     {
         if self.store.open(opening, inside.units).is_err() {
             return Step::NoMemory;
@@ -101,7 +101,7 @@ impl Machine {
             (with_frames (select slot self.old.state.store.frames) self.old.state))) result self.old self.new }
         ensures appends { OnlyAppends self.old self.new }
         ensures pos { self.new.state.pos ≡ self.old.state.pos }
-        ensures part { self.new.state.part ≡ self.old.state.part }
+        ensures content { self.new.state.content ≡ self.old.state.content }
         ensures memory { result ≢ Step.NoMemory }
     {
         self.store.select(slot);
@@ -119,7 +119,7 @@ impl Machine {
         ensures appends { OnlyAppends self.old self.new }
         ensures joins { AppendsThese [] self.old self.new }
         ensures pos { self.new.state.pos ≡ self.old.state.pos }
-        ensures part { self.new.state.part ≡ self.old.state.part }
+        ensures content { self.new.state.content ≡ self.old.state.content }
     {
         if self.store.close_record().is_err() {
             return Step::NoMemory;
@@ -185,7 +185,7 @@ impl Machine {
         ensures appends { OnlyAppends self.old self.new }
         ensures joins { AppendsThese (closing_bytes self.old.state.store.frames self.new.state.store.frames)
             self.old self.new }
-        ensures part { self.new.state.part ≡ self.old.state.part }
+        ensures content { self.new.state.content ≡ self.old.state.content }
     {
         if self
             .store

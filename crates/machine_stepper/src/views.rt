@@ -3,12 +3,12 @@
 ghost use Rattle.std.specs.Prelude.{◌≡◌, ◌++◌, length, reverse, slice_get, option_map, is_some, false, true, None, Some, OnErr, OnOk};
 ghost use Rattle.machine_store.specs.Segments.{AreSegments, bytes_of};
 ghost use Rattle.machine_store.specs.Viewing.{buffer_of, place_and_length, segments_of_buffer, view_of};
-ghost use Rattle.machine_rules.specs.Pieces.{part_of};
+ghost use Rattle.machine_rules.specs.Chunks.{content_of};
 ghost use Rattle.machine_stepper.specs.Running.{carried, end_of};
 
 use crate::machine::Machine;
 use isa::End;
-use machine_rules::Part;
+use machine_rules::Content;
 use machine_store::{BufferAt, FrameView};
 use std::alloc::AllocError;
 
@@ -35,10 +35,10 @@ impl Machine {
     }
 
     /// The content of which bytes are still to move.
-    pub fn moving(&self) -> Option<Part>
-        ensures { option_map part_of result ≡ self.now.state.part }
+    pub fn moving(&self) -> Option<Content>
+        ensures { option_map content_of result ≡ self.now.state.content }
     {
-        self.part
+        self.content
     }
 
     /// How the run ended.
@@ -65,9 +65,9 @@ impl Machine {
 
     /// The bytes of a character that is cut, of a text that moves; none where no text moves, or no text begins so.
     pub fn carry(&self) -> &[u8]
-        ensures { result.now ≡ carried self.now.state.part self.now.check }
+        ensures { result.now ≡ carried self.now.state.content self.now.check }
     {
-        match self.part {
+        match self.content {
             Some(_) => self.check.carry(),
             None => &[],
         }

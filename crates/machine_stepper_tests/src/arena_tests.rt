@@ -40,11 +40,11 @@ pub(crate) fn push_carry(
     machine: &mut Machine,
     program: &Program,
     input: &[u8],
-    k: u64,
+    limit: u64,
 ) -> Result<(), AllocError>
     requires { machine.old ≡ start }
 {
-    let _rows = machine.slice(program, input, true, &[], k);
+    let _rows = machine.slice(program, input, true, &[], limit);
     push_hex(alloc, output, machine.carry())
 }
 
@@ -82,12 +82,12 @@ pub(crate) fn push_after(
     machine: &mut Machine,
     program: &Program,
     input: &[u8],
-    k: u64,
+    limit: u64,
     at: Option<BufferAt>,
 ) -> Result<(), AllocError>
     requires { machine.old ≡ start }
 {
-    let _rows = machine.slice(program, input, true, &[NOWHERE], k);
+    let _rows = machine.slice(program, input, true, &[NOWHERE], limit);
     match at {
         Some(at) => push_buffer(alloc, output, machine, at),
         None => push_hex(alloc, output, machine.arena()),
@@ -168,11 +168,11 @@ pub(crate) fn push_steps(
     machine: &mut Machine,
     program: &Program,
     input: &[u8],
-    k: u64,
+    limit: u64,
 ) -> Result<(), AllocError>
     requires { machine.old ≡ start }
 {
-    if !takes_rows(alloc, machine, program, input, k)? {
+    if !takes_rows(alloc, machine, program, input, limit)? {
         return output.push_str("no such row");
     }
     push_hex(alloc, output, machine.arena())?;

@@ -25,12 +25,12 @@ pub(crate) fn program(alloc: Global, lines: &str) -> Result<Program, AsmError> {
 }
 
 /// A run on an input that comes in pieces, in slices of so many rows.
-pub(crate) fn run(machine: &mut Machine, program: &Program, input: &[u8], piece: usize, k: u64)
+pub(crate) fn run(machine: &mut Machine, program: &Program, input: &[u8], piece: usize, limit: u64)
     requires { machine.old ≡ start }
 {
     let mut end = 0;
     'turns: for _turn in 0..TURNS {
-        let slice = machine.slice(program, &input[..end], end == input.len(), &[], k);
+        let slice = machine.slice(program, &input[..end], end == input.len(), &[], limit);
         if slice.why == Why::Ended {
             return;
         }

@@ -49,11 +49,11 @@ pub(crate) fn push_shown_after(
     machine: &mut Machine,
     program: &Program,
     input: &[u8],
-    k: u64,
+    limit: u64,
 ) -> Result<(), AllocError>
     requires { machine.old ≡ start }
 {
-    let slice = machine.slice(program, input, true, &[], k);
+    let slice = machine.slice(program, input, true, &[], limit);
     push_shown(alloc, output, machine, slice.why == Why::NoMemory)
 }
 

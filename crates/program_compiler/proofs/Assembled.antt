@@ -1,4 +1,4 @@
--- The parts of the program of all lines.
+-- The parts of the program of all statements.
 use Rattle.std.proofs.Common.{◌≡◌, ℕ, suc, ◌+◌, ◌<◌, ◌≤◌, drop, get_or, Bool, true, false, List, [], ◌∷◌, length, map, Result, Ok, Err, refl, sym, ap, subst, ◌∙◌, arith}
 use Rattle.std.specs.Prelude.{if◌then◌else◌}
 use Rattle.std.specs.List.{AllByRecursion}
@@ -14,26 +14,26 @@ use Rattle.isa.specs.Range.{IsProgram}
 use Rattle.outcome.specs.declared.limits.TheConstants.{MOST_OUTPUT}
 use Rattle.outcome.specs.declared.mismatch.Mismatch.{Mismatch}
 use Rattle.program_definition.specs.Code.{are_whole, is_lost}
-use Rattle.program_definition.specs.Lines.{Line, Section}
+use Rattle.program_definition.specs.Statements.{Statement, Section}
 use Rattle.program_definition.specs.Numbering.{code_from, constants_in, constants_of, entry_of, has, jumps_from, maps_of, misses_in, named_in, numbered}
 use Rattle.program_definition.proofs.Numbers.{added, bytes_is, bytes_refl}
 use Rattle.program_definition.proofs.Ranges.{code_length}
 use Rattle.program_lowering.specs.declared.error.CompileError.{CompileError}
 use Rattle.program_lowering.specs.declared.error.CompileError.TheVariants.{ProgramTooLarge, NoMemory}
-use Rattle.program_ir.specs.declared.lines.Line as rust
-use Rattle.program_ir.specs.Lines.{line_of, lines_in}
+use Rattle.program_ir.specs.declared.statements.Statement as rust
+use Rattle.program_ir.specs.Statements.{statement_of, statements_in}
 use Rattle.program_compiler.specs.Parts.{AreWide, Assembles, FitNowhere, IsLong, LinksAll, LinksTables}
-use Rattle.program_compiler.proofs.Jumps.{lines_left}
+use Rattle.program_compiler.proofs.Jumps.{statements_left}
 
-module _ (W R : List Node) (lines : List rust.Line) (i : ℕ) (line : rust.Line) (lost : Bool) (lt : i < length lines) (is : line ≡ get_or lines i line) (told : lost ≡ is_lost (line_of W R line)) where
-  whole_here : are_whole (lines_in W R (drop i lines)) ≡ (if lost then false else are_whole (lines_in W R (drop (i + 1) lines)))
-  whole_here = ap are_whole (lines_left W R lines i line lt is) ∙ ap (λ b. if b then false else are_whole (lines_in W R (drop (i + 1) lines))) (sym told)
+module _ (W R : List Node) (statements : List rust.Statement) (i : ℕ) (statement : rust.Statement) (lost : Bool) (lt : i < length statements) (is : statement ≡ get_or statements i statement) (told : lost ≡ is_lost (statement_of W R statement)) where
+  whole_here : are_whole (statements_in W R (drop i statements)) ≡ (if lost then false else are_whole (statements_in W R (drop (i + 1) statements)))
+  whole_here = ap are_whole (statements_left W R statements i statement lt is) ∙ ap (λ b. if b then false else are_whole (statements_in W R (drop (i + 1) statements))) (sym told)
 
-  pub line_is_lost : lost ≡ true → are_whole (lines_in W R (drop i lines)) ≡ are_whole (lines_in W R lines) → false ≡ are_whole (lines_in W R lines)
-  line_is_lost e so_far = sym (whole_here ∙ ap (λ b. if b then false else are_whole (lines_in W R (drop (i + 1) lines))) e) ∙ so_far
+  pub statement_is_lost : lost ≡ true → are_whole (statements_in W R (drop i statements)) ≡ are_whole (statements_in W R statements) → false ≡ are_whole (statements_in W R statements)
+  statement_is_lost e so_far = sym (whole_here ∙ ap (λ b. if b then false else are_whole (statements_in W R (drop (i + 1) statements))) e) ∙ so_far
 
-  pub line_is_whole : lost ≡ false → are_whole (lines_in W R (drop i lines)) ≡ are_whole (lines_in W R lines) → are_whole (lines_in W R (drop (i + 1) lines)) ≡ are_whole (lines_in W R lines)
-  line_is_whole e so_far = sym (whole_here ∙ ap (λ b. if b then false else are_whole (lines_in W R (drop (i + 1) lines))) e) ∙ so_far
+  pub statement_is_whole : lost ≡ false → are_whole (statements_in W R (drop i statements)) ≡ are_whole (statements_in W R statements) → are_whole (statements_in W R (drop (i + 1) statements)) ≡ are_whole (statements_in W R statements)
+  statement_is_whole e so_far = sym (whole_here ∙ ap (λ b. if b then false else are_whole (statements_in W R (drop (i + 1) statements))) e) ∙ so_far
 
 -- ---- a constant is no longer than all are together
 
@@ -49,13 +49,13 @@ all_short : (most : ℕ) (cs xs : List (List ℕ)) → total_length xs ≤ most 
 all_short most [] xs le h = tt
 all_short most (c ∷ cs) xs le h = let short = there_is_short c xs h.0 in (omega (arith, le, short), all_short most cs xs le h.1)
 
-pub lines_long : (W R : List Node) (ls : List rust.Line) → length (lines_in W R ls) ≡ length ls
-lines_long W R [] = refl
-lines_long W R (l ∷ ls) = ap suc (lines_long W R ls)
+pub statements_long : (W R : List Node) (ls : List rust.Statement) → length (statements_in W R ls) ≡ length ls
+statements_long W R [] = refl
+statements_long W R (l ∷ ls) = ap suc (statements_long W R ls)
 
--- ---- where a limit is passed, the lines have no program
+-- ---- where a limit is passed, the statements have no program
 
-module _ (starts : Section → ℕ) (ls : List Line) where
+module _ (starts : Section → ℕ) (ls : List Statement) where
   constants_short : IsProgram (numbered starts ls) → AllByRecursion (λ c. length c ≤ MOST_OUTPUT) (named_in constants_of ls)
   constants_short prog =
       let bytes : total_length (constants_in ls) ≤ MOST_CONSTANT_BYTES = prog.within.bytes in
@@ -94,69 +94,69 @@ five {code} {other_code} {cs} {other_cs} {maps} {other_maps} {jumps} {other_jump
 different : false ≡ true → ⊥
 different h = let wrong : ⊥ = cc in wrong
 
--- ---- of the lines that were gone over, which are all lines of the sections
+-- ---- of the statements that were gone over, which are all statements of the sections
 
-module _ (starts : Section → ℕ) (W R : List Node) (lines all : List rust.Line) (same : lines ≡ all) where
-  pub whole_of : (b : Bool) → b ≡ are_whole (lines_in W R lines) → b ≡ true → are_whole (lines_in W R all) ≡ true
-  whole_of b told e = ap (λ l. are_whole (lines_in W R l)) (sym same) ∙ sym told ∙ e
+module _ (starts : Section → ℕ) (W R : List Node) (statements all : List rust.Statement) (same : statements ≡ all) where
+  pub whole_of : (b : Bool) → b ≡ are_whole (statements_in W R statements) → b ≡ true → are_whole (statements_in W R all) ≡ true
+  whole_of b told e = ap (λ l. are_whole (statements_in W R l)) (sym same) ∙ sym told ∙ e
 
-  pub not_whole : (b : Bool) → b ≡ are_whole (lines_in W R lines) → b ≡ false → are_whole (lines_in W R all) ≡ true → ⊥
-  not_whole b told e whole = different (sym e ∙ told ∙ ap (λ l. are_whole (lines_in W R l)) same ∙ whole)
+  pub not_whole : (b : Bool) → b ≡ are_whole (statements_in W R statements) → b ≡ false → are_whole (statements_in W R all) ≡ true → ⊥
+  not_whole b told e whole = different (sym e ∙ told ∙ ap (λ l. are_whole (statements_in W R l)) same ∙ whole)
 
-  pub many_lines : MOST_INSTRS < length lines → IsProgram (numbered starts (lines_in W R all)) → ⊥
-  many_lines many prog =
-      let e : length lines ≡ length all = ap length same in
-      let long = lines_long W R all in
-      none_many starts (lines_in W R all) (omega (arith, many, e, long)) prog
+  pub many_statements : MOST_INSTRS < length statements → IsProgram (numbered starts (statements_in W R all)) → ⊥
+  many_statements many prog =
+      let e : length statements ≡ length all = ap length same in
+      let long = statements_long W R all in
+      none_many starts (statements_in W R all) (omega (arith, many, e, long)) prog
 
-  pub long_lines : IsLong (named_in constants_of (lines_in W R lines)) → IsProgram (numbered starts (lines_in W R all)) → ⊥
-  long_lines long prog = none_long starts (lines_in W R all) (subst (λ l. IsLong (named_in constants_of (lines_in W R l))) same long) prog
+  pub long_statements : IsLong (named_in constants_of (statements_in W R statements)) → IsProgram (numbered starts (statements_in W R all)) → ⊥
+  long_statements long prog = none_long starts (statements_in W R all) (subst (λ l. IsLong (named_in constants_of (statements_in W R l))) same long) prog
 
-  pub wide_lines : AreWide (jumps_from 0 (lines_in W R lines)) → IsProgram (numbered starts (lines_in W R all)) → ⊥
-  wide_lines wide prog = none_wide starts (lines_in W R all) (subst (λ l. AreWide (jumps_from 0 (lines_in W R l))) same wide) prog
+  pub wide_statements : AreWide (jumps_from 0 (statements_in W R statements)) → IsProgram (numbered starts (statements_in W R all)) → ⊥
+  wide_statements wide prog = none_wide starts (statements_in W R all) (subst (λ l. AreWide (jumps_from 0 (statements_in W R l))) same wide) prog
 
-  module _ (cs : List (List ℕ)) (ms : List Mismatch) (constants : cs ≡ constants_in (lines_in W R lines)) (misses : ms ≡ misses_in (lines_in W R lines)) where
-    all_constants : cs ≡ constants_in (lines_in W R all)
-    all_constants = constants ∙ ap (λ l. constants_in (lines_in W R l)) same
+  module _ (cs : List (List ℕ)) (ms : List Mismatch) (constants : cs ≡ constants_in (statements_in W R statements)) (misses : ms ≡ misses_in (statements_in W R statements)) where
+    all_constants : cs ≡ constants_in (statements_in W R all)
+    all_constants = constants ∙ ap (λ l. constants_in (statements_in W R l)) same
 
-    all_misses : ms ≡ misses_in (lines_in W R all)
-    all_misses = misses ∙ ap (λ l. misses_in (lines_in W R l)) same
+    all_misses : ms ≡ misses_in (statements_in W R all)
+    all_misses = misses ∙ ap (λ l. misses_in (statements_in W R l)) same
 
-    same_code : code_from starts cs ms 0 0 0 (lines_in W R all) ≡ code_from starts (constants_in (lines_in W R all)) (misses_in (lines_in W R all)) 0 0 0 (lines_in W R all)
-    same_code = ap (λ x. code_from starts x ms 0 0 0 (lines_in W R all)) all_constants ∙ ap (λ y. code_from starts (constants_in (lines_in W R all)) y 0 0 0 (lines_in W R all)) all_misses
+    same_code : code_from starts cs ms 0 0 0 (statements_in W R all) ≡ code_from starts (constants_in (statements_in W R all)) (misses_in (statements_in W R all)) 0 0 0 (statements_in W R all)
+    same_code = ap (λ x. code_from starts x ms 0 0 0 (statements_in W R all)) all_constants ∙ ap (λ y. code_from starts (constants_in (statements_in W R all)) y 0 0 0 (statements_in W R all)) all_misses
 
-    pub none_assembled : (e : CompileError) (result : Result (Vec Instr) CompileError) → result ≡ Err e → LinksAll (lines_in W R all) (code_from starts cs ms 0 0 0 (lines_in W R all)) result → LinksTables (lines_in W R all) (numbered starts (lines_in W R all)) (Err e)
+    pub none_assembled : (e : CompileError) (result : Result (Vec Instr) CompileError) → result ≡ Err e → LinksAll (statements_in W R all) (code_from starts cs ms 0 0 0 (statements_in W R all)) result → LinksTables (statements_in W R all) (numbered starts (statements_in W R all)) (Err e)
     none_assembled ProgramTooLarge result is h =
-        let here : FitNowhere (named_in constants_of (lines_in W R all)) (code_from starts cs ms 0 0 0 (lines_in W R all)) = subst (LinksAll (lines_in W R all) (code_from starts cs ms 0 0 0 (lines_in W R all))) is h in
-        λ whole prog. none_fits starts (lines_in W R all) (subst (FitNowhere (named_in constants_of (lines_in W R all))) same_code here) prog
+        let here : FitNowhere (named_in constants_of (statements_in W R all)) (code_from starts cs ms 0 0 0 (statements_in W R all)) = subst (LinksAll (statements_in W R all) (code_from starts cs ms 0 0 0 (statements_in W R all))) is h in
+        λ whole prog. none_fits starts (statements_in W R all) (subst (FitNowhere (named_in constants_of (statements_in W R all))) same_code here) prog
     none_assembled NoMemory result is h = tt
 
-    pub code_is : (code : Vec Instr) (result : Result (Vec Instr) CompileError) → result ≡ Ok code → LinksAll (lines_in W R all) (code_from starts cs ms 0 0 0 (lines_in W R all)) result
-        → code.items ≡ code_from starts (constants_in (lines_in W R all)) (misses_in (lines_in W R all)) 0 0 0 (lines_in W R all)
+    pub code_is : (code : Vec Instr) (result : Result (Vec Instr) CompileError) → result ≡ Ok code → LinksAll (statements_in W R all) (code_from starts cs ms 0 0 0 (statements_in W R all)) result
+        → code.items ≡ code_from starts (constants_in (statements_in W R all)) (misses_in (statements_in W R all)) 0 0 0 (statements_in W R all)
     code_is code result is h =
-        let here : code.items ≡ code_from starts cs ms 0 0 0 (lines_in W R all) = subst (LinksAll (lines_in W R all) (code_from starts cs ms 0 0 0 (lines_in W R all))) is h in
+        let here : code.items ≡ code_from starts cs ms 0 0 0 (statements_in W R all) = subst (LinksAll (statements_in W R all) (code_from starts cs ms 0 0 0 (statements_in W R all))) is h in
         here ∙ same_code
 
-    pub maps_are : (maps : List (List Entry)) → maps ≡ map (map (entry_of ms)) (named_in maps_of (lines_in W R lines)) → maps ≡ map (map (entry_of (misses_in (lines_in W R all)))) (named_in maps_of (lines_in W R all))
-    maps_are maps em = em ∙ ap (λ y. map (map (entry_of y)) (named_in maps_of (lines_in W R lines))) all_misses ∙ ap (λ l. map (map (entry_of (misses_in (lines_in W R all)))) (named_in maps_of (lines_in W R l))) same
+    pub maps_are : (maps : List (List Entry)) → maps ≡ map (map (entry_of ms)) (named_in maps_of (statements_in W R statements)) → maps ≡ map (map (entry_of (misses_in (statements_in W R all)))) (named_in maps_of (statements_in W R all))
+    maps_are maps em = em ∙ ap (λ y. map (map (entry_of y)) (named_in maps_of (statements_in W R statements))) all_misses ∙ ap (λ l. map (map (entry_of (misses_in (statements_in W R all)))) (named_in maps_of (statements_in W R l))) same
 
-  pub jumps_are : (jumps : List (List ℕ)) → jumps ≡ jumps_from 0 (lines_in W R lines) → jumps ≡ jumps_from 0 (lines_in W R all)
-  jumps_are jumps ej = ej ∙ ap (λ l. jumps_from 0 (lines_in W R l)) same
+  pub jumps_are : (jumps : List (List ℕ)) → jumps ≡ jumps_from 0 (statements_in W R statements) → jumps ≡ jumps_from 0 (statements_in W R all)
+  jumps_are jumps ej = ej ∙ ap (λ l. jumps_from 0 (statements_in W R l)) same
 
-  pub misses_are : (ms : List Mismatch) → ms ≡ misses_in (lines_in W R lines) → ms ≡ misses_in (lines_in W R all)
-  misses_are ms are = are ∙ ap (λ l. misses_in (lines_in W R l)) same
+  pub misses_are : (ms : List Mismatch) → ms ≡ misses_in (statements_in W R statements) → ms ≡ misses_in (statements_in W R all)
+  misses_are ms are = are ∙ ap (λ l. misses_in (statements_in W R l)) same
 
-  pub many_misses : (ms : List Mismatch) (n : ℕ) → n ≡ length ms → ms ≡ misses_in (lines_in W R all) → MOST_TABLES < n → IsProgram (numbered starts (lines_in W R all)) → ⊥
-  many_misses ms n len are many prog = none_missing starts (lines_in W R all) n (len ∙ ap length are) many prog
+  pub many_misses : (ms : List Mismatch) (n : ℕ) → n ≡ length ms → ms ≡ misses_in (statements_in W R all) → MOST_TABLES < n → IsProgram (numbered starts (statements_in W R all)) → ⊥
+  many_misses ms n len are many prog = none_missing starts (statements_in W R all) n (len ∙ ap length are) many prog
 
 -- what is linked, with the constants and the misses, is the program
-pub linked_parts : (lines : List Line) (P : Program) (code : Vec Instr) (maps : List (List Entry)) (jumps constants : List (List ℕ)) (misses : List Mismatch) (result : Result (Vec Instr × List (List Entry) × List (List ℕ)) CompileError)
-    → result ≡ Ok (code, maps, jumps) → LinksTables lines P result → constants ≡ P.constants → misses ≡ P.misses
+pub linked_parts : (statements : List Statement) (P : Program) (code : Vec Instr) (maps : List (List Entry)) (jumps constants : List (List ℕ)) (misses : List Mismatch) (result : Result (Vec Instr × List (List Entry) × List (List ℕ)) CompileError)
+    → result ≡ Ok (code, maps, jumps) → LinksTables statements P result → constants ≡ P.constants → misses ≡ P.misses
     → ◌≡◌ {A = Program} (record { code = code.items; constants = constants; maps = maps; jumps = jumps; misses = misses }) P
-linked_parts lines P code maps jumps constants misses result is h ec em =
-    let here = subst (LinksTables lines P) is h in
+linked_parts statements P code maps jumps constants misses result is h ec em =
+    let here = subst (LinksTables statements P) is h in
     five here.0 ec here.1 here.2 em
 
-pub none_linked : (lines : List Line) (P : Program) (e : CompileError) (result : Result (Vec Instr × List (List Entry) × List (List ℕ)) CompileError) → result ≡ Err e → LinksTables lines P result → Assembles lines P (Err e)
-none_linked lines P ProgramTooLarge result is h = subst (LinksTables lines P) is h
-none_linked lines P NoMemory result is h = tt
+pub none_linked : (statements : List Statement) (P : Program) (e : CompileError) (result : Result (Vec Instr × List (List Entry) × List (List ℕ)) CompileError) → result ≡ Err e → LinksTables statements P result → Assembles statements P (Err e)
+none_linked statements P ProgramTooLarge result is h = subst (LinksTables statements P) is h
+none_linked statements P NoMemory result is h = tt

@@ -8,8 +8,8 @@ use Rattle.avro_types.specs.Node.{Node}
 use Rattle.program_definition.specs.Numbering.{adding, has, number}
 use Rattle.program_definition.proofs.Growing.{number_more}
 use Rattle.program_definition.proofs.Numbers.{added, bytes_refl, has_more}
-use Rattle.program_ir.specs.declared.lines.Constant.TheVariants.{Default}
-use Rattle.program_ir.specs.Lines.{bytes_of}
+use Rattle.program_ir.specs.declared.statements.Constant.TheVariants.{Default}
+use Rattle.program_ir.specs.Statements.{bytes_of}
 use Rattle.program_ir.specs.Tables.{found}
 use Rattle.program_ir.specs.Sections.{pair_cmp}
 use Rattle.program_compiler.specs.Tables.{AreDefaults}

@@ -8,7 +8,7 @@ use Rattle.outcome.specs.declared.mismatch.Mismatch.{Mismatch}
 use Rattle.avro_types.specs.Node.{Node}
 use Rattle.program_definition.specs.Numbering.{adding, has, lacked, same_miss}
 use Rattle.program_definition.proofs.Numbers.{added, all_more, miss_refl}
-use Rattle.program_ir.specs.Lines.{targets_of}
+use Rattle.program_ir.specs.Statements.{targets_of}
 use Rattle.program_ir.specs.Sections.{pair_cmp}
 use Rattle.program_compiler.specs.Tables.{AreNoted}
 use Rattle.program_compiler.proofs.Sharing.{pair_is}

@@ -10,7 +10,7 @@ use Rattle.avro_types.specs.Node.{Node}
 use Rattle.outcome.specs.declared.mismatch.Mismatch.{Mismatch}
 use Rattle.isa.specs.declared.entry.Entry.{Entry}
 use Rattle.program_definition.specs.Numbering.{entry_of}
-use Rattle.program_ir.specs.Lines.{targets_of}
+use Rattle.program_ir.specs.Statements.{targets_of}
 use Rattle.program_ir.specs.Sections.{pair_cmp}
 use Rattle.program_compiler.specs.Tables.{AreShared}
 use Rattle.program_ir.proofs.Tables.{nat_at, then_at}

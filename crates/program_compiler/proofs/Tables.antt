@@ -1,21 +1,21 @@
--- What lines name, with that of one line more.
+-- What statements name, with that of one statement more.
 use Rattle.std.proofs.Common.{◌≡◌, ℕ, suc, ◌+◌, ◌<◌, drop, get_or, Bool, List, ◌++◌, length, sym, ap, ◌∙◌, arith}
 use Rattle.std.proofs.Math.Seq.{drop-cons}
 use Rattle.avro_types.specs.Node.{Node}
-use Rattle.program_definition.specs.Lines.{Line}
+use Rattle.program_definition.specs.Statements.{Statement}
 use Rattle.program_definition.specs.Numbering.{adding, named_in}
-use Rattle.program_ir.specs.declared.lines.Line as rust
-use Rattle.program_ir.specs.Lines.{line_of, lines_in}
+use Rattle.program_ir.specs.declared.statements.Statement as rust
+use Rattle.program_ir.specs.Statements.{statement_of, statements_in}
 use Rattle.program_ir.proofs.Tables.{adding_on}
 
 module _ {A : Type 0} (same : A → A → Bool) where
-  -- one line more
-  pub listed_on : (f : Line → List A) (W R : List Node) (lines : List rust.Line) (i : ℕ) (line : rust.Line) (old new whole : List A) → i < length lines → line ≡ get_or lines i line → new ≡ adding same old (f (line_of W R line)) → adding same old (named_in f (lines_in W R (drop i lines))) ≡ whole → adding same new (named_in f (lines_in W R (drop (i + 1) lines))) ≡ whole
-  listed_on f W R lines i line old new whole lt is h so_far =
+  -- one statement more
+  pub listed_on : (f : Statement → List A) (W R : List Node) (statements : List rust.Statement) (i : ℕ) (statement : rust.Statement) (old new whole : List A) → i < length statements → statement ≡ get_or statements i statement → new ≡ adding same old (f (statement_of W R statement)) → adding same old (named_in f (statements_in W R (drop i statements))) ≡ whole → adding same new (named_in f (statements_in W R (drop (i + 1) statements))) ≡ whole
+  listed_on f W R statements i statement old new whole lt is h so_far =
       let e : i + 1 ≡ suc i = omega arith in
-      ap (λ k. adding same new (named_in f (lines_in W R (drop k lines)))) e
-      ∙ ap (λ l. adding same l (named_in f (lines_in W R (drop (suc i) lines)))) h
-      ∙ sym (adding_on same (f (line_of W R line)) (named_in f (lines_in W R (drop (suc i) lines))) old)
-      ∙ ap (λ l. adding same old (f (line_of W R l) ++ named_in f (lines_in W R (drop (suc i) lines)))) is
-      ∙ sym (ap (λ ls. adding same old (named_in f (lines_in W R ls))) (drop-cons lines i line lt))
+      ap (λ k. adding same new (named_in f (statements_in W R (drop k statements)))) e
+      ∙ ap (λ l. adding same l (named_in f (statements_in W R (drop (suc i) statements)))) h
+      ∙ sym (adding_on same (f (statement_of W R statement)) (named_in f (statements_in W R (drop (suc i) statements))) old)
+      ∙ ap (λ l. adding same old (f (statement_of W R l) ++ named_in f (statements_in W R (drop (suc i) statements)))) is
+      ∙ sym (ap (λ ls. adding same old (named_in f (statements_in W R ls))) (drop-cons statements i statement lt))
       ∙ so_far

@@ -4,7 +4,7 @@ use Rattle.isa.specs.declared.instr.Instr.{Instr}
 use Rattle.isa.specs.declared.instr.Instr.TheVariants as op
 use Rattle.program_compiler.specs.declared.linking.Numbered.{Numbered}
 use Rattle.program_compiler.specs.declared.linking.Numbered.TheVariants as kinds
-use Rattle.program_ir.specs.Lines.{go_of}
+use Rattle.program_ir.specs.Statements.{go_of}
 
 abbrev pub instr_with : Numbered → ℕ → Instr
 instr_with kinds.Put n = op.Put n

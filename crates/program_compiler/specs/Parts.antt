@@ -1,4 +1,4 @@
--- The parts of a program, each of the lines, and when there is none since a number of it is too large.
+-- The parts of a program, each of the statements, and when there is none since a number of it is too large.
 -- This project's own.
 use Rattle.std.specs.Prelude.{◌≡◌, ◌<◌, ◌≤◌, ◌^◌, ℕ, true, List, [], ◌∷◌, length, Option, MatchOption, Result, Ok, Err}
 use Rattle.std.specs.Global.{Vec}
@@ -11,7 +11,7 @@ use Rattle.isa.specs.declared.parts.Parts.{Parts}
 use Rattle.isa.specs.Program.{Program, program_of}
 use Rattle.program_definition.specs.Code.{are_whole}
 use Rattle.isa.specs.Range.{InstrIsInRange, IsProgram, IsWithinLimits, sizes_of}
-use Rattle.program_definition.specs.Lines.{Line}
+use Rattle.program_definition.specs.Statements.{Statement}
 use Rattle.program_definition.specs.Numbering.{adding, constants_of, named_in}
 use Rattle.program_lowering.specs.declared.error.CompileError.{CompileError}
 use Rattle.program_lowering.specs.declared.error.CompileError.TheVariants.{ProgramTooLarge, NoMemory}
@@ -35,7 +35,7 @@ IsLong lists = AllByRecursion (λ b. length b ≤ MOST_OUTPUT) lists → ⊥
 abbrev pub Notes : Option (List (List ℕ)) → List (List ℕ) → List (List ℕ) → Type 0
 Notes result constants others = MatchOption result (IsLong others) (λ more. more ≡ adding bytes_eq constants others)
 
--- no program within the limits has these instructions and these lines' constants
+-- no program within the limits has these instructions and these statements' constants
 abbrev pub FitNowhere : List (List ℕ) → List Instr → Type 0
 FitNowhere constants code = (P : Program) → IsWithinLimits P → AllByRecursion (InstrIsInRange (sizes_of P)) code
     → AllByRecursion (λ b. length b ≤ MOST_OUTPUT) constants → ⊥
@@ -46,24 +46,24 @@ LinksTo constants instr (Ok i) = i ≡ instr
 LinksTo constants instr (Err ProgramTooLarge) = FitNowhere constants (instr ∷ [])
 LinksTo constants instr (Err NoMemory) = Unit {0}
 
-abbrev pub Links : Line → Instr → Result Instr CompileError → Type 0
-Links line instr result = LinksTo (constants_of line) instr result
+abbrev pub Links : Statement → Instr → Result Instr CompileError → Type 0
+Links statement instr result = LinksTo (constants_of statement) instr result
 
--- the code of lines
-abbrev pub LinksAll : List Line → List Instr → Result (Vec Instr) CompileError → Type 0
-LinksAll lines code (Ok v) = v.items ≡ code
-LinksAll lines code (Err ProgramTooLarge) = FitNowhere (named_in constants_of lines) code
-LinksAll lines code (Err NoMemory) = Unit {0}
+-- the code of statements
+abbrev pub LinksAll : List Statement → List Instr → Result (Vec Instr) CompileError → Type 0
+LinksAll statements code (Ok v) = v.items ≡ code
+LinksAll statements code (Err ProgramTooLarge) = FitNowhere (named_in constants_of statements) code
+LinksAll statements code (Err NoMemory) = Unit {0}
 
 -- the code, the maps and the jump tables of a program, or none where that is no program
-abbrev pub LinksTables : List Line → Program → Result (Vec Instr × List (List Entry) × List (List ℕ)) CompileError
+abbrev pub LinksTables : List Statement → Program → Result (Vec Instr × List (List Entry) × List (List ℕ)) CompileError
     → Type 0
-LinksTables lines P (Ok x) = (x.0.items ≡ P.code) × (x.1 ≡ P.maps) × (x.2 ≡ P.jumps)
-LinksTables lines P (Err ProgramTooLarge) = are_whole lines ≡ true → IsProgram P → ⊥
-LinksTables lines P (Err NoMemory) = Unit {0}
+LinksTables statements P (Ok x) = (x.0.items ≡ P.code) × (x.1 ≡ P.maps) × (x.2 ≡ P.jumps)
+LinksTables statements P (Err ProgramTooLarge) = are_whole statements ≡ true → IsProgram P → ⊥
+LinksTables statements P (Err NoMemory) = Unit {0}
 
--- the parts of the program of all lines, or none where that is no program
-abbrev pub Assembles : List Line → Program → Result Parts CompileError → Type 0
-Assembles lines P (Ok parts) = (are_whole lines ≡ true) × (program_of parts ≡ P)
-Assembles lines P (Err ProgramTooLarge) = are_whole lines ≡ true → IsProgram P → ⊥
-Assembles lines P (Err NoMemory) = Unit {0}
+-- the parts of the program of all statements, or none where that is no program
+abbrev pub Assembles : List Statement → Program → Result Parts CompileError → Type 0
+Assembles statements P (Ok parts) = (are_whole statements ≡ true) × (program_of parts ≡ P)
+Assembles statements P (Err ProgramTooLarge) = are_whole statements ≡ true → IsProgram P → ⊥
+Assembles statements P (Err NoMemory) = Unit {0}

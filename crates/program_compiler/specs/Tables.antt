@@ -9,8 +9,8 @@ use Rattle.avro_types.specs.Node.{Node}
 use Rattle.isa.specs.declared.entry.Entry.{Entry}
 use Rattle.program_definition.specs.Numbering.{entry_of, has, lacked, same_miss}
 use Rattle.program_ir.specs.Tables.{found}
-use Rattle.program_ir.specs.declared.lines.Constant.TheVariants.{Default}
-use Rattle.program_ir.specs.Lines.{bytes_of, targets_of}
+use Rattle.program_ir.specs.declared.statements.Constant.TheVariants.{Default}
+use Rattle.program_ir.specs.Statements.{bytes_of, targets_of}
 use Rattle.program_ir.specs.Sections.{pair_cmp}
 
 -- under a pair of enums stands the number of a map that has its entries

@@ -1,13 +1,13 @@
-//! Addresses of lines, and the jump tables.
+//! Addresses of statements, and the jump tables.
 
 ghost use Rattle.std.specs.Prelude.{◌≡◌, ◌+◌, ◌++◌, List, map, IfOk, MatchOption};
 ghost use Rattle.avro_types.specs.Node.{Node};
 ghost use Rattle.program_definition.specs.Numbering.{jumps_from, jumps_of};
 ghost use Rattle.program_compiler.specs.Parts.{AreWide, IsWide, Narrows};
-ghost use Rattle.program_ir.specs.Lines.{line_of, lines_in};
+ghost use Rattle.program_ir.specs.Statements.{statement_of, statements_in};
 
 use isa::Lists;
-use program_lowering::Line;
+use program_lowering::Statement;
 use std::alloc::{AllocError, Global};
 
 /// A number as an operand, or none where it takes more than 32 bits.
@@ -42,18 +42,19 @@ fn all_ahead(alloc: Global, pc: usize, fars: &[usize]) -> Result<Option<Vec<u32>
     Ok(Some(addresses))
 }
 
-/// Jump tables with that of a line, or none where an address takes more than 32 bits.
+/// Jump tables with that of a statement, or none where an address takes more than 32 bits.
 fn noted(
     alloc: Global,
     jumps: Lists<u32>,
     pc: usize,
-    line: &Line,
+    statement: &Statement,
 ) -> Result<Option<Lists<u32>>, AllocError>
-    ensures { IfOk result (λ o. (W R : List Node) → MatchOption o (AreWide (jumps_of pc (line_of W R line.now)))
-        (λ more. more ≡ jumps ++ jumps_of pc (line_of W R line.now))) }
+    ensures { IfOk result
+        (λ o. (W R : List Node) → MatchOption o (AreWide (jumps_of pc (statement_of W R statement.now)))
+        (λ more. more ≡ jumps ++ jumps_of pc (statement_of W R statement.now))) }
 {
-    match line {
-        Line::Branch(fars) => match all_ahead(alloc, pc, fars)? {
+    match statement {
+        Statement::Branch(fars) => match all_ahead(alloc, pc, fars)? {
             Some(addresses) => {
                 let mut more = jumps;
                 more.push(addresses.as_slice())?;
@@ -65,14 +66,18 @@ fn noted(
     }
 }
 
-/// The jump tables of lines, or none where an address takes more than 32 bits.
-pub(crate) fn gather_jumps(alloc: Global, lines: &[Line]) -> Result<Option<Lists<u32>>, AllocError>
-    ensures { IfOk result (λ o. (W R : List Node) → MatchOption o (AreWide (jumps_from 0 (lines_in W R lines.now)))
-        (λ jumps. jumps ≡ jumps_from 0 (lines_in W R lines.now))) }
+/// The jump tables of statements, or none where an address takes more than 32 bits.
+pub(crate) fn gather_jumps(
+    alloc: Global,
+    statements: &[Statement],
+) -> Result<Option<Lists<u32>>, AllocError>
+    ensures { IfOk result
+        (λ o. (W R : List Node) → MatchOption o (AreWide (jumps_from 0 (statements_in W R statements.now)))
+        (λ jumps. jumps ≡ jumps_from 0 (statements_in W R statements.now))) }
 {
     let mut jumps = Lists::new(alloc);
-    for pc in 0..lines.len() {
-        match noted(alloc, jumps, pc, &lines[pc])? {
+    for pc in 0..statements.len() {
+        match noted(alloc, jumps, pc, &statements[pc])? {
             Some(more) => jumps = more,
             None => return Ok(None),
         }

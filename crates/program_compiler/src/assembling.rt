@@ -3,11 +3,11 @@
 ghost use Rattle.std.specs.Prelude.{◌≡◌, ◌≤◌, List, length, true};
 ghost use Rattle.avro_types.specs.Node.{Node};
 ghost use Rattle.program_definition.specs.Numbering.{constants_in, misses_in, numbered};
-ghost use Rattle.program_definition.specs.Code.{are_whole as are_whole_lines};
-ghost use Rattle.program_definition.specs.Code.{is_lost as is_lost_line};
+ghost use Rattle.program_definition.specs.Code.{are_whole as are_whole_statements};
+ghost use Rattle.program_definition.specs.Code.{is_lost as is_lost_statement};
 ghost use Rattle.program_compiler.specs.Parts.{Assembles, LinksTables};
 ghost use Rattle.program_compiler.specs.Tables.{AreDefaults};
-ghost use Rattle.program_ir.specs.Lines.{line_of, lines_in};
+ghost use Rattle.program_ir.specs.Statements.{statement_of, statements_in};
 ghost use Rattle.program_lowering.specs.Walking.{start_at};
 
 use crate::addresses::gather_jumps;
@@ -18,26 +18,26 @@ use crate::misses::gather_misses;
 use avro_types::Nodes;
 use isa::{Entry, Instr, Lists, MOST_INSTRS, MOST_TABLES, Parts};
 use program_ir::Constants;
-use program_lowering::{CompileError, Line, SectionLines};
+use program_lowering::{CompileError, SectionStatements, Statement};
 use std::alloc::Global;
 use std::collections::BTreeMap;
 
-/// Whether there is no code for a line.
-fn is_lost(line: &Line) -> bool
-    ensures { (W R : List Node) → result ≡ is_lost_line (line_of W R line.now) }
+/// Whether there is no code for a statement.
+fn is_lost(statement: &Statement) -> bool
+    ensures { (W R : List Node) → result ≡ is_lost_statement (statement_of W R statement.now) }
 {
-    match line {
-        Line::Lost => true,
+    match statement {
+        Statement::Lost => true,
         _ => false,
     }
 }
 
-/// Whether there is code for each line.
-fn are_whole(lines: &[Line]) -> bool
-    ensures { (W R : List Node) → result ≡ are_whole_lines (lines_in W R lines.now) }
+/// Whether there is code for each statement.
+fn are_whole(statements: &[Statement]) -> bool
+    ensures { (W R : List Node) → result ≡ are_whole_statements (statements_in W R statements.now) }
 {
-    for line in lines {
-        if is_lost(line) {
+    for statement in statements {
+        if is_lost(statement) {
             return false;
         }
     }
@@ -51,21 +51,22 @@ fn linked_tables(
     r: &Nodes,
     tables: &Tables,
 ) -> Result<(Vec<Instr>, Lists<Entry>, Lists<u32>), CompileError>
-    requires few { length tables.now.section_lines.now.lines ≤ MOST_INSTRS }
+    requires few { length tables.now.section_statements.now.statements ≤ MOST_INSTRS }
     requires defaults { AreDefaults r.now tables.now.defaults.now tables.now.constants.now }
     requires constants { tables.now.constants.now
-        ≡ constants_in (lines_in w.now r.now tables.now.section_lines.now.lines) }
-    requires misses { tables.now.misses.now ≡ misses_in (lines_in w.now r.now tables.now.section_lines.now.lines) }
-    ensures { LinksTables (lines_in w.now r.now tables.now.section_lines.now.lines)
-        (numbered (start_at tables.now.section_lines.now)
-        (lines_in w.now r.now tables.now.section_lines.now.lines)) result }
+        ≡ constants_in (statements_in w.now r.now tables.now.section_statements.now.statements) }
+    requires misses { tables.now.misses.now
+        ≡ misses_in (statements_in w.now r.now tables.now.section_statements.now.statements) }
+    ensures { LinksTables (statements_in w.now r.now tables.now.section_statements.now.statements)
+        (numbered (start_at tables.now.section_statements.now)
+        (statements_in w.now r.now tables.now.section_statements.now.statements)) result }
 {
-    let lines = tables.section_lines.lines();
+    let statements = tables.section_statements.statements();
     if tables.misses.len() > MOST_TABLES {
         return Err(CompileError::ProgramTooLarge);
     }
-    let maps = gather_maps(alloc, w, r, tables.misses, lines)?;
-    let Some(jumps) = gather_jumps(alloc, lines)? else {
+    let maps = gather_maps(alloc, w, r, tables.misses, statements)?;
+    let Some(jumps) = gather_jumps(alloc, statements)? else {
         return Err(CompileError::ProgramTooLarge);
     };
     match link(alloc, r, tables) {
@@ -74,25 +75,26 @@ fn linked_tables(
     }
 }
 
-/// The parts of the program of all sections, whose lines name these constants.
+/// The parts of the program of all sections, whose statements name these constants.
 fn parts_with_constants(
     alloc: Global,
     w: &Nodes,
     r: &Nodes,
-    section_lines: &SectionLines,
+    section_statements: &SectionStatements,
     defaults: &BTreeMap<(usize, usize), usize>,
     constants: Constants,
 ) -> Result<Parts, CompileError>
-    requires few { length section_lines.now.lines ≤ MOST_INSTRS }
-    requires whole { are_whole_lines (lines_in w.now r.now section_lines.now.lines) ≡ true }
+    requires few { length section_statements.now.statements ≤ MOST_INSTRS }
+    requires whole { are_whole_statements (statements_in w.now r.now section_statements.now.statements) ≡ true }
     requires defaults { AreDefaults r.now defaults.now constants }
-    requires constants { constants ≡ constants_in (lines_in w.now r.now section_lines.now.lines) }
-    ensures { Assembles (lines_in w.now r.now section_lines.now.lines)
-        (numbered (start_at section_lines.now) (lines_in w.now r.now section_lines.now.lines)) result }
+    requires constants { constants ≡ constants_in (statements_in w.now r.now section_statements.now.statements) }
+    ensures { Assembles (statements_in w.now r.now section_statements.now.statements)
+        (numbered (start_at section_statements.now) (statements_in w.now r.now section_statements.now.statements))
+        result }
 {
-    let misses = gather_misses(alloc, w, r, section_lines.lines())?;
+    let misses = gather_misses(alloc, w, r, section_statements.statements())?;
     let tables = Tables {
-        section_lines,
+        section_statements,
         constants: &constants,
         defaults,
         misses: &misses,
@@ -110,25 +112,33 @@ fn parts_with_constants(
 }
 
 /// The parts of the program of all sections.
-pub(crate) fn parts_of_lines(
+pub(crate) fn parts_of_statements(
     alloc: Global,
-    w: &Nodes,
-    r: &Nodes,
-    section_lines: &SectionLines,
+    writer: &Nodes,
+    reader: &Nodes,
+    section_statements: &SectionStatements,
 ) -> Result<Parts, CompileError>
-    ensures { Assembles (lines_in w.now r.now section_lines.now.lines)
-        (numbered (start_at section_lines.now) (lines_in w.now r.now section_lines.now.lines)) result }
+    ensures { Assembles (statements_in writer.now reader.now section_statements.now.statements)
+        (numbered (start_at section_statements.now)
+        (statements_in writer.now reader.now section_statements.now.statements)) result }
 {
-    let lines = section_lines.lines();
-    if lines.len() > MOST_INSTRS {
+    let statements = section_statements.statements();
+    if statements.len() > MOST_INSTRS {
         return Err(CompileError::ProgramTooLarge);
     }
-    if !are_whole(lines) {
+    if !are_whole(statements) {
         return Err(CompileError::ProgramTooLarge);
     }
     let mut defaults = BTreeMap::new(alloc);
-    let Some(constants) = gather_constants(alloc, &mut defaults, r, lines)? else {
+    let Some(constants) = gather_constants(alloc, &mut defaults, reader, statements)? else {
         return Err(CompileError::ProgramTooLarge);
     };
-    parts_with_constants(alloc, w, r, section_lines, &defaults, constants)
+    parts_with_constants(
+        alloc,
+        writer,
+        reader,
+        section_statements,
+        &defaults,
+        constants,
+    )
 }

@@ -2,7 +2,7 @@
 
 ghost use Rattle.program_compiler.specs.Compiling.{Compiles};
 
-use crate::assembling::parts_of_lines;
+use crate::assembling::parts_of_statements;
 use avro_types::Nodes;
 use isa::Program;
 use program_definition::program_is_in_range;
@@ -12,15 +12,15 @@ use std::alloc::Global;
 /// The program that reads what the writer's schema wrote and writes what the reader's makes of it. `ProgramTooLarge`
 /// where it would pass a limit of programs; where that is the limit of instructions or of misses, no instruction is
 /// made.
-pub fn compile(alloc: Global, w: &Nodes, r: &Nodes) -> Result<Program, CompileError>
-    ensures { Compiles w.now r.now result }
+pub fn compile(alloc: Global, writer: &Nodes, reader: &Nodes) -> Result<Program, CompileError>
+    ensures { Compiles writer.now reader.now result }
 {
-    program_is_in_range(w, r); // law
-    let section_lines = match walk(alloc, w, r) {
-        Ok(section_lines) => section_lines,
+    program_is_in_range(writer, reader); // law
+    let section_statements = match walk(alloc, writer, reader) {
+        Ok(section_statements) => section_statements,
         Err(error) => return Err(error),
     };
-    match parts_of_lines(alloc, w, r, &section_lines) {
+    match parts_of_statements(alloc, writer, reader, &section_statements) {
         Ok(parts) => match Program::new(parts) {
             Ok(program) => Ok(program),
             Err(_) => Err(CompileError::ProgramTooLarge),

@@ -8,15 +8,15 @@ ghost use Rattle.outcome.specs.declared.limits.TheConstants.{MOST_OUTPUT};
 ghost use Rattle.program_definition.specs.Numbering.{constants_of, named_in};
 ghost use Rattle.program_compiler.specs.Parts.{Notes};
 ghost use Rattle.program_compiler.specs.Tables.{AreDefaults};
-ghost use Rattle.program_ir.specs.declared.lines.Constant.TheVariants.{Default};
-ghost use Rattle.program_ir.specs.Lines.{default_of, fields_of_record, line_of, lines_in};
-ghost use Rattle.program_ir.specs.Lines.{bytes_of as bytes_of_constant};
+ghost use Rattle.program_ir.specs.declared.statements.Constant.TheVariants.{Default};
+ghost use Rattle.program_ir.specs.Statements.{default_of, fields_of_record, statement_of, statements_in};
+ghost use Rattle.program_ir.specs.Statements.{bytes_of as bytes_of_constant};
 
 use avro_bytes::put_long;
 use avro_datum::{WriteError, write};
 use avro_types::{Datum, Kind, Nodes};
 use program_ir::Constants;
-use program_lowering::{Constant, Line};
+use program_lowering::{Constant, Statement};
 use std::alloc::{AllocError, Global};
 use std::collections::BTreeMap;
 
@@ -55,11 +55,11 @@ fn written_default(alloc: Global, default: &Datum) -> Result<Option<Vec<u8>>, Al
 /// The bytes of a constant, or none where they are too many.
 pub(crate) fn bytes_of(
     alloc: Global,
-    r: &Nodes,
+    reader: &Nodes,
     constant: Constant,
 ) -> Result<Option<Vec<u8>>, AllocError>
-    ensures { IfOk result (λ o. MatchOption o (MOST_OUTPUT < length (bytes_of_constant r.now constant))
-        (λ v. v.items ≡ bytes_of_constant r.now constant)) }
+    ensures { IfOk result (λ o. MatchOption o (MOST_OUTPUT < length (bytes_of_constant reader.now constant))
+        (λ v. v.items ≡ bytes_of_constant reader.now constant)) }
 {
     match constant {
         Constant::Position(position) => {
@@ -67,7 +67,10 @@ pub(crate) fn bytes_of(
             put_long(&mut out, i64::from(position))?;
             Ok(Some(out))
         }
-        Constant::Default { reader, field } => match default_at(r, reader, field) {
+        Constant::Default {
+            reader: reader_node,
+            field,
+        } => match default_at(reader, reader_node, field) {
             Some(default) => written_default(alloc, default),
             None => Ok(Some(Vec::new(alloc))),
         },
@@ -120,40 +123,41 @@ fn with_constant(
     }
 }
 
-/// Constants with the one that a line names, or none where that has too many bytes.
+/// Constants with the one that a statement names, or none where that has too many bytes.
 fn noted(
     alloc: Global,
     constants: Constants,
     defaults: &mut BTreeMap<(usize, usize), usize>,
     r: &Nodes,
-    line: &Line,
+    statement: &Statement,
 ) -> Result<Option<Constants>, AllocError>
     requires { AreDefaults r.now defaults.old constants }
     ensures notes { IfOk result (λ o. (W : List Node)
-        → Notes o constants (constants_of (line_of W r.now line.now))) }
+        → Notes o constants (constants_of (statement_of W r.now statement.now))) }
     ensures defaults { IfOk result (λ o. IfSome o (λ more. AreDefaults r.now defaults.new more)) }
 {
-    match line {
-        Line::Put(constant) => with_constant(alloc, constants, defaults, r, *constant),
+    match statement {
+        Statement::Put(constant) => with_constant(alloc, constants, defaults, r, *constant),
         _ => Ok(Some(constants)),
     }
 }
 
-/// The constants that lines name, or none where one has too many bytes; and the numbers of the defaults among them.
+/// The constants that statements name, or none where one has too many bytes; and the numbers of the defaults among
+/// them.
 pub(crate) fn gather_constants(
     alloc: Global,
     defaults: &mut BTreeMap<(usize, usize), usize>,
-    r: &Nodes,
-    lines: &[Line],
+    reader: &Nodes,
+    statements: &[Statement],
 ) -> Result<Option<Constants>, AllocError>
-    requires { AreDefaults r.now defaults.old [] }
+    requires { AreDefaults reader.now defaults.old [] }
     ensures notes { IfOk result
-        (λ o. (W : List Node) → Notes o [] (named_in constants_of (lines_in W r.now lines.now))) }
-    ensures defaults { IfOk result (λ o. IfSome o (λ more. AreDefaults r.now defaults.new more)) }
+        (λ o. (W : List Node) → Notes o [] (named_in constants_of (statements_in W reader.now statements.now))) }
+    ensures defaults { IfOk result (λ o. IfSome o (λ more. AreDefaults reader.now defaults.new more)) }
 {
     let mut constants = Constants::new(alloc);
-    for line in lines {
-        match noted(alloc, constants, defaults, r, line)? {
+    for statement in statements {
+        match noted(alloc, constants, defaults, reader, statement)? {
             Some(more) => constants = more,
             None => return Ok(None),
         }

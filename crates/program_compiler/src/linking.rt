@@ -1,4 +1,4 @@
-//! Lines with their numbers: the code.
+//! Statements with their numbers: the code.
 
 ghost use Rattle.std.specs.Prelude.{◌≡◌, ◌+◌, ◌<◌, ◌≤◌, ◌∷◌, [], ℕ, List, length, IfOk, MatchOption};
 ghost use Rattle.std.specs.Str.{bytes_eq};
@@ -10,8 +10,8 @@ ghost use Rattle.program_definition.specs.Numbering.{linked as instr_of};
 ghost use Rattle.program_compiler.specs.Linking.{instr_with};
 ghost use Rattle.program_compiler.specs.Tables.{AreDefaults};
 ghost use Rattle.program_compiler.specs.Parts.{Links, LinksAll, LinksTo, Narrows};
-ghost use Rattle.program_ir.specs.Lines.{line_of, lines_in};
-ghost use Rattle.program_ir.specs.Lines.{bytes_of as bytes_of_constant};
+ghost use Rattle.program_ir.specs.Statements.{statement_of, statements_in};
+ghost use Rattle.program_ir.specs.Statements.{bytes_of as bytes_of_constant};
 ghost use Rattle.program_lowering.specs.Walking.{start_at};
 
 use crate::addresses::{ahead, operand};
@@ -19,21 +19,21 @@ use crate::constants::bytes_of;
 use avro_types::Nodes;
 use isa::{Instr, MOST_INSTRS};
 use program_ir::{Constants, Misses};
-use program_lowering::{CompileError, Constant, Go, Line, SectionLines};
+use program_lowering::{CompileError, Constant, Go, SectionStatements, Statement};
 use std::alloc::{AllocError, Global};
 use std::collections::BTreeMap;
 
-/// How many maps and jump tables the lines before have.
+/// How many maps and jump tables the statements before have.
 #[derive(Clone, Copy)]
 struct Counts {
     maps: usize,
     jumps: usize,
 }
 
-/// What the lines name.
+/// What the statements name.
 #[derive(Clone, Copy)]
 pub(crate) struct Tables<'t> {
-    pub(crate) section_lines: &'t SectionLines,
+    pub(crate) section_statements: &'t SectionStatements,
     pub(crate) constants: &'t Constants,
     pub(crate) defaults: &'t BTreeMap<(usize, usize), usize>,
     pub(crate) misses: &'t Misses,
@@ -120,55 +120,57 @@ fn putting(
     }
 }
 
-/// The instruction of a line, if its operand is one of 32 bits and its constant has not too many bytes.
+/// The instruction of a statement, if its operand is one of 32 bits and its constant has not too many bytes.
 fn linked(
     alloc: Global,
     r: &Nodes,
     tables: &Tables,
     pc: usize,
     counts: Counts,
-    line: &Line,
+    statement: &Statement,
 ) -> Result<Instr, CompileError>
     requires { AreDefaults r.now tables.now.defaults.now tables.now.constants.now }
-    ensures { (W : List Node) → Links (line_of W r.now line.now) (instr_of (start_at tables.now.section_lines.now)
-        tables.now.constants.now tables.now.misses.now pc counts.maps counts.jumps (line_of W r.now line.now)) result }
+    ensures { (W : List Node)
+        → Links (statement_of W r.now statement.now) (instr_of (start_at tables.now.section_statements.now)
+        tables.now.constants.now tables.now.misses.now pc counts.maps counts.jumps
+        (statement_of W r.now statement.now)) result }
 {
-    match line {
-        Line::Op(instr) => Ok(*instr),
-        Line::Put(constant) => putting(alloc, r, tables, *constant),
-        Line::Miss(miss) => of_number(Numbered::Miss, operand(tables.misses.number_of(*miss))),
-        Line::BytesText(miss) => {
+    match statement {
+        Statement::Op(instr) => Ok(*instr),
+        Statement::Put(constant) => putting(alloc, r, tables, *constant),
+        Statement::Miss(miss) => of_number(Numbered::Miss, operand(tables.misses.number_of(*miss))),
+        Statement::BytesText(miss) => {
             of_number(Numbered::BytesText, operand(tables.misses.number_of(*miss)))
         }
-        Line::Enum { .. } => of_number(Numbered::Enum, operand(counts.maps)),
-        Line::Call(section) => {
+        Statement::Enum { .. } => of_number(Numbered::Enum, operand(counts.maps)),
+        Statement::Call(section) => {
             of_number(
                 Numbered::Call,
-                operand(tables.section_lines.start_of(*section)),
+                operand(tables.section_statements.start_of(*section)),
             )
         }
-        Line::Ahead(go, far) => of_number(Numbered::Go(*go), ahead(pc, *far)),
-        Line::Back(far) => of_number(Numbered::Go(Go::Jump), operand(pc.saturating_sub(*far))),
-        Line::Branch(_) => of_number(Numbered::Branch, operand(counts.jumps)),
-        Line::Lost => Ok(Instr::Halt),
+        Statement::Ahead(go, far) => of_number(Numbered::Go(*go), ahead(pc, *far)),
+        Statement::Back(far) => of_number(Numbered::Go(Go::Jump), operand(pc.saturating_sub(*far))),
+        Statement::Branch(_) => of_number(Numbered::Branch, operand(counts.jumps)),
+        Statement::Lost => Ok(Instr::Halt),
     }
 }
 
-/// The counts after one line more.
-fn counted(counts: Counts, line: &Line) -> Counts
+/// The counts after one statement more.
+fn counted(counts: Counts, statement: &Statement) -> Counts
     requires maps { counts.maps < MOST_INSTRS }
     requires jumps { counts.jumps < MOST_INSTRS }
-    ensures maps { (W R : List Node) → result.maps ≡ counts.maps + length (maps_of (line_of W R line.now)) }
+    ensures maps { (W R : List Node) → result.maps ≡ counts.maps + length (maps_of (statement_of W R statement.now)) }
     ensures jumps { (W R : List Node) (pc : ℕ) → result.jumps
-        ≡ counts.jumps + length (jumps_of pc (line_of W R line.now)) }
+        ≡ counts.jumps + length (jumps_of pc (statement_of W R statement.now)) }
     ensures more { (result.maps ≤ counts.maps + 1) × (result.jumps ≤ counts.jumps + 1) }
 {
-    match line {
-        Line::Enum { .. } => Counts {
+    match statement {
+        Statement::Enum { .. } => Counts {
             maps: counts.maps + 1,
             jumps: counts.jumps,
         },
-        Line::Branch(_) => Counts {
+        Statement::Branch(_) => Counts {
             maps: counts.maps,
             jumps: counts.jumps + 1,
         },
@@ -176,25 +178,29 @@ fn counted(counts: Counts, line: &Line) -> Counts
     }
 }
 
-/// The code of all lines.
-pub(crate) fn link(alloc: Global, r: &Nodes, tables: &Tables) -> Result<Vec<Instr>, CompileError>
-    requires few { length tables.now.section_lines.now.lines ≤ MOST_INSTRS }
-    requires defaults { AreDefaults r.now tables.now.defaults.now tables.now.constants.now }
+/// The code of all statements.
+pub(crate) fn link(
+    alloc: Global,
+    reader: &Nodes,
+    tables: &Tables,
+) -> Result<Vec<Instr>, CompileError>
+    requires few { length tables.now.section_statements.now.statements ≤ MOST_INSTRS }
+    requires defaults { AreDefaults reader.now tables.now.defaults.now tables.now.constants.now }
     ensures { (W : List Node)
-        → LinksAll (lines_in W r.now tables.now.section_lines.now.lines)
-        (code_from (start_at tables.now.section_lines.now) tables.now.constants.now tables.now.misses.now 0 0 0
-        (lines_in W r.now tables.now.section_lines.now.lines)) result }
+        → LinksAll (statements_in W reader.now tables.now.section_statements.now.statements)
+        (code_from (start_at tables.now.section_statements.now) tables.now.constants.now tables.now.misses.now 0 0 0
+        (statements_in W reader.now tables.now.section_statements.now.statements)) result }
 {
-    let lines = tables.section_lines.lines();
+    let statements = tables.section_statements.statements();
     let mut code = Vec::new(alloc);
     let mut counts = Counts { maps: 0, jumps: 0 };
-    for pc in 0..lines.len() {
-        let line = &lines[pc];
-        match linked(alloc, r, tables, pc, counts, line) {
+    for pc in 0..statements.len() {
+        let statement = &statements[pc];
+        match linked(alloc, reader, tables, pc, counts, statement) {
             Ok(instr) => code.push(instr)?,
             Err(error) => return Err(error),
         }
-        counts = counted(counts, line);
+        counts = counted(counts, statement);
     }
     Ok(code)
 }

@@ -2,13 +2,13 @@
 
 ghost use Rattle.std.specs.Prelude.{◌≡◌, ◌≤◌, ◌++◌, ◌∷◌, [], length, map, slice_get, string_bytes, IfOk, OnOk};
 ghost use Rattle.program_definition.specs.Numbering.{entry_of, maps_of, named_in};
-ghost use Rattle.program_ir.specs.Lines.{line_of, lines_in, symbols_of, targets_of};
+ghost use Rattle.program_ir.specs.Statements.{statement_of, statements_in, symbols_of, targets_of};
 ghost use Rattle.program_compiler.specs.Tables.{AreShared};
 
 use avro_types::{Kind, Nodes};
 use isa::{Entry, Lists, MOST_TABLES};
 use program_ir::{Misses, entries};
-use program_lowering::Line;
+use program_lowering::Statement;
 use std::alloc::{AllocError, Global};
 use std::collections::BTreeMap;
 
@@ -52,7 +52,7 @@ fn push_entries(
     Ok(())
 }
 
-/// Adds the map that a line names.
+/// Adds the map that a statement names.
 fn push_map(
     alloc: Global,
     maps: &mut Lists<Entry>,
@@ -60,38 +60,47 @@ fn push_map(
     w: &Nodes,
     r: &Nodes,
     misses: &Misses,
-    line: &Line,
+    statement: &Statement,
 ) -> Result<(), AllocError>
     requires few { length misses.now ≤ MOST_TABLES }
     requires shared { AreShared w.now r.now misses.now numbers.old maps.old }
     ensures pushed { OnOk result
-        (maps.new ≡ maps.old ++ map (map (entry_of misses.now)) (maps_of (line_of w.now r.now line.now))) }
+        (maps.new ≡ maps.old ++ map (map (entry_of misses.now)) (maps_of (statement_of w.now r.now statement.now))) }
     ensures shared { OnOk result (AreShared w.now r.now misses.now numbers.new maps.new) }
 {
-    match line {
-        Line::Enum { writer, reader } => {
+    match statement {
+        Statement::Enum { writer, reader } => {
             push_entries(alloc, maps, numbers, w, r, misses, *writer, *reader)
         }
         _ => Ok(()),
     }
 }
 
-/// The maps that lines name.
+/// The maps that statements name.
 pub(crate) fn gather_maps(
     alloc: Global,
-    w: &Nodes,
-    r: &Nodes,
+    writer: &Nodes,
+    reader: &Nodes,
     misses: &Misses,
-    lines: &[Line],
+    statements: &[Statement],
 ) -> Result<Lists<Entry>, AllocError>
     requires { length misses.now ≤ MOST_TABLES }
     ensures { IfOk result
-        (λ maps. maps ≡ map (map (entry_of misses.now)) (named_in maps_of (lines_in w.now r.now lines.now))) }
+        (λ maps. maps ≡ map (map (entry_of misses.now))
+        (named_in maps_of (statements_in writer.now reader.now statements.now))) }
 {
     let mut maps = Lists::new(alloc);
     let mut numbers = BTreeMap::new(alloc);
-    for line in lines {
-        push_map(alloc, &mut maps, &mut numbers, w, r, misses, line)?;
+    for statement in statements {
+        push_map(
+            alloc,
+            &mut maps,
+            &mut numbers,
+            writer,
+            reader,
+            misses,
+            statement,
+        )?;
     }
     Ok(maps)
 }

@@ -3,14 +3,14 @@
 ghost use Rattle.std.specs.Prelude.{◌≡◌, ◌∷◌, [], slice_get, IfOk, OnOk};
 ghost use Rattle.program_definition.specs.Numbering.{adding, lacked, misses_in, misses_of, same_miss};
 ghost use Rattle.program_definition.specs.Writing.{target};
-ghost use Rattle.program_ir.specs.Lines.{line_of, lines_in, targets_of};
+ghost use Rattle.program_ir.specs.Statements.{statement_of, statements_in, targets_of};
 ghost use Rattle.program_compiler.specs.Tables.{AreNoted};
 
 use crate::maps::symbols;
 use avro_types::Nodes;
 use outcome::{Mismatch, MismatchKind};
 use program_ir::{Misses, position_for};
-use program_lowering::Line;
+use program_lowering::Statement;
 use std::alloc::{AllocError, Global};
 use std::collections::BTreeSet;
 
@@ -72,40 +72,40 @@ fn note_pair(
     note_symbols(misses, w, r, writer, reader)
 }
 
-/// Adds the misses that a line names.
+/// Adds the misses that a statement names.
 fn note(
     misses: &mut Misses,
     pairs: &mut BTreeSet<(usize, usize)>,
     w: &Nodes,
     r: &Nodes,
-    line: &Line,
+    statement: &Statement,
 ) -> Result<(), AllocError>
     requires { AreNoted w.now r.now pairs.old misses.old }
     ensures added { OnOk result (misses.new
-        ≡ adding same_miss misses.old (misses_of (line_of w.now r.now line.now))) }
+        ≡ adding same_miss misses.old (misses_of (statement_of w.now r.now statement.now))) }
     ensures noted { OnOk result (AreNoted w.now r.now pairs.new misses.new) }
 {
-    match line {
-        Line::Miss(miss) => misses.add(*miss),
-        Line::BytesText(miss) => misses.add(*miss),
-        Line::Enum { writer, reader } => note_pair(misses, pairs, w, r, *writer, *reader),
+    match statement {
+        Statement::Miss(miss) => misses.add(*miss),
+        Statement::BytesText(miss) => misses.add(*miss),
+        Statement::Enum { writer, reader } => note_pair(misses, pairs, w, r, *writer, *reader),
         _ => Ok(()),
     }
 }
 
-/// The misses that lines name.
+/// The misses that statements name.
 pub(crate) fn gather_misses(
     alloc: Global,
-    w: &Nodes,
-    r: &Nodes,
-    lines: &[Line],
+    writer: &Nodes,
+    reader: &Nodes,
+    statements: &[Statement],
 ) -> Result<Misses, AllocError>
-    ensures { IfOk result (λ misses. misses ≡ misses_in (lines_in w.now r.now lines.now)) }
+    ensures { IfOk result (λ misses. misses ≡ misses_in (statements_in writer.now reader.now statements.now)) }
 {
     let mut misses = Misses::new(alloc);
     let mut pairs = BTreeSet::new(alloc);
-    for line in lines {
-        note(&mut misses, &mut pairs, w, r, line)?;
+    for statement in statements {
+        note(&mut misses, &mut pairs, writer, reader, statement)?;
     }
     Ok(misses)
 }

@@ -17,7 +17,7 @@ use Rattle.isa.specs.declared.limits.TheConstants.{MOST_CALLS}
 use Rattle.isa.specs.Program.{Program, constant_of, jumps_of, map_of}
 use Rattle.isa.specs.Row.{counted, kept, row, row_at, row_of, skipped}
 use Rattle.isa.specs.State.{Blocks, End, Rec, Skip, SkipBlocks, State, meter_of}
-use Rattle.isa.specs.Table.{added, anything, content, entered, fixed, next, only_text, or_miss, trap}
+use Rattle.isa.specs.Table.{added, anything, prefixed, entered, fixed, next, only_text, or_miss, trap}
 use Rattle.program_correctness.proofs.Plain.{plain_row, unless_ended}
 use Rattle.program_correctness.proofs.SameParts.{counted_as, same_reads, same_cond, same_current, same_adding, same_content, same_fixed, kept_same, skipped_same, same_select, same_close, same_leave, same_next, same_skip_next, same_return, same_halt, same_opens, same_entered}
 
@@ -35,17 +35,17 @@ module _ (P : Program) (p : List ℕ) (ended : Bool) (n : ℕ) where
   same_row op.Bool s = same_adding P p ended n s (boolean_at p s.pos (meter_of s)) (λ s a to m. Some (next to (added (boolean_byte a ∷ []) s))) (λ a to m. refl)
   same_row op.Int s = same_adding P p ended n s (number_at int_limit p s.pos (meter_of s)) (λ s a to m. Some (next to (added (shortest a) s))) (λ a to m. refl)
   same_row op.Long s = same_adding P p ended n s (number_at long_limit p s.pos (meter_of s)) (λ s a to m. Some (next to (added (shortest a) s))) (λ a to m. refl)
-  same_row op.Bytes s = same_current P p ended n s.store.frames s (λ s. content P p ended (kept anything) s s.part) (same_content P p ended n (kept anything) (kept_same P p ended n 0).0 s s.part)
-  same_row op.Text s = same_current P p ended n s.store.frames s (λ s. content P p ended (kept only_text) s s.part) (same_content P p ended n (kept only_text) (kept_same P p ended n 0).1 s s.part)
-  same_row (op.BytesText m) s = same_current P p ended n s.store.frames s (λ s. content P p ended (kept (or_miss m)) s s.part) (same_content P p ended n (kept (or_miss m)) (kept_same P p ended n m).2 s s.part)
-  same_row (op.Fixed k) s = same_current P p ended n s.store.frames s (λ s. fixed P p ended (kept anything) k s s.part) (same_fixed P p ended n (kept anything) (kept_same P p ended n 0).0 k s s.part)
+  same_row op.Bytes s = same_current P p ended n s.store.frames s (λ s. prefixed P p ended (kept anything) s s.content) (same_content P p ended n (kept anything) (kept_same P p ended n 0).0 s s.content)
+  same_row op.Text s = same_current P p ended n s.store.frames s (λ s. prefixed P p ended (kept only_text) s s.content) (same_content P p ended n (kept only_text) (kept_same P p ended n 0).1 s s.content)
+  same_row (op.BytesText m) s = same_current P p ended n s.store.frames s (λ s. prefixed P p ended (kept (or_miss m)) s s.content) (same_content P p ended n (kept (or_miss m)) (kept_same P p ended n m).2 s s.content)
+  same_row (op.Fixed k) s = same_current P p ended n s.store.frames s (λ s. fixed P p ended (kept anything) k s s.content) (same_fixed P p ended n (kept anything) (kept_same P p ended n 0).0 k s s.content)
   same_row (op.Enum t) s = same_adding P p ended n s (position_at BadEnum (length (map_of P t)) p s.pos (meter_of s)) (λ s a to m. Some (next to (entered (slice_index_or (map_of P t) a (entries.Position 0)) s))) (λ a to m. ap Some (same_entered P p ended n (slice_index_or (map_of P t) a (entries.Position 0)) to s))
   same_row op.SkipBool s = same_reads P p ended n s (boolean_at p s.pos (meter_of s)) (λ s a to m. Some (next to s)) (λ a to m. refl)
   same_row op.SkipInt s = same_reads P p ended n s (number_at int_limit p s.pos (meter_of s)) (λ s a to m. Some (next to s)) (λ a to m. refl)
   same_row op.SkipLong s = same_reads P p ended n s (number_at long_limit p s.pos (meter_of s)) (λ s a to m. Some (next to s)) (λ a to m. refl)
-  same_row op.SkipBytes s = same_content P p ended n (skipped anything) (skipped_same P p ended n).0 s s.part
-  same_row op.SkipText s = same_content P p ended n (skipped only_text) (skipped_same P p ended n).1 s s.part
-  same_row (op.SkipFixed k) s = same_fixed P p ended n (skipped anything) (skipped_same P p ended n).0 k s s.part
+  same_row op.SkipBytes s = same_content P p ended n (skipped anything) (skipped_same P p ended n).0 s s.content
+  same_row op.SkipText s = same_content P p ended n (skipped only_text) (skipped_same P p ended n).1 s s.content
+  same_row (op.SkipFixed k) s = same_fixed P p ended n (skipped anything) (skipped_same P p ended n).0 k s s.content
   same_row (op.SkipEnum k) s = same_reads P p ended n s (position_at BadEnum k p s.pos (meter_of s)) (λ s a to m. Some (next to s)) (λ a to m. refl)
   same_row (op.Put x) s = same_current P p ended n s.store.frames s (λ s. Some (next s.pos (added (constant_of P x) s))) refl
   same_row (op.Record k) s = same_opens P p ended n s (opened_record s.pos (meter_of s)) (Rec None (replicate k []))

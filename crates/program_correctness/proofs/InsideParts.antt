@@ -21,11 +21,11 @@ use Rattle.avro_bytes.specs.Laws.Numbers.{number_sound}
 use Rattle.avro_bytes.specs.Laws.Positions.{position_sound}
 use Rattle.isa.specs.declared.entry.Entry.{Entry}
 use Rattle.isa.specs.declared.entry.Entry.TheVariants as entries
-use Rattle.isa.specs.declared.limits.TheConstants.{MOST_PIECE}
+use Rattle.isa.specs.declared.limits.TheConstants.{MOST_CHUNK}
 use Rattle.isa.specs.Program.{Program}
 use Rattle.isa.specs.Row.{kept, skipped}
-use Rattle.isa.specs.State.{Blocks, Frame, Part, Rec, Skip, SkipBlocks, State, has_current, meter_of}
-use Rattle.isa.specs.Table.{Move, anything, begun, close_record, content, ends_part, entered, finished, fixed, gathered, halt, if_current, leave, moved, moves, next, next_of, only_text, opens, or_miss, passed, pushed, reads, return, select, skip_next_of, wait, with_frames}
+use Rattle.isa.specs.State.{Blocks, Frame, Content, Rec, Skip, SkipBlocks, State, has_current, meter_of}
+use Rattle.isa.specs.Table.{Move, anything, begun, close_record, prefixed, ends_content, entered, finished, fixed, gathered, halt, if_current, leave, moved, moves, next, next_of, only_text, opens, or_miss, passed, pushed, reads, return, select, skip_next_of, wait, with_frames}
 use Rattle.program_correctness.proofs.Numbers.{least_is_first, least_is_second, lt_false}
 use Rattle.program_correctness.proofs.Opening.{opening_is}
 
@@ -76,33 +76,33 @@ module _ (P : Program) (p : List ℕ) where
     pub unless : (from : ℕ) (old new : State) → In old → In new → AllIn (move.unless_text from old new)
 
   module _ (move : Move) (still : IsStill move) where
-    ends_in : (part : Part) (s : State) → In s → s.pos + part.left ≤ length p → AllIn (ends_part P p true move part s)
-    ends_in part s i h = cond_in (is_utf8 (take (s.pos + part.left - part.from) (drop part.from p))) _ _ h (still.unless part.from s _ i h)
+    ends_in : (content : Content) (s : State) → In s → s.pos + content.left ≤ length p → AllIn (ends_content P p true move content s)
+    ends_in content s i h = cond_in (is_utf8 (take (s.pos + content.left - content.from) (drop content.from p))) _ _ h (still.unless content.from s _ i h)
 
-    moves_in : (part : Part) (s : State) → In s → AllIn (moves P p true move part s)
-    moves_in part s i = by_length (nat_lt (length p) (s.pos + min MOST_PIECE part.left)) refl
+    moves_in : (content : Content) (s : State) → In s → AllIn (moves P p true move content s)
+    moves_in content s i = by_length (nat_lt (length p) (s.pos + min MOST_CHUNK content.left)) refl
       where
-        by_piece : s.pos + min MOST_PIECE part.left ≤ length p → (b : Bool) → nat_lt MOST_PIECE part.left ≡ b → AllIn (cond b (Some (moved P p true move part MOST_PIECE s)) (ends_part P p true move part s))
-        by_piece le true e = omega (arith, le, least_is_first MOST_PIECE part.left e)
-        by_piece le false e = ends_in part s i (omega (arith, le, least_is_second MOST_PIECE part.left e))
+        by_chunk : s.pos + min MOST_CHUNK content.left ≤ length p → (b : Bool) → nat_lt MOST_CHUNK content.left ≡ b → AllIn (cond b (Some (moved P p true move content MOST_CHUNK s)) (ends_content P p true move content s))
+        by_chunk le true e = omega (arith, le, least_is_first MOST_CHUNK content.left e)
+        by_chunk le false e = ends_in content s i (omega (arith, le, least_is_second MOST_CHUNK content.left e))
 
-        by_length : (b : Bool) → nat_lt (length p) (s.pos + min MOST_PIECE part.left) ≡ b → AllIn (cond b (wait P p true s) (cond (nat_lt MOST_PIECE part.left) (Some (moved P p true move part MOST_PIECE s)) (ends_part P p true move part s)))
+        by_length : (b : Bool) → nat_lt (length p) (s.pos + min MOST_CHUNK content.left) ≡ b → AllIn (cond b (wait P p true s) (cond (nat_lt MOST_CHUNK content.left) (Some (moved P p true move content MOST_CHUNK s)) (ends_content P p true move content s)))
         by_length true e = i
-        by_length false e = by_piece (lt_false _ _ e) (nat_lt MOST_PIECE part.left) refl
+        by_length false e = by_chunk (lt_false _ _ e) (nat_lt MOST_CHUNK content.left) refl
 
     begun_in : (n to : ℕ) (s : State) → to ≤ length p → In (begun move n to s)
     begun_in zero to s h = h
     begun_in (suc n) to s h = h
 
-    pub content_in : (s : State) (part : Option Part) → In s → AllIn (content P p true move s part)
+    pub content_in : (s : State) (content : Option Content) → In s → AllIn (prefixed P p true move s content)
     content_in s None i = reads_in s (length_at p s.pos (meter_of s)) (λ n to m. Some (begun move n to s)) i (λ n to m e. begun_in n to s (stands_within _ p s.pos to i (length_sound p s.pos (meter_of s) n to m e).0))
-    content_in s (Some part) i = moves_in part s i
+    content_in s (Some content) i = moves_in content s i
 
-    pub fixed_in : (n : ℕ) (s : State) (part : Option Part) → In s → AllIn (fixed P p true move n s part)
+    pub fixed_in : (n : ℕ) (s : State) (content : Option Content) → In s → AllIn (fixed P p true move n s content)
     fixed_in zero s None i = i
     fixed_in (suc n) s None i = moves_in (record { left = suc n; from = s.pos }) s i
-    fixed_in zero s (Some part) i = moves_in part s i
-    fixed_in (suc n) s (Some part) i = moves_in part s i
+    fixed_in zero s (Some content) i = moves_in content s i
+    fixed_in (suc n) s (Some content) i = moves_in content s i
 
   pub any_still : IsStill (kept anything)
   any_still = record { unless = λ from old new i h. h }

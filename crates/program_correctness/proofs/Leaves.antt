@@ -28,9 +28,9 @@ use Rattle.isa.specs.declared.instr.Instr.{Instr}
 use Rattle.isa.specs.declared.instr.Instr.TheVariants as op
 use Rattle.isa.specs.Program.{Program}
 use Rattle.isa.specs.Row.{row}
-use Rattle.isa.specs.State.{Part, State, Store, add, has_current, meter_of, miss}
-use Rattle.isa.specs.Table.{added, content, entered, fixed, if_current, moves, next, reads}
-use Rattle.program_definition.specs.Lines.{miss as why_not}
+use Rattle.isa.specs.State.{Content, State, Store, add, has_current, meter_of, miss}
+use Rattle.isa.specs.Table.{added, prefixed, entered, fixed, if_current, moves, next, reads}
+use Rattle.program_definition.specs.Statements.{miss as why_not}
 use Rattle.program_definition.specs.Stands.{AreEntries, IsEntry}
 use Rattle.program_correctness.proofs.Buffers.{current_emptied}
 use Rattle.program_correctness.proofs.Contents.{Anything, Check, OnlyText, OrMiss, Puts, checked, closed, move_of, unchecked}
@@ -153,15 +153,15 @@ module _ (P : Program) (p : List ℕ) (L : ℕ) where
       let same : u ≡ m.units = ap (λ (x : Meter). x.units) (sym h.1) in
       (t, h.0 ∙ ap (between (pc + 1) to calls t) same, h.1 ∙ ap (meter s) same, omega (arith, same), after)
 
-  content_writes : (left pc : ℕ) (check : Check) (i : Instr) (effect : List ℕ → Resolved (List ℕ)) → slice_get P.code pc ≡ Some i → ((c : State) → row P p true i c ≡ if_current c.store.frames c (content P p true (move_of add check) c c.part))
+  content_writes : (left pc : ℕ) (check : Check) (i : Instr) (effect : List ℕ → Resolved (List ℕ)) → slice_get P.code pc ≡ Some i → ((c : State) → row P p true i c ≡ if_current c.store.frames c (prefixed P p true (move_of add check) c c.content))
       → ((x : List ℕ) (s : Store) → Fits s → Becomes P.misses (effect x) s (closed check (is_utf8 x) (add (after_length x) s))) → Writes P p L left 1 pc (pc + 1) (λ at m. content_at p at m >> checked check) effect
   content_writes left pc check i effect here acts after at u calls s ready =
       follows_so P p L 1 1 (between pc at calls s u) (content_at p at (meter s u) >> checked check) (λ v. Landed P p L add Fits adds check pc calls u rows s (after_length v) v) (Wrote P p L (pc + 1) calls s u effect) (omega arith)
       (content_follows P p L add Fits adds check pc calls u rows at s (ready.fit, ready.current) (row_of_instr P p _ i refl here ∙ acts (between pc at calls s u) ∙ rw (ready.current) refl))
       (λ x to m d g h. landed pc u calls s effect (closed check (is_utf8 x) (add (after_length x) s)) x to m d h (after x s (ready.fit, ready.current)))
     where
-      rows : (part : Part) (a : ℕ) (t : Store) → Fits t → plain_row P p (moving (Some part) pc a calls t u) ≡ moves P p true (move_of add check) part (moving (Some part) pc a calls t u)
-      rows part a t f = row_of_instr P p _ i refl here ∙ acts (moving (Some part) pc a calls t u) ∙ rw (f.1) refl
+      rows : (content : Content) (a : ℕ) (t : Store) → Fits t → plain_row P p (moving (Some content) pc a calls t u) ≡ moves P p true (move_of add check) content (moving (Some content) pc a calls t u)
+      rows content a t f = row_of_instr P p _ i refl here ∙ acts (moving (Some content) pc a calls t u) ∙ rw (f.1) refl
 
   pub text_writes : (left pc : ℕ) → slice_get P.code pc ≡ Some op.Text → Writes P p L left 1 pc (pc + 1) (text_at p) (λ text. Ok (after_length text))
   unfolding text_at
@@ -195,9 +195,9 @@ module _ (P : Program) (p : List ℕ) (L : ℕ) where
       (fixed_follows P p L add Fits adds Anything pc calls u (rows u calls) n at s (ready.fit, ready.current) refl (row_of_instr P p _ (op.Fixed n) refl here ∙ rw (ready.current) refl))
       (λ x to m d g h. landed pc u calls s (λ b. Ok b) (add x s) x to m d h refl))
     where
-      with_part : (n : ℕ) (part : Part) (c : State) → fixed P p true (move_of add Anything) n c (Some part) ≡ moves P p true (move_of add Anything) part c
-      with_part zero part c = refl
-      with_part (suc n) part c = refl
+      with_part : (n : ℕ) (content : Content) (c : State) → fixed P p true (move_of add Anything) n c (Some content) ≡ moves P p true (move_of add Anything) content c
+      with_part zero content c = refl
+      with_part (suc n) content c = refl
 
-      rows : (u : ℕ) (calls : List ℕ) (part : Part) (a : ℕ) (t : Store) → Fits t → plain_row P p (moving (Some part) pc a calls t u) ≡ moves P p true (move_of add Anything) part (moving (Some part) pc a calls t u)
-      rows u calls part a t f = row_of_instr P p _ (op.Fixed n) refl here ∙ rw (f.1) refl ∙ with_part n part (moving (Some part) pc a calls t u)
+      rows : (u : ℕ) (calls : List ℕ) (content : Content) (a : ℕ) (t : Store) → Fits t → plain_row P p (moving (Some content) pc a calls t u) ≡ moves P p true (move_of add Anything) content (moving (Some content) pc a calls t u)
+      rows u calls content a t f = row_of_instr P p _ (op.Fixed n) refl here ∙ rw (f.1) refl ∙ with_part n content (moving (Some content) pc a calls t u)

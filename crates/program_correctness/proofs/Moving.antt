@@ -11,10 +11,10 @@ use Rattle.avro_bytes.specs.Length.{length_at}
 use Rattle.avro_bytes.specs.Shortest.{shortest}
 use Rattle.avro_bytes.specs.Written.{after_length}
 use Rattle.outcome.specs.Outcome as outcomes
-use Rattle.isa.specs.declared.limits.TheConstants.{MOST_PIECE}
+use Rattle.isa.specs.declared.limits.TheConstants.{MOST_CHUNK}
 use Rattle.isa.specs.Program.{Program}
-use Rattle.isa.specs.State.{Out, Part, State, Store}
-use Rattle.isa.specs.Table.{begun, content, fixed, moves, stop}
+use Rattle.isa.specs.State.{Out, Content, State, Store}
+use Rattle.isa.specs.Table.{begun, prefixed, fixed, moves, stop}
 use Rattle.program_correctness.proofs.Contents.{Anything, Check, OnlyText, OrMiss, Puts, checked, closed, closed_text, length_ahead, move_of, no_text, stretch, stretches, then_then, unless_of}
 use Rattle.program_correctness.proofs.Follow.{Follows, end_row, follows_so, one_row, reads_then, row_then, stay}
 use Rattle.program_correctness.proofs.Numbers.{least_below, least_is_second, lt_false, lt_no, lt_true, lt_yes}
@@ -22,7 +22,7 @@ use Rattle.program_correctness.proofs.Plain.{between, meter, moving, plain_row}
 
 module _ (P : Program) (p : List ℕ) (L : ℕ) where
   module _ (put : List ℕ → Store → Store) (Fits : Store → Type 0) (puts : Puts put Fits) (check : Check) (pc : ℕ) (calls : List ℕ) (u : ℕ)
-      (rows : (part : Part) (at : ℕ) (t : Store) → Fits t → plain_row P p (moving (Some part) pc at calls t u) ≡ moves P p true (move_of put check) part (moving (Some part) pc at calls t u)) where
+      (rows : (content : Content) (at : ℕ) (t : Store) → Fits t → plain_row P p (moving (Some content) pc at calls t u) ≡ moves P p true (move_of put check) content (moving (Some content) pc at calls t u)) where
     module _ (from n : ℕ) (m : Meter) where
       -- behind what is left of a content, which so many bytes from its first place on are
       abbrev MovedAs : Check → Bool → ℕ → ℕ → Store → List ℕ → ℕ → Meter → State → Type 0
@@ -31,10 +31,10 @@ module _ (P : Program) (p : List ℕ) (L : ℕ) where
       abbrev Moved : ℕ → ℕ → Store → List ℕ → ℕ → Meter → State → Type 0
       Moved at left t = MovedAs check (is_utf8 (stretch p from n)) at left t
 
-      Rest : Option Part → ℕ → ℕ → Store → Type 0
+      Rest : Option Content → ℕ → ℕ → Store → Type 0
       Rest o at left t = Follows P p L 0 (moving o pc at calls t u) (fixed_at n p from m >>= checked check) (Moved at left t)
 
-      abbrev Row : Option Part → ℕ → ℕ → Store → Type 0
+      abbrev Row : Option Content → ℕ → ℕ → Store → Type 0
       Row o at left t = plain_row P p (moving o pc at calls t u) ≡ moves P p true (move_of put check) (record { left = left; from = from }) (moving o pc at calls t u)
 
       -- what decoding gives of a content that is there
@@ -60,10 +60,10 @@ module _ (P : Program) (p : List ℕ) (L : ℕ) where
       given_is fits (OrMiss k) = refl
 
       -- the last bytes
-      move_last : (o : Option Part) (at left : ℕ) (t : Store) → Row o at left t → 1 ≤ left → at + left ≡ from + n → from ≤ at → nat_lt MOST_PIECE left ≡ false → nat_lt (length p) (at + min MOST_PIECE left) ≡ false → Rest o at left t
+      move_last : (o : Option Content) (at left : ℕ) (t : Store) → Row o at left t → 1 ≤ left → at + left ≡ from + n → from ≤ at → nat_lt MOST_CHUNK left ≡ false → nat_lt (length p) (at + min MOST_CHUNK left) ≡ false → Rest o at left t
       unfolding Rest given_as
       move_last o at left t row some e le small fits =
-          let least : min MOST_PIECE left ≡ left = least_is_second MOST_PIECE left small in
+          let least : min MOST_CHUNK left ≡ left = least_is_second MOST_CHUNK left small in
           let short : from + n ≤ length p = omega (arith, least, lt_false _ _ fits) in
           let n_is : at + left - from ≡ n = omega arith in
           let g = whole_at short ∙ given_is short check in
@@ -92,16 +92,16 @@ module _ (P : Program) (p : List ℕ) (L : ℕ) where
       Others fuel = (at left : ℕ) (t : Store) → Fits t → left ≤ fuel → 1 ≤ left → at + left ≡ from + n → from ≤ at → Rest (Some (record { left = left; from = from })) at left t
 
       -- a row, with a content begun or the first of a fixed, and all behind it
-      move_on : (fuel : ℕ) (o : Option Part) (at left : ℕ) (t : Store) → Others fuel → Fits t → Row o at left t → left ≤ suc fuel → 1 ≤ left → at + left ≡ from + n → from ≤ at → Rest o at left t
+      move_on : (fuel : ℕ) (o : Option Content) (at left : ℕ) (t : Store) → Others fuel → Fits t → Row o at left t → left ≤ suc fuel → 1 ≤ left → at + left ≡ from + n → from ≤ at → Rest o at left t
       unfolding Rest
-      move_on fuel o at left t others fit row enough some e le = by_length (nat_lt (length p) (at + min MOST_PIECE left)) refl
+      move_on fuel o at left t others fit row enough some e le = by_length (nat_lt (length p) (at + min MOST_CHUNK left)) refl
         where
           c : State
           c = moving o pc at calls t u
 
-          go_on : nat_lt (length p) (at + min MOST_PIECE left) ≡ false → nat_lt MOST_PIECE left ≡ true → Rest o at left t
+          go_on : nat_lt (length p) (at + min MOST_CHUNK left) ≡ false → nat_lt MOST_CHUNK left ≡ true → Rest o at left t
           go_on fits large =
-              let k = MOST_PIECE in
+              let k = MOST_CHUNK in
               let now = put (stretch p at k) t in
               let lt : k < left = lt_true k left large in
               let d = moving (Some (record { left = left - k; from = from })) pc (at + k) calls now u in
@@ -114,16 +114,16 @@ module _ (P : Program) (p : List ℕ) (L : ℕ) where
               (λ x to after d g h. (h.0 ∙ ap (λ (s : Store). between (pc + 1) (from + n) calls (closed check (is_utf8 (stretch p from n)) s) u) stores, h.1, h.2, h.3, h.4)))
               (omega arith)
 
-          by_left : nat_lt (length p) (at + min MOST_PIECE left) ≡ false → (b : Bool) → nat_lt MOST_PIECE left ≡ b → Rest o at left t
+          by_left : nat_lt (length p) (at + min MOST_CHUNK left) ≡ false → (b : Bool) → nat_lt MOST_CHUNK left ≡ b → Rest o at left t
           by_left fits true large = go_on fits large
           by_left fits false small = move_last o at left t row some e le small fits
 
-          by_length : (b : Bool) → nat_lt (length p) (at + min MOST_PIECE left) ≡ b → Rest o at left t
+          by_length : (b : Bool) → nat_lt (length p) (at + min MOST_CHUNK left) ≡ b → Rest o at left t
           by_length true short =
-              let lt : length p < from + n = omega (arith, lt_true _ _ short, least_below MOST_PIECE left) in
+              let lt : length p < from + n = omega (arith, lt_true _ _ short, least_below MOST_CHUNK left) in
               let r : plain_row P p c ≡ stop (Out (outcomes.Malformed Truncated (length p))) c = row ∙ rw short refl in
               subst (λ (g : Decoding (List ℕ)). Follows P p L 0 c g (Moved at left t)) (sym (cut_at (omega arith) lt)) (end_row P p L 0 c (outcomes.Malformed Truncated (length p)) r)
-          by_length false fits = by_left fits (nat_lt MOST_PIECE left) refl
+          by_length false fits = by_left fits (nat_lt MOST_CHUNK left) refl
 
       move_all : (fuel : ℕ) → Others fuel
       move_all zero at left t fit enough some e le = absurd (omega arith)
@@ -134,7 +134,7 @@ module _ (P : Program) (p : List ℕ) (L : ℕ) where
 
     -- behind a content, where such bytes were put
     abbrev pub Landed : Store → List ℕ → List ℕ → ℕ → Meter → State → Type 0
-    Landed s bytes content to m d = (d ≡ between (pc + 1) to calls (closed check (is_utf8 content) (put bytes s)) u) × (m ≡ meter s u)
+    Landed s bytes prefixed to m d = (d ≡ between (pc + 1) to calls (closed check (is_utf8 prefixed) (put bytes s)) u) × (m ≡ meter s u)
 
     nothing_at : (c : Check) (to : ℕ) (m : Meter) → (fixed_at 0 p to m >>= checked c) ≡ Complete [] to m
     unfolding fixed_at
@@ -149,7 +149,7 @@ module _ (P : Program) (p : List ℕ) (L : ℕ) where
         by_check (OrMiss k) = refl
 
     -- a content after its length
-    pub content_follows : (at : ℕ) (s : Store) → Fits s → plain_row P p (between pc at calls s u) ≡ content P p true (move_of put check) (between pc at calls s u) None → Follows P p L 1 (between pc at calls s u) (content_at p at (meter s u) >>= checked check) (λ bytes. Landed s (after_length bytes) bytes)
+    pub content_follows : (at : ℕ) (s : Store) → Fits s → plain_row P p (between pc at calls s u) ≡ prefixed P p true (move_of put check) (between pc at calls s u) None → Follows P p L 1 (between pc at calls s u) (content_at p at (meter s u) >>= checked check) (λ bytes. Landed s (after_length bytes) bytes)
     unfolding Rest content_at
     content_follows at s fit row =
         subst (λ (g : Decoding (List ℕ)). Follows P p L 1 c0 g Q) (sym (then_then (length_at p at (meter s u)) (λ n to m. fixed_at n p to m) (checked check)))

@@ -23,7 +23,7 @@ use Rattle.resolver.specs.Steps.{inside}
 use Rattle.isa.specs.declared.instr.Instr.TheVariants as op
 use Rattle.isa.specs.Program.{Program}
 use Rattle.isa.specs.State.{State}
-use Rattle.program_definition.specs.Lines.{Section, Skip, Write, miss as why_not}
+use Rattle.program_definition.specs.Statements.{Section, Skip, Write, miss as why_not}
 use Rattle.program_definition.specs.SkipStands.{SkipRoutine}
 use Rattle.program_definition.specs.Stands.{Routine, Writes as CodeWrites, WritesMembers, WritesPlain, x_into, x_last, x_member, x_no_member, x_nowhere, x_plain, x_straight, x_union, x_unmatched}
 use Rattle.program_correctness.proofs.Effects.{bytes_of}

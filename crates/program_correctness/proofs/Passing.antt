@@ -20,7 +20,7 @@ use Rattle.isa.specs.declared.instr.Instr.{Instr}
 use Rattle.isa.specs.declared.instr.Instr.TheVariants as op
 use Rattle.isa.specs.Program.{Program}
 use Rattle.isa.specs.Row.{row}
-use Rattle.isa.specs.State.{Part, SkipBlocks, State, Store, meter_of}
+use Rattle.isa.specs.State.{Content, SkipBlocks, State, Store, meter_of}
 use Rattle.isa.specs.Table.{fixed, moves, next, reads}
 use Rattle.program_correctness.proofs.Contents.{Anything, OnlyText, Puts, move_of, unchecked}
 use Rattle.program_correctness.proofs.Follow.{Follows, follows_map, follows_so, follows_then, reads_all, stay}
@@ -100,15 +100,15 @@ module _ (P : Program) (p : List ℕ) (L : ℕ) where
   pub bytes_pass : (left pc : ℕ) → slice_get P.code pc ≡ Some op.SkipBytes → Passes left 1 pc (pc + 1) (content_at p)
   bytes_pass left pc here at u calls s room =
       subst (λ (g : Decoding (List ℕ)). Follows P p L 1 (between pc at calls s u) g (Passed (pc + 1) calls s u)) (unchecked Anything (λ x to m. refl) (content_at p at (meter s u)))
-      (follows_so P p L 1 1 _ _ (λ v. Landed P p L unkept (λ s. Unit {0}) any_store Anything pc calls u (λ part a t f. row_of_instr P p _ op.SkipBytes refl here) s (after_length v) v) (Passed (pc + 1) calls s u) (omega arith)
-      (content_follows P p L unkept (λ s. Unit {0}) any_store Anything pc calls u (λ part a t f. row_of_instr P p _ op.SkipBytes refl here) at s tt (row_of_instr P p _ op.SkipBytes refl here))
+      (follows_so P p L 1 1 _ _ (λ v. Landed P p L unkept (λ s. Unit {0}) any_store Anything pc calls u (λ content a t f. row_of_instr P p _ op.SkipBytes refl here) s (after_length v) v) (Passed (pc + 1) calls s u) (omega arith)
+      (content_follows P p L unkept (λ s. Unit {0}) any_store Anything pc calls u (λ content a t f. row_of_instr P p _ op.SkipBytes refl here) at s tt (row_of_instr P p _ op.SkipBytes refl here))
       (λ v to m d g h. same_units (pc + 1) u calls s v to m d h.0 h.1))
 
   pub text_passes : (left pc : ℕ) → slice_get P.code pc ≡ Some op.SkipText → Passes left 1 pc (pc + 1) (text_at p)
   unfolding text_at
   text_passes left pc here at u calls s room =
-      follows_so P p L 1 1 _ _ (λ v. Landed P p L unkept (λ s. Unit {0}) any_store OnlyText pc calls u (λ part a t f. row_of_instr P p _ op.SkipText refl here) s (after_length v) v) (Passed (pc + 1) calls s u) (omega arith)
-      (content_follows P p L unkept (λ s. Unit {0}) any_store OnlyText pc calls u (λ part a t f. row_of_instr P p _ op.SkipText refl here) at s tt (row_of_instr P p _ op.SkipText refl here))
+      follows_so P p L 1 1 _ _ (λ v. Landed P p L unkept (λ s. Unit {0}) any_store OnlyText pc calls u (λ content a t f. row_of_instr P p _ op.SkipText refl here) s (after_length v) v) (Passed (pc + 1) calls s u) (omega arith)
+      (content_follows P p L unkept (λ s. Unit {0}) any_store OnlyText pc calls u (λ content a t f. row_of_instr P p _ op.SkipText refl here) at s tt (row_of_instr P p _ op.SkipText refl here))
       (λ v to m d g h. same_units (pc + 1) u calls s v to m d h.0 h.1)
 
   pub fixed_passes : (left pc n : ℕ) → slice_get P.code pc ≡ Some (op.SkipFixed n) → Passes left 1 pc (pc + 1) (fixed_at n p)
@@ -118,12 +118,12 @@ module _ (P : Program) (p : List ℕ) (L : ℕ) where
       (fixed_follows P p L unkept (λ s. Unit {0}) any_store Anything pc calls u rows n at s tt refl (row_of_instr P p _ (op.SkipFixed n) refl here))
       (λ v to m d g h. same_units (pc + 1) u calls s v to m d h.0 h.1))
     where
-      with_part : (n : ℕ) (part : Part) (s : State) → fixed P p true (move_of unkept Anything) n s (Some part) ≡ moves P p true (move_of unkept Anything) part s
-      with_part zero part s = refl
-      with_part (suc n) part s = refl
+      with_part : (n : ℕ) (content : Content) (s : State) → fixed P p true (move_of unkept Anything) n s (Some content) ≡ moves P p true (move_of unkept Anything) content s
+      with_part zero content s = refl
+      with_part (suc n) content s = refl
 
-      rows : (part : Part) (a : ℕ) (t : Store) → Unit {0} → plain_row P p (moving (Some part) pc a calls t u) ≡ moves P p true (move_of unkept Anything) part (moving (Some part) pc a calls t u)
-      rows part a t f = row_of_instr P p _ (op.SkipFixed n) refl here ∙ with_part n part (moving (Some part) pc a calls t u)
+      rows : (content : Content) (a : ℕ) (t : Store) → Unit {0} → plain_row P p (moving (Some content) pc a calls t u) ≡ moves P p true (move_of unkept Anything) content (moving (Some content) pc a calls t u)
+      rows content a t f = row_of_instr P p _ (op.SkipFixed n) refl here ∙ with_part n content (moving (Some content) pc a calls t u)
 
   -- ---- arrays and maps
 

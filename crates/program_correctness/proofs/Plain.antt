@@ -3,12 +3,12 @@ use Rattle.std.proofs.Common.{◌≡◌, ℕ, true, List, length, Option, Some, 
 use Rattle.avro_bytes.specs.declared.meter.Meter.{Meter}
 use Rattle.isa.specs.declared.instr.Instr.{Instr}
 use Rattle.isa.specs.Program.{Program}
-use Rattle.isa.specs.State.{End, Part, State, Store}
+use Rattle.isa.specs.State.{End, Content, State, Store}
 use Rattle.isa.specs.Row.{row, row_at}
 
 -- a state in which some of a content is left, or none
-abbrev pub moving : Option Part → ℕ → ℕ → List ℕ → Store → ℕ → State
-moving part pc pos calls s units = record { pc = pc; pos = pos; calls = calls; store = s; part = part; units = units; count = 0; end = None }
+abbrev pub moving : Option Content → ℕ → ℕ → List ℕ → Store → ℕ → State
+moving content pc pos calls s units = record { pc = pc; pos = pos; calls = calls; store = s; content = content; units = units; count = 0; end = None }
 
 -- a state in which no content is begun
 abbrev pub between : ℕ → ℕ → List ℕ → Store → ℕ → State

@@ -8,7 +8,7 @@ use Rattle.isa.specs.declared.instr.Instr.TheVariants as op
 use Rattle.isa.specs.Lists.{total_length}
 use Rattle.isa.specs.Program.{Program}
 use Rattle.isa.specs.State.{Rec, Store, add, add_to_slot}
-use Rattle.program_definition.specs.Lines.{Section}
+use Rattle.program_definition.specs.Statements.{Section}
 use Rattle.program_definition.specs.Stands.{Defaults, no_default, none_put, one_put, partnered}
 use Rattle.program_correctness.proofs.Buffers.{new_slots, no_bytes, no_bytes_added}
 use Rattle.program_correctness.proofs.Follow.{Comes, comes_on, one_row, stay}

@@ -11,7 +11,7 @@ use Rattle.resolver.specs.Resolution.{Resolved, ◌>>=◌, Slots, resolved}
 use Rattle.isa.specs.Lists.{total_length}
 use Rattle.isa.specs.Program.{Program}
 use Rattle.isa.specs.State.{Rec, State, Store, add_to_slot}
-use Rattle.program_definition.specs.Lines.{Section}
+use Rattle.program_definition.specs.Statements.{Section}
 use Rattle.program_definition.specs.Stands.{Fields, Writes as CodeWrites, dropped, kept, no_field}
 use Rattle.program_correctness.proofs.Buffers.{new_slots, no_bytes, no_bytes_added}
 use Rattle.program_correctness.proofs.Effects.{bytes_of}

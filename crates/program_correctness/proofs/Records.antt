@@ -18,7 +18,7 @@ use Rattle.isa.specs.Lists.{total_length}
 use Rattle.isa.specs.Program.{Program}
 use Rattle.isa.specs.State.{Frame, Rec, State, Store, add}
 use Rattle.isa.specs.Table.{next, pushed}
-use Rattle.program_definition.specs.Lines.{Section}
+use Rattle.program_definition.specs.Statements.{Section}
 use Rattle.program_definition.specs.Stands.{Routine, Writes as CodeWrites}
 use Rattle.program_correctness.proofs.Buffers.{joined_length, new_slots, new_slots_empty, new_slots_size, no_bytes}
 use Rattle.program_correctness.proofs.Effects.{bytes_of}

@@ -14,11 +14,11 @@ use Rattle.outcome.specs.Outcome as outcomes
 use Rattle.isa.specs.declared.entry.Entry.{Entry}
 use Rattle.isa.specs.declared.entry.Entry.TheVariants as entries
 use Rattle.isa.specs.declared.end.Trap.TheVariants.{BadSlot, NoBuffer}
-use Rattle.isa.specs.declared.limits.TheConstants.{MOST_PIECE}
+use Rattle.isa.specs.declared.limits.TheConstants.{MOST_CHUNK}
 use Rattle.isa.specs.Program.{Program}
 use Rattle.isa.specs.Row.{kept, skipped}
-use Rattle.isa.specs.State.{Blocks, Frame, Out, Part, Rec, Skip, SkipBlocks, State, has_current, meter_of}
-use Rattle.isa.specs.Table.{Move, added, anything, begun, close_record, content, ends_part, entered, finished, fixed, gathered, halt, if_current, items_closed, leave, moved, moves, next, next_of, only_text, opens, or_miss, passed, pushed, reads, return, select, skip_next_of, stop, trap, wait, with_frames}
+use Rattle.isa.specs.State.{Blocks, Frame, Out, Content, Rec, Skip, SkipBlocks, State, has_current, meter_of}
+use Rattle.isa.specs.Table.{Move, added, anything, begun, close_record, prefixed, ends_content, entered, finished, fixed, gathered, halt, if_current, items_closed, leave, moved, moves, next, next_of, only_text, opens, or_miss, passed, pushed, reads, return, select, skip_next_of, stop, trap, wait, with_frames}
 
 -- with another count
 abbrev pub counted_as : ℕ → State → State
@@ -59,36 +59,36 @@ module _ (P : Program) (p : List ℕ) (ended : Bool) (n : ℕ) where
   module _ (move : Move) (same : IsSame move) where
     same_begun : (k to : ℕ) (s : State) → begun move k to (c s) ≡ c (begun move k to s)
     same_begun zero to s = ap (λ (y : State). next to y) (same.put _ s)
-    same_begun (suc k) to s = ap (λ (y : State). record y { pos = to; part = Some (record { left = suc k; from = to }) }) (same.put _ s)
+    same_begun (suc k) to s = ap (λ (y : State). record y { pos = to; content = Some (record { left = suc k; from = to }) }) (same.put _ s)
 
-    same_ends : (part : Part) (s : State) → ends_part P p ended move part (c s) ≡ all (ends_part P p ended move part s)
-    same_ends part s = by_text (is_utf8 (take (s.pos + part.left - part.from) (drop part.from p)))
+    same_ends : (content : Content) (s : State) → ends_content P p ended move content (c s) ≡ all (ends_content P p ended move content s)
+    same_ends content s = by_text (is_utf8 (take (s.pos + content.left - content.from) (drop content.from p)))
       where
         to : ℕ
-        to = s.pos + part.left
+        to = s.pos + content.left
 
-        put_is : move.put (take part.left (drop s.pos p)) (c s) ≡ c (move.put (take part.left (drop s.pos p)) s)
+        put_is : move.put (take content.left (drop s.pos p)) (c s) ≡ c (move.put (take content.left (drop s.pos p)) s)
         put_is = same.put _ s
 
-        by_text : (b : Bool) → cond b (Some (record (next (s.pos + part.left) (move.put (take part.left (drop s.pos p)) (c s))) { part = None })) (move.unless_text part.from (c s) (record (next (s.pos + part.left) (move.put (take part.left (drop s.pos p)) (c s))) { part = None }))
-            ≡ all (cond b (Some (record (next (s.pos + part.left) (move.put (take part.left (drop s.pos p)) s)) { part = None })) (move.unless_text part.from s (record (next (s.pos + part.left) (move.put (take part.left (drop s.pos p)) s)) { part = None })))
-        by_text true = ap (λ (y : State). Some (record (next (s.pos + part.left) y) { part = None })) put_is
-        by_text false = ap (λ (y : State). move.unless_text part.from (c s) (record (next (s.pos + part.left) y) { part = None })) put_is ∙ same.unless part.from s _
+        by_text : (b : Bool) → cond b (Some (record (next (s.pos + content.left) (move.put (take content.left (drop s.pos p)) (c s))) { content = None })) (move.unless_text content.from (c s) (record (next (s.pos + content.left) (move.put (take content.left (drop s.pos p)) (c s))) { content = None }))
+            ≡ all (cond b (Some (record (next (s.pos + content.left) (move.put (take content.left (drop s.pos p)) s)) { content = None })) (move.unless_text content.from s (record (next (s.pos + content.left) (move.put (take content.left (drop s.pos p)) s)) { content = None })))
+        by_text true = ap (λ (y : State). Some (record (next (s.pos + content.left) y) { content = None })) put_is
+        by_text false = ap (λ (y : State). move.unless_text content.from (c s) (record (next (s.pos + content.left) y) { content = None })) put_is ∙ same.unless content.from s _
 
-    same_moves : (part : Part) (s : State) → moves P p ended move part (c s) ≡ all (moves P p ended move part s)
-    same_moves part s =
-        same_cond (nat_lt (length p) (s.pos + min MOST_PIECE part.left)) s (wait P p ended) (λ s. cond (nat_lt MOST_PIECE part.left) (Some (moved P p ended move part MOST_PIECE s)) (ends_part P p ended move part s)) (same_wait ended s)
-        (same_cond (nat_lt MOST_PIECE part.left) s (λ s. Some (moved P p ended move part MOST_PIECE s)) (ends_part P p ended move part) (ap (λ (y : State). Some (record y { pos = s.pos + MOST_PIECE; part = Some (record { left = part.left - MOST_PIECE; from = part.from }) })) (same.put _ s)) (same_ends part s))
+    same_moves : (content : Content) (s : State) → moves P p ended move content (c s) ≡ all (moves P p ended move content s)
+    same_moves content s =
+        same_cond (nat_lt (length p) (s.pos + min MOST_CHUNK content.left)) s (wait P p ended) (λ s. cond (nat_lt MOST_CHUNK content.left) (Some (moved P p ended move content MOST_CHUNK s)) (ends_content P p ended move content s)) (same_wait ended s)
+        (same_cond (nat_lt MOST_CHUNK content.left) s (λ s. Some (moved P p ended move content MOST_CHUNK s)) (ends_content P p ended move content) (ap (λ (y : State). Some (record y { pos = s.pos + MOST_CHUNK; content = Some (record { left = content.left - MOST_CHUNK; from = content.from }) })) (same.put _ s)) (same_ends content s))
 
-    pub same_content : (s : State) (part : Option Part) → content P p ended move (c s) part ≡ all (content P p ended move s part)
+    pub same_content : (s : State) (content : Option Content) → prefixed P p ended move (c s) content ≡ all (prefixed P p ended move s content)
     same_content s None = same_reads s (length_at p s.pos (meter_of s)) (λ s k to m. Some (begun move k to s)) (λ k to m. ap Some (same_begun k to s))
-    same_content s (Some part) = same_moves part s
+    same_content s (Some content) = same_moves content s
 
-    pub same_fixed : (k : ℕ) (s : State) (part : Option Part) → fixed P p ended move k (c s) part ≡ all (fixed P p ended move k s part)
+    pub same_fixed : (k : ℕ) (s : State) (content : Option Content) → fixed P p ended move k (c s) content ≡ all (fixed P p ended move k s content)
     same_fixed zero s None = refl
     same_fixed (suc k) s None = same_moves (record { left = suc k; from = s.pos }) s
-    same_fixed zero s (Some part) = same_moves part s
-    same_fixed (suc k) s (Some part) = same_moves part s
+    same_fixed zero s (Some content) = same_moves content s
+    same_fixed (suc k) s (Some content) = same_moves content s
 
   pub kept_same : (m : ℕ) → IsSame (kept anything) × IsSame (kept only_text) × IsSame (kept (or_miss m))
   kept_same m = (record { put = λ x s. refl; unless = λ from old new. refl }, record { put = λ x s. refl; unless = λ from old new. refl }, record { put = λ x s. refl; unless = λ from old new. refl })

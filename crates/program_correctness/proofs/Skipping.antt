@@ -26,7 +26,7 @@ use Rattle.isa.specs.declared.limits.TheConstants.{MOST_CALLS}
 use Rattle.isa.specs.Program.{Program}
 use Rattle.isa.specs.State.{Skip as SkipFrame, State, Store}
 use Rattle.isa.specs.Table.{next, pushed}
-use Rattle.program_definition.specs.Lines.{Section, Skip}
+use Rattle.program_definition.specs.Statements.{Section, Skip}
 use Rattle.program_definition.specs.SkipStands.{SkipRoutine, Skips, SkipsFields, SkipsMembers, SkipsPlain, k_array, k_boolean, k_bytes, k_enum, k_field, k_fixed, k_int, k_last, k_long, k_map, k_member, k_no_field, k_no_member, k_null, k_plain, k_record, k_text, k_union}
 use Rattle.program_correctness.proofs.Follow.{Comes, Follows, comes_on, cost, follows_row, follows_then, one_row, reads_then, row_then}
 use Rattle.program_correctness.proofs.LookUps.{got, got_below}

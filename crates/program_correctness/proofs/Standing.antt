@@ -4,7 +4,7 @@ use Rattle.avro_types.specs.Node.{Node}
 use Rattle.avro_datum.specs.Decoding.{Decoder}
 use Rattle.resolver.specs.Resolution.{resolved}
 use Rattle.isa.specs.Program.{Program}
-use Rattle.program_definition.specs.Lines.{Section}
+use Rattle.program_definition.specs.Statements.{Section}
 use Rattle.program_definition.specs.SkipStands.{Skips}
 use Rattle.program_definition.specs.Stands.{Writes as CodeWrites}
 use Rattle.program_correctness.proofs.Effects.{bytes_of}

@@ -26,7 +26,7 @@ use Rattle.resolver.specs.Steps.{inside}
 use Rattle.isa.specs.declared.instr.Instr.TheVariants as op
 use Rattle.isa.specs.Program.{Program}
 use Rattle.isa.specs.State.{Store, miss}
-use Rattle.program_definition.specs.Lines.{Section, Skip, Write, miss as why_not}
+use Rattle.program_definition.specs.Statements.{Section, Skip, Write, miss as why_not}
 use Rattle.program_definition.specs.SkipStands.{SkipRoutine, Skips}
 use Rattle.program_definition.specs.Stands.{Routine, Straights, s_array, s_boolean, s_bytes, s_bytes_text, s_enum, s_fixed, s_int, s_lacking, s_long, s_map, s_null, s_record, s_text}
 use Rattle.program_correctness.proofs.Buffers.{emptied_length}

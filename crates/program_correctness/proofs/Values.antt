@@ -16,7 +16,7 @@ use Rattle.outcome.specs.declared.mismatch.MismatchKind.TheVariants as kinds
 use Rattle.resolver.specs.Laws.Placed.{is_union_datum}
 use Rattle.resolver.specs.Resolution.{Resolved, ◌>>=◌, bytes_for, int_for, lacking, mismatch, text_for}
 use Rattle.resolver.specs.Steps.{inside}
-use Rattle.program_definition.specs.Lines.{miss as why_not}
+use Rattle.program_definition.specs.Statements.{miss as why_not}
 use Rattle.program_definition.specs.Writing.{is_text}
 use Rattle.program_correctness.proofs.Effects.{bytes_of}
 

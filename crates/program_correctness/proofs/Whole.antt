@@ -25,7 +25,7 @@ use Rattle.isa.specs.declared.instr.Instr.TheVariants as op
 use Rattle.isa.specs.Program.{Program}
 use Rattle.isa.specs.State.{Frame, Out, State, Store, add, start as begin}
 use Rattle.isa.specs.Table.{finished, halt, stop}
-use Rattle.program_definition.specs.Lines.{Section, Skip, Write}
+use Rattle.program_definition.specs.Statements.{Section, Skip, Write}
 use Rattle.program_definition.specs.SkipStands.{SkipRoutine}
 use Rattle.program_definition.specs.Stands.{Opening, Routine}
 use Rattle.program_correctness.proofs.Effects.{bytes_of}

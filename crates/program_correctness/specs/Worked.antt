@@ -17,7 +17,7 @@ ElevenRowsEnd = run_alone long_list_program one true 11 ≡ Some (record {
   pos = 2;
   calls = [];
   store = record { frames = []; out = one; mark = None; over = false };
-  part = None;
+  content = None;
   units = 1;
   count = 11;
   end = Some (Out (Done one));
@@ -37,7 +37,7 @@ CutIsTruncated = run_alone long_list_program (2 ∷ []) true 6 ≡ Some (record 
   pos = 1;
   calls = 1 ∷ [];
   store = record { frames = Rec (Some 1) ((2 ∷ []) ∷ [] ∷ []) ∷ []; out = []; mark = None; over = false };
-  part = None;
+  content = None;
   units = 1;
   count = 6;
   end = Some (Out (Malformed Truncated 1));

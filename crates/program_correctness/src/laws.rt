@@ -9,14 +9,14 @@ use avro_types::Nodes;
 /// The law that the program of a pair of schemas, run alone on a payload that has ended, comes within the row bound to
 /// an end, which is the payload's outcome. Whatever end a run comes to is the outcome, so that none is a trap; and one
 /// that it comes to before the input has ended is the outcome with every continuation.
-pub fn program_ends_with_the_outcome(w: &Nodes, r: &Nodes)
-    ensures simulated { IsSimulated w.now r.now }
-    ensures each_end { EachEndIsOutcome w.now r.now }
-    ensures early_end { EarlyEndIsOutcome w.now r.now }
+pub fn program_ends_with_the_outcome(writer: &Nodes, reader: &Nodes)
+    ensures simulated { IsSimulated writer.now reader.now }
+    ensures each_end { EachEndIsOutcome writer.now reader.now }
+    ensures early_end { EarlyEndIsOutcome writer.now reader.now }
 {
-    w.is_well_formed(); // law
-    program_definition::program_is_linked(w, r); // law
-    program_definition::program_is_in_range(w, r); // law
+    writer.is_well_formed(); // law
+    program_definition::program_is_linked(writer, reader); // law
+    program_definition::program_is_in_range(writer, reader); // law
     isa::rows_stay_within_bounds(); // law
     isa::row_stays_on_longer_input(); // law
 }

@@ -4,7 +4,7 @@ use Rattle.std.specs.Prelude.{slice_get, if◌then◌else◌}
 use Rattle.std.specs.List.{AllByRecursion}
 use Rattle.resolver_matching.specs.Options.{given}
 use Rattle.program_definition.specs.Code.{reached}
-use Rattle.program_definition.specs.Lines.{Section, Line}
+use Rattle.program_definition.specs.Statements.{Section, Statement}
 use Rattle.program_definition.specs.Numbering.{adding, calls_of, has, named_in, same_section}
 
 module _ {A : Type 0} (same : A → A → Bool) (Q : A → Type 0) where
@@ -25,7 +25,7 @@ got Q [] i s all e = absurd cc
 got Q (x ∷ ss) zero s all e = let same : x ≡ s = cc in subst Q same all.0
 got Q (x ∷ ss) (suc i) s all e = got Q ss i s all.1 e
 
-module _ (section : Section → List Line) (Q : Section → Type 0) (calls_are : (s : Section) → Q s → AllByRecursion Q (named_in calls_of (section s))) where
+module _ (section : Section → List Statement) (Q : Section → Type 0) (calls_are : (s : Section) → Q s → AllByRecursion Q (named_in calls_of (section s))) where
   abbrev next : List Section → Section → List Section
   next ss s = adding same_section ss (named_in calls_of (section s))
 

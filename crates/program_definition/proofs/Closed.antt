@@ -5,12 +5,12 @@ use Rattle.std.specs.List.{AllByRecursion}
 use Rattle.std.proofs.lemmas.Option.{slice_get_within}
 use Rattle.std.proofs.lemmas.Bool.{cases_lt}
 use Rattle.resolver_matching.specs.Options.{given}
-use Rattle.program_definition.specs.Code.{lines_of, reached}
-use Rattle.program_definition.specs.Lines.{Section, Main, Line}
+use Rattle.program_definition.specs.Code.{statements_of, reached}
+use Rattle.program_definition.specs.Statements.{Section, Main, Statement}
 use Rattle.program_definition.specs.Numbering.{adding, calls_of, has, named_in, same_section}
 use Rattle.program_definition.proofs.Numbers.{AllIn, Extends, added, all_more, section_refl}
 
-module _ (section : Section → List Line) where
+module _ (section : Section → List Statement) where
   abbrev calls : Section → List Section
   calls s = named_in calls_of (section s)
 
@@ -88,7 +88,7 @@ module _ (section : Section → List Line) where
       none_below : (m : ℕ) (s : Section) → m < 0 → slice_get (Main ∷ []) m ≡ Some s → Called (calls s) (Main ∷ [])
       none_below m s lt at = absurd (omega arith)
 
-  all_appended : (Q : Section → Type 0) (a b : List Line) → AllByRecursion Q (named_in calls_of a) → AllByRecursion Q (named_in calls_of b) → AllByRecursion Q (named_in calls_of (a ++ b))
+  all_appended : (Q : Section → Type 0) (a b : List Statement) → AllByRecursion Q (named_in calls_of a) → AllByRecursion Q (named_in calls_of b) → AllByRecursion Q (named_in calls_of (a ++ b))
   all_appended Q [] b h k = k
   all_appended Q (l ∷ a) b h k = both (calls_of l) (named_in calls_of a) (named_in calls_of (a ++ b)) h (λ h. all_appended Q a b h k)
     where
@@ -96,6 +96,6 @@ module _ (section : Section → List Line) where
       both [] ys zs h f = f h
       both (x ∷ xs) ys zs h f = (h.0, both xs ys zs h.1 f)
 
-  pub all_called : (qs ss : List Section) → ((m : ℕ) (s : Section) → slice_get ss m ≡ Some s → Called (calls s) qs) → Called (named_in calls_of (lines_of section ss)) qs
+  pub all_called : (qs ss : List Section) → ((m : ℕ) (s : Section) → slice_get ss m ≡ Some s → Called (calls s) qs) → Called (named_in calls_of (statements_of section ss)) qs
   all_called qs [] each = tt
-  all_called qs (s ∷ ss) each = all_appended (λ c. has same_section c qs ≡ true) (section s) (lines_of section ss) (each 0 s refl) (all_called qs ss (λ m k at. each (suc m) k at))
+  all_called qs (s ∷ ss) each = all_appended (λ c. has same_section c qs ≡ true) (section s) (statements_of section ss) (each 0 s refl) (all_called qs ss (λ m k at. each (suc m) k at))

@@ -10,7 +10,7 @@ use Rattle.resolver_matching.specs.Options.{given}
 use Rattle.resolver.specs.Resolution.{field_lists}
 use Rattle.program_definition.specs.Code.{reached}
 use Rattle.program_definition.specs.Limits.{AreAll, SectionsAreFound}
-use Rattle.program_definition.specs.Lines.{Section, Main, Write, Skip}
+use Rattle.program_definition.specs.Statements.{Section, Main, Write, Skip}
 use Rattle.program_definition.specs.Numbering.{adding, calls_of, has, named_in, same_section}
 use Rattle.program_definition.specs.Writing.{section}
 use Rattle.program_definition.proofs.Apart.{AreApart, IsIn, apart_added, no_more}

@@ -6,34 +6,34 @@ use Rattle.resolver_matching.specs.Options.{given}
 use Rattle.isa.specs.declared.limits.TheConstants.{MOST_INSTRS}
 use Rattle.isa.specs.Judging.{is_within_limits}
 use Rattle.isa.specs.Program.{Program}
-use Rattle.program_definition.specs.Code.{are_whole, assembled, checked, code_of, lines_of, reached, start_in}
+use Rattle.program_definition.specs.Code.{are_whole, assembled, checked, code_of, statements_of, reached, start_in}
 use Rattle.program_definition.specs.Limits.{whole_program}
-use Rattle.program_definition.specs.Lines.{Section, Main, Line}
+use Rattle.program_definition.specs.Statements.{Section, Main, Statement}
 use Rattle.program_definition.specs.Numbering.{adding, calls_of, named_in, numbered, same_section}
 use Rattle.program_definition.specs.Writing.{section}
 use Rattle.program_definition.proofs.Limits.{passes_limit}
 use Rattle.program_definition.proofs.Numbers.{Extends, added, section_refl}
 use Rattle.program_definition.proofs.Ranges.{code_length}
-use Rattle.program_definition.proofs.Whole.{sections_long, some_lines}
+use Rattle.program_definition.proofs.Whole.{sections_long, some_statements}
 
-module _ (section : Section → List Line) where
+module _ (section : Section → List Statement) where
   abbrev pub next : List Section → Section → List Section
   next ss s = adding same_section ss (named_in calls_of (section s))
 
-  -- sections so far, of which the first i are done, and their lines
-  pub record Going (i : ℕ) (ss : List Section) (ls : List Line) : Type 0 where
+  -- sections so far, of which the first i are done, and their statements
+  pub record Going (i : ℕ) (ss : List Section) (ls : List Statement) : Type 0 where
     pub rounds : ℕ
     pub left : i + rounds ≡ MOST_INSTRS
     pub same : reached section MOST_INSTRS 0 (Main ∷ []) ≡ reached section rounds i ss
     pub here : i ≤ length ss
-    pub lines : ls ≡ lines_of section (take i ss)
+    pub statements : ls ≡ statements_of section (take i ss)
 
   pub going_init : Going 0 (Main ∷ []) []
-  going_init = record { rounds = MOST_INSTRS; left = refl; same = refl; here = omega arith; lines = refl }
+  going_init = record { rounds = MOST_INSTRS; left = refl; same = refl; here = omega arith; statements = refl }
 
-  lines_append : (a b : List Section) → lines_of section (a ++ b) ≡ lines_of section a ++ lines_of section b
-  lines_append [] b = refl
-  lines_append (s ∷ a) b = ap (λ l. section s ++ l) (lines_append a b) ∙ sym (append_assoc (section s) (lines_of section a) (lines_of section b))
+  statements_append : (a b : List Section) → statements_of section (a ++ b) ≡ statements_of section a ++ statements_of section b
+  statements_append [] b = refl
+  statements_append (s ∷ a) b = ap (λ l. section s ++ l) (statements_append a b) ∙ sym (append_assoc (section s) (statements_of section a) (statements_of section b))
 
   take_on : (ss : List Section) (i : ℕ) (s : Section) → slice_get ss i ≡ Some s → take (suc i) ss ≡ take i ss ++ s ∷ []
   take_on [] i s e = absurd cc
@@ -64,8 +64,8 @@ module _ (section : Section → List Line) where
   abbrev Round : ℕ → ℕ → List Section → Option Section → Option (List Section)
   Round n i ss o = elim o [ None ↦ Some ss | Some s ↦ reached section n (i + 1) (next ss s) ]
 
-  -- a round: the section's lines come after the others, and its calls to the list
-  pub going_on : (i : ℕ) (ss : List Section) (ls : List Line) (s : Section) → Going i ss ls → slice_get ss i ≡ Some s → i < MOST_INSTRS → Going (i + 1) (next ss s) (ls ++ section s)
+  -- a round: the section's statements come after the others, and its calls to the list
+  pub going_on : (i : ℕ) (ss : List Section) (ls : List Statement) (s : Section) → Going i ss ls → slice_get ss i ≡ Some s → i < MOST_INSTRS → Going (i + 1) (next ss s) (ls ++ section s)
   going_on i ss ls s g at lt = go g.rounds g.left g.same
     where
       more : Extends same_section section_refl ss (next ss s)
@@ -80,12 +80,12 @@ module _ (section : Section → List Line) where
       took : take (i + 1) (next ss s) ≡ take i ss ++ s ∷ []
       took = let e : i + 1 ≡ suc i = omega arith in ap (take (i + 1)) more.1 ∙ take_front ss more.0 (i + 1) (omega (arith, long)) ∙ ap (λ k. take k ss) e ∙ take_on ss i s at
 
-      lines : ls ++ section s ≡ lines_of section (take (i + 1) (next ss s))
-      lines = ap (λ l. l ++ section s) g.lines ∙ ap (λ l. lines_of section (take i ss) ++ l) (sym (append-nil (section s))) ∙ sym (lines_append (take i ss) (s ∷ [])) ∙ ap (lines_of section) (sym took)
+      statements : ls ++ section s ≡ statements_of section (take (i + 1) (next ss s))
+      statements = ap (λ l. l ++ section s) g.statements ∙ ap (λ l. statements_of section (take i ss) ++ l) (sym (append-nil (section s))) ∙ sym (statements_append (take i ss) (s ∷ [])) ∙ ap (statements_of section) (sym took)
 
       go : (n : ℕ) → i + n ≡ MOST_INSTRS → reached section MOST_INSTRS 0 (Main ∷ []) ≡ reached section n i ss → Going (i + 1) (next ss s) (ls ++ section s)
       go zero left same = absurd (omega arith)
-      go (suc n) left same = record { rounds = n; left = omega arith; same = same ∙ ap (Round n i ss) at; here = omega (arith, long, longer); lines = lines }
+      go (suc n) left same = record { rounds = n; left = omega arith; same = same ∙ ap (Round n i ss) at; here = omega (arith, long, longer); statements = statements }
 
   -- what is reached stands after what was there
   reached_extends : (n i : ℕ) (ss qs : List Section) → reached section n i ss ≡ Some qs → Extends same_section section_refl ss qs
@@ -107,20 +107,20 @@ module _ (section : Section → List Line) where
   reached_done zero i ss e = ap (λ o. given o (Some ss) (λ s. None)) e
   reached_done (suc n) i ss e = ap (Round n i ss) e
 
-  -- the first sections' lines are among all
-  front_lines : (ss more : List Section) (i : ℕ) (s : Section) → slice_get ss i ≡ Some s → length (lines_of section (take i ss)) + length (section s) ≤ length (lines_of section (ss ++ more))
-  front_lines [] more i s e = absurd cc
-  front_lines (x ∷ ss) more zero s e = let same : x ≡ s = cc in let k : length (section x) ≡ length (section s) = ap (λ y. length (section y)) same in omega (arith, k, length-append (section x) (lines_of section (ss ++ more)))
-  front_lines (x ∷ ss) more (suc i) s e = let k = front_lines ss more i s e in omega (arith, k, length-append (section x) (lines_of section (ss ++ more)), length-append (section x) (lines_of section (take i ss)))
+  -- the first sections' statements are among all
+  front_statements : (ss more : List Section) (i : ℕ) (s : Section) → slice_get ss i ≡ Some s → length (statements_of section (take i ss)) + length (section s) ≤ length (statements_of section (ss ++ more))
+  front_statements [] more i s e = absurd cc
+  front_statements (x ∷ ss) more zero s e = let same : x ≡ s = cc in let k : length (section x) ≡ length (section s) = ap (λ y. length (section y)) same in omega (arith, k, length-append (section x) (statements_of section (ss ++ more)))
+  front_statements (x ∷ ss) more (suc i) s e = let k = front_statements ss more i s e in omega (arith, k, length-append (section x) (statements_of section (ss ++ more)), length-append (section x) (statements_of section (take i ss)))
 
 module _ (W R : List Node) where
   -- a section is left, and there is no room
-  pub no_room : (i : ℕ) (ss : List Section) (ls : List Line) (s : Section) → Going (section W R) i ss ls → slice_get ss i ≡ Some s → MOST_INSTRS ≤ length ls → code_of W R ≡ None
+  pub no_room : (i : ℕ) (ss : List Section) (ls : List Statement) (s : Section) → Going (section W R) i ss ls → slice_get ss i ≡ Some s → MOST_INSTRS ≤ length ls → code_of W R ≡ None
   unfolding code_of
   no_room i ss ls s g at le = ap (assembled (section W R)) g.same ∙ go (reached (section W R) g.rounds i ss) refl
     where
-      not_fit : (qs : List Section) (P : Program) → is_within_limits P ≡ false → checked (lines_of (section W R) qs) P ≡ None
-      not_fit qs P e = both (are_whole (lines_of (section W R) qs)) (is_within_limits P) e
+      not_fit : (qs : List Section) (P : Program) → is_within_limits P ≡ false → checked (statements_of (section W R) qs) P ≡ None
+      not_fit qs P e = both (are_whole (statements_of (section W R) qs)) (is_within_limits P) e
         where
           both : (a b : Bool) → b ≡ false → ◌≡◌ {A = Option Program} (if a && b then Some P else None) None
           both true true e = absurd cc
@@ -131,26 +131,26 @@ module _ (W R : List Node) where
       go None e = refl
       go (Some qs) e =
           let x = reached_extends (section W R) g.rounds i ss qs e in
-          let len : length ls ≡ length (lines_of (section W R) (take i ss)) = ap length g.lines in
-          let all : length (lines_of (section W R) qs) ≡ length (lines_of (section W R) (ss ++ x.0)) = ap (λ l. length (lines_of (section W R) l)) x.1 in
+          let len : length ls ≡ length (statements_of (section W R) (take i ss)) = ap length g.statements in
+          let all : length (statements_of (section W R) qs) ≡ length (statements_of (section W R) (ss ++ x.0)) = ap (λ l. length (statements_of (section W R) l)) x.1 in
           let P = whole_program W R qs in
-          not_fit qs P (passes_limit P (omega (arith, le, len, all, front_lines (section W R) ss x.0 i s at, some_lines W R s, code_length (start_in (section W R) 0 qs) P.constants P.misses 0 0 0 (lines_of (section W R) qs))))
+          not_fit qs P (passes_limit P (omega (arith, le, len, all, front_statements (section W R) ss x.0 i s at, some_statements W R s, code_length (start_in (section W R) 0 qs) P.constants P.misses 0 0 0 (statements_of (section W R) qs))))
 
   -- all sections are done
-  pub done : (i : ℕ) (ss : List Section) (ls : List Line) → Going (section W R) i ss ls → length ss ≤ i → slice_get ss i ≡ None → code_of W R ≡ checked ls (numbered (start_in (section W R) 0 ss) ls)
+  pub done : (i : ℕ) (ss : List Section) (ls : List Statement) → Going (section W R) i ss ls → length ss ≤ i → slice_get ss i ≡ None → code_of W R ≡ checked ls (numbered (start_in (section W R) 0 ss) ls)
   unfolding code_of
   done i ss ls g le e =
-      let lines : lines_of (section W R) ss ≡ ls = ap (lines_of (section W R)) (sym (take_whole (section W R) ss i le)) ∙ sym g.lines in
+      let statements : statements_of (section W R) ss ≡ ls = ap (statements_of (section W R)) (sym (take_whole (section W R) ss i le)) ∙ sym g.statements in
       ap (assembled (section W R)) (g.same ∙ reached_done (section W R) g.rounds i ss e)
-      ∙ ap (λ l. checked l (numbered (start_in (section W R) 0 ss) l)) lines
+      ∙ ap (λ l. checked l (numbered (start_in (section W R) 0 ss) l)) statements
 
   -- so many rounds there are
-  pub rounds_left : (i : ℕ) (ss : List Section) (ls : List Line) → Going (section W R) i ss ls → length ls < MOST_INSTRS → i < MOST_INSTRS
+  pub rounds_left : (i : ℕ) (ss : List Section) (ls : List Statement) → Going (section W R) i ss ls → length ls < MOST_INSTRS → i < MOST_INSTRS
   rounds_left i ss ls g lt =
-      let len : length ls ≡ length (lines_of (section W R) (take i ss)) = ap length g.lines in
+      let len : length ls ≡ length (statements_of (section W R) (take i ss)) = ap length g.statements in
       omega (arith, lt, len, sections_long W R (take i ss), took (section W R) ss i g.here)
     where
-      took : (f : Section → List Line) (ss : List Section) (i : ℕ) → i ≤ length ss → length (take i ss) ≡ i
+      took : (f : Section → List Statement) (ss : List Section) (i : ℕ) → i ≤ length ss → length (take i ss) ≡ i
       took f ss zero le = refl
       took f [] (suc i) le = absurd (omega arith)
       took f (x ∷ ss) (suc i) le = ap suc (took f ss i (omega arith))

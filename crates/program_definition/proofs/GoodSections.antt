@@ -1,4 +1,4 @@
--- The lines of each section are good.
+-- The statements of each section are good.
 use Rattle.std.proofs.Common.{◌≡◌, ℕ, suc, ◌+◌, ◌<◌, ◌≤◌, List, [], ◌∷◌, ◌++◌, length, Option, Some, None, IfSome, refl, sym, subst, arith}
 use Rattle.std.specs.Prelude.{slice_get}
 use Rattle.avro_types.specs.Node.{Node, FieldNode, RecordNode}
@@ -11,7 +11,7 @@ use Rattle.resolver.specs.Resolution.{field_lists}
 use Rattle.resolver.proofs.Within.{routes_within}
 use Rattle.isa.specs.declared.instr.Instr.TheVariants as op
 use Rattle.isa.specs.declared.limits.TheConstants.{MOST_SLOTS}
-use Rattle.program_definition.specs.Lines.{Line, Lost, Op, Section, Main, Write, Skip}
+use Rattle.program_definition.specs.Statements.{Statement, Lost, Op, Section, Main, Write, Skip}
 use Rattle.program_definition.specs.Skipping.{K, skip_fields, skip_routine}
 use Rattle.program_definition.specs.Writing.{X, default_bytes, defaults_code, field_code, fields_code, put_in, section, write_routine}
 use Rattle.program_definition.proofs.Good.{AllGood, IsRoutine, good_then}
@@ -25,7 +25,7 @@ record AreFields (writers readers : ℕ) (p : List FieldNode × List FieldNode) 
   few : length p.1 ≤ MOST_SLOTS
 
 module _ (W R : List Node) (formed : IsWellFormed W) (theirs : IsWellFormed R) where
-  abbrev Good : List Line → Type 0
+  abbrev Good : List Statement → Type 0
   Good ls = AllGood W R 1 ls
 
   good_field : (places : ℕ) → places ≤ MOST_SLOTS → (f : Route) → f.node < length W → (o : Option Partner) → IfSome o (λ p. (p.position < places) × (p.node < length R)) → Good (given o (K W f.node) (λ p. Op (op.Slot p.position) ∷ X W R f.node p.node))
@@ -69,7 +69,7 @@ module _ (W R : List Node) (formed : IsWellFormed W) (theirs : IsWellFormed R) w
             (good_then W R 1 0 (defaults_code all 0 p.1) ending (omega arith) (good_defaults all p.1 0 (omega (arith, few))) (λ sizes. tt, (λ sizes. tt, tt))),
       )
     where
-      one_after : (a : List Line) → 1 ≤ length (a ++ Op op.EndRecord ∷ Op op.Return ∷ []) + 0
+      one_after : (a : List Statement) → 1 ≤ length (a ++ Op op.EndRecord ∷ Op op.Return ∷ []) + 0
       one_after [] = omega arith
       one_after (l ∷ a) = omega arith
 

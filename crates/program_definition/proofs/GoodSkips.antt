@@ -1,19 +1,19 @@
--- The lines of K are good.
+-- The statements of K are good.
 use Rattle.std.proofs.Common.{◌≡◌, ℕ, zero, suc, ◌<◌, false, List, ◌∷◌, length, Option, Some, None, refl, ap}
 use Rattle.std.specs.Prelude.{slice_get}
 use Rattle.avro_types.specs.Node.{Node, NullNode, BooleanNode, IntNode, LongNode, BytesNode, TextNode, FixedNode, EnumNode, ArrayNode, MapNode, UnionNode, RecordNode}
 use Rattle.avro_types.specs.WellFormed.{IsMember, IsPartOf, IsWellFormed, is_named}
 use Rattle.isa.specs.declared.instr.Instr.TheVariants as op
-use Rattle.program_definition.specs.Lines.{Line, Op}
+use Rattle.program_definition.specs.Statements.{Statement, Op}
 use Rattle.program_definition.specs.Skipping.{K, skip_node, skip_within}
 use Rattle.program_definition.proofs.Good.{AllGood, good_branched, good_loop}
 use Rattle.program_definition.proofs.Levels.{Enough, enough, enough_on, is_there, not_none}
 
 module _ (W R : List Node) (formed : IsWellFormed W) where
-  abbrev Good : List Line → Type 0
+  abbrev Good : List Statement → Type 0
   Good ls = AllGood W R 1 ls
 
-  module _ (F : ℕ → List Line) (w : ℕ) (lt : w < length W) (inner : is_named (slice_get W w) ≡ false → (m : ℕ) → m < length W → IsPartOf W w m → Good (F m)) where
+  module _ (F : ℕ → List Statement) (w : ℕ) (lt : w < length W) (inner : is_named (slice_get W w) ≡ false → (m : ℕ) → m < length W → IsPartOf W w m → Good (F m)) where
     node_good : (x : Option Node) → slice_get W w ≡ x → Good (skip_node F w x)
     node_good None e = absurd (is_there W w lt e)
     node_good (Some NullNode) e = tt

@@ -1,4 +1,4 @@
--- The lines of X are good.
+-- The statements of X are good.
 use Rattle.std.proofs.Common.{◌≡◌, ℕ, zero, suc, ◌<◌, Bool, true, false, cond, List, [], ◌∷◌, length, map, Option, Some, None, IfSome, ℤ, refl, sym, ap, ◌∙◌, subst, arith}
 use Rattle.std.specs.Prelude.{◌+◌, ◌/◌, ◌%◌, pos, slice_get, nat_lt}
 use Rattle.std.specs.List.{AllByRecursion}
@@ -22,7 +22,7 @@ use Rattle.resolver.specs.Resolution.{field_lists, lacking, lacking_from, lacks,
 use Rattle.isa.specs.declared.instr.Instr.TheVariants as op
 use Rattle.isa.specs.declared.limits.TheConstants.{MOST_SYMBOLS}
 use Rattle.isa.specs.Range.{MissIsInRange}
-use Rattle.program_definition.specs.Lines.{Line, Op, BytesText, Lacks, To, miss}
+use Rattle.program_definition.specs.Statements.{Statement, Op, BytesText, Lacks, To, miss}
 use Rattle.program_definition.specs.Writing.{X, is_text, placed_node, record_code, straight_node, target, write_node, write_within}
 use Rattle.program_definition.proofs.Good.{AllGood, TargetIsGood, good_branched, good_loop}
 use Rattle.program_definition.proofs.GoodSkips.{good_K}
@@ -41,7 +41,7 @@ unfolding shortest
 some_shortest n = some_groups 9 (zigzag n)
 
 module _ (W R : List Node) (formed : IsWellFormed W) (theirs : IsWellFormed R) where
-  abbrev Good : List Line → Type 0
+  abbrev Good : List Statement → Type 0
   Good ls = AllGood W R 1 ls
 
   miss_near : (kind : MismatchKind) (w r : ℕ) → w < length W → r < length R → MissIsInRange (miss kind w r)
@@ -124,7 +124,7 @@ module _ (W R : List Node) (formed : IsWellFormed W) (theirs : IsWellFormed R) w
   good_bytes w r lt below true = (miss_near kinds.BytesNotText w r lt below, tt)
   good_bytes w r lt below false = (λ sizes. tt, tt)
 
-  module _ (F : ℕ → ℕ → List Line) (w : ℕ) (lt : w < length W) (inner : is_named (slice_get W w) ≡ false → (m r : ℕ) → m < length W → r < length R → IsPartOf W w m → Good (F m r)) where
+  module _ (F : ℕ → ℕ → List Statement) (w : ℕ) (lt : w < length W) (inner : is_named (slice_get W w) ≡ false → (m r : ℕ) → m < length W → r < length R → IsPartOf W w m → Good (F m r)) where
     straight_good : (r : ℕ) → r < length R → is_union (slice_get R r) ≡ false → matches W R w r ≡ true → (x : Option Node) → slice_get W w ≡ x → is_union x ≡ false → Good (straight_node W R F w r x (slice_get R r))
     straight_good r below apart match None e plain = absurd (is_there W w lt e)
     straight_good r below apart match (Some NullNode) e plain = tt

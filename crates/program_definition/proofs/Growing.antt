@@ -5,7 +5,7 @@ use Rattle.std.specs.List.{AllByRecursion}
 use Rattle.std.specs.Str.{bytes_eq}
 use Rattle.outcome.specs.declared.mismatch.Mismatch.{Mismatch}
 use Rattle.isa.specs.declared.instr.Instr.TheVariants as op
-use Rattle.program_definition.specs.Lines.{Section, Line, Op, Put, Miss, BytesText, Enum, Call, Ahead, Back, Branch, Lost}
+use Rattle.program_definition.specs.Statements.{Section, Statement, Op, Put, Miss, BytesText, Enum, Call, Ahead, Back, Branch, Lost}
 use Rattle.program_definition.specs.Numbering.{code_from, constants_of, has, jumps_of, linked, maps_of, misses_of, named_in, number, same_miss}
 use Rattle.program_definition.proofs.Numbering.{all_front, all_back}
 
@@ -24,7 +24,7 @@ module _ (starts : Section → ℕ) (cs more : List (List ℕ)) (ms others : Lis
   abbrev pub Misses : List Mismatch → Type 0
   Misses xs = AllByRecursion (λ x. has same_miss x ms ≡ true) xs
 
-  linked_more : (pc m j : ℕ) (l : Line) → Constants (constants_of l) → Misses (misses_of l) → linked starts (cs ++ more) (ms ++ others) pc m j l ≡ linked starts cs ms pc m j l
+  linked_more : (pc m j : ℕ) (l : Statement) → Constants (constants_of l) → Misses (misses_of l) → linked starts (cs ++ more) (ms ++ others) pc m j l ≡ linked starts cs ms pc m j l
   linked_more pc m j (Op i) c x = refl
   linked_more pc m j (Put bytes) c x = ap op.Put (number_more bytes_eq bytes cs more c.0)
   linked_more pc m j (Miss y) c x = ap op.Miss (number_more same_miss y ms others x.0)
@@ -36,7 +36,7 @@ module _ (starts : Section → ℕ) (cs more : List (List ℕ)) (ms others : Lis
   linked_more pc m j (Branch fars) c x = refl
   linked_more pc m j Lost c x = refl
 
-  pub code_more : (pc m j : ℕ) (ls : List Line) → Constants (named_in constants_of ls) → Misses (named_in misses_of ls) → code_from starts (cs ++ more) (ms ++ others) pc m j ls ≡ code_from starts cs ms pc m j ls
+  pub code_more : (pc m j : ℕ) (ls : List Statement) → Constants (named_in constants_of ls) → Misses (named_in misses_of ls) → code_from starts (cs ++ more) (ms ++ others) pc m j ls ≡ code_from starts cs ms pc m j ls
   code_more pc m j [] c x = refl
   code_more pc m j (l ∷ ls) c x =
       ap (λ i. i ∷ code_from starts (cs ++ more) (ms ++ others) (pc + 1) (m + length (maps_of l)) (j + length (jumps_of pc l)) ls) (linked_more pc m j l (all_front _ (constants_of l) (named_in constants_of ls) c) (all_front _ (misses_of l) (named_in misses_of ls) x))

@@ -5,15 +5,15 @@ use Rattle.avro_types.specs.WellFormed.{IsWellFormed}
 use Rattle.isa.specs.declared.limits.TheConstants.{MOST_INSTRS}
 use Rattle.isa.specs.Judging.{is_within_limits}
 use Rattle.isa.specs.Program.{Program}
-use Rattle.program_definition.specs.Code.{are_whole, assembled, code_of, lines_of, reached, start_in}
+use Rattle.program_definition.specs.Code.{are_whole, assembled, code_of, statements_of, reached, start_in}
 use Rattle.program_definition.specs.Limits.{NoneByLimitsAlone, whole_program}
-use Rattle.program_definition.specs.Lines.{Section, Main, Line}
+use Rattle.program_definition.specs.Statements.{Section, Main, Statement}
 use Rattle.program_definition.specs.Writing.{section}
 use Rattle.program_definition.proofs.Ranges.{code_length, within_limits}
 use Rattle.program_definition.proofs.Rounds.{same_reached, too_many}
-use Rattle.program_definition.proofs.Whole.{no_line_is_lost, sections_long}
+use Rattle.program_definition.proofs.Whole.{no_statement_is_lost, sections_long}
 
-none_checked : (ls : List Line) (P : Program) → are_whole ls ≡ true → cond (are_whole ls && is_within_limits P) (Some P) None ≡ None → is_within_limits P ≡ false
+none_checked : (ls : List Statement) (P : Program) → are_whole ls ≡ true → cond (are_whole ls && is_within_limits P) (Some P) None ≡ None → is_within_limits P ≡ false
 none_checked ls P whole h = go (are_whole ls) (is_within_limits P) whole h
   where
     go : (a b : Bool) → a ≡ true → cond (a && b) (Some P) None ≡ None → b ≡ false
@@ -37,8 +37,8 @@ none_by_limits_alone W R formed theirs none n ss h = go (reached (section W R) M
         let many = too_many (section W R) MOST_INSTRS n 0 (Main ∷ []) ss e h in
         let long = sections_long W R ss in
         let P = whole_program W R ss in
-        passes_limit P (omega (arith, many, long, code_length (start_in (section W R) 0 ss) P.constants P.misses 0 0 0 (lines_of (section W R) ss)))
+        passes_limit P (omega (arith, many, long, code_length (start_in (section W R) 0 ss) P.constants P.misses 0 0 0 (statements_of (section W R) ss)))
     go (Some qs) e none =
         let same = same_reached (section W R) MOST_INSTRS n 0 (Main ∷ []) qs ss e h in
         subst (λ qs. is_within_limits (whole_program W R qs) ≡ false) same
-        (none_checked (lines_of (section W R) qs) (whole_program W R qs) (no_line_is_lost W R formed theirs MOST_INSTRS qs e) none)
+        (none_checked (statements_of (section W R) qs) (whole_program W R qs) (no_statement_is_lost W R formed theirs MOST_INSTRS qs e) none)

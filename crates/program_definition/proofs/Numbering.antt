@@ -1,4 +1,4 @@
--- Numbers point at what the lines name.
+-- Numbers point at what the statements name.
 use Rattle.std.proofs.Common.{◌≡◌, ℕ, suc, ◌+◌, Bool, true, false, List, [], ◌∷◌, ◌++◌, length, map, Some, None, refl, ap, ◌∙◌, subst, arith}
 use Rattle.std.specs.Prelude.{slice_get, if◌then◌else◌}
 use Rattle.std.specs.List.{AllByRecursion}
@@ -6,7 +6,7 @@ use Rattle.std.specs.Str.{bytes_eq}
 use Rattle.outcome.specs.declared.mismatch.Mismatch.{Mismatch}
 use Rattle.isa.specs.Program.{Program}
 use Rattle.program_definition.specs.Code.{are_whole, is_lost}
-use Rattle.program_definition.specs.Lines.{Section, Line, Op, Put, Miss, BytesText, Enum, Call, Ahead, Back, Branch, Lost, Target, To, Lacks}
+use Rattle.program_definition.specs.Statements.{Section, Statement, Op, Put, Miss, BytesText, Enum, Call, Ahead, Back, Branch, Lost, Target, To, Lacks}
 use Rattle.program_definition.specs.Numbering.{calls_of, code_from, constants_of, entry_of, has, jumps_from, jumps_of, lacked, linked, maps_of, misses_of, named_in, number, same_miss}
 use Rattle.program_definition.proofs.Numbers.{bytes_is, miss_is, number_at}
 use Rattle.program_definition.proofs.Placed.{AreTargets, Placed, Stand}
@@ -58,7 +58,7 @@ module _ (P : Program) (starts : Section → ℕ) (Begins : Section → ℕ → 
   entries_are (To n ∷ ts) h = (refl, entries_are ts h)
   entries_are (Lacks m ∷ ts) h = (number_at same_miss miss_is m P.misses h.0, entries_are ts h.1)
 
-  one_stands : (pc m j : ℕ) (l : Line) (maps : List (List Target)) (jumps : List (List ℕ)) → slice_get P.code pc ≡ Some (linked starts P.constants P.misses pc m j l) → AtFrom m P.maps (map (map (entry_of P.misses)) (maps_of l ++ maps)) → AtFrom j P.jumps (jumps_of pc l ++ jumps)
+  one_stands : (pc m j : ℕ) (l : Statement) (maps : List (List Target)) (jumps : List (List ℕ)) → slice_get P.code pc ≡ Some (linked starts P.constants P.misses pc m j l) → AtFrom m P.maps (map (map (entry_of P.misses)) (maps_of l ++ maps)) → AtFrom j P.jumps (jumps_of pc l ++ jumps)
       → AllByRecursion HasConstant (constants_of l) → AllByRecursion HasMiss (misses_of l) → AllByRecursion Has (calls_of l) → is_lost l ≡ false → Stand P Begins pc l
   one_stands pc m j (Op i) maps jumps h hm hj c x s w = h
   one_stands pc m j (Put bytes) maps jumps h hm hj c x s w = (number bytes_eq bytes P.constants, h, number_at bytes_eq bytes_is bytes P.constants c.0)
@@ -71,14 +71,14 @@ module _ (P : Program) (starts : Section → ℕ) (Begins : Section → ℕ → 
   one_stands pc m j (Branch fars) maps jumps h hm hj c x s w = (j, h, first_at j P.jumps (map (λ far. pc + far) fars) jumps hj)
   one_stands pc m j Lost maps jumps h hm hj c x s w = let no : ⊥ = cc in no
 
-  whole_parts : (l : Line) (ls : List Line) → are_whole (l ∷ ls) ≡ true → (is_lost l ≡ false) × (are_whole ls ≡ true)
+  whole_parts : (l : Statement) (ls : List Statement) → are_whole (l ∷ ls) ≡ true → (is_lost l ≡ false) × (are_whole ls ≡ true)
   whole_parts l ls h = go (is_lost l) refl h
     where
       go : (b : Bool) → is_lost l ≡ b → (if b then false else are_whole ls) ≡ true → (is_lost l ≡ false) × (are_whole ls ≡ true)
       go true e h = absurd (let no : ⊥ = cc in no)
       go false e h = (e, h)
 
-  pub all_stand : (pc m j : ℕ) (ls : List Line) → AtFrom pc P.code (code_from starts P.constants P.misses pc m j ls) → AtFrom m P.maps (map (map (entry_of P.misses)) (named_in maps_of ls)) → AtFrom j P.jumps (jumps_from pc ls)
+  pub all_stand : (pc m j : ℕ) (ls : List Statement) → AtFrom pc P.code (code_from starts P.constants P.misses pc m j ls) → AtFrom m P.maps (map (map (entry_of P.misses)) (named_in maps_of ls)) → AtFrom j P.jumps (jumps_from pc ls)
       → AllByRecursion HasConstant (named_in constants_of ls) → AllByRecursion HasMiss (named_in misses_of ls) → AllByRecursion Has (named_in calls_of ls) → are_whole ls ≡ true → Placed P Begins pc ls
   all_stand pc m j [] h hm hj c x s w = tt
   all_stand pc m j (l ∷ ls) h hm hj c x s w =

@@ -8,7 +8,7 @@ use Rattle.outcome.specs.declared.mismatch.Mismatch.{Mismatch}
 use Rattle.outcome.specs.MismatchKind.{code_of as code_of_kind}
 use Rattle.outcome.specs.declared.mismatch.MismatchKind.{MismatchKind}
 use Rattle.outcome.specs.declared.mismatch.MismatchKind.TheVariants as kinds
-use Rattle.program_definition.specs.Lines.{Section, Main, Write, Skip}
+use Rattle.program_definition.specs.Statements.{Section, Main, Write, Skip}
 use Rattle.program_definition.specs.Numbering.{adding, has, number, same_miss, same_section}
 
 module _ {A : Type 0} (same : A → A → Bool) (decides : (a b : A) → same a b ≡ true → a ≡ b) where

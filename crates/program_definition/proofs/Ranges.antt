@@ -1,4 +1,4 @@
--- What good lines name is in range.
+-- What good statements name is in range.
 use Rattle.std.proofs.Common.{◌≡◌, ℕ, suc, ◌+◌, ◌<◌, ◌≤◌, Bool, true, false, ◌&&◌, List, [], ◌∷◌, ◌++◌, length, map, refl, ap, arith, length-append}
 use Rattle.std.specs.Prelude.{nat_le}
 use Rattle.std.specs.List.{AllByRecursion}
@@ -12,13 +12,13 @@ use Rattle.isa.specs.declared.range.Sizes.{Sizes}
 use Rattle.isa.specs.Judging.{are_within, is_within_limits}
 use Rattle.isa.specs.Program.{Program}
 use Rattle.isa.specs.Range.{EntryIsInRange, InstrIsInRange, IsAddress, IsWithinLimits, MissIsInRange, sizes_of}
-use Rattle.program_definition.specs.Lines.{Section, Line, Op, Put, Miss, BytesText, Enum, Call, Ahead, Back, Branch, Lost, Target, To, Lacks}
+use Rattle.program_definition.specs.Statements.{Section, Statement, Op, Put, Miss, BytesText, Enum, Call, Ahead, Back, Branch, Lost, Target, To, Lacks}
 use Rattle.program_definition.specs.Numbering.{calls_of, code_from, constants_of, entry_of, has, jumps_from, jumps_of, lacked, linked, maps_of, misses_of, named_in, number, same_miss}
 use Rattle.program_definition.proofs.Good.{AllGood, IsGood, TargetIsGood}
 use Rattle.program_definition.proofs.Numbering.{all_front, all_back}
 use Rattle.program_definition.proofs.Numbers.{bytes_is, miss_is, number_at}
 
-pub code_length : (starts : Section → ℕ) (cs : List (List ℕ)) (ms : List Mismatch) (pc m j : ℕ) (ls : List Line) → length (code_from starts cs ms pc m j ls) ≡ length ls
+pub code_length : (starts : Section → ℕ) (cs : List (List ℕ)) (ms : List Mismatch) (pc m j : ℕ) (ls : List Statement) → length (code_from starts cs ms pc m j ls) ≡ length ls
 code_length starts cs ms pc m j [] = refl
 code_length starts cs ms pc m j (l ∷ ls) = ap suc (code_length starts cs ms (pc + 1) (m + length (maps_of l)) (j + length (jumps_of pc l)) ls)
 
@@ -53,7 +53,7 @@ within_limits P h =
       misses = is_le _ _ a.1;
     }
 
--- ---- what lines name
+-- ---- what statements name
 
 all_on : {A : Type 0} (Q : A → Type 0) (xs ys : List A) → AllByRecursion Q xs → AllByRecursion Q ys → AllByRecursion Q (xs ++ ys)
 all_on Q [] ys h k = k
@@ -64,7 +64,7 @@ all_map_on f Q [] ys h k = k
 all_map_on f Q (x ∷ xs) ys h k = (h.0, all_map_on f Q xs ys h.1 k)
 
 module _ (W R : List Node) where
-  put_some : (n : ℕ) (l : Line) → IsGood W R n l → AllByRecursion (λ x. 0 < length x) (constants_of l)
+  put_some : (n : ℕ) (l : Statement) → IsGood W R n l → AllByRecursion (λ x. 0 < length x) (constants_of l)
   put_some n (Put bytes) h = (h, tt)
   put_some n (Op i) h = tt
   put_some n (Miss m) h = tt
@@ -76,7 +76,7 @@ module _ (W R : List Node) where
   put_some n (Branch fars) h = tt
   put_some n Lost h = tt
 
-  pub constants_some : (k : ℕ) (ls : List Line) → AllGood W R k ls → AllByRecursion (λ x. 0 < length x) (named_in constants_of ls)
+  pub constants_some : (k : ℕ) (ls : List Statement) → AllGood W R k ls → AllByRecursion (λ x. 0 < length x) (named_in constants_of ls)
   constants_some k [] h = tt
   constants_some k (l ∷ ls) h = all_on (λ x. 0 < length x) (constants_of l) (named_in constants_of ls) (put_some (length ls + k) l h.0) (constants_some k ls h.1)
 
@@ -85,7 +85,7 @@ module _ (W R : List Node) where
   lacked_in (To n ∷ targets) h = lacked_in targets h.1
   lacked_in (Lacks m ∷ targets) h = (h.0, lacked_in targets h.1)
 
-  miss_in : (n : ℕ) (l : Line) → IsGood W R n l → AllByRecursion MissIsInRange (misses_of l)
+  miss_in : (n : ℕ) (l : Statement) → IsGood W R n l → AllByRecursion MissIsInRange (misses_of l)
   miss_in n (Miss m) h = (h, tt)
   miss_in n (BytesText m) h = (h, tt)
   miss_in n (Enum targets) h = lacked_in targets h
@@ -97,7 +97,7 @@ module _ (W R : List Node) where
   miss_in n (Branch fars) h = tt
   miss_in n Lost h = tt
 
-  pub misses_in_range : (k : ℕ) (ls : List Line) → AllGood W R k ls → AllByRecursion MissIsInRange (named_in misses_of ls)
+  pub misses_in_range : (k : ℕ) (ls : List Statement) → AllGood W R k ls → AllByRecursion MissIsInRange (named_in misses_of ls)
   misses_in_range k [] h = tt
   misses_in_range k (l ∷ ls) h = all_on MissIsInRange (misses_of l) (named_in misses_of ls) (miss_in (length ls + k) l h.0) (misses_in_range k ls h.1)
 
@@ -124,7 +124,7 @@ module _ (W R : List Node) where
     entries_in (To n ∷ targets) h x = (h.0, entries_in targets h.1 x)
     entries_in (Lacks m ∷ targets) h x = (miss_number m x.0, entries_in targets h.1 x.1)
 
-    map_in : (n : ℕ) (l : Line) → IsGood W R n l → HaveMisses (misses_of l) → AllByRecursion (AllByRecursion (EntryIsInRange sizes)) (map (map (entry_of P.misses)) (maps_of l))
+    map_in : (n : ℕ) (l : Statement) → IsGood W R n l → HaveMisses (misses_of l) → AllByRecursion (AllByRecursion (EntryIsInRange sizes)) (map (map (entry_of P.misses)) (maps_of l))
     map_in n (Enum targets) h x = (entries_in targets h x, tt)
     map_in n (Op i) h x = tt
     map_in n (Put bytes) h x = tt
@@ -136,7 +136,7 @@ module _ (W R : List Node) where
     map_in n (Branch fars) h x = tt
     map_in n Lost h x = tt
 
-    pub maps_in_range : (k : ℕ) (ls : List Line) → AllGood W R k ls → HaveMisses (named_in misses_of ls) → AllByRecursion (AllByRecursion (EntryIsInRange sizes)) (map (map (entry_of P.misses)) (named_in maps_of ls))
+    pub maps_in_range : (k : ℕ) (ls : List Statement) → AllGood W R k ls → HaveMisses (named_in misses_of ls) → AllByRecursion (AllByRecursion (EntryIsInRange sizes)) (map (map (entry_of P.misses)) (named_in maps_of ls))
     maps_in_range k [] h x = tt
     maps_in_range k (l ∷ ls) h x =
         all_map_on (map (entry_of P.misses)) (AllByRecursion (EntryIsInRange sizes)) (maps_of l) (named_in maps_of ls)
@@ -148,7 +148,7 @@ module _ (W R : List Node) where
     fars_in pc n [] lt h = tt
     fars_in pc n (far ∷ fars) lt h = (omega (arith, lt, h.0), fars_in pc n fars lt h.1)
 
-    jump_in : (pc n : ℕ) (l : Line) → pc + n < length P.code → IsGood W R n l → AllByRecursion (AllByRecursion (IsAddress sizes)) (jumps_of pc l)
+    jump_in : (pc n : ℕ) (l : Statement) → pc + n < length P.code → IsGood W R n l → AllByRecursion (AllByRecursion (IsAddress sizes)) (jumps_of pc l)
     jump_in pc n (Branch fars) lt h = (fars_in pc n fars lt h, tt)
     jump_in pc n (Op i) lt h = tt
     jump_in pc n (Put bytes) lt h = tt
@@ -160,14 +160,14 @@ module _ (W R : List Node) where
     jump_in pc n (Back far) lt h = tt
     jump_in pc n Lost lt h = tt
 
-    pub jumps_in_range : (pc : ℕ) (ls : List Line) → pc + length ls ≤ length P.code → AllGood W R 0 ls → AllByRecursion (AllByRecursion (IsAddress sizes)) (jumps_from pc ls)
+    pub jumps_in_range : (pc : ℕ) (ls : List Statement) → pc + length ls ≤ length P.code → AllGood W R 0 ls → AllByRecursion (AllByRecursion (IsAddress sizes)) (jumps_from pc ls)
     jumps_in_range pc [] le h = tt
     jumps_in_range pc (l ∷ ls) le h =
         all_on (AllByRecursion (IsAddress sizes)) (jumps_of pc l) (jumps_from (pc + 1) ls) (jump_in pc (length ls + 0) l (omega (arith, le)) h.0) (jumps_in_range (pc + 1) ls (omega (arith, le)) h.1)
 
     -- ---- instructions
 
-    one_in : (pc m j n : ℕ) (l : Line) → pc + n < length P.code → m + length (maps_of l) ≤ length P.maps → j + length (jumps_of pc l) ≤ length P.jumps
+    one_in : (pc m j n : ℕ) (l : Statement) → pc + n < length P.code → m + length (maps_of l) ≤ length P.maps → j + length (jumps_of pc l) ≤ length P.jumps
         → HaveConstants (constants_of l) → HaveMisses (misses_of l) → AreThere (calls_of l) → IsGood W R n l → InstrIsInRange sizes (linked starts P.constants P.misses pc m j l)
     one_in pc m j n (Op i) lt maps jumps c x s h = h sizes
     one_in pc m j n (Put bytes) lt maps jumps c x s h = slice_get_within P.constants (number bytes_eq bytes P.constants) bytes (number_at bytes_eq bytes_is bytes P.constants c.0)
@@ -180,7 +180,7 @@ module _ (W R : List Node) where
     one_in pc m j n (Branch fars) lt maps jumps c x s h = omega (arith, jumps)
     one_in pc m j n Lost lt maps jumps c x s h = absurd h
 
-    pub instrs_in_range : (pc m j : ℕ) (ls : List Line) → pc + length ls ≤ length P.code → m + length (named_in maps_of ls) ≤ length P.maps → j + length (jumps_from pc ls) ≤ length P.jumps
+    pub instrs_in_range : (pc m j : ℕ) (ls : List Statement) → pc + length ls ≤ length P.code → m + length (named_in maps_of ls) ≤ length P.maps → j + length (jumps_from pc ls) ≤ length P.jumps
         → HaveConstants (named_in constants_of ls) → HaveMisses (named_in misses_of ls) → AreThere (named_in calls_of ls) → AllGood W R 0 ls
         → AllByRecursion (InstrIsInRange sizes) (code_from starts P.constants P.misses pc m j ls)
     instrs_in_range pc m j [] le maps jumps c x s h = tt

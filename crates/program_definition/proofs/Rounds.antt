@@ -4,11 +4,11 @@ use Rattle.std.specs.Prelude.{slice_get}
 use Rattle.std.proofs.lemmas.Option.{slice_get_within}
 use Rattle.resolver_matching.specs.Options.{given}
 use Rattle.program_definition.specs.Code.{reached}
-use Rattle.program_definition.specs.Lines.{Section, Line}
+use Rattle.program_definition.specs.Statements.{Section, Statement}
 use Rattle.program_definition.specs.Numbering.{adding, calls_of, named_in, same_section}
 use Rattle.program_definition.proofs.Numbers.{added, section_refl}
 
-module _ (section : Section → List Line) where
+module _ (section : Section → List Statement) where
   abbrev next : List Section → Section → List Section
   next ss s = adding same_section ss (named_in calls_of (section s))
 

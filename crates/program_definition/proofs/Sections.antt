@@ -10,7 +10,7 @@ use Rattle.resolver_matching.specs.Partners.{routes}
 use Rattle.resolver.specs.Resolution.{field_lists}
 use Rattle.isa.specs.declared.instr.Instr.TheVariants as op
 use Rattle.isa.specs.Program.{Program}
-use Rattle.program_definition.specs.Lines.{Section, Line, Op, Lost, Main, Write, Skip}
+use Rattle.program_definition.specs.Statements.{Section, Statement, Op, Lost, Main, Write, Skip}
 use Rattle.program_definition.specs.Skipping.{K, skip_fields, skip_routine}
 use Rattle.program_definition.specs.Writing.{X, defaults_code, field_code, fields_code, section, write_routine}
 use Rattle.program_definition.specs.SkipStands.{Skips, SkipsFields, k_no_field, k_field, SkipRoutine}
@@ -22,7 +22,7 @@ use Rattle.program_definition.proofs.SkipStanding.{within_skips}
 use Rattle.program_definition.proofs.WriteStanding.{within_writes}
 
 module _ (W R : List Node) (P : Program) (Begins : Section → ℕ → Type 0) (formed : IsWellFormed W) where
-  abbrev Here : ℕ → List Line → Type 0
+  abbrev Here : ℕ → List Statement → Type 0
   Here pc ls = Placed P Begins pc ls
 
   skips : (pc w : ℕ) → Here pc (K W w) → Skips W P Begins pc w (pc + length (K W w))
@@ -34,7 +34,7 @@ module _ (W R : List Node) (P : Program) (Begins : Section → ℕ → Type 0) (
   abbrev FieldsAt : ℕ → List Route → ℕ → Type 0
   FieldsAt pc all q = Fields W R P Begins pc all q
 
-  abbrev coded : Route → Option Partner → List Line
+  abbrev coded : Route → Option Partner → List Statement
   coded f o = given o (K W f.node) (λ p. Op (op.Slot p.position) ∷ X W R f.node p.node)
 
   one_field : (pc e : ℕ) (f : Route) (others : List Route) (o : Option Partner) → f.partner ≡ o → Here pc (coded f o) → FieldsAt (pc + length (coded f o)) others e → FieldsAt pc (f ∷ others) e

@@ -1,4 +1,4 @@
--- K's lines, where they are placed, stand.
+-- K's statements, where they are placed, stand.
 use Rattle.std.proofs.Common.{◌≡◌, ℕ, zero, suc, ◌+◌, ◌-◌, true, false, List, [], ◌∷◌, ◌++◌, length, map, Option, Some, None, refl, sym, ap, ◌∙◌, subst, arith, length-append}
 use Rattle.std.specs.Prelude.{slice_get}
 use Rattle.std.specs.List.{AllByRecursion}
@@ -7,17 +7,17 @@ use Rattle.avro_types.specs.WellFormed.{IsMember, IsWellFormed, is_union}
 use Rattle.isa.specs.declared.instr.Instr.{Instr}
 use Rattle.isa.specs.declared.instr.Instr.TheVariants as op
 use Rattle.isa.specs.Program.{Program}
-use Rattle.program_definition.specs.Lines.{Section, Line, Op, Ahead, Back, begins, branched, looped, one_of}
+use Rattle.program_definition.specs.Statements.{Section, Statement, Op, Ahead, Back, begins, branched, looped, one_of}
 use Rattle.program_definition.specs.Skipping.{skip_node, skip_within}
 use Rattle.program_definition.specs.SkipStands.{At, Skips, SkipsPlain, SkipsMembers, k_plain, k_union, k_null, k_boolean, k_int, k_long, k_bytes, k_text, k_fixed, k_enum, k_array, k_map, k_record, k_no_member, k_last, k_member}
 use Rattle.program_definition.proofs.Placed.{Placed, placed_front, placed_back}
 
-pub loop_length : (next : ℕ → Instr) (body : List Line) → length (looped next body) ≡ length body + 2
+pub loop_length : (next : ℕ → Instr) (body : List Statement) → length (looped next body) ≡ length body + 2
 loop_length next body = let e = length-append body (Back (length body + 1) ∷ []) in omega (arith, e)
 
 module _ (P : Program) (Begins : Section → ℕ → Type 0) where
   -- a loop's body stands between its NEXT and its JUMP
-  pub loop_placed : (pc : ℕ) (next : ℕ → Instr) (body : List Line) → Placed P Begins pc (looped next body) → At P pc (next (pc + 1 + length body + 1)) × Placed P Begins (pc + 1) body × At P (pc + 1 + length body) (op.Jump pc)
+  pub loop_placed : (pc : ℕ) (next : ℕ → Instr) (body : List Statement) → Placed P Begins pc (looped next body) → At P pc (next (pc + 1 + length body + 1)) × Placed P Begins (pc + 1) body × At P (pc + 1 + length body) (op.Jump pc)
   loop_placed pc next body h =
       let ahead : pc + (length body + 2) ≡ pc + 1 + length body + 1 = omega arith in
       let back : pc + 1 + length body - (length body + 1) ≡ pc = omega arith in
@@ -32,11 +32,11 @@ module _ (W : List Node) (P : Program) (Begins : Section → ℕ → Type 0) whe
   plain_skips pc w q apart (k_plain n s) = s
   plain_skips pc w q apart (k_union members places t is at jumps s) = absurd (let two : true ≡ false = sym (ap is_union is) ∙ apart in let no : ⊥ = cc in no)
 
-  -- that many lines stand wherever they are placed
-  abbrev pub SkipsAll : (ℕ → List Line) → Type 0
+  -- that many statements stand wherever they are placed
+  abbrev pub SkipsAll : (ℕ → List Statement) → Type 0
   SkipsAll K = (pc w : ℕ) → Placed P Begins pc (K w) → SkipsAt pc w (pc + length (K w))
 
-  module _ (K : ℕ → List Line) (all : SkipsAll K) where
+  module _ (K : ℕ → List Statement) (all : SkipsAll K) where
     members_skip : (own pc far : ℕ) (ms : List ℕ) → AllByRecursion (IsMember W own) ms → Placed P Begins (pc + far) (one_of (map K ms)) → SkipsMembers W P Begins (pc + far) ms (map (λ far. pc + far) (begins far (map K ms))) (pc + far + length (one_of (map K ms)))
     members_skip own pc far [] are h = subst (SkipsMembers W P Begins (pc + far) [] []) (let e : pc + far ≡ pc + far + 0 = omega arith in e) k_no_member
     members_skip own pc far (m ∷ []) are h = k_last are.0.no_union (plain_skips (pc + far) m _ are.0.no_union (all (pc + far) m h))

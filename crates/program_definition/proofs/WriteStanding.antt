@@ -1,4 +1,4 @@
--- X's lines, where they are placed, stand.
+-- X's statements, where they are placed, stand.
 use Rattle.std.proofs.Common.{◌≡◌, ℕ, zero, suc, ◌+◌, ◌⊎◌, inl, inr, Bool, true, false, List, [], ◌∷◌, ◌++◌, length, map, Option, Some, None, refl, sym, ap, ◌∙◌, subst, arith, length-append}
 use Rattle.std.specs.Prelude.{slice_get, if◌then◌else◌}
 use Rattle.std.specs.List.{AllByRecursion}
@@ -14,7 +14,7 @@ use Rattle.isa.specs.declared.entry.Entry.{Entry}
 use Rattle.isa.specs.declared.entry.Entry.TheVariants as entries
 use Rattle.isa.specs.declared.instr.Instr.TheVariants as op
 use Rattle.isa.specs.Program.{Program}
-use Rattle.program_definition.specs.Lines.{Section, Line, Op, BytesText, Ahead, Lacks, To, begins, branched, looped, miss, one_of}
+use Rattle.program_definition.specs.Statements.{Section, Statement, Op, BytesText, Ahead, Lacks, To, begins, branched, looped, miss, one_of}
 use Rattle.program_definition.specs.Skipping.{K}
 use Rattle.program_definition.specs.Writing.{is_text, placed_node, record_code, straight_node, target, write_node, write_within}
 use Rattle.program_definition.specs.SkipStands.{Skips}
@@ -36,18 +36,18 @@ module _ (W R : List Node) (P : Program) (Begins : Section → ℕ → Type 0) w
   abbrev PlainAt : ℕ → ℕ → ℕ → ℕ → Type 0
   PlainAt pc w r q = WritesPlain W R P Begins pc w r q
 
-  abbrev Here : ℕ → List Line → Type 0
+  abbrev Here : ℕ → List Statement → Type 0
   Here pc ls = Placed P Begins pc ls
 
   plain_writes : (pc w r q : ℕ) → is_union (slice_get W w) ≡ false → WritesAt pc w r q → PlainAt pc w r q
   plain_writes pc w r q apart (x_plain n s) = s
   plain_writes pc w r q apart (x_union members places t is at jumps s) = absurd (let two : true ≡ false = sym (ap is_union is) ∙ apart in let no : ⊥ = cc in no)
 
-  -- that many lines stand wherever they are placed
-  abbrev pub WritesAll : (ℕ → ℕ → List Line) → Type 0
+  -- that many statements stand wherever they are placed
+  abbrev pub WritesAll : (ℕ → ℕ → List Statement) → Type 0
   WritesAll X = (pc w r : ℕ) → Here pc (X w r) → WritesAt pc w r (pc + length (X w r))
 
-  module _ (formed : IsWellFormed W) (X : ℕ → ℕ → List Line) (all : WritesAll X) where
+  module _ (formed : IsWellFormed W) (X : ℕ → ℕ → List Statement) (all : WritesAll X) where
     members_write : (own pc far r : ℕ) (ms : List ℕ) → AllByRecursion (IsMember W own) ms → Here (pc + far) (one_of (map (λ m. X m r) ms)) → WritesMembers W R P Begins (pc + far) ms r (map (λ far. pc + far) (begins far (map (λ m. X m r) ms))) (pc + far + length (one_of (map (λ m. X m r) ms)))
     members_write own pc far r [] are h = subst (WritesMembers W R P Begins (pc + far) [] r []) (let e : pc + far ≡ pc + far + 0 = omega arith in e) x_no_member
     members_write own pc far r (m ∷ []) are h = x_last are.0.no_union (plain_writes (pc + far) m r _ are.0.no_union (all (pc + far) m r h))

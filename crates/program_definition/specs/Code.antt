@@ -6,23 +6,23 @@ use Rattle.resolver_matching.specs.Options.{given}
 use Rattle.isa.specs.declared.limits.TheConstants.{MOST_INSTRS}
 use Rattle.isa.specs.Judging.{is_within_limits}
 use Rattle.isa.specs.Program.{Program}
-use Rattle.program_definition.specs.Lines.{Line, Lost, Section, Main}
+use Rattle.program_definition.specs.Statements.{Statement, Lost, Section, Main}
 use Rattle.program_definition.specs.Numbering.{adding, calls_of, named_in, numbered, same_section}
 use Rattle.program_definition.specs.Writing.{section}
 
-abbrev pub is_lost : Line → Bool
+abbrev pub is_lost : Statement → Bool
 is_lost Lost = true
 is_lost _ = false
 
-abbrev pub are_whole : List Line → Bool
+abbrev pub are_whole : List Statement → Bool
 are_whole [] = true
-are_whole (line ∷ lines) = if is_lost line then false else are_whole lines
+are_whole (statement ∷ statements) = if is_lost statement then false else are_whole statements
 
--- the program of these lines, unless one is lost or a limit is passed
-abbrev pub checked : List Line → Program → Option Program
-checked lines P = if are_whole lines && is_within_limits P then Some P else None
+-- the program of these statements, unless one is lost or a limit is passed
+abbrev pub checked : List Statement → Program → Option Program
+checked statements P = if are_whole statements && is_within_limits P then Some P else None
 
-module _ (section : Section → List Line) where
+module _ (section : Section → List Statement) where
   -- the sections that are called for, from section i on; none where so many rounds do not find all
   abbrev pub reached : ℕ → ℕ → List Section → Option (List Section)
   reached zero i sections = given (slice_get sections i) (Some sections) (λ s. None)
@@ -32,9 +32,9 @@ module _ (section : Section → List Line) where
         | Some s ↦ reached n (i + 1) (adding same_section sections (named_in calls_of (section s)))
       ]
 
-  abbrev pub lines_of : List Section → List Line
-  lines_of [] = []
-  lines_of (s ∷ sections) = section s ++ lines_of sections
+  abbrev pub statements_of : List Section → List Statement
+  statements_of [] = []
+  statements_of (s ∷ sections) = section s ++ statements_of sections
 
   -- where a section begins
   abbrev pub start_in : ℕ → List Section → Section → ℕ
@@ -43,7 +43,7 @@ module _ (section : Section → List Line) where
 
   -- the program of these sections, unless it passes a limit
   abbrev pub of_sections : List Section → Option Program
-  of_sections sections = checked (lines_of sections) (numbered (start_in 0 sections) (lines_of sections))
+  of_sections sections = checked (statements_of sections) (numbered (start_in 0 sections) (statements_of sections))
 
   abbrev pub assembled : Option (List Section) → Option Program
   assembled None = None

@@ -1,4 +1,4 @@
-pub mod Lines
+pub mod Statements
 pub mod Skipping
 pub mod Writing
 pub mod Numbering

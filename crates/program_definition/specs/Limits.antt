@@ -3,14 +3,14 @@ use Rattle.std.specs.Prelude.{◌≡◌, ℕ, true, false, List, [], ◌∷◌, 
 use Rattle.avro_types.specs.Node.{Node}
 use Rattle.isa.specs.Judging.{is_within_limits}
 use Rattle.isa.specs.Program.{Program}
-use Rattle.program_definition.specs.Code.{are_whole, code_of, lines_of, reached, start_in}
-use Rattle.program_definition.specs.Lines.{Section, Main}
+use Rattle.program_definition.specs.Code.{are_whole, code_of, statements_of, reached, start_in}
+use Rattle.program_definition.specs.Statements.{Section, Main}
 use Rattle.program_definition.specs.Numbering.{numbered}
 use Rattle.program_definition.specs.Writing.{section}
 
 -- the program of these sections, whatever its size
 abbrev pub whole_program : List Node → List Node → List Section → Program
-whole_program W R sections = numbered (start_in (section W R) 0 sections) (lines_of (section W R) sections)
+whole_program W R sections = numbered (start_in (section W R) 0 sections) (statements_of (section W R) sections)
 
 -- so many rounds find all sections
 abbrev pub AreAll : List Node → List Node → ℕ → List Section → Type 0
@@ -20,10 +20,10 @@ AreAll W R rounds sections = reached (section W R) rounds 0 (Main ∷ []) ≡ So
 abbrev pub SectionsAreFound : List Node → List Node → Type 0
 SectionsAreFound W R = (rounds : ℕ) × (sections : List Section) × AreAll W R rounds sections
 
--- No line of it is lost.
-abbrev pub NoLineIsLost : List Node → List Node → Type 0
-NoLineIsLost W R = (rounds : ℕ) (sections : List Section) → AreAll W R rounds sections
-    → are_whole (lines_of (section W R) sections) ≡ true
+-- No statement of it is lost.
+abbrev pub NoStatementIsLost : List Node → List Node → Type 0
+NoStatementIsLost W R = (rounds : ℕ) (sections : List Section) → AreAll W R rounds sections
+    → are_whole (statements_of (section W R) sections) ≡ true
 
 -- There is none only where the whole one, however many its sections are, passes a limit.
 abbrev pub NoneByLimitsAlone : List Node → List Node → Type 0

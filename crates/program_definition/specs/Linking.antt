@@ -4,7 +4,7 @@ use Rattle.avro_types.specs.Node.{Node}
 use Rattle.isa.specs.Program.{Program}
 use Rattle.isa.specs.Range.{IsProgram}
 use Rattle.program_definition.specs.Code.{code_of, start_in}
-use Rattle.program_definition.specs.Lines.{Section, Write, Skip}
+use Rattle.program_definition.specs.Statements.{Section, Write, Skip}
 use Rattle.program_definition.specs.Numbering.{has, same_section}
 use Rattle.program_definition.specs.SkipStands.{SkipRoutine}
 use Rattle.program_definition.specs.Stands.{Opening, Routine}

@@ -9,19 +9,19 @@ use Rattle.isa.specs.declared.entry.Entry.TheVariants as entries
 use Rattle.isa.specs.declared.instr.Instr.{Instr}
 use Rattle.isa.specs.declared.instr.Instr.TheVariants as op
 use Rattle.isa.specs.Program.{Program}
-use Rattle.program_definition.specs.Lines.{Line, Op, Put, Miss, BytesText, Enum, Call, Ahead, Back, Branch, Lost, Target, To, Lacks, Section, Main, Write, Skip}
+use Rattle.program_definition.specs.Statements.{Statement, Op, Put, Miss, BytesText, Enum, Call, Ahead, Back, Branch, Lost, Target, To, Lacks, Section, Main, Write, Skip}
 
--- ---- what lines name
+-- ---- what statements name
 
-abbrev pub named_in : {A : Type 0} → (Line → List A) → List Line → List A
+abbrev pub named_in : {A : Type 0} → (Statement → List A) → List Statement → List A
 named_in f [] = []
-named_in f (line ∷ lines) = f line ++ named_in f lines
+named_in f (statement ∷ statements) = f statement ++ named_in f statements
 
-abbrev pub calls_of : Line → List Section
+abbrev pub calls_of : Statement → List Section
 calls_of (Call s) = s ∷ []
 calls_of _ = []
 
-abbrev pub constants_of : Line → List (List ℕ)
+abbrev pub constants_of : Statement → List (List ℕ)
 constants_of (Put bytes) = bytes ∷ []
 constants_of _ = []
 
@@ -30,24 +30,24 @@ lacked [] = []
 lacked (To n ∷ targets) = lacked targets
 lacked (Lacks m ∷ targets) = m ∷ lacked targets
 
-abbrev pub misses_of : Line → List Mismatch
+abbrev pub misses_of : Statement → List Mismatch
 misses_of (Miss m) = m ∷ []
 misses_of (BytesText m) = m ∷ []
 misses_of (Enum targets) = lacked targets
 misses_of _ = []
 
-abbrev pub maps_of : Line → List (List Target)
+abbrev pub maps_of : Statement → List (List Target)
 maps_of (Enum targets) = targets ∷ []
 maps_of _ = []
 
 -- at this address
-abbrev pub jumps_of : ℕ → Line → List (List ℕ)
+abbrev pub jumps_of : ℕ → Statement → List (List ℕ)
 jumps_of pc (Branch fars) = map (λ far. pc + far) fars ∷ []
 jumps_of pc _ = []
 
-abbrev pub jumps_from : ℕ → List Line → List (List ℕ)
+abbrev pub jumps_from : ℕ → List Statement → List (List ℕ)
 jumps_from pc [] = []
-jumps_from pc (line ∷ lines) = jumps_of pc line ++ jumps_from (pc + 1) lines
+jumps_from pc (statement ∷ statements) = jumps_of pc statement ++ jumps_from (pc + 1) statements
 
 -- ---- things in the order in which they came, each once
 
@@ -75,7 +75,7 @@ abbrev pub same_miss : Mismatch → Mismatch → Bool
 same_miss a b =
     code_of_kind a.kind == code_of_kind b.kind && a.writer_node == b.writer_node && a.reader_node == b.reader_node
 
--- ---- lines become instructions
+-- ---- statements become instructions
 
 abbrev pub entry_of : List Mismatch → Target → Entry
 entry_of misses (To n) = entries.Position n
@@ -83,7 +83,7 @@ entry_of misses (Lacks m) = entries.Miss (number same_miss m misses)
 
 module _ (starts : Section → ℕ) (constants : List (List ℕ)) (misses : List Mismatch) where
   -- at this address, after so many maps and jump tables
-  abbrev pub linked : ℕ → ℕ → ℕ → Line → Instr
+  abbrev pub linked : ℕ → ℕ → ℕ → Statement → Instr
   linked pc maps jumps (Op i) = i
   linked pc maps jumps (Put bytes) = op.Put (number bytes_eq bytes constants)
   linked pc maps jumps (Miss m) = op.Miss (number same_miss m misses)
@@ -95,23 +95,23 @@ module _ (starts : Section → ℕ) (constants : List (List ℕ)) (misses : List
   linked pc maps jumps (Branch fars) = op.Branch jumps
   linked pc maps jumps Lost = op.Halt
 
-  abbrev pub code_from : ℕ → ℕ → ℕ → List Line → List Instr
+  abbrev pub code_from : ℕ → ℕ → ℕ → List Statement → List Instr
   code_from pc maps jumps [] = []
-  code_from pc maps jumps (line ∷ lines) =
-      linked pc maps jumps line ∷ code_from (pc + 1) (maps + length (maps_of line))
-      (jumps + length (jumps_of pc line)) lines
+  code_from pc maps jumps (statement ∷ statements) =
+      linked pc maps jumps statement ∷ code_from (pc + 1) (maps + length (maps_of statement))
+      (jumps + length (jumps_of pc statement)) statements
 
-abbrev pub constants_in : List Line → List (List ℕ)
-constants_in lines = adding bytes_eq [] (named_in constants_of lines)
+abbrev pub constants_in : List Statement → List (List ℕ)
+constants_in statements = adding bytes_eq [] (named_in constants_of statements)
 
-abbrev pub misses_in : List Line → List Mismatch
-misses_in lines = adding same_miss [] (named_in misses_of lines)
+abbrev pub misses_in : List Statement → List Mismatch
+misses_in statements = adding same_miss [] (named_in misses_of statements)
 
-abbrev pub numbered : (Section → ℕ) → List Line → Program
-numbered starts lines = record {
-  code = code_from starts (constants_in lines) (misses_in lines) 0 0 0 lines;
-  constants = constants_in lines;
-  maps = map (map (entry_of (misses_in lines))) (named_in maps_of lines);
-  jumps = jumps_from 0 lines;
-  misses = misses_in lines;
+abbrev pub numbered : (Section → ℕ) → List Statement → Program
+numbered starts statements = record {
+  code = code_from starts (constants_in statements) (misses_in statements) 0 0 0 statements;
+  constants = constants_in statements;
+  maps = map (map (entry_of (misses_in statements))) (named_in maps_of statements);
+  jumps = jumps_from 0 statements;
+  misses = misses_in statements;
 }

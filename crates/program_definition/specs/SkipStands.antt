@@ -7,7 +7,7 @@ use Rattle.avro_types.specs.WellFormed.{is_union}
 use Rattle.isa.specs.declared.instr.Instr.{Instr}
 use Rattle.isa.specs.declared.instr.Instr.TheVariants as op
 use Rattle.isa.specs.Program.{Program}
-use Rattle.program_definition.specs.Lines.{Section, Skip}
+use Rattle.program_definition.specs.Statements.{Section, Skip}
 
 -- the instruction at that address
 abbrev pub At : Program → ℕ → Instr → Type 0

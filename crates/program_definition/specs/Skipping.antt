@@ -2,10 +2,10 @@
 use Rattle.std.specs.Prelude.{ℕ, zero, suc, List, [], ◌∷◌, ◌++◌, length, map, Option, Some, None, slice_get}
 use Rattle.avro_types.specs.Node.{Node, FieldNode, NullNode, BooleanNode, IntNode, LongNode, BytesNode, TextNode, FixedNode, EnumNode, ArrayNode, MapNode, UnionNode, RecordNode}
 use Rattle.isa.specs.declared.instr.Instr.TheVariants as op
-use Rattle.program_definition.specs.Lines.{Line, Op, Call, Lost, Skip, branched, looped}
+use Rattle.program_definition.specs.Statements.{Statement, Op, Call, Lost, Skip, branched, looped}
 
 -- the code of a node, by that of its items, values and members
-abbrev pub skip_node : (ℕ → List Line) → ℕ → Option Node → List Line
+abbrev pub skip_node : (ℕ → List Statement) → ℕ → Option Node → List Statement
 skip_node K w (Some NullNode) = []
 skip_node K w (Some BooleanNode) = Op op.SkipBool ∷ []
 skip_node K w (Some IntNode) = Op op.SkipInt ∷ []
@@ -22,18 +22,18 @@ skip_node K w None = Lost ∷ []
 
 module _ (W : List Node) where
   -- arrays, maps and unions hold each other so deep at most
-  unfoldable pub skip_within : ℕ → ℕ → List Line
+  unfoldable pub skip_within : ℕ → ℕ → List Statement
   skip_within zero w = Lost ∷ []
   skip_within (suc n) w = skip_node (skip_within n) w (slice_get W w)
 
-  abbrev pub K : ℕ → List Line
+  abbrev pub K : ℕ → List Statement
   K w = skip_within (suc (length W)) w
 
-  abbrev pub skip_fields : List FieldNode → List Line
+  abbrev pub skip_fields : List FieldNode → List Statement
   skip_fields [] = []
   skip_fields (f ∷ fields) = K f.node ++ skip_fields fields
 
   -- the skip routine: ENTER; K of each field; LEAVE; RET
-  abbrev pub skip_routine : Option Node → List Line
+  abbrev pub skip_routine : Option Node → List Statement
   skip_routine (Some (RecordNode names fields)) = Op op.Enter ∷ (skip_fields fields ++ Op op.Leave ∷ Op op.Return ∷ [])
   skip_routine _ = Lost ∷ []

@@ -18,7 +18,7 @@ use Rattle.isa.specs.declared.entry.Entry.{Entry}
 use Rattle.isa.specs.declared.entry.Entry.TheVariants as entries
 use Rattle.isa.specs.declared.instr.Instr.TheVariants as op
 use Rattle.isa.specs.Program.{Program}
-use Rattle.program_definition.specs.Lines.{Section, Write, miss}
+use Rattle.program_definition.specs.Statements.{Section, Write, miss}
 use Rattle.program_definition.specs.SkipStands.{At, Skips}
 use Rattle.program_definition.specs.Writing.{is_text}
 

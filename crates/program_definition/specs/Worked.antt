@@ -7,7 +7,7 @@ use Rattle.isa.specs.declared.entry.Entry.TheVariants as entries
 use Rattle.isa.specs.declared.instr.Instr.TheVariants as op
 use Rattle.isa.specs.Program.{Program}
 use Rattle.program_definition.specs.Code.{code_of}
-use Rattle.program_definition.specs.Lines.{miss}
+use Rattle.program_definition.specs.Statements.{miss}
 
 -- names and fields of one letter
 abbrev pub names : ℕ → List (List ℕ) → Names

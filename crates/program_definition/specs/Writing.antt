@@ -13,7 +13,7 @@ use Rattle.resolver_matching.specs.Options.{given}
 use Rattle.resolver_matching.specs.Partners.{has_partner, routes}
 use Rattle.resolver.specs.Resolution.{symbol_for, field_lists, lacking}
 use Rattle.isa.specs.declared.instr.Instr.TheVariants as op
-use Rattle.program_definition.specs.Lines.{Line, Op, Put, Miss, BytesText, Enum, Call, Lost, Target, To, Lacks, Section, Main, Write, Skip, branched, looped, miss}
+use Rattle.program_definition.specs.Statements.{Statement, Op, Put, Miss, BytesText, Enum, Call, Lost, Target, To, Lacks, Section, Main, Write, Skip, branched, looped, miss}
 use Rattle.program_definition.specs.Skipping.{K, skip_routine}
 
 -- what a symbol becomes: its position with the reader, or a miss
@@ -27,25 +27,25 @@ is_text _ = false
 -- ---- defaults: SLOT j and PUT for each of the reader's fields without a partner, whose default's written form is
 -- not empty
 
-abbrev pub put_in : ℕ → List ℕ → List Line
+abbrev pub put_in : ℕ → List ℕ → List Statement
 put_in j [] = []
 put_in j (b ∷ bytes) = Op (op.Slot j) ∷ Put (b ∷ bytes) ∷ []
 
 abbrev pub default_bytes : List Route → ℕ → FieldNode → List ℕ
 default_bytes routes j g = if has_partner j routes then [] else given g.default [] written
 
-abbrev pub defaults_code : List Route → ℕ → List FieldNode → List Line
+abbrev pub defaults_code : List Route → ℕ → List FieldNode → List Statement
 defaults_code routes j [] = []
 defaults_code routes j (g ∷ fields) = put_in j (default_bytes routes j g) ++ defaults_code routes (suc j) fields
 
 module _ (W R : List Node) where
   -- records: where a default is missing MISS NoDefault and K(w), and else CALL of the routine of (w, r)
-  abbrev pub record_code : ℕ → ℕ → Option FieldNode → List Line
+  abbrev pub record_code : ℕ → ℕ → Option FieldNode → List Statement
   record_code w r (Some g) = Miss (miss kinds.NoDefault w g.node) ∷ K W w
   record_code w r None = Call (Write w r) ∷ []
 
   -- nodes that match, neither a union
-  abbrev pub straight_node : (ℕ → ℕ → List Line) → ℕ → ℕ → Option Node → Option Node → List Line
+  abbrev pub straight_node : (ℕ → ℕ → List Statement) → ℕ → ℕ → Option Node → Option Node → List Statement
   straight_node X w r (Some NullNode) reader = []
   straight_node X w r (Some BooleanNode) reader = Op op.Bool ∷ []
   straight_node X w r (Some IntNode) reader = Op op.Int ∷ []
@@ -67,7 +67,7 @@ module _ (W R : List Node) where
 
   -- r is a union: where member j is the first that matches, PUT of its position and X(w, j); where none matches, MISS
   -- NoBranch and K(w); no union and no match: MISS NoMatch and K(w)
-  abbrev pub placed_node : (ℕ → ℕ → List Line) → ℕ → ℕ → Destination → List Line
+  abbrev pub placed_node : (ℕ → ℕ → List Statement) → ℕ → ℕ → Destination → List Statement
   placed_node X w r (IntoMember j member) =
       Put (shortest (pos j)) ∷ straight_node X w member (slice_get W w) (slice_get R member)
   placed_node X w r Nowhere = Miss (miss kinds.NoBranch w r) ∷ K W w
@@ -75,35 +75,35 @@ module _ (W R : List Node) where
   placed_node X w r Straight = straight_node X w r (slice_get W w) (slice_get R r)
 
   -- w is a union: BRANCH t and X(member, r) for each member; this goes first
-  abbrev pub write_node : (ℕ → ℕ → List Line) → ℕ → ℕ → Option Node → List Line
+  abbrev pub write_node : (ℕ → ℕ → List Statement) → ℕ → ℕ → Option Node → List Statement
   write_node X w r (Some (UnionNode members)) = branched (map (λ member. X member r) members)
   write_node X w r _ = placed_node X w r (place W R w r)
 
   -- arrays, maps and unions of the writer hold each other so deep at most
-  unfoldable pub write_within : ℕ → ℕ → ℕ → List Line
+  unfoldable pub write_within : ℕ → ℕ → ℕ → List Statement
   write_within zero w r = Lost ∷ []
   write_within (suc n) w r = write_node (write_within n) w r (slice_get W w)
 
-  abbrev pub X : ℕ → ℕ → List Line
+  abbrev pub X : ℕ → ℕ → List Statement
   X w r = write_within (suc (length W)) w r
 
   -- ---- routines
 
   -- for each of w's fields, in order: SLOT j and X where the partner is r's field j, else K
-  abbrev pub field_code : Route → List Line
+  abbrev pub field_code : Route → List Statement
   field_code route = given route.partner (K W route.node) (λ p. Op (op.Slot p.position) ∷ X route.node p.node)
 
-  abbrev pub fields_code : List Route → List Line
+  abbrev pub fields_code : List Route → List Statement
   fields_code [] = []
   fields_code (route ∷ routes) = field_code route ++ fields_code routes
 
   -- RECORD with the number of r's fields, the fields, the defaults, ENDREC and RET
-  abbrev pub write_routine : List FieldNode → List FieldNode → List Line
+  abbrev pub write_routine : List FieldNode → List FieldNode → List Statement
   write_routine fs gs =
       Op (op.Record (length gs)) ∷ (fields_code (routes fs gs)
       ++ (defaults_code (routes fs gs) 0 gs ++ Op op.EndRecord ∷ Op op.Return ∷ []))
 
-  unfoldable pub section : Section → List Line
+  unfoldable pub section : Section → List Statement
   section Main = X 0 0 ++ Op op.Halt ∷ []
   section (Write w r) = given (field_lists (slice_get W w) (slice_get R r)) (Lost ∷ []) (λ p. write_routine p.0 p.1)
   section (Skip w) = skip_routine W (slice_get W w)

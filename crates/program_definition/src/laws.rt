@@ -1,37 +1,37 @@
 //! Laws of the program of a pair. They do nothing when they run.
 
-ghost use Rattle.program_definition.specs.Limits.{NoLineIsLost, NoneByLimitsAlone, SectionsAreFound};
+ghost use Rattle.program_definition.specs.Limits.{NoStatementIsLost, NoneByLimitsAlone, SectionsAreFound};
 ghost use Rattle.program_definition.specs.Linking.{ProgramIsInRange, ProgramIsLinked};
 ghost use Rattle.program_definition.specs.Worked.{LongListHasItsProgram, PairHasItsProgram, ReaderHasItsProgram};
 ghost use Rattle.program_definition.specs.Worked.{RenamedHasItsProgram};
 
 use avro_types::Nodes;
 
-/// The law that the code of a pair of schemas stands in its program, line by line as the compiler's table has it: the
-/// roots' code first, and each routine where it is called.
-pub fn program_is_linked(w: &Nodes, r: &Nodes)
-    ensures { ProgramIsLinked w.now r.now }
+/// The law that the code of a pair of schemas stands in its program, statement by statement as the compiler's table has
+/// it: the roots' code first, and each routine where it is called.
+pub fn program_is_linked(writer: &Nodes, reader: &Nodes)
+    ensures { ProgramIsLinked writer.now reader.now }
 {
-    w.is_well_formed(); // law
+    writer.is_well_formed(); // law
 }
 
 /// The law that the program of a pair of schemas names nothing that it has not: `isa` takes it as it is.
-pub fn program_is_in_range(w: &Nodes, r: &Nodes)
-    ensures { ProgramIsInRange w.now r.now }
+pub fn program_is_in_range(writer: &Nodes, reader: &Nodes)
+    ensures { ProgramIsInRange writer.now reader.now }
 {
-    w.is_well_formed(); // law
-    r.is_well_formed(); // law
+    writer.is_well_formed(); // law
+    reader.is_well_formed(); // law
 }
 
-/// The law that each pair of schemas has a whole program, all of whose sections are found and none of whose lines is
-/// lost, and that `code_of` has none only where that passes a limit.
-pub fn no_program_only_past_a_limit(w: &Nodes, r: &Nodes)
-    ensures found { SectionsAreFound w.now r.now }
-    ensures lines { NoLineIsLost w.now r.now }
-    ensures limit { NoneByLimitsAlone w.now r.now }
+/// The law that each pair of schemas has a whole program, all of whose sections are found and none of whose statements
+/// is lost, and that `code_of` has none only where that passes a limit.
+pub fn no_program_only_past_a_limit(writer: &Nodes, reader: &Nodes)
+    ensures found { SectionsAreFound writer.now reader.now }
+    ensures statements { NoStatementIsLost writer.now reader.now }
+    ensures limit { NoneByLimitsAlone writer.now reader.now }
 {
-    w.is_well_formed(); // law
-    r.is_well_formed(); // law
+    writer.is_well_formed(); // law
+    reader.is_well_formed(); // law
 }
 
 /// The law that worked pairs have the programs that the compiler's table gives them: two records to themselves, one to

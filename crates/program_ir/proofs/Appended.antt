@@ -1,4 +1,4 @@
--- Lines after lines.
+-- Statements after statements.
 use Rattle.std.proofs.Common.{◌≡◌, ◌++◌, ◌∷◌, [], ℕ, get_or, ◌+◌, ◌<◌, List, length, Option, Some, None, IfSome, ap, subst, ◌∙◌, append_assoc}
 use Rattle.std.specs.Prelude.{slice_get}
 use Rattle.std.proofs.lemmas.List.{length-map, map-append}
@@ -10,18 +10,18 @@ use Rattle.isa.specs.declared.instr.Instr.TheVariants as op
 use Rattle.resolver_matching.specs.declared.pairing.Partner.{Partner}
 use Rattle.resolver_matching.specs.declared.pairing.Route.{Route}
 use Rattle.resolver_matching.specs.Options.{given}
-use Rattle.program_definition.specs.Lines.{Line, Op, Ahead, Back, looped}
-use Rattle.program_ir.specs.declared.lines.Line as rust
-use Rattle.program_ir.specs.Lines.{HasSlot, lines_in, line_of, slot_lines}
+use Rattle.program_definition.specs.Statements.{Statement, Op, Ahead, Back, looped}
+use Rattle.program_ir.specs.declared.statements.Statement as rust
+use Rattle.program_ir.specs.Statements.{HasSlot, statements_in, statement_of, slot_statements}
 
-pub lines_on : (W R : List Node) (a b : List rust.Line) → lines_in W R (a ++ b) ≡ lines_in W R a ++ lines_in W R b
-lines_on W R a b = map-append (line_of W R) a b
+pub statements_on : (W R : List Node) (a b : List rust.Statement) → statements_in W R (a ++ b) ≡ statements_in W R a ++ statements_in W R b
+statements_on W R a b = map-append (statement_of W R) a b
 
-pub lines_length : (W R : List Node) (ls : List rust.Line) → length (lines_in W R ls) ≡ length ls
-lines_length W R ls = length-map ls (line_of W R)
+pub statements_length : (W R : List Node) (ls : List rust.Statement) → length (statements_in W R ls) ≡ length ls
+statements_length W R ls = length-map ls (statement_of W R)
 
--- a loop, put line by line
-pub loop_on : (next : ℕ → Instr) (before body one two three : List Line) (len : ℕ) → len ≡ length body → one ≡ before ++ Ahead next (len + 2) ∷ [] → two ≡ one ++ body → three ≡ two ++ Back (len + 1) ∷ [] → three ≡ before ++ looped next body
+-- a loop, put statement by statement
+pub loop_on : (next : ℕ → Instr) (before body one two three : List Statement) (len : ℕ) → len ≡ length body → one ≡ before ++ Ahead next (len + 2) ∷ [] → two ≡ one ++ body → three ≡ two ++ Back (len + 1) ∷ [] → three ≡ before ++ looped next body
 loop_on next before body one two three len el e1 e2 e3 =
     e3 ∙ ap (λ l. l ++ Back (len + 1) ∷ []) (e2 ∙ ap (λ l. l ++ body) e1 ∙ append_assoc before (Ahead next (len + 2) ∷ []) body)
     ∙ append_assoc before (Ahead next (len + 2) ∷ body) (Back (len + 1) ∷ [])
@@ -37,11 +37,11 @@ module _ (routes : List Route) (i : ℕ) (none : Route) (lt : i < length routes)
   there : slice_get routes i ≡ Some (get_or routes i none)
   there = slice_get-get_or routes i none lt
 
-  pub slot_some : (p : Partner) → (get_or routes i none).partner ≡ Some p → slot_lines (slice_get routes i) ≡ Op (op.Slot p.position) ∷ []
-  slot_some p is = ap slot_lines there ∙ ap (λ o. given o [] (λ q. Op (op.Slot q.position) ∷ [])) is
+  pub slot_some : (p : Partner) → (get_or routes i none).partner ≡ Some p → slot_statements (slice_get routes i) ≡ Op (op.Slot p.position) ∷ []
+  slot_some p is = ap slot_statements there ∙ ap (λ o. given o [] (λ q. Op (op.Slot q.position) ∷ [])) is
 
-  pub slot_none : (get_or routes i none).partner ≡ None → slot_lines (slice_get routes i) ≡ []
-  slot_none is = ap slot_lines there ∙ ap (λ o. given o [] (λ q. Op (op.Slot q.position) ∷ [])) is
+  pub slot_none : (get_or routes i none).partner ≡ None → slot_statements (slice_get routes i) ≡ []
+  slot_none is = ap slot_statements there ∙ ap (λ o. given o [] (λ q. Op (op.Slot q.position) ∷ [])) is
 
   pub slot_fits : (p : Partner) → (get_or routes i none).partner ≡ Some p → IfSome (slice_get routes i) HasSlot → p.position < MOST_FIELDS
   slot_fits p is slot = subst (λ (o : Option Partner). IfSome o (λ q. q.position < MOST_FIELDS)) is (subst (λ (o : Option Route). IfSome o HasSlot) there slot)

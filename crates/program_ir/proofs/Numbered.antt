@@ -7,12 +7,12 @@ use Rattle.std.specs.declared.cmp.Ordering.{Ordering}
 use Rattle.std.specs.declared.cmp.Ordering.TheVariants.{Less, Equal, Greater}
 use Rattle.std.specs.Ordering.{is_eq, nat_cmp, ordering_then}
 use Rattle.resolver_matching.specs.Options.{or_else}
-use Rattle.program_definition.specs.Lines.{Section, Write, Skip}
+use Rattle.program_definition.specs.Statements.{Section, Write, Skip}
 use Rattle.program_definition.specs.Numbering.{adding, calls_of, has, named_in, same_section}
 use Rattle.avro_types.specs.Node.{Node}
-use Rattle.program_ir.specs.declared.lines.Line as rust
-use Rattle.program_ir.specs.declared.lines.Section as parts
-use Rattle.program_ir.specs.Lines.{line_of, lines_in, section_of}
+use Rattle.program_ir.specs.declared.statements.Statement as rust
+use Rattle.program_ir.specs.declared.statements.Section as parts
+use Rattle.program_ir.specs.Statements.{statement_of, statements_in, section_of}
 use Rattle.program_ir.specs.Sections.{pair_cmp, place, place_from, sections_in}
 
 pub sections_on : (a b : List parts.Section) → sections_in (a ++ b) ≡ sections_in a ++ sections_in b
@@ -97,7 +97,7 @@ pair_is p q at =
 pub write_fresh : (w r : ℕ) (p : ℕ × ℕ) (ss : List Section) → place (Write w r) ss ≡ None → is_eq (pair_cmp (w, r) p) ≡ true → place (Write p.0 p.1) ss ≡ None
 write_fresh w r p ss fresh at = ap (λ q. place (Write q.0 q.1) ss) (pair_is (w, r) p at) ∙ fresh
 
--- ---- the sections that lines call
+-- ---- the sections that statements call
 
 adding_on : (a b xs : List Section) → adding same_section xs (a ++ b) ≡ adding same_section (adding same_section xs a) b
 adding_on [] b xs = refl
@@ -108,13 +108,13 @@ adding_on (s ∷ a) b xs = go (has same_section s xs) (adding_on a b xs) (adding
     go true x y = x
     go false x y = y
 
--- one line more
-pub calls_on : (W R : List Node) (lines : List rust.Line) (i : ℕ) (line : rust.Line) (old new whole : List Section) → i < length lines → line ≡ get_or lines i line → new ≡ adding same_section old (calls_of (line_of W R line)) → adding same_section old (named_in calls_of (lines_in W R (drop i lines))) ≡ whole → adding same_section new (named_in calls_of (lines_in W R (drop (i + 1) lines))) ≡ whole
-calls_on W R lines i line old new whole lt is h so_far =
+-- one statement more
+pub calls_on : (W R : List Node) (statements : List rust.Statement) (i : ℕ) (statement : rust.Statement) (old new whole : List Section) → i < length statements → statement ≡ get_or statements i statement → new ≡ adding same_section old (calls_of (statement_of W R statement)) → adding same_section old (named_in calls_of (statements_in W R (drop i statements))) ≡ whole → adding same_section new (named_in calls_of (statements_in W R (drop (i + 1) statements))) ≡ whole
+calls_on W R statements i statement old new whole lt is h so_far =
     let e : i + 1 ≡ suc i = omega arith in
-    ap (λ k. adding same_section new (named_in calls_of (lines_in W R (drop k lines)))) e
-    ∙ ap (λ l. adding same_section l (named_in calls_of (lines_in W R (drop (suc i) lines)))) h
-    ∙ sym (adding_on (calls_of (line_of W R line)) (named_in calls_of (lines_in W R (drop (suc i) lines))) old)
-    ∙ ap (λ l. adding same_section old (calls_of (line_of W R l) ++ named_in calls_of (lines_in W R (drop (suc i) lines)))) is
-    ∙ sym (ap (λ ls. adding same_section old (named_in calls_of (lines_in W R ls))) (drop-cons lines i line lt))
+    ap (λ k. adding same_section new (named_in calls_of (statements_in W R (drop k statements)))) e
+    ∙ ap (λ l. adding same_section l (named_in calls_of (statements_in W R (drop (suc i) statements)))) h
+    ∙ sym (adding_on (calls_of (statement_of W R statement)) (named_in calls_of (statements_in W R (drop (suc i) statements))) old)
+    ∙ ap (λ l. adding same_section old (calls_of (statement_of W R l) ++ named_in calls_of (statements_in W R (drop (suc i) statements)))) is
+    ∙ sym (ap (λ ls. adding same_section old (named_in calls_of (statements_in W R ls))) (drop-cons statements i statement lt))
     ∙ so_far

@@ -16,7 +16,7 @@ use Rattle.outcome.specs.declared.mismatch.MismatchKind.TheVariants as kinds
 use Rattle.resolver.specs.Resolution.{symbol_for as position_of_symbol}
 use Rattle.outcome.specs.MismatchKind.{code_of as code_of_kind}
 use Rattle.outcome.specs.declared.mismatch.Mismatch.{Mismatch}
-use Rattle.program_definition.specs.Lines.{Lacks, To, miss}
+use Rattle.program_definition.specs.Statements.{Lacks, To, miss}
 use Rattle.program_definition.specs.Numbering.{adding, entry_of, has, number, same_miss}
 use Rattle.program_definition.specs.Writing.{target}
 use Rattle.program_definition.proofs.Numbers.{bytes_is, bytes_refl, miss_is}

@@ -1,3 +1,3 @@
-pub mod Lines
+pub mod Statements
 pub mod Sections
 pub mod Tables

@@ -1,4 +1,4 @@
-//! The constants that lines name, each once.
+//! The constants that statements name, each once.
 
 ghost use Rattle.std.specs.Prelude.{◌≡◌, ◌++◌, ◌∷◌, [], None, length, IfOk};
 ghost use Rattle.std.specs.Str.{bytes_eq};

@@ -1,20 +1,20 @@
 //! Programs; used by `program_lowering`, `program_compiler`.
 //!
-//! The lines of a pair's code, and what they name: routines, constants and misses, each once and with its number, and
-//! what the symbols of a pair of enums become.
+//! The statements of a pair's code, and what they name: routines, constants and misses, each once and with its number,
+//! and what the symbols of a pair of enums become.
 #![tactic(auto)]
 
 mod constants;
-mod lines;
 mod misses;
 mod sections;
+mod statements;
 mod targets;
 
 pub use constants::Constants;
-pub use lines::{
-    Constant, Go, Line, Section, miss, put, put_all, put_branched, put_loop, put_record,
-    put_routine, put_slot,
-};
 pub use misses::Misses;
 pub use sections::{Sections, note_calls};
+pub use statements::{
+    Constant, Go, Section, Statement, miss, put, put_all, put_branched, put_loop, put_record,
+    put_routine, put_slot,
+};
 pub use targets::{entries, position_for};

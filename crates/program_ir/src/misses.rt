@@ -1,4 +1,4 @@
-//! The misses that lines name, each once.
+//! The misses that statements name, each once.
 
 ghost use Rattle.std.specs.Prelude.{◌≡◌, ◌++◌, ◌∷◌, [], None, length, OnErr, OnOk};
 ghost use Rattle.program_definition.specs.Numbering.{adding, number, same_miss};

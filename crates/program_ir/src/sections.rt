@@ -1,13 +1,13 @@
-//! The sections that lines call, each once.
+//! The sections that statements call, each once.
 
 ghost use Rattle.std.specs.Prelude.{◌≡◌, ◌++◌, ◌∷◌, List, [], None, Some, option_map, slice_get, IfOk, OnOk};
 ghost use Rattle.avro_types.specs.Node.{Node};
-ghost use Rattle.program_definition.specs.Lines.{Main, Skip, Write};
+ghost use Rattle.program_definition.specs.Statements.{Main, Skip, Write};
 ghost use Rattle.program_definition.specs.Numbering.{adding, calls_of, named_in, same_section};
-ghost use Rattle.program_ir.specs.Lines.{line_of, lines_in, section_of};
+ghost use Rattle.program_ir.specs.Statements.{statement_of, statements_in, section_of};
 ghost use Rattle.program_ir.specs.Sections.{place};
 
-use crate::lines::{Line, Section};
+use crate::statements::{Section, Statement};
 use std::alloc::{AllocError, Global};
 use std::collections::BTreeMap;
 use std::marker::Model;
@@ -22,7 +22,7 @@ pub struct Sections {
 
 impl Model for Sections {
     ghost use Rattle.std.specs.Prelude.{List};
-    ghost use Rattle.program_definition.specs.Lines.{Section};
+    ghost use Rattle.program_definition.specs.Statements.{Section};
     ghost use Rattle.program_ir.specs.Sections.{AreNumbered, sections_in};
 
     ghost Value = { List Section };
@@ -104,24 +104,25 @@ impl Sections {
     }
 }
 
-/// Adds the section that a line calls, if it calls one.
-fn note_call(sections: &mut Sections, line: &Line) -> Result<(), AllocError>
+/// Adds the section that a statement calls, if it calls one.
+fn note_call(sections: &mut Sections, statement: &Statement) -> Result<(), AllocError>
     ensures { OnOk result
-        ((W R : List Node) → sections.new ≡ adding same_section sections.old (calls_of (line_of W R line.now))) }
+        ((W R : List Node) → sections.new
+        ≡ adding same_section sections.old (calls_of (statement_of W R statement.now))) }
 {
-    match line {
-        Line::Call(section) => sections.add(*section),
+    match statement {
+        Statement::Call(section) => sections.add(*section),
         _ => Ok(()),
     }
 }
 
-/// Adds the sections that lines call.
-pub fn note_calls(sections: &mut Sections, lines: &[Line]) -> Result<(), AllocError>
+/// Adds the sections that statements call.
+pub fn note_calls(sections: &mut Sections, statements: &[Statement]) -> Result<(), AllocError>
     ensures { OnOk result ((W R : List Node) → sections.new
-        ≡ adding same_section sections.old (named_in calls_of (lines_in W R lines.now))) }
+        ≡ adding same_section sections.old (named_in calls_of (statements_in W R statements.now))) }
 {
-    for line in lines {
-        note_call(sections, line)?;
+    for statement in statements {
+        note_call(sections, statement)?;
     }
     Ok(())
 }

@@ -37,24 +37,24 @@ fn entry_for(r: &Nodes, reader: usize, symbol: &str, lacking: u32) -> Entry
 /// What each symbol of a writer's enum becomes with a reader's.
 pub fn entries(
     alloc: Global,
-    r: &Nodes,
+    reader: &Nodes,
     misses: &Misses,
-    writer: usize,
-    reader: usize,
+    writer_node: usize,
+    reader_node: usize,
     symbols: &[String],
 ) -> Result<Vec<Entry>, AllocError>
     requires { length misses.now ≤ MOST_TABLES }
     ensures { IfOk result (λ v. v.items ≡ map (entry_of misses.now)
-        (map (target writer reader (slice_get r.now reader)) (map string_bytes symbols.now))) }
+        (map (target writer_node reader_node (slice_get reader.now reader_node)) (map string_bytes symbols.now))) }
 {
     let lacking = misses.number_of(Mismatch {
         kind: MismatchKind::NoSymbol,
-        writer_node: writer,
-        reader_node: reader,
+        writer_node,
+        reader_node,
     }) as u32;
     let mut entries = Vec::new(alloc);
     for position in 0..symbols.len() {
-        entries.push(entry_for(r, reader, symbols[position].as_str(), lacking))?;
+        entries.push(entry_for(reader, reader_node, symbols[position].as_str(), lacking))?;
     }
     Ok(entries)
 }

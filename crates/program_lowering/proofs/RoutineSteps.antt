@@ -1,4 +1,4 @@
--- The lines of routines, one field after another.
+-- The statements of routines, one field after another.
 use Rattle.std.proofs.Common.{◌≡◌, ℕ, zero, suc, ◌+◌, ◌<◌, ◌≤◌, Bool, false, List, [], ◌∷◌, ◌++◌, length, drop, get_or, Option, Some, None, IfSome, option_map, refl, sym, ap, subst, ◌∙◌, arith, append_assoc}
 use Rattle.std.specs.Prelude.{slice_get, ◌==◌, if◌then◌else◌}
 use Rattle.std.proofs.Math.Seq.{drop-cons}
@@ -17,13 +17,13 @@ use Rattle.resolver_matching.specs.declared.pairing.Partner.{Partner}
 use Rattle.resolver_matching.specs.declared.pairing.Route.{Route}
 use Rattle.resolver_matching.specs.Options.{given}
 use Rattle.resolver_matching.specs.Partners.{AreRoutes, IsRoute, has_partner, partner_at, partners, routes, routes_to}
-use Rattle.program_definition.specs.Lines.{Line, Lost, Op, Put}
+use Rattle.program_definition.specs.Statements.{Statement, Lost, Op, Put}
 use Rattle.program_definition.specs.Skipping.{K, skip_routine}
 use Rattle.program_definition.specs.Writing.{X, default_bytes, defaults_code, field_code, fields_code, put_in}
 use Rattle.resolver.specs.Resolution.{field_lists}
-use Rattle.program_ir.specs.declared.lines.Constant.TheVariants as constants
+use Rattle.program_ir.specs.declared.statements.Constant.TheVariants as constants
 use Rattle.program_ir.proofs.Appended.{two}
-use Rattle.program_ir.specs.Lines.{HasSlot, bytes_of, default_of, fields_of_record, slot_lines}
+use Rattle.program_ir.specs.Statements.{HasSlot, bytes_of, default_of, fields_of_record, slot_statements}
 use Rattle.program_lowering.specs.Fields.{read_code}
 
 -- ---- both are records
@@ -83,24 +83,24 @@ module _ (writers readers : ℕ) (rts : List Route) (i : ℕ) (none : Route) (lt
 
 -- its slot, and what reads it
 module _ (W R : List Node) (rts : List Route) (i : ℕ) (none : Route) where
-  one_field : (route : Route) → slot_lines (Some route) ++ read_code W R route ≡ field_code W R route
+  one_field : (route : Route) → slot_statements (Some route) ++ read_code W R route ≡ field_code W R route
   one_field route = go route.partner
     where
       go : (o : Option Partner) → given o [] (λ p. Op (op.Slot p.position) ∷ []) ++ given o (K W route.node) (λ p. X W R route.node p.node) ≡ given o (K W route.node) (λ p. Op (op.Slot p.position) ∷ X W R route.node p.node)
       go None = refl
       go (Some p) = refl
 
-  pub field_on : (lines mid new whole : List Line) → i < length rts → mid ≡ lines ++ slot_lines (slice_get rts i) → new ≡ mid ++ read_code W R (get_or rts i none)
-      → lines ++ fields_code W R (drop i rts) ≡ whole → new ++ fields_code W R (drop (i + 1) rts) ≡ whole
-  field_on lines mid new whole lt em en so_far =
+  pub field_on : (statements mid new whole : List Statement) → i < length rts → mid ≡ statements ++ slot_statements (slice_get rts i) → new ≡ mid ++ read_code W R (get_or rts i none)
+      → statements ++ fields_code W R (drop i rts) ≡ whole → new ++ fields_code W R (drop (i + 1) rts) ≡ whole
+  field_on statements mid new whole lt em en so_far =
       let e : i + 1 ≡ suc i = omega arith in
       let route = get_or rts i none in
-      let slot = em ∙ ap (λ o. lines ++ slot_lines o) (slice_get-get_or rts i none lt) in
-      let both = two lines mid new (slot_lines (Some route)) (read_code W R route) slot en ∙ ap (λ l. lines ++ l) (one_field route) in
+      let slot = em ∙ ap (λ o. statements ++ slot_statements o) (slice_get-get_or rts i none lt) in
+      let both = two statements mid new (slot_statements (Some route)) (read_code W R route) slot en ∙ ap (λ l. statements ++ l) (one_field route) in
       ap (λ k. new ++ fields_code W R (drop k rts)) e
       ∙ ap (λ l. l ++ fields_code W R (drop (suc i) rts)) both
-      ∙ append_assoc lines (field_code W R route) (fields_code W R (drop (suc i) rts))
-      ∙ ap (λ rs. lines ++ fields_code W R rs) (sym (drop-cons rts i none lt))
+      ∙ append_assoc statements (field_code W R route) (fields_code W R (drop (suc i) rts))
+      ∙ ap (λ rs. statements ++ fields_code W R rs) (sym (drop-cons rts i none lt))
       ∙ so_far
 
 -- ---- defaults
@@ -109,11 +109,11 @@ put_some : (j : ℕ) (b : List ℕ) → (length b == 0) ≡ false → put_in j b
 put_some j [] e = absurd cc
 put_some j (x ∷ b) e = refl
 
-module _ (rts : List Route) (j : ℕ) (f : Field) (old : List Line) where
+module _ (rts : List Route) (j : ℕ) (f : Field) (old : List Statement) where
   bytes_there : (has : Bool) (d : rust.Datum) → has ≡ has_partner j rts → has ≡ false → f.default ≡ Some d → default_bytes rts j (field_of f) ≡ written (datum_of d)
   bytes_there has d e no' is = ap (λ b. if b then [] else given (field_of f).default [] written) (sym e ∙ no') ∙ ap (λ o. given (option_map datum_of o) [] written) is
 
-  pub some_default : (R : List Node) (reader : ℕ) (has : Bool) (d : rust.Datum) (blank : Bool) (mid new : List Line) → has ≡ has_partner j rts → has ≡ false → f.default ≡ Some d → blank ≡ (length (written (datum_of d)) == 0) → blank ≡ false
+  pub some_default : (R : List Node) (reader : ℕ) (has : Bool) (d : rust.Datum) (blank : Bool) (mid new : List Statement) → has ≡ has_partner j rts → has ≡ false → f.default ≡ Some d → blank ≡ (length (written (datum_of d)) == 0) → blank ≡ false
       → slice_get (fields_of_record (slice_get R reader)) j ≡ Some (field_of f) → mid ≡ old ++ Op (op.Slot j) ∷ [] → new ≡ mid ++ Put (bytes_of R (constants.Default reader j)) ∷ [] → new ≡ old ++ put_in j (default_bytes rts j (field_of f))
   some_default R reader has d blank mid new e no' is b t at em en =
       let bytes : bytes_of R (constants.Default reader j) ≡ written (datum_of d) = ap default_of at ∙ ap (λ o. given (option_map datum_of o) [] written) is in
@@ -131,17 +131,17 @@ field_at (x ∷ rs) zero f lt e = ap (λ y. Some (field_of y)) (sym e)
 field_at (x ∷ rs) (suc i) f lt e = field_at rs i f (omega (arith, lt)) e
 
 -- one field more
-pub default_on : (rts : List Route) (rs : List Field) (i : ℕ) (f : Field) (lines new whole : List Line) → i < length rs → f ≡ get_or rs i f → new ≡ lines ++ put_in i (default_bytes rts i (field_of f)) → lines ++ defaults_code rts i (fields_of (drop i rs)) ≡ whole → new ++ defaults_code rts (i + 1) (fields_of (drop (i + 1) rs)) ≡ whole
-default_on rts rs i f lines new whole lt is h so_far =
+pub default_on : (rts : List Route) (rs : List Field) (i : ℕ) (f : Field) (statements new whole : List Statement) → i < length rs → f ≡ get_or rs i f → new ≡ statements ++ put_in i (default_bytes rts i (field_of f)) → statements ++ defaults_code rts i (fields_of (drop i rs)) ≡ whole → new ++ defaults_code rts (i + 1) (fields_of (drop (i + 1) rs)) ≡ whole
+default_on rts rs i f statements new whole lt is h so_far =
     let e : i + 1 ≡ suc i = omega arith in
     ap (λ k. new ++ defaults_code rts k (fields_of (drop k rs))) e
     ∙ ap (λ l. l ++ defaults_code rts (suc i) (fields_of (drop (suc i) rs))) h
-    ∙ append_assoc lines (put_in i (default_bytes rts i (field_of f))) (defaults_code rts (suc i) (fields_of (drop (suc i) rs)))
-    ∙ ap (λ gs. lines ++ defaults_code rts i gs) (sym (fields_drop rs i f lt is))
+    ∙ append_assoc statements (put_in i (default_bytes rts i (field_of f))) (defaults_code rts (suc i) (fields_of (drop (suc i) rs)))
+    ∙ ap (λ gs. statements ++ defaults_code rts i gs) (sym (fields_drop rs i f lt is))
     ∙ so_far
 
 -- ---- routines that skip
 
-pub no_record : (W : List Node) (kind : Kind) (at_it : Option Node) (old new : List Line) → at_it ≡ Some (node_of kind) → ((name aliases fields : _) → kind ≡ kinds.Record name aliases fields → ⊥) → new ≡ old ++ Lost ∷ [] → new ≡ old ++ skip_routine W at_it
+pub no_record : (W : List Node) (kind : Kind) (at_it : Option Node) (old new : List Statement) → at_it ≡ Some (node_of kind) → ((name aliases fields : _) → kind ≡ kinds.Record name aliases fields → ⊥) → new ≡ old ++ Lost ∷ [] → new ≡ old ++ skip_routine W at_it
 no_record W (kinds.Record name aliases fields) at_it old new at no' h = absurd (no' name aliases fields refl)
 no_record W _ at_it old new at no' h = h ∙ ap (λ x. old ++ skip_routine W x) (sym at)

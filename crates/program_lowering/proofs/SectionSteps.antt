@@ -1,10 +1,10 @@
--- The lines of a section, by what it is.
+-- The statements of a section, by what it is.
 use Rattle.std.proofs.Common.{◌≡◌, ℕ, zero, suc, ◌≤◌, List, [], ◌∷◌, ◌++◌, length, Option, Some, None, refl, sym, ap, ◌∙◌, arith}
 use Rattle.std.specs.Prelude.{slice_get}
 use Rattle.avro_types.specs.Node.{Node, RecordNode}
 use Rattle.isa.specs.declared.instr.Instr.TheVariants as op
 use Rattle.resolver_matching.specs.Options.{given}
-use Rattle.program_definition.specs.Lines.{Line, Lost, Op, Main, Write, Skip}
+use Rattle.program_definition.specs.Statements.{Statement, Lost, Op, Main, Write, Skip}
 use Rattle.program_definition.specs.Skipping.{skip_routine}
 use Rattle.program_definition.specs.Writing.{X, section, write_routine}
 use Rattle.resolver.specs.Resolution.{field_lists}
@@ -18,7 +18,7 @@ no_reader : (w : Option Node) → field_lists w None ≡ None
 no_reader (Some (RecordNode names fields)) = refl
 no_reader _ = refl
 
-module _ (W R : List Node) (old new : List Line) where
+module _ (W R : List Node) (old new : List Statement) where
   pub main_more : new ≡ old ++ (X W R 0 0 ++ Op op.Halt ∷ []) → new ≡ old ++ section W R Main
   unfolding section
   main_more h = h

@@ -1,4 +1,4 @@
--- Lines after lines, by the case of the definition that they are of.
+-- Statements after statements, by the case of the definition that they are of.
 use Rattle.std.proofs.Common.{◌≡◌, ℕ, true, false, List, [], ◌∷◌, ◌++◌, Option, Some, None, is_some, refl, sym, ap, ◌∙◌}
 use Rattle.std.specs.Prelude.{option_map, slice_get}
 use Rattle.std.specs.Global.{Vec}
@@ -9,25 +9,25 @@ use Rattle.resolver_matching.specs.declared.place.Destination.{Destination}
 use Rattle.resolver_matching.specs.Matching.{place}
 use Rattle.resolver_matching.specs.Options.{given}
 use Rattle.outcome.specs.declared.mismatch.MismatchKind.TheVariants as misses
-use Rattle.program_definition.specs.Lines.{Line, Call, Lost, Miss, Write, miss}
+use Rattle.program_definition.specs.Statements.{Statement, Call, Lost, Miss, Write, miss}
 use Rattle.program_definition.specs.Skipping.{K}
 use Rattle.program_definition.specs.Writing.{placed_node, record_code, straight_node, write_node}
 use Rattle.resolver.specs.Resolution.{lacking}
 
-pub straight_more : (W R : List Node) (F : ℕ → ℕ → List Line) (w r : ℕ) (reader : Option Node) (node : Node) (old new code : List Line) → slice_get W w ≡ Some node → straight_node W R F w r (Some node) reader ≡ code → new ≡ old ++ code → new ≡ old ++ straight_node W R F w r (slice_get W w) reader
+pub straight_more : (W R : List Node) (F : ℕ → ℕ → List Statement) (w r : ℕ) (reader : Option Node) (node : Node) (old new code : List Statement) → slice_get W w ≡ Some node → straight_node W R F w r (Some node) reader ≡ code → new ≡ old ++ code → new ≡ old ++ straight_node W R F w r (slice_get W w) reader
 straight_more W R F w r reader node old new code at is h = h ∙ ap (λ l. old ++ l) (sym is) ∙ ap (λ x. old ++ straight_node W R F w r x reader) (sym at)
 
-pub placed_more : (W R : List Node) (F : ℕ → ℕ → List Line) (w r : ℕ) (result p : Destination) (old new code : List Line) → result ≡ place W R w r → result ≡ p → placed_node W R F w r p ≡ code → new ≡ old ++ code → new ≡ old ++ placed_node W R F w r (place W R w r)
+pub placed_more : (W R : List Node) (F : ℕ → ℕ → List Statement) (w r : ℕ) (result p : Destination) (old new code : List Statement) → result ≡ place W R w r → result ≡ p → placed_node W R F w r p ≡ code → new ≡ old ++ code → new ≡ old ++ placed_node W R F w r (place W R w r)
 placed_more W R F w r result p old new code e at is h = h ∙ ap (λ l. old ++ l) (sym is) ∙ ap (λ x. old ++ placed_node W R F w r x) (sym at ∙ e)
 
-pub parts_none : {A : Type 0} (parts : Option A) (f : A → List Line) (old new : List Line) → parts ≡ None → new ≡ old ++ Lost ∷ [] → new ≡ old ++ given parts (Lost ∷ []) f
+pub parts_none : {A : Type 0} (parts : Option A) (f : A → List Statement) (old new : List Statement) → parts ≡ None → new ≡ old ++ Lost ∷ [] → new ≡ old ++ given parts (Lost ∷ []) f
 parts_none parts f old new e h = h ∙ ap (λ x. old ++ given x (Lost ∷ []) f) (sym e)
 
-pub parts_some : {A : Type 0} (parts : Option A) (p : A) (f : A → List Line) (old new code : List Line) → parts ≡ Some p → f p ≡ code → new ≡ old ++ code → new ≡ old ++ given parts (Lost ∷ []) f
+pub parts_some : {A : Type 0} (parts : Option A) (p : A) (f : A → List Statement) (old new code : List Statement) → parts ≡ Some p → f p ≡ code → new ≡ old ++ code → new ≡ old ++ given parts (Lost ∷ []) f
 parts_some parts p f old new code e is h = h ∙ ap (λ l. old ++ l) (sym is) ∙ ap (λ x. old ++ given x (Lost ∷ []) f) (sym e)
 
--- the lines of two records, with a field that lacks or none, and of other nodes, which have no fields
-module _ (W R : List Node) (w r : ℕ) (old new : List Line) where
+-- the statements of two records, with a field that lacks or none, and of other nodes, which have no fields
+module _ (W R : List Node) (w r : ℕ) (old new : List Statement) where
   pub record_lost : (lists : Option (List FieldNode × List FieldNode)) → is_some lists ≡ false → new ≡ old ++ Lost ∷ []
       → new ≡ old ++ given lists (Lost ∷ []) (λ p. record_code W R w r (lacking p.0 p.1))
   record_lost None none h = h
@@ -56,6 +56,6 @@ some_too f None = refl
 some_too f (Some a) = refl
 
 -- no union of the writer's goes into its place
-pub no_union : (W R : List Node) (F : ℕ → ℕ → List Line) (w r : ℕ) (kind : Kind) → ((members : Vec ℕ) → kind ≡ kinds.Union members → ⊥) → write_node W R F w r (Some (node_of kind)) ≡ placed_node W R F w r (place W R w r)
+pub no_union : (W R : List Node) (F : ℕ → ℕ → List Statement) (w r : ℕ) (kind : Kind) → ((members : Vec ℕ) → kind ≡ kinds.Union members → ⊥) → write_node W R F w r (Some (node_of kind)) ≡ placed_node W R F w r (place W R w r)
 no_union W R F w r (kinds.Union members) no_members = absurd (no_members members refl)
 no_union W R F w r _ no_members = refl

@@ -3,9 +3,9 @@ use Rattle.std.specs.Prelude.{List}
 use Rattle.avro_types.specs.Node.{Node}
 use Rattle.resolver_matching.specs.declared.pairing.Route.{Route}
 use Rattle.resolver_matching.specs.Options.{given}
-use Rattle.program_definition.specs.Lines.{Line}
+use Rattle.program_definition.specs.Statements.{Statement}
 use Rattle.program_definition.specs.Skipping.{K}
 use Rattle.program_definition.specs.Writing.{X}
 
-abbrev pub read_code : List Node → List Node → Route → List Line
+abbrev pub read_code : List Node → List Node → Route → List Statement
 read_code W R route = given route.partner (K W route.node) (λ p. X W R route.node p.node)

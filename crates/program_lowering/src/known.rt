@@ -45,20 +45,21 @@ impl Known {
     pub(crate) fn lacking_node(
         &mut self,
         pair: &SchemaPair<'_>,
-        wn: usize,
-        rn: usize,
+        writer_node: usize,
+        reader_node: usize,
     ) -> Result<Option<usize>, AllocError>
-        requires writer { wn < length pair.now.writer.now }
-        requires reader { rn < length pair.now.reader.now }
+        requires writer { writer_node < length pair.now.writer.now }
+        requires reader { reader_node < length pair.now.reader.now }
         requires known { AreKnown pair.now.writer.now pair.now.reader.now self.old }
-        ensures node { IfOk result (λ node. node ≡ lacking_node pair.now.writer.now pair.now.reader.now (wn, rn)) }
+        ensures node { IfOk result
+            (λ node. node ≡ lacking_node pair.now.writer.now pair.now.reader.now (writer_node, reader_node)) }
         ensures known { AreKnown pair.now.writer.now pair.now.reader.now self.new }
     {
-        if let Some(node) = self.lacking.get(&(wn, rn)).copied() {
+        if let Some(node) = self.lacking.get(&(writer_node, reader_node)).copied() {
             return Ok(node);
         }
-        let node = pair.find_lacking(wn, rn)?;
-        self.lacking.insert((wn, rn), node)?;
+        let node = pair.find_lacking(writer_node, reader_node)?;
+        self.lacking.insert((writer_node, reader_node), node)?;
         Ok(node)
     }
 
@@ -127,28 +128,29 @@ impl Known {
     pub(crate) fn place_of(
         &mut self,
         pair: &SchemaPair<'_>,
-        wn: usize,
-        rn: usize,
+        writer_node: usize,
+        reader_node: usize,
     ) -> Result<Destination, AllocError>
-        requires writer { wn < length pair.now.writer.now }
-        requires reader { rn < length pair.now.reader.now }
+        requires writer { writer_node < length pair.now.writer.now }
+        requires reader { reader_node < length pair.now.reader.now }
         requires known { AreKnown pair.now.writer.now pair.now.reader.now self.old }
-        ensures place { IfOk result (λ found. found ≡ place pair.now.writer.now pair.now.reader.now wn rn) }
+        ensures place { IfOk result
+            (λ found. found ≡ place pair.now.writer.now pair.now.reader.now writer_node reader_node) }
         ensures within { IfOk result (IsNodeOf (length pair.now.reader.now)) }
         ensures known { AreKnown pair.now.writer.now pair.now.reader.now self.new }
     {
-        let Kind::Union(members) = pair.reader.kind(rn) else {
-            return Ok(place_of(pair.writer, wn, pair.reader, rn));
+        let Kind::Union(members) = pair.reader.kind(reader_node) else {
+            return Ok(place_of(pair.writer, writer_node, pair.reader, reader_node));
         };
-        let Some(name) = name_of(pair.writer, wn) else {
-            return Ok(place_of(pair.writer, wn, pair.reader, rn));
+        let Some(name) = name_of(pair.writer, writer_node) else {
+            return Ok(place_of(pair.writer, writer_node, pair.reader, reader_node));
         };
         if members.len() <= FEW {
-            return Ok(place_of(pair.writer, wn, pair.reader, rn));
+            return Ok(place_of(pair.writer, writer_node, pair.reader, reader_node));
         }
         self.note_types(pair.alloc, pair.reader)?;
-        self.note_positions(pair.alloc, pair.reader, rn, members)?;
-        Ok(self.place_by_name(pair, wn, name, rn, members))
+        self.note_positions(pair.alloc, pair.reader, reader_node, members)?;
+        Ok(self.place_by_name(pair, writer_node, name, reader_node, members))
     }
 }
 

@@ -1,7 +1,7 @@
 //! Programs; used by `program_compiler`, `session_core`.
 //!
-//! The lines of a pair of schemas: the code of each section that is called for, before its numbers and addresses are
-//! known.
+//! The statements of a pair of schemas: the code of each section that is called for, before its numbers and addresses
+//! are known.
 #![tactic(auto)]
 
 mod blank;
@@ -16,5 +16,5 @@ mod walking;
 mod writing;
 
 pub use error::CompileError;
-pub use program_ir::{Constant, Go, Line, Section};
-pub use walking::{SectionLines, walk};
+pub use program_ir::{Constant, Go, Section, Statement};
+pub use walking::{SectionStatements, walk};

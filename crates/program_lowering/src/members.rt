@@ -16,11 +16,11 @@ use std::alloc::{AllocError, Global};
 use std::collections::BTreeMap;
 
 /// The full name of a record, an enum or a fixed.
-pub(crate) fn name_of(nodes: &Nodes, n: usize) -> Option<&Name>
-    requires { n < length nodes.now }
-    ensures { option_map (λ name. name.now) result ≡ full_name_of (slice_get nodes.now n) }
+pub(crate) fn name_of(nodes: &Nodes, node: usize) -> Option<&Name>
+    requires { node < length nodes.now }
+    ensures { option_map (λ name. name.now) result ≡ full_name_of (slice_get nodes.now node) }
 {
-    match nodes.kind(n) {
+    match nodes.kind(node) {
         Kind::Fixed { name, .. } | Kind::Enum { name, .. } | Kind::Record { name, .. } => Some(
             name,
         ),
@@ -77,22 +77,26 @@ impl SchemaPair<'_> {
     /// The first of a union's members that is a candidate and matches.
     pub(crate) fn find_member(
         &self,
-        wn: usize,
+        writer_node: usize,
         members: &[usize],
         positions: &BTreeMap<usize, u32>,
         candidates: &[usize],
     ) -> Destination
-        requires writer { wn < length self.now.writer.now }
+        requires writer { writer_node < length self.now.writer.now }
         requires members { AllByRecursion (λ m. m < length self.now.reader.now) members.now }
         requires positions { ArePositionsOf members.now positions.now }
         requires candidates { AllByRecursion (λ m. m < length self.now.reader.now) candidates.now }
         ensures place { result ≡ first_member
-            (λ m. is_among m candidates.now && matches self.now.writer.now self.now.reader.now wn m) 0 members.now }
+            (λ m. is_among m candidates.now && matches self.now.writer.now self.now.reader.now writer_node m) 0
+            members.now }
         ensures within { IsNodeOf (length self.now.reader.now) result }
     {
         let mut first = None;
         for candidate in candidates {
-            first = least(first, self.matching_position(wn, positions, *candidate));
+            first = least(
+                first,
+                self.matching_position(writer_node, positions, *candidate),
+            );
         }
         match first {
             Some(position) => Destination::IntoMember {

@@ -7,20 +7,20 @@ ghost use Rattle.resolver_matching.specs.Options.{given};
 ghost use Rattle.resolver_matching.specs.Partners.{AreRoutes, IsRoute};
 ghost use Rattle.resolver_matching.specs.Partners.{has_partner as has_partner_of};
 ghost use Rattle.resolver_matching.specs.declared.pairing.Route.{Route};
-ghost use Rattle.program_definition.specs.Lines.{Lost};
+ghost use Rattle.program_definition.specs.Statements.{Lost};
 ghost use Rattle.program_definition.specs.Skipping.{skip_fields, skip_routine};
 ghost use Rattle.program_definition.specs.Writing.{default_bytes, defaults_code, fields_code, put_in, section, write_routine};
 ghost use Rattle.resolver.specs.Resolution.{field_lists};
 ghost use Rattle.program_lowering.specs.Fields.{read_code};
 ghost use Rattle.program_lowering.specs.Known.{AreKnown};
-ghost use Rattle.program_ir.specs.Lines.{fields_of_record, lines_in, routine_lines, section_of};
+ghost use Rattle.program_ir.specs.Statements.{fields_of_record, statements_in, routine_statements, section_of};
 
 use crate::blank::is_blank;
 use crate::known::Known;
 use crate::schema_pair::SchemaPair;
 use avro_types::{Field, Kind, MOST_FIELDS};
 use isa::Instr;
-use program_ir::{Constant, Line, Section, put, put_routine, put_slot};
+use program_ir::{Constant, Section, Statement, put, put_routine, put_slot};
 use resolver::field_lists;
 use resolver_matching::{Route, routes};
 use std::alloc::{AllocError, Global};
@@ -42,18 +42,18 @@ fn have_partners(alloc: Global, routes: &[Route], many: usize) -> Result<Vec<boo
     Ok(marks)
 }
 
-/// Adds the lines of a reader's field, if it has no partner and its written default is not empty.
+/// Adds the statements of a reader's field, if it has no partner and its written default is not empty.
 fn put_default(
     reader: usize,
     position: usize,
     has_partner: bool,
     field: &Field,
-    lines: &mut Vec<Line>,
+    statements: &mut Vec<Statement>,
 ) -> Result<(), AllocError>
     requires { position < MOST_FIELDS }
     ensures { OnOk result ((W R : List Node) (routes : List Route) → has_partner ≡ has_partner_of position routes
         → slice_get (fields_of_record (slice_get R reader)) position ≡ Some (field_of field.now)
-        → lines_in W R lines.new.items ≡ lines_in W R lines.old.items
+        → statements_in W R statements.new.items ≡ statements_in W R statements.old.items
         ++ put_in position (default_bytes routes position (field_of field.now))) }
 {
     if has_partner {
@@ -65,10 +65,10 @@ fn put_default(
     if is_blank(default) {
         return Ok(());
     }
-    put(lines, Line::Op(Instr::Slot(position as u32)))?;
+    put(statements, Statement::Op(Instr::Slot(position as u32)))?;
     put(
-        lines,
-        Line::Put(Constant::Default {
+        statements,
+        Statement::Put(Constant::Default {
             reader,
             field: position,
         }),
@@ -76,97 +76,101 @@ fn put_default(
 }
 
 impl SchemaPair<'_> {
-    /// Adds the lines of the reader's fields without a partner whose written defaults are not empty.
+    /// Adds the statements of the reader's fields without a partner whose written defaults are not empty.
     fn put_defaults(
         &self,
         reader: usize,
         routes: &[Route],
         rs: &[Field],
-        lines: &mut Vec<Line>,
+        statements: &mut Vec<Statement>,
     ) -> Result<(), AllocError>
         requires few { length rs.now ≤ MOST_FIELDS }
         requires fields { fields_of_record (slice_get self.now.reader.now reader) ≡ fields_of rs.now }
-        ensures { OnOk result ((W : List Node) → lines_in W self.now.reader.now lines.new.items
-            ≡ lines_in W self.now.reader.now lines.old.items
+        ensures { OnOk result ((W : List Node) → statements_in W self.now.reader.now statements.new.items
+            ≡ statements_in W self.now.reader.now statements.old.items
             ++ defaults_code routes.now 0 (fields_of rs.now)) }
     {
         let marks = have_partners(self.alloc, routes, rs.len())?;
         for position in 0..rs.len() {
-            put_default(reader, position, marks[position], &rs[position], lines)?;
+            put_default(reader, position, marks[position], &rs[position], statements)?;
         }
         Ok(())
     }
 
-    /// Adds the lines that read one of the writer's fields, after its slot.
+    /// Adds the statements that read one of the writer's fields, after its slot.
     fn read_field(
         &self,
         known: &mut Known,
         route: Route,
-        lines: &mut Vec<Line>,
+        statements: &mut Vec<Statement>,
     ) -> Result<(), AllocError>
         requires route { IsRoute (length self.now.writer.now) (length self.now.reader.now) MOST_FIELDS route }
         requires known { AreKnown self.now.writer.now self.now.reader.now known.old }
-        ensures lines { OnOk result (lines_in self.now.writer.now self.now.reader.now lines.new.items
-            ≡ lines_in self.now.writer.now self.now.reader.now lines.old.items
+        ensures statements { OnOk result (statements_in self.now.writer.now self.now.reader.now statements.new.items
+            ≡ statements_in self.now.writer.now self.now.reader.now statements.old.items
             ++ read_code self.now.writer.now self.now.reader.now route) }
         ensures known { AreKnown self.now.writer.now self.now.reader.now known.new }
     {
         match route.partner {
-            Some(partner) => self.write(known, route.node, partner.node, lines),
-            None => self.skip(route.node, lines),
+            Some(partner) => self.write(known, route.node, partner.node, statements),
+            None => self.skip(route.node, statements),
         }
     }
 
-    /// Adds the lines of the writer's fields.
+    /// Adds the statements of the writer's fields.
     fn put_fields(
         &self,
         known: &mut Known,
         routes: &[Route],
-        lines: &mut Vec<Line>,
+        statements: &mut Vec<Statement>,
     ) -> Result<(), AllocError>
         requires routes { AreRoutes (length self.now.writer.now) (length self.now.reader.now) MOST_FIELDS routes.now }
         requires known { AreKnown self.now.writer.now self.now.reader.now known.old }
-        ensures lines { OnOk result (lines_in self.now.writer.now self.now.reader.now lines.new.items
-            ≡ lines_in self.now.writer.now self.now.reader.now lines.old.items
+        ensures statements { OnOk result (statements_in self.now.writer.now self.now.reader.now statements.new.items
+            ≡ statements_in self.now.writer.now self.now.reader.now statements.old.items
             ++ fields_code self.now.writer.now self.now.reader.now routes.now) }
         ensures known { AreKnown self.now.writer.now self.now.reader.now known.new }
     {
         for field in 0..routes.len() {
-            put_slot(lines, routes, field)?;
-            self.read_field(known, routes[field], lines)?;
+            put_slot(statements, routes, field)?;
+            self.read_field(known, routes[field], statements)?;
         }
         Ok(())
     }
 
-    /// Adds the lines that skip a record's fields.
-    fn skip_fields(&self, fields: &[Field], lines: &mut Vec<Line>) -> Result<(), AllocError>
+    /// Adds the statements that skip a record's fields.
+    fn skip_fields(
+        &self,
+        fields: &[Field],
+        statements: &mut Vec<Statement>,
+    ) -> Result<(), AllocError>
         requires { FieldsBelow (length self.now.writer.now) (fields_of fields.now) }
-        ensures { OnOk result (lines_in self.now.writer.now self.now.reader.now lines.new.items
-            ≡ lines_in self.now.writer.now self.now.reader.now lines.old.items
+        ensures { OnOk result (statements_in self.now.writer.now self.now.reader.now statements.new.items
+            ≡ statements_in self.now.writer.now self.now.reader.now statements.old.items
             ++ skip_fields self.now.writer.now (fields_of fields.now)) }
     {
         for field in fields {
-            self.skip(field.node, lines)?;
+            self.skip(field.node, statements)?;
         }
         Ok(())
     }
 
-    /// Adds the lines of the routine of two records whose fields go together so.
+    /// Adds the statements of the routine of two records whose fields go together so.
     fn put_routes(
         &self,
         known: &mut Known,
         routes: &[Route],
         rn: usize,
         rs: &[Field],
-        lines: &mut Vec<Line>,
+        statements: &mut Vec<Statement>,
     ) -> Result<(), AllocError>
         requires routes { AreRoutes (length self.now.writer.now) (length self.now.reader.now) MOST_FIELDS routes.now }
         requires few { length rs.now ≤ MOST_FIELDS }
         requires fields { fields_of_record (slice_get self.now.reader.now rn) ≡ fields_of rs.now }
         requires known { AreKnown self.now.writer.now self.now.reader.now known.old }
-        ensures lines { OnOk result (lines_in self.now.writer.now self.now.reader.now lines.new.items
-            ≡ lines_in self.now.writer.now self.now.reader.now lines.old.items
-            ++ routine_lines (length rs.now) (fields_code self.now.writer.now self.now.reader.now routes.now)
+        ensures statements { OnOk result (statements_in self.now.writer.now self.now.reader.now statements.new.items
+            ≡ statements_in self.now.writer.now self.now.reader.now statements.old.items
+            ++ routine_statements (length rs.now) (fields_code self.now.writer.now self.now.reader.now routes.now)
             (defaults_code routes.now 0 (fields_of rs.now))) }
         ensures known { AreKnown self.now.writer.now self.now.reader.now known.new }
     {
@@ -174,22 +178,22 @@ impl SchemaPair<'_> {
         self.put_fields(known, routes, &mut fields)?;
         let mut defaults = Vec::new(self.alloc);
         self.put_defaults(rn, routes, rs, &mut defaults)?;
-        put_routine(lines, rs.len() as u32, fields, defaults)
+        put_routine(statements, rs.len() as u32, fields, defaults)
     }
 
-    /// Adds the lines of the routine of two records.
+    /// Adds the statements of the routine of two records.
     fn put_routine(
         &self,
         known: &mut Known,
         wn: usize,
         rn: usize,
-        lines: &mut Vec<Line>,
+        statements: &mut Vec<Statement>,
     ) -> Result<(), AllocError>
         requires writer { wn < length self.now.writer.now }
         requires reader { rn < length self.now.reader.now }
         requires known { AreKnown self.now.writer.now self.now.reader.now known.old }
-        ensures lines { OnOk result (lines_in self.now.writer.now self.now.reader.now lines.new.items
-            ≡ lines_in self.now.writer.now self.now.reader.now lines.old.items
+        ensures statements { OnOk result (statements_in self.now.writer.now self.now.reader.now statements.new.items
+            ≡ statements_in self.now.writer.now self.now.reader.now statements.old.items
             ++ given (field_lists (slice_get self.now.writer.now wn) (slice_get self.now.reader.now rn)) (Lost ∷ [])
             (λ p. write_routine self.now.writer.now self.now.reader.now p.0 p.1)) }
         ensures known { AreKnown self.now.writer.now self.now.reader.now known.new }
@@ -197,38 +201,38 @@ impl SchemaPair<'_> {
         self.writer.is_well_formed(); // law
         self.reader.is_well_formed(); // law
         let Some((ws, rs)) = field_lists(self.writer, wn, self.reader, rn) else {
-            return put(lines, Line::Lost);
+            return put(statements, Statement::Lost);
         };
         let routes = routes(self.alloc, ws, rs)?;
-        self.put_routes(known, &routes, rn, rs, lines)
+        self.put_routes(known, &routes, rn, rs, statements)
     }
 
-    /// Adds the lines of the routine that skips a record.
-    fn put_skip_routine(&self, wn: usize, lines: &mut Vec<Line>) -> Result<(), AllocError>
+    /// Adds the statements of the routine that skips a record.
+    fn put_skip_routine(&self, wn: usize, statements: &mut Vec<Statement>) -> Result<(), AllocError>
         requires { wn < length self.now.writer.now }
-        ensures { OnOk result (lines_in self.now.writer.now self.now.reader.now lines.new.items
-            ≡ lines_in self.now.writer.now self.now.reader.now lines.old.items
+        ensures { OnOk result (statements_in self.now.writer.now self.now.reader.now statements.new.items
+            ≡ statements_in self.now.writer.now self.now.reader.now statements.old.items
             ++ skip_routine self.now.writer.now (slice_get self.now.writer.now wn)) }
     {
         let Kind::Record { fields, .. } = self.writer.kind(wn) else {
-            return put(lines, Line::Lost);
+            return put(statements, Statement::Lost);
         };
-        put(lines, Line::Op(Instr::Enter))?;
-        self.skip_fields(fields, lines)?;
-        put(lines, Line::Op(Instr::Leave))?;
-        put(lines, Line::Op(Instr::Return))
+        put(statements, Statement::Op(Instr::Enter))?;
+        self.skip_fields(fields, statements)?;
+        put(statements, Statement::Op(Instr::Leave))?;
+        put(statements, Statement::Op(Instr::Return))
     }
 
-    /// Adds the lines of a section.
+    /// Adds the statements of a section.
     fn put_section(
         &self,
         known: &mut Known,
         part: Section,
-        lines: &mut Vec<Line>,
+        statements: &mut Vec<Statement>,
     ) -> Result<(), AllocError>
         requires known { AreKnown self.now.writer.now self.now.reader.now known.old }
-        ensures lines { OnOk result (lines_in self.now.writer.now self.now.reader.now lines.new.items
-            ≡ lines_in self.now.writer.now self.now.reader.now lines.old.items
+        ensures statements { OnOk result (statements_in self.now.writer.now self.now.reader.now statements.new.items
+            ≡ statements_in self.now.writer.now self.now.reader.now statements.old.items
             ++ section self.now.writer.now self.now.reader.now (section_of part)) }
         ensures known { AreKnown self.now.writer.now self.now.reader.now known.new }
     {
@@ -236,37 +240,41 @@ impl SchemaPair<'_> {
         self.reader.is_well_formed(); // law
         match part {
             Section::Main => {
-                self.write(known, 0, 0, lines)?;
-                put(lines, Line::Op(Instr::Halt))
+                self.write(known, 0, 0, statements)?;
+                put(statements, Statement::Op(Instr::Halt))
             }
             Section::Write(wn, rn) => {
                 if wn >= self.writer.len() {
-                    return put(lines, Line::Lost);
+                    return put(statements, Statement::Lost);
                 }
                 if rn >= self.reader.len() {
-                    return put(lines, Line::Lost);
+                    return put(statements, Statement::Lost);
                 }
-                self.put_routine(known, wn, rn, lines)
+                self.put_routine(known, wn, rn, statements)
             }
             Section::Skip(wn) => {
                 if wn >= self.writer.len() {
-                    return put(lines, Line::Lost);
+                    return put(statements, Statement::Lost);
                 }
-                self.put_skip_routine(wn, lines)
+                self.put_skip_routine(wn, statements)
             }
         }
     }
 
-    /// The lines of a section.
-    pub(crate) fn section(&self, known: &mut Known, part: Section) -> Result<Vec<Line>, AllocError>
+    /// The statements of a section.
+    pub(crate) fn section(
+        &self,
+        known: &mut Known,
+        part: Section,
+    ) -> Result<Vec<Statement>, AllocError>
         requires { AreKnown self.now.writer.now self.now.reader.now known.old }
-        ensures lines { IfOk result
-            (λ v. lines_in self.now.writer.now self.now.reader.now v.items
+        ensures statements { IfOk result
+            (λ v. statements_in self.now.writer.now self.now.reader.now v.items
             ≡ section self.now.writer.now self.now.reader.now (section_of part)) }
         ensures known { AreKnown self.now.writer.now self.now.reader.now known.new }
     {
-        let mut lines = Vec::new(self.alloc);
-        self.put_section(known, part, &mut lines)?;
-        Ok(lines)
+        let mut statements = Vec::new(self.alloc);
+        self.put_section(known, part, &mut statements)?;
+        Ok(statements)
     }
 }

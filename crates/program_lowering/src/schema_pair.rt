@@ -1,9 +1,9 @@
-//! A pair of schemas whose lines are made.
+//! A pair of schemas whose statements are made.
 
 use avro_types::Nodes;
 use std::alloc::Global;
 
-/// A pair of schemas whose lines are made, and where these are kept.
+/// A pair of schemas whose statements are made, and where these are kept.
 #[derive(Clone, Copy)]
 pub(crate) struct SchemaPair<'a> {
     pub(crate) alloc: Global,

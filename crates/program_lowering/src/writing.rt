@@ -1,4 +1,4 @@
-//! The lines that write a pair of nodes.
+//! The statements that write a pair of nodes.
 
 ghost use Rattle.std.specs.Prelude.{◌≡◌, ◌++◌, ◌∷◌, ◌<◌, [], List, if◌then◌else◌, length, map, slice_get, IfOk, IfSome, OnOk};
 ghost use Rattle.std.specs.List.{AllByRecursion};
@@ -7,122 +7,128 @@ ghost use Rattle.outcome.specs.declared.mismatch.MismatchKind.TheVariants as kin
 ghost use Rattle.isa.specs.declared.instr.Instr.TheVariants as op;
 ghost use Rattle.resolver_matching.specs.Matching.{ArePair, place};
 ghost use Rattle.resolver_matching.specs.Options.{given};
-ghost use Rattle.program_definition.specs.Lines.{BytesText, Lost, Op, looped, miss};
+ghost use Rattle.program_definition.specs.Statements.{BytesText, Lost, Op, looped, miss};
 ghost use Rattle.program_definition.specs.Writing.{X, is_text, placed_node, record_code, straight_node, write_within};
 ghost use Rattle.resolver.specs.Resolution.{field_lists, lacking};
 ghost use Rattle.program_lowering.specs.Known.{AreKnown};
-ghost use Rattle.program_ir.specs.Lines.{lines_in, parts_in};
+ghost use Rattle.program_ir.specs.Statements.{statements_in, parts_in};
 
 use crate::known::Known;
 use crate::schema_pair::SchemaPair;
 use avro_types::Kind;
 use isa::Instr;
 use outcome::MismatchKind;
-use program_ir::{Constant, Go, Line, miss, put, put_branched, put_loop, put_record};
+use program_ir::{Constant, Go, Statement, miss, put, put_branched, put_loop, put_record};
 use resolver::field_lists;
 use resolver_matching::{Destination, both_items, both_values};
 use std::alloc::AllocError;
 
 impl SchemaPair<'_> {
-    /// Adds the line that writes bytes, which have to be UTF-8 where the reader has a string.
-    fn put_bytes(&self, wn: usize, rn: usize, lines: &mut Vec<Line>) -> Result<(), AllocError>
+    /// Adds the statement that writes bytes, which have to be UTF-8 where the reader has a string.
+    fn put_bytes(
+        &self,
+        wn: usize,
+        rn: usize,
+        statements: &mut Vec<Statement>,
+    ) -> Result<(), AllocError>
         requires { rn < length self.now.reader.now }
-        ensures { OnOk result ((W R : List Node) → lines_in W R lines.new.items ≡ lines_in W R lines.old.items
+        ensures { OnOk result
+            ((W R : List Node) → statements_in W R statements.new.items ≡ statements_in W R statements.old.items
             ++ (if is_text (slice_get self.now.reader.now rn)
             then BytesText (miss kinds.BytesNotText wn rn) else Op op.Bytes) ∷ []) }
     {
         match self.reader.kind(rn) {
             Kind::Text => put(
-                lines,
-                Line::BytesText(miss(MismatchKind::BytesNotText, wn, rn)),
+                statements,
+                Statement::BytesText(miss(MismatchKind::BytesNotText, wn, rn)),
             ),
-            _ => put(lines, Line::Op(Instr::Bytes)),
+            _ => put(statements, Statement::Op(Instr::Bytes)),
         }
     }
 
-    /// Adds the lines that write a record: a call, or a miss where a default is missing.
+    /// Adds the statements that write a record: a call, or a miss where a default is missing.
     fn record(
         &self,
         known: &mut Known,
         wn: usize,
         rn: usize,
-        lines: &mut Vec<Line>,
+        statements: &mut Vec<Statement>,
     ) -> Result<(), AllocError>
         requires writer { wn < length self.now.writer.now }
         requires reader { rn < length self.now.reader.now }
         requires known { AreKnown self.now.writer.now self.now.reader.now known.old }
-        ensures lines { OnOk result (lines_in self.now.writer.now self.now.reader.now lines.new.items
-            ≡ lines_in self.now.writer.now self.now.reader.now lines.old.items
+        ensures statements { OnOk result (statements_in self.now.writer.now self.now.reader.now statements.new.items
+            ≡ statements_in self.now.writer.now self.now.reader.now statements.old.items
             ++ given (field_lists (slice_get self.now.writer.now wn) (slice_get self.now.reader.now rn)) (Lost ∷ [])
             (λ p. record_code self.now.writer.now self.now.reader.now wn rn (lacking p.0 p.1))) }
         ensures known { AreKnown self.now.writer.now self.now.reader.now known.new }
     {
         if field_lists(self.writer, wn, self.reader, rn).is_none() {
-            return put(lines, Line::Lost);
+            return put(statements, Statement::Lost);
         }
         let lacking = known.lacking_node(self, wn, rn)?;
-        put_record(lines, wn, rn, lacking)?;
+        put_record(statements, wn, rn, lacking)?;
         match lacking {
-            Some(_) => self.skip(wn, lines),
+            Some(_) => self.skip(wn, statements),
             None => Ok(()),
         }
     }
 
-    /// Adds the lines that write the items of two arrays.
+    /// Adds the statements that write the items of two arrays.
     #[cycle(write)]
     fn items(
         &self,
         known: &mut Known,
         parts: Option<(usize, usize)>,
         steps: usize,
-        lines: &mut Vec<Line>,
+        statements: &mut Vec<Statement>,
     ) -> Result<(), AllocError>
         requires parts { IfSome parts (ArePair self.now.writer.now self.now.reader.now) }
         requires known { AreKnown self.now.writer.now self.now.reader.now known.old }
-        ensures lines { OnOk result (lines_in self.now.writer.now self.now.reader.now lines.new.items
-            ≡ lines_in self.now.writer.now self.now.reader.now lines.old.items
+        ensures statements { OnOk result (statements_in self.now.writer.now self.now.reader.now statements.new.items
+            ≡ statements_in self.now.writer.now self.now.reader.now statements.old.items
             ++ given parts (Lost ∷ [])
             (λ p. Op op.Blocks ∷ looped op.Next (write_within self.now.writer.now self.now.reader.now steps p.0 p.1))) }
         ensures known { AreKnown self.now.writer.now self.now.reader.now known.new }
     {
         let Some((wn, rn)) = parts else {
-            return put(lines, Line::Lost);
+            return put(statements, Statement::Lost);
         };
         let mut body = Vec::new(self.alloc);
         self.write_within(known, wn, rn, steps, &mut body)?;
-        put(lines, Line::Op(Instr::Blocks))?;
-        put_loop(lines, Go::Next, body)
+        put(statements, Statement::Op(Instr::Blocks))?;
+        put_loop(statements, Go::Next, body)
     }
 
-    /// Adds the lines that write the values of two maps, after their keys.
+    /// Adds the statements that write the values of two maps, after their keys.
     #[cycle(write)]
     fn values(
         &self,
         known: &mut Known,
         parts: Option<(usize, usize)>,
         steps: usize,
-        lines: &mut Vec<Line>,
+        statements: &mut Vec<Statement>,
     ) -> Result<(), AllocError>
         requires parts { IfSome parts (ArePair self.now.writer.now self.now.reader.now) }
         requires known { AreKnown self.now.writer.now self.now.reader.now known.old }
-        ensures lines { OnOk result (lines_in self.now.writer.now self.now.reader.now lines.new.items
-            ≡ lines_in self.now.writer.now self.now.reader.now lines.old.items
+        ensures statements { OnOk result (statements_in self.now.writer.now self.now.reader.now statements.new.items
+            ≡ statements_in self.now.writer.now self.now.reader.now statements.old.items
             ++ given parts (Lost ∷ [])
             (λ p. Op op.Blocks
             ∷ looped op.Next (Op op.Text ∷ write_within self.now.writer.now self.now.reader.now steps p.0 p.1))) }
         ensures known { AreKnown self.now.writer.now self.now.reader.now known.new }
     {
         let Some((wn, rn)) = parts else {
-            return put(lines, Line::Lost);
+            return put(statements, Statement::Lost);
         };
         let mut body = Vec::new(self.alloc);
-        put(&mut body, Line::Op(Instr::Text))?;
+        put(&mut body, Statement::Op(Instr::Text))?;
         self.write_within(known, wn, rn, steps, &mut body)?;
-        put(lines, Line::Op(Instr::Blocks))?;
-        put_loop(lines, Go::Next, body)
+        put(statements, Statement::Op(Instr::Blocks))?;
+        put_loop(statements, Go::Next, body)
     }
 
-    /// Adds the lines that write nodes that match, neither a union.
+    /// Adds the statements that write nodes that match, neither a union.
     #[cycle(write)]
     fn straight(
         &self,
@@ -130,13 +136,13 @@ impl SchemaPair<'_> {
         wn: usize,
         rn: usize,
         steps: usize,
-        lines: &mut Vec<Line>,
+        statements: &mut Vec<Statement>,
     ) -> Result<(), AllocError>
         requires writer { wn < length self.now.writer.now }
         requires reader { rn < length self.now.reader.now }
         requires known { AreKnown self.now.writer.now self.now.reader.now known.old }
-        ensures lines { OnOk result (lines_in self.now.writer.now self.now.reader.now lines.new.items
-            ≡ lines_in self.now.writer.now self.now.reader.now lines.old.items
+        ensures statements { OnOk result (statements_in self.now.writer.now self.now.reader.now statements.new.items
+            ≡ statements_in self.now.writer.now self.now.reader.now statements.old.items
             ++ straight_node self.now.writer.now self.now.reader.now
             (write_within self.now.writer.now self.now.reader.now steps) wn rn
             (slice_get self.now.writer.now wn) (slice_get self.now.reader.now rn)) }
@@ -144,15 +150,15 @@ impl SchemaPair<'_> {
     {
         match self.writer.kind(wn) {
             Kind::Null => Ok(()),
-            Kind::Boolean => put(lines, Line::Op(Instr::Bool)),
-            Kind::Int => put(lines, Line::Op(Instr::Int)),
-            Kind::Long => put(lines, Line::Op(Instr::Long)),
-            Kind::Bytes => self.put_bytes(wn, rn, lines),
-            Kind::Text => put(lines, Line::Op(Instr::Text)),
-            Kind::Fixed { size, .. } => put(lines, Line::Op(Instr::Fixed(*size as u32))),
+            Kind::Boolean => put(statements, Statement::Op(Instr::Bool)),
+            Kind::Int => put(statements, Statement::Op(Instr::Int)),
+            Kind::Long => put(statements, Statement::Op(Instr::Long)),
+            Kind::Bytes => self.put_bytes(wn, rn, statements),
+            Kind::Text => put(statements, Statement::Op(Instr::Text)),
+            Kind::Fixed { size, .. } => put(statements, Statement::Op(Instr::Fixed(*size as u32))),
             Kind::Enum { .. } => put(
-                lines,
-                Line::Enum {
+                statements,
+                Statement::Enum {
                     writer: wn,
                     reader: rn,
                 },
@@ -161,20 +167,20 @@ impl SchemaPair<'_> {
                 known,
                 both_items(self.writer, wn, self.reader, rn),
                 steps,
-                lines,
+                statements,
             ),
             Kind::Map(_) => self.values(
                 known,
                 both_values(self.writer, wn, self.reader, rn),
                 steps,
-                lines,
+                statements,
             ),
-            Kind::Union(_) => put(lines, Line::Lost),
-            Kind::Record { .. } => self.record(known, wn, rn, lines),
+            Kind::Union(_) => put(statements, Statement::Lost),
+            Kind::Record { .. } => self.record(known, wn, rn, statements),
         }
     }
 
-    /// Adds the lines that write nodes, no union of the writer's.
+    /// Adds the statements that write nodes, no union of the writer's.
     #[cycle(write)]
     fn placed(
         &self,
@@ -182,36 +188,42 @@ impl SchemaPair<'_> {
         wn: usize,
         rn: usize,
         steps: usize,
-        lines: &mut Vec<Line>,
+        statements: &mut Vec<Statement>,
     ) -> Result<(), AllocError>
         requires writer { wn < length self.now.writer.now }
         requires reader { rn < length self.now.reader.now }
         requires known { AreKnown self.now.writer.now self.now.reader.now known.old }
-        ensures lines { OnOk result (lines_in self.now.writer.now self.now.reader.now lines.new.items
-            ≡ lines_in self.now.writer.now self.now.reader.now lines.old.items
+        ensures statements { OnOk result (statements_in self.now.writer.now self.now.reader.now statements.new.items
+            ≡ statements_in self.now.writer.now self.now.reader.now statements.old.items
             ++ placed_node self.now.writer.now self.now.reader.now
             (write_within self.now.writer.now self.now.reader.now steps) wn rn
             (place self.now.writer.now self.now.reader.now wn rn)) }
         ensures known { AreKnown self.now.writer.now self.now.reader.now known.new }
     {
         match known.place_of(self, wn, rn)? {
-            Destination::Straight => self.straight(known, wn, rn, steps, lines),
+            Destination::Straight => self.straight(known, wn, rn, steps, statements),
             Destination::IntoMember { position, node } => {
-                put(lines, Line::Put(Constant::Position(position)))?;
-                self.straight(known, wn, node, steps, lines)
+                put(statements, Statement::Put(Constant::Position(position)))?;
+                self.straight(known, wn, node, steps, statements)
             }
             Destination::Nowhere => {
-                put(lines, Line::Miss(miss(MismatchKind::NoBranch, wn, rn)))?;
-                self.skip(wn, lines)
+                put(
+                    statements,
+                    Statement::Miss(miss(MismatchKind::NoBranch, wn, rn)),
+                )?;
+                self.skip(wn, statements)
             }
             Destination::Unmatched => {
-                put(lines, Line::Miss(miss(MismatchKind::NoMatch, wn, rn)))?;
-                self.skip(wn, lines)
+                put(
+                    statements,
+                    Statement::Miss(miss(MismatchKind::NoMatch, wn, rn)),
+                )?;
+                self.skip(wn, statements)
             }
         }
     }
 
-    /// Adds the lines that write a pair of nodes, of so many levels. A writer's union goes first.
+    /// Adds the statements that write a pair of nodes, of so many levels. A writer's union goes first.
     #[cycle(write)]
     fn write_within(
         &self,
@@ -219,29 +231,29 @@ impl SchemaPair<'_> {
         wn: usize,
         rn: usize,
         levels: usize,
-        lines: &mut Vec<Line>,
+        statements: &mut Vec<Statement>,
     ) -> Result<(), AllocError>
         requires writer { wn < length self.now.writer.now }
         requires reader { rn < length self.now.reader.now }
         requires known { AreKnown self.now.writer.now self.now.reader.now known.old }
-        ensures lines { OnOk result (lines_in self.now.writer.now self.now.reader.now lines.new.items
-            ≡ lines_in self.now.writer.now self.now.reader.now lines.old.items
+        ensures statements { OnOk result (statements_in self.now.writer.now self.now.reader.now statements.new.items
+            ≡ statements_in self.now.writer.now self.now.reader.now statements.old.items
             ++ write_within self.now.writer.now self.now.reader.now levels wn rn) }
         ensures known { AreKnown self.now.writer.now self.now.reader.now known.new }
     {
         if levels == 0 {
-            return put(lines, Line::Lost);
+            return put(statements, Statement::Lost);
         }
         match self.writer.kind(wn) {
             Kind::Union(members) => {
                 let parts = self.write_members(known, members, rn, levels - 1)?;
-                put_branched(self.alloc, lines, parts)
+                put_branched(self.alloc, statements, parts)
             }
-            _ => self.placed(known, wn, rn, levels - 1, lines),
+            _ => self.placed(known, wn, rn, levels - 1, statements),
         }
     }
 
-    /// The lines that write each of these members.
+    /// The statements that write each of these members.
     #[cycle(write)]
     fn write_members(
         &self,
@@ -249,7 +261,7 @@ impl SchemaPair<'_> {
         members: &[usize],
         rn: usize,
         steps: usize,
-    ) -> Result<Vec<Vec<Line>>, AllocError>
+    ) -> Result<Vec<Vec<Statement>>, AllocError>
         requires members { AllByRecursion (λ m. m < length self.now.writer.now) members.now }
         requires reader { rn < length self.now.reader.now }
         requires known { AreKnown self.now.writer.now self.now.reader.now known.old }
@@ -266,23 +278,29 @@ impl SchemaPair<'_> {
         Ok(parts)
     }
 
-    /// Adds the lines that write a pair of nodes.
+    /// Adds the statements that write a pair of nodes.
     pub(crate) fn write(
         &self,
         known: &mut Known,
-        wn: usize,
-        rn: usize,
-        lines: &mut Vec<Line>,
+        writer_node: usize,
+        reader_node: usize,
+        statements: &mut Vec<Statement>,
     ) -> Result<(), AllocError>
-        requires writer { wn < length self.now.writer.now }
-        requires reader { rn < length self.now.reader.now }
+        requires writer { writer_node < length self.now.writer.now }
+        requires reader { reader_node < length self.now.reader.now }
         requires known { AreKnown self.now.writer.now self.now.reader.now known.old }
-        ensures lines { OnOk result (lines_in self.now.writer.now self.now.reader.now lines.new.items
-            ≡ lines_in self.now.writer.now self.now.reader.now lines.old.items
-            ++ X self.now.writer.now self.now.reader.now wn rn) }
+        ensures statements { OnOk result (statements_in self.now.writer.now self.now.reader.now statements.new.items
+            ≡ statements_in self.now.writer.now self.now.reader.now statements.old.items
+            ++ X self.now.writer.now self.now.reader.now writer_node reader_node) }
         ensures known { AreKnown self.now.writer.now self.now.reader.now known.new }
     {
         self.writer.is_well_formed(); // law
-        self.write_within(known, wn, rn, self.writer.len() + 1, lines)
+        self.write_within(
+            known,
+            writer_node,
+            reader_node,
+            self.writer.len() + 1,
+            statements,
+        )
     }
 }

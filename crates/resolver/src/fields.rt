@@ -14,20 +14,21 @@ use std::alloc::{AllocError, Global};
 
 /// The fields of two records.
 pub fn field_lists<'a, 'b>(
-    w: &'a Nodes,
-    wn: usize,
-    r: &'b Nodes,
-    rn: usize,
+    writer: &'a Nodes,
+    writer_node: usize,
+    reader: &'b Nodes,
+    reader_node: usize,
 ) -> Option<(&'a [Field], &'b [Field])>
-    requires writer { wn < length w.now }
-    requires reader { rn < length r.now }
-    ensures lists { option_map both_lists result ≡ field_lists (slice_get w.now wn) (slice_get r.now rn) }
-    ensures writer { IfSome result (λ p. AreFields (length w.now) (fields_of p.0.now)) }
-    ensures reader { IfSome result (λ p. AreFields (length r.now) (fields_of p.1.now)) }
+    requires writer { writer_node < length writer.now }
+    requires reader { reader_node < length reader.now }
+    ensures lists { option_map both_lists result
+        ≡ field_lists (slice_get writer.now writer_node) (slice_get reader.now reader_node) }
+    ensures writer { IfSome result (λ p. AreFields (length writer.now) (fields_of p.0.now)) }
+    ensures reader { IfSome result (λ p. AreFields (length reader.now) (fields_of p.1.now)) }
 {
-    w.is_well_formed(); // law
-    r.is_well_formed(); // law
-    match (w.kind(wn), r.kind(rn)) {
+    writer.is_well_formed(); // law
+    reader.is_well_formed(); // law
+    match (writer.kind(writer_node), reader.kind(reader_node)) {
         (Kind::Record { fields: ws, .. }, Kind::Record { fields: rs, .. }) => {
             Some((ws.as_slice(), rs.as_slice()))
         }
@@ -56,12 +57,13 @@ fn have_partners(alloc: Global, routes: &[Route], rs: &[Field]) -> Result<Vec<bo
 pub fn first_lacking<'a>(
     alloc: Global,
     routes: &[Route],
-    rs: &'a [Field],
+    reader_fields: &'a [Field],
 ) -> Result<Option<&'a Field>, AllocError>
-    ensures { IfOk result (λ o. option_map (λ g. field_of g.now) o ≡ lacking_from routes.now 0 (fields_of rs.now)) }
+    ensures { IfOk result
+        (λ o. option_map (λ g. field_of g.now) o ≡ lacking_from routes.now 0 (fields_of reader_fields.now)) }
 {
-    let marks = have_partners(alloc, routes, rs)?;
-    for (position, field) in rs.iter().enumerate() {
+    let marks = have_partners(alloc, routes, reader_fields)?;
+    for (position, field) in reader_fields.iter().enumerate() {
         if !marks[position] && field.default.is_none() {
             return Ok(Some(field));
         }

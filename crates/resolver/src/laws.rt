@@ -10,20 +10,20 @@ ghost use Rattle.resolver.specs.Conforming.{AnswersAreSpelled, ResolutionIsWhole
 use avro_types::Nodes;
 
 /// The law that what comes of a writer's datum is a datum of the reader's node, whole and in range.
-pub fn resolution_is_whole(w: &Nodes, r: &Nodes)
-    ensures { ResolutionIsWhole w.now r.now }
+pub fn resolution_is_whole(writer: &Nodes, reader: &Nodes)
+    ensures { ResolutionIsWhole writer.now reader.now }
 {
-    r.is_well_formed(); // law
-    r.defaults_conform(); // law
+    reader.is_well_formed(); // law
+    reader.defaults_conform(); // law
 }
 
 /// The law that an answer spells, by the reader's schema, what comes of the payload's datum.
-pub fn answer_is_spelled(w: &Nodes, r: &Nodes)
-    ensures { AnswersAreSpelled w.now r.now }
+pub fn answer_is_spelled(writer: &Nodes, reader: &Nodes)
+    ensures { AnswersAreSpelled writer.now reader.now }
 {
-    r.is_well_formed(); // law
-    r.defaults_are_short(); // law
-    resolution_is_whole(w, r); // law
+    reader.is_well_formed(); // law
+    reader.defaults_are_short(); // law
+    resolution_is_whole(writer, reader); // law
     avro_datum::spelled_datum_conforms(); // law
     avro_datum::written_form_is_the_shortest_spelling(); // law
 }

@@ -11,22 +11,22 @@ use avro_types::{Datum, Kind, Nodes};
 use outcome::MismatchKind;
 
 /// An int for a reader's node: a long where that is one.
-pub(crate) fn int_for(r: &Nodes, rn: usize, n: i32) -> Datum
-    requires { rn < length r.now }
-    ensures { datum_of result ≡ int_for (slice_get r.now rn) (IntDatum n) }
+pub(crate) fn int_for(reader: &Nodes, reader_node: usize, number: i32) -> Datum
+    requires { reader_node < length reader.now }
+    ensures { datum_of result ≡ int_for (slice_get reader.now reader_node) (IntDatum number) }
 {
-    match r.kind(rn) {
-        Kind::Long => Datum::Long(i64::from(n)),
-        _ => Datum::Int(n),
+    match reader.kind(reader_node) {
+        Kind::Long => Datum::Long(i64::from(number)),
+        _ => Datum::Int(number),
     }
 }
 
 /// A string for a reader's node: bytes where that is bytes.
-pub(crate) fn text_for(r: &Nodes, rn: usize, text: String) -> Datum
-    requires { rn < length r.now }
-    ensures { datum_of result ≡ text_for (slice_get r.now rn) (string_bytes text) }
+pub(crate) fn text_for(reader: &Nodes, reader_node: usize, text: String) -> Datum
+    requires { reader_node < length reader.now }
+    ensures { datum_of result ≡ text_for (slice_get reader.now reader_node) (string_bytes text) }
 {
-    match r.kind(rn) {
+    match reader.kind(reader_node) {
         Kind::Bytes => Datum::Bytes(text.into_bytes()),
         _ => Datum::Text(text),
     }
@@ -35,18 +35,19 @@ pub(crate) fn text_for(r: &Nodes, rn: usize, text: String) -> Datum
 /// Bytes for a reader's node: a string where that is one and they are UTF-8.
 #[tactic(auto, using(crate::proofs::Texts::is_text, crate::proofs::Texts::is_no_text))]
 pub(crate) fn bytes_for(
-    wn: usize,
-    r: &Nodes,
-    rn: usize,
+    writer_node: usize,
+    reader: &Nodes,
+    reader_node: usize,
     bytes: Vec<u8>,
 ) -> Result<Datum, ResolveError>
-    requires { rn < length r.now }
-    ensures { Resolves datum_of result (bytes_for (slice_get r.now rn) wn rn bytes.items) }
+    requires { reader_node < length reader.now }
+    ensures { Resolves datum_of result
+        (bytes_for (slice_get reader.now reader_node) writer_node reader_node bytes.items) }
 {
-    match r.kind(rn) {
+    match reader.kind(reader_node) {
         Kind::Text => match String::from_utf8(bytes) {
             Ok(text) => Ok(Datum::Text(text)),
-            Err(_) => Err(mismatched(MismatchKind::BytesNotText, wn, rn)),
+            Err(_) => Err(mismatched(MismatchKind::BytesNotText, writer_node, reader_node)),
         },
         _ => Ok(Datum::Bytes(bytes)),
     }
@@ -55,21 +56,21 @@ pub(crate) fn bytes_for(
 /// A writer's symbol for a reader's enum.
 #[tactic(auto, unfolding(crate::specs::Steps::inside))]
 pub(crate) fn enum_for(
-    w: &Nodes,
-    wn: usize,
-    r: &Nodes,
-    rn: usize,
+    writer: &Nodes,
+    writer_node: usize,
+    reader: &Nodes,
+    reader_node: usize,
     position: u32,
 ) -> Result<Datum, ResolveError>
-    requires writer { wn < length w.now }
-    requires reader { rn < length r.now }
-    ensures { Resolves datum_of result (inside w.now r.now wn rn (EnumDatum position)) }
+    requires writer { writer_node < length writer.now }
+    requires reader { reader_node < length reader.now }
+    ensures { Resolves datum_of result (inside writer.now reader.now writer_node reader_node (EnumDatum position)) }
 {
-    let Some(symbol) = symbol_at(w, wn, position) else {
-        return Err(mismatched(MismatchKind::NoMatch, wn, rn));
+    let Some(symbol) = symbol_at(writer, writer_node, position) else {
+        return Err(mismatched(MismatchKind::NoMatch, writer_node, reader_node));
     };
-    match symbol_for(r, rn, symbol) {
+    match symbol_for(reader, reader_node, symbol) {
         Some(position) => Ok(Datum::Enum(position)),
-        None => Err(mismatched(MismatchKind::NoSymbol, wn, rn)),
+        None => Err(mismatched(MismatchKind::NoSymbol, writer_node, reader_node)),
     }
 }

@@ -282,10 +282,15 @@ fn resolve_field(
 
 /// What a reader's schema makes of a datum of a writer's (Avro 1.11, "Schema Resolution"), or the first mismatch in the
 /// order of the datum, with the numbers of both nodes.
-pub fn resolve(alloc: Global, w: &Nodes, r: &Nodes, datum: Datum) -> Result<Datum, ResolveError>
-    ensures { Resolves datum_of result (resolved w.now r.now 0 0 (datum_of datum)) }
+pub fn resolve(
+    alloc: Global,
+    writer: &Nodes,
+    reader: &Nodes,
+    datum: Datum,
+) -> Result<Datum, ResolveError>
+    ensures { Resolves datum_of result (resolved writer.now reader.now 0 0 (datum_of datum)) }
 {
-    w.is_well_formed(); // law
-    r.is_well_formed(); // law
-    resolve_at(alloc, w, 0, r, 0, datum)
+    writer.is_well_formed(); // law
+    reader.is_well_formed(); // law
+    resolve_at(alloc, writer, 0, reader, 0, datum)
 }

@@ -172,21 +172,21 @@ fn add_all(pairs: &mut PairList, more: &[(usize, usize)]) -> Result<(), AllocErr
 
 /// Whether no bad pair of nodes is reached, so that each datum of the writer can be read, but for bytes that are no
 /// UTF-8.
-pub fn can_read(alloc: Global, w: &Nodes, r: &Nodes) -> Result<bool, AllocError>
-    ensures { IfOk result (λ yes. IsTrue yes ↔ IsSafe w.now r.now) }
+pub fn can_read(alloc: Global, writer: &Nodes, reader: &Nodes) -> Result<bool, AllocError>
+    ensures { IfOk result (λ yes. IsTrue yes ↔ IsSafe writer.now reader.now) }
 {
-    w.is_well_formed(); // law
-    r.is_well_formed(); // law
-    let mut pairs = PairList::new(alloc, w.len(), r.len())?;
+    writer.is_well_formed(); // law
+    reader.is_well_formed(); // law
+    let mut pairs = PairList::new(alloc, writer.len(), reader.len())?;
     pairs.add((0, 0))?;
     let mut place = 0;
     while place < pairs.len() {
         let (wn, rn) = pairs.get(place);
-        let bad = is_bad(alloc, w, wn, r, rn)?;
+        let bad = is_bad(alloc, writer, wn, reader, rn)?;
         if bad {
             return Ok(false);
         }
-        let next = next_pairs(alloc, w, wn, r, rn)?;
+        let next = next_pairs(alloc, writer, wn, reader, rn)?;
         add_all(&mut pairs, &next)?;
         place += 1;
     }

@@ -36,21 +36,21 @@ fn write_resolved(alloc: Global, resolved: &Datum) -> Result<Outcome, TranscodeE
 /// `TooLarge` where the payload passes `MOST_PAYLOAD`: then it is not read.
 pub fn transcode_tree(
     alloc: Global,
-    w: &Nodes,
-    r: &Nodes,
+    writer: &Nodes,
+    reader: &Nodes,
     payload: &[u8],
 ) -> Result<Outcome, TranscodeError>
-    ensures { Transcodes w.now r.now payload.now result }
+    ensures { Transcodes writer.now reader.now payload.now result }
 {
     if payload.len() > MOST_PAYLOAD {
         return Err(TranscodeError::TooLarge);
     }
-    let datum = match read_all(alloc, w, payload) {
+    let datum = match read_all(alloc, writer, payload) {
         Ok(datum) => datum,
         Err(PayloadError::Malformed { kind, at }) => return Ok(Outcome::Malformed { kind, at }),
         Err(PayloadError::NoMemory) => return Err(TranscodeError::NoMemory),
     };
-    match resolve(alloc, w, r, datum) {
+    match resolve(alloc, writer, reader, datum) {
         Ok(resolved) => write_resolved(alloc, &resolved),
         Err(ResolveError::Mismatch(mismatch)) => Ok(Outcome::Mismatch(mismatch)),
         Err(ResolveError::NoMemory) => Err(TranscodeError::NoMemory),

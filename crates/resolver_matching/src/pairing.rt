@@ -126,13 +126,17 @@ fn table_for(alloc: Global, ws: &[Field], rs: &[Field]) -> Result<Option<Symbols
 }
 
 /// For each of the writer's fields, the position of its partner among the reader's: by name, and then by an alias.
-pub fn partners(alloc: Global, ws: &[Field], rs: &[Field]) -> Result<Vec<Option<usize>>, AllocError>
-    ensures { IfOk result (λ v. v.items ≡ partners (fields_of ws.now) (fields_of rs.now)) }
+pub fn partners(
+    alloc: Global,
+    writer_fields: &[Field],
+    reader_fields: &[Field],
+) -> Result<Vec<Option<usize>>, AllocError>
+    ensures { IfOk result (λ v. v.items ≡ partners (fields_of writer_fields.now) (fields_of reader_fields.now)) }
 {
-    let mut partners = by_name(alloc, ws, rs)?;
-    let table = table_for(alloc, ws, rs)?;
-    for (position, field) in rs.iter().enumerate() {
-        if let Some(place) = by_alias(ws, &table, &partners, field) {
+    let mut partners = by_name(alloc, writer_fields, reader_fields)?;
+    let table = table_for(alloc, writer_fields, reader_fields)?;
+    for (position, field) in reader_fields.iter().enumerate() {
+        if let Some(place) = by_alias(writer_fields, &table, &partners, field) {
             partners[place] = Some(position);
         }
     }
@@ -167,13 +171,17 @@ fn partner_at(rs: &[Field], position: usize) -> Option<Partner>
 }
 
 /// Where each of the writer's fields goes.
-pub fn routes(alloc: Global, ws: &[Field], rs: &[Field]) -> Result<Vec<Route>, AllocError>
-    ensures { IfOk result (λ v. v.items ≡ routes (fields_of ws.now) (fields_of rs.now)) }
+pub fn routes(
+    alloc: Global,
+    writer_fields: &[Field],
+    reader_fields: &[Field],
+) -> Result<Vec<Route>, AllocError>
+    ensures { IfOk result (λ v. v.items ≡ routes (fields_of writer_fields.now) (fields_of reader_fields.now)) }
 {
-    let partners = partners(alloc, ws, rs)?;
+    let partners = partners(alloc, writer_fields, reader_fields)?;
     let mut routes = Vec::new(alloc);
-    for (field, partner) in ws.iter().zip(&partners) {
-        routes.push(route_of(rs, field, *partner))?;
+    for (field, partner) in writer_fields.iter().zip(&partners) {
+        routes.push(route_of(reader_fields, field, *partner))?;
     }
     Ok(routes)
 }

@@ -40,16 +40,21 @@ fn first_member(w: &Nodes, wn: usize, r: &Nodes, members: &[usize]) -> Destinati
 }
 
 /// Where a value of a writer's node goes with a reader's node.
-pub fn place_of(w: &Nodes, wn: usize, r: &Nodes, rn: usize) -> Destination
-    requires writer { wn < length w.now }
-    requires reader { rn < length r.now }
-    ensures place { result ≡ place w.now r.now wn rn }
-    ensures within { IsNodeOf (length r.now) result }
+pub fn place_of(
+    writer: &Nodes,
+    writer_node: usize,
+    reader: &Nodes,
+    reader_node: usize,
+) -> Destination
+    requires writer { writer_node < length writer.now }
+    requires reader { reader_node < length reader.now }
+    ensures place { result ≡ place writer.now reader.now writer_node reader_node }
+    ensures within { IsNodeOf (length reader.now) result }
 {
-    match r.kind(rn) {
-        Kind::Union(members) => first_member(w, wn, r, members),
+    match reader.kind(reader_node) {
+        Kind::Union(members) => first_member(writer, writer_node, reader, members),
         _ => {
-            if matches(w, wn, r, rn) {
+            if matches(writer, writer_node, reader, reader_node) {
                 Destination::Straight
             } else {
                 Destination::Unmatched

@@ -67,26 +67,36 @@ fn names_match(writer: &Kind, reader: &Kind) -> bool
 }
 
 /// The nodes of the items of two arrays.
-pub fn both_items(w: &Nodes, wn: usize, r: &Nodes, rn: usize) -> Option<(usize, usize)>
-    requires writer { wn < length w.now }
-    requires reader { rn < length r.now }
-    ensures nodes { result ≡ both_items (slice_get w.now wn) (slice_get r.now rn) }
-    ensures within { IfSome result (ArePair w.now r.now) }
+pub fn both_items(
+    writer: &Nodes,
+    writer_node: usize,
+    reader: &Nodes,
+    reader_node: usize,
+) -> Option<(usize, usize)>
+    requires writer { writer_node < length writer.now }
+    requires reader { reader_node < length reader.now }
+    ensures nodes { result ≡ both_items (slice_get writer.now writer_node) (slice_get reader.now reader_node) }
+    ensures within { IfSome result (ArePair writer.now reader.now) }
 {
-    match (w.kind(wn), r.kind(rn)) {
+    match (writer.kind(writer_node), reader.kind(reader_node)) {
         (Kind::Array(item), Kind::Array(other)) => Some((*item, *other)),
         _ => None,
     }
 }
 
 /// The nodes of the values of two maps.
-pub fn both_values(w: &Nodes, wn: usize, r: &Nodes, rn: usize) -> Option<(usize, usize)>
-    requires writer { wn < length w.now }
-    requires reader { rn < length r.now }
-    ensures nodes { result ≡ both_values (slice_get w.now wn) (slice_get r.now rn) }
-    ensures within { IfSome result (ArePair w.now r.now) }
+pub fn both_values(
+    writer: &Nodes,
+    writer_node: usize,
+    reader: &Nodes,
+    reader_node: usize,
+) -> Option<(usize, usize)>
+    requires writer { writer_node < length writer.now }
+    requires reader { reader_node < length reader.now }
+    ensures nodes { result ≡ both_values (slice_get writer.now writer_node) (slice_get reader.now reader_node) }
+    ensures within { IfSome result (ArePair writer.now reader.now) }
 {
-    match (w.kind(wn), r.kind(rn)) {
+    match (writer.kind(writer_node), reader.kind(reader_node)) {
         (Kind::Map(value), Kind::Map(other)) => Some((*value, *other)),
         _ => None,
     }
@@ -118,10 +128,10 @@ fn matches_within(steps: usize, w: &Nodes, wn: usize, r: &Nodes, rn: usize) -> b
 }
 
 /// Whether a writer's node and a reader's node match.
-pub fn matches(w: &Nodes, wn: usize, r: &Nodes, rn: usize) -> bool
-    requires writer { wn < length w.now }
-    requires reader { rn < length r.now }
-    ensures { result ≡ matches w.now r.now wn rn }
+pub fn matches(writer: &Nodes, writer_node: usize, reader: &Nodes, reader_node: usize) -> bool
+    requires writer { writer_node < length writer.now }
+    requires reader { reader_node < length reader.now }
+    ensures { result ≡ matches writer.now reader.now writer_node reader_node }
 {
-    matches_within(w.len(), w, wn, r, rn)
+    matches_within(writer.len(), writer, writer_node, reader, reader_node)
 }

@@ -35,9 +35,9 @@ pub(crate) fn written(datum: &Datum, out: &mut Vec<u8>) -> Result<(), WriteError
 }
 
 /// Whether a reader is safe with a writer, asked again where memory ran out the first time.
-pub(crate) fn readable(alloc: Global, w: &Nodes, r: &Nodes) -> Result<bool, AllocError> {
-    match can_read(alloc, w, r) {
-        Err(AllocError) => can_read(alloc, w, r),
+pub(crate) fn readable(alloc: Global, writer: &Nodes, reader: &Nodes) -> Result<bool, AllocError> {
+    match can_read(alloc, writer, reader) {
+        Err(AllocError) => can_read(alloc, writer, reader),
         answer => answer,
     }
 }
@@ -45,12 +45,12 @@ pub(crate) fn readable(alloc: Global, w: &Nodes, r: &Nodes) -> Result<bool, Allo
 /// An outcome, asked again where memory ran out the first time.
 pub(crate) fn outcome(
     alloc: Global,
-    w: &Nodes,
-    r: &Nodes,
+    writer: &Nodes,
+    reader: &Nodes,
     payload: &[u8],
 ) -> Result<Outcome, TranscodeError> {
-    match transcode_tree(alloc, w, r, payload) {
-        Err(TranscodeError::NoMemory) => transcode_tree(alloc, w, r, payload),
+    match transcode_tree(alloc, writer, reader, payload) {
+        Err(TranscodeError::NoMemory) => transcode_tree(alloc, writer, reader, payload),
         answer => answer,
     }
 }
@@ -71,21 +71,21 @@ fn resolved_once(
 /// The same, asked again where memory ran out the first time.
 pub(crate) fn resolved(
     alloc: Global,
-    w: &Nodes,
-    r: &Nodes,
+    writer: &Nodes,
+    reader: &Nodes,
     payload: &[u8],
 ) -> Result<Datum, ResolveError> {
-    match resolved_once(alloc, w, r, payload) {
-        Err(ResolveError::NoMemory) => resolved_once(alloc, w, r, payload),
+    match resolved_once(alloc, writer, reader, payload) {
+        Err(ResolveError::NoMemory) => resolved_once(alloc, writer, reader, payload),
         answer => answer,
     }
 }
 
 /// Whether all of a writer's fields go to the reader's of the same positions, asked again where memory ran out the
 /// first time.
-pub(crate) fn ordered(alloc: Global, w: &Nodes, r: &Nodes) -> Result<bool, AllocError> {
-    match in_order(alloc, w, r) {
-        Err(AllocError) => in_order(alloc, w, r),
+pub(crate) fn ordered(alloc: Global, writer: &Nodes, reader: &Nodes) -> Result<bool, AllocError> {
+    match in_order(alloc, writer, reader) {
+        Err(AllocError) => in_order(alloc, writer, reader),
         answer => answer,
     }
 }

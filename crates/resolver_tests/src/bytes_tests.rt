@@ -131,15 +131,15 @@ pub(crate) fn both<F: WireForm>(
     form: &F,
     bytes: &[u8],
     at: usize,
-    m: Meter,
+    meter: Meter,
 ) -> Result<String, AllocError>
 where
     F::Value: Debug + Drop,
     requires { at ≤ length bytes.now }
 {
-    let (mut read, skip) = read_and_skip(form, bytes, at, m);
+    let (mut read, skip) = read_and_skip(form, bytes, at, meter);
     if matches!(&read, Err(Fault::NoMemory)) {
-        read = form.read(bytes, at, m);
+        read = form.read(bytes, at, meter);
     }
     let as_read = match &read {
         Ok((_, to, after)) => Ok((*to, *after)),

@@ -65,11 +65,11 @@ pub(crate) fn payload_line(
 /// The outcome of a payload.
 pub(crate) fn outcome_line(
     alloc: Global,
-    w: &Nodes,
-    r: &Nodes,
+    writer: &Nodes,
+    reader: &Nodes,
     payload: &[u8],
 ) -> Result<String, AllocError> {
-    match outcome(alloc, w, r, payload) {
+    match outcome(alloc, writer, reader, payload) {
         Ok(Outcome::Done(bytes)) => hex_line(alloc, "done", &bytes),
         Ok(Outcome::Mismatch(found)) => {
             let (writer, reader) = (found.writer_node, found.reader_node);
@@ -106,11 +106,13 @@ fn are_in_order(partners: &[Option<usize>], routes: &[Route]) -> bool {
 }
 
 /// Whether two first nodes are records, and all of the writer's fields go to the reader's of the same positions.
-pub(crate) fn in_order(alloc: Global, w: &Nodes, r: &Nodes) -> Result<bool, AllocError> {
-    w.is_well_formed();
-    r.is_well_formed();
-    let (Kind::Record { fields: ws, .. }, Kind::Record { fields: rs, .. }) = (w.kind(0), r.kind(0))
-    else {
+pub(crate) fn in_order(alloc: Global, writer: &Nodes, reader: &Nodes) -> Result<bool, AllocError> {
+    writer.is_well_formed();
+    reader.is_well_formed();
+    let (Kind::Record { fields: ws, .. }, Kind::Record { fields: rs, .. }) = (
+        writer.kind(0),
+        reader.kind(0),
+    ) else {
         return Ok(false);
     };
     let partners = partners(alloc, ws, rs)?;

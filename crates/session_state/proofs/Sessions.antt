@@ -34,7 +34,7 @@ module _ (P : Program) (input : List ℕ) (ended : Bool) (breaks : List ℕ) (k 
   nothing next = refl
 
   first_is : (o : Option State) → is_counted_out s ≡ false → row_of P input ended s ≡ o → slice_from P input ended [] 1 s ≡ rest P input ended [] 0 o
-  first_is o c r = one_on P input ended [] 0 s o c (no_break (not (is_some s.part))) r
+  first_is o c r = one_on P input ended [] 0 s o c (no_break (not (is_some s.content))) r
 
   first_of : (x : Bool) (o : Option State) → is_counted_out s ≡ x → row_of P input ended s ≡ o → First
   first_of true o c r = inl (none_counted_out P input ended [] 1 s c, go_is true o c r)

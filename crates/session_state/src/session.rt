@@ -141,15 +141,15 @@ impl<'p> Session<'p> {
     }
 
     /// Takes rows: at most `k`, and none at a breakpoint at which no content is begun.
-    pub fn slice(&mut self, k: u64) -> u64
-        ensures rows { TakesRows (slice_rows k self.old) self.old result self.new }
-        ensures most { result ≤ k }
+    pub fn slice(&mut self, limit: u64) -> u64
+        ensures rows { TakesRows (slice_rows limit self.old) self.old result self.new }
+        ensures most { result ≤ limit }
     {
         if self.out_of_memory {
             return 0;
         }
         self.run.is_alone(); // law
-        let taken = take(&mut self.run, &self.breaks, k);
+        let taken = take(&mut self.run, &self.breaks, limit);
         if taken.is_short {
             self.run.is_alone(); // law
             self.out_of_memory = true;
@@ -158,15 +158,15 @@ impl<'p> Session<'p> {
     }
 
     /// Takes rows: at most `n`, whatever breakpoints are set.
-    pub fn step(&mut self, n: u64) -> u64
-        ensures rows { TakesRows (walk_rows n self.old) self.old result self.new }
-        ensures most { result ≤ n }
+    pub fn step(&mut self, limit: u64) -> u64
+        ensures rows { TakesRows (walk_rows limit self.old) self.old result self.new }
+        ensures most { result ≤ limit }
     {
         if self.out_of_memory {
             return 0;
         }
         self.run.is_alone(); // law
-        let taken = take(&mut self.run, &[], n);
+        let taken = take(&mut self.run, &[], limit);
         if taken.is_short {
             self.run.is_alone(); // law
             self.out_of_memory = true;
@@ -175,11 +175,11 @@ impl<'p> Session<'p> {
     }
 
     /// Takes rows: at most `n`, of which the first alone may be at a breakpoint at which no content is begun.
-    pub fn go(&mut self, n: u64) -> u64
-        ensures rows { TakesRows (go_rows n self.old) self.old result self.new }
-        ensures most { result ≤ n }
+    pub fn go(&mut self, limit: u64) -> u64
+        ensures rows { TakesRows (go_rows limit self.old) self.old result self.new }
+        ensures most { result ≤ limit }
     {
-        if n == 0 {
+        if limit == 0 {
             return 0;
         }
         runs_alone_are_counted_and_stay(); // law
@@ -187,7 +187,7 @@ impl<'p> Session<'p> {
         if self.step(1) == 0 {
             return 0;
         }
-        1 + self.slice(n - 1)
+        1 + self.slice(limit - 1)
     }
 
     /// The program that is run.
@@ -277,13 +277,13 @@ impl<'p> Session<'p> {
 
     /// The law that where its program is that of a pair of schemas and its machine has ended, it is with the outcome of
     /// the bytes that came, and within the row bound where they are all.
-    pub fn ends_with_the_outcome(&self, w: &Nodes, r: &Nodes)
-        requires { code_of w.now r.now ≡ Some self.now.program }
-        ensures end { EndIsOutcome w.now r.now self.now }
-        ensures early { EarlyEndIsOutcome w.now r.now self.now }
-        ensures bound { EndsWithinBound w.now r.now self.now }
+    pub fn ends_with_the_outcome(&self, writer: &Nodes, reader: &Nodes)
+        requires { code_of writer.now reader.now ≡ Some self.now.program }
+        ensures end { EndIsOutcome writer.now reader.now self.now }
+        ensures early { EarlyEndIsOutcome writer.now reader.now self.now }
+        ensures bound { EndsWithinBound writer.now reader.now self.now }
     {
         self.run.is_alone(); // law
-        self.run.ends_with_the_outcome(w, r); // law
+        self.run.ends_with_the_outcome(writer, reader); // law
     }
 }

@@ -17,11 +17,11 @@ pub(crate) struct Taken {
 }
 
 /// Takes rows of a run, at most so many, none at a breakpoint at which no content is begun.
-pub(crate) fn take(run: &mut Run, breaks: &[u32], k: u64) -> Taken
+pub(crate) fn take(run: &mut Run, breaks: &[u32], limit: u64) -> Taken
     ensures rows { MatchBool result.is_short
-        (result.rows < slice_from run.old.program run.old.input run.old.ended breaks.now k run.old.machine.state)
-        (result.rows ≡ slice_from run.old.program run.old.input run.old.ended breaks.now k run.old.machine.state) }
-    ensures most { result.rows ≤ k }
+        (result.rows < slice_from run.old.program run.old.input run.old.ended breaks.now limit run.old.machine.state)
+        (result.rows ≡ slice_from run.old.program run.old.input run.old.ended breaks.now limit run.old.machine.state) }
+    ensures most { result.rows ≤ limit }
     ensures count { run.new.machine.state.count ≡ run.old.machine.state.count + result.rows }
     ensures memory { result.is_short ≡ true → MayGrow (slice_get run.old.program.code run.new.machine.state.pc) }
     ensures goes_on { result.is_short ≡ true → GoesOn run.new.machine.state
@@ -30,7 +30,7 @@ pub(crate) fn take(run: &mut Run, breaks: &[u32], k: u64) -> Taken
 {
     runs_alone_are_counted_and_stay(); // law
     run.is_alone(); // law
-    let slice = run.slice(breaks, k);
+    let slice = run.slice(breaks, limit);
     let _counted = run.machine().count(); // read for the proof
     let is_short = matches!(slice.why, Why::NoMemory);
     Taken {

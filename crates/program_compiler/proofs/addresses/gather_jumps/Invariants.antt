@@ -1,9 +1,9 @@
--- The tables so far, before those of the lines that are left, are all of them.
+-- The tables so far, before those of the statements that are left, are all of them.
 use Rattle.std.proofs.Common.{◌≡◌, ◌++◌, drop, List}
 use Rattle.avro_types.specs.Node.{Node}
 use Rattle.program_definition.specs.Numbering.{jumps_from}
-use Rattle.program_ir.specs.Lines.{lines_in}
+use Rattle.program_ir.specs.Statements.{statements_in}
 use Rattle.program_compiler.proofs.addresses.gather_jumps.Given as goal
 
 abbrev pub invariant-loop-pc : goal.invariant-loop-pc
-invariant-loop-pc l = (W R : List Node) → l.jumps ++ jumps_from l.pc (lines_in W R (drop l.pc l.lines)) ≡ jumps_from 0 (lines_in W R l.lines)
+invariant-loop-pc l = (W R : List Node) → l.jumps ++ jumps_from l.pc (statements_in W R (drop l.pc l.statements)) ≡ jumps_from 0 (statements_in W R l.statements)

@@ -6,18 +6,18 @@ use Rattle.program_compiler.proofs.compiling.compile.Goals as goal
 
 pub returns-in-Ok-new : goal.returns-in-Ok-new
 returns-in-Ok-new c =
-    let section_lines = walked c.args.w.now c.args.r.now c.in-Ok.section_lines _ c.in-Ok.is c.walk.ensures in
-    let parts = taken_parts c.args.w.now c.args.r.now c.in-Ok.section_lines c.in-Ok-parts_of_lines.parts _ c.in-Ok-parts_of_lines.is c.parts_of_lines.ensures in
-    compiled c.args.w.now c.args.r.now c.in-Ok.section_lines section_lines _ c.in-Ok-new.program parts.0 parts.1 (sym c.in-Ok-new.is ∙ c.new.ensures.judged)
+    let section_statements = walked c.args.writer.now c.args.reader.now c.in-Ok.section_statements _ c.in-Ok.is c.walk.ensures in
+    let parts = taken_parts c.args.writer.now c.args.reader.now c.in-Ok.section_statements c.in-Ok-parts_of_statements.parts _ c.in-Ok-parts_of_statements.is c.parts_of_statements.ensures in
+    compiled c.args.writer.now c.args.reader.now c.in-Ok.section_statements section_statements _ c.in-Ok-new.program parts.0 parts.1 (sym c.in-Ok-new.is ∙ c.new.ensures.judged)
 
-pub returns-in-Ok-parts_of_lines : goal.returns-in-Ok-parts_of_lines
-returns-in-Ok-parts_of_lines c =
-    let section_lines = walked c.args.w.now c.args.r.now c.in-Ok.section_lines _ c.in-Ok.is c.walk.ensures in
-    let parts = taken_parts c.args.w.now c.args.r.now c.in-Ok.section_lines c.in-Ok-parts_of_lines.parts _ c.in-Ok-parts_of_lines.is c.parts_of_lines.ensures in
-    none_compiled c.args.w.now c.args.r.now c.in-Ok.section_lines section_lines c.program_is_in_range.ensures
+pub returns-in-Ok-parts_of_statements : goal.returns-in-Ok-parts_of_statements
+returns-in-Ok-parts_of_statements c =
+    let section_statements = walked c.args.writer.now c.args.reader.now c.in-Ok.section_statements _ c.in-Ok.is c.walk.ensures in
+    let parts = taken_parts c.args.writer.now c.args.reader.now c.in-Ok.section_statements c.in-Ok-parts_of_statements.parts _ c.in-Ok-parts_of_statements.is c.parts_of_statements.ensures in
+    none_compiled c.args.writer.now c.args.reader.now c.in-Ok.section_statements section_statements c.program_is_in_range.ensures
     (λ whole prog. refused c.in-Err-new.field-0 _ c.in-Err-new.is (c.new.ensures.exact.1 (subst IsProgram (sym parts.1) prog)))
 
 pub returns : goal.returns
 returns c =
-    let section_lines = walked c.args.w.now c.args.r.now c.in-Ok.section_lines _ c.in-Ok.is c.walk.ensures in
-    none_of_parts c.args.w.now c.args.r.now c.in-Ok.section_lines section_lines c.program_is_in_range.ensures c.in-Err-parts_of_lines.error _ c.in-Err-parts_of_lines.is c.parts_of_lines.ensures
+    let section_statements = walked c.args.writer.now c.args.reader.now c.in-Ok.section_statements _ c.in-Ok.is c.walk.ensures in
+    none_of_parts c.args.writer.now c.args.reader.now c.in-Ok.section_statements section_statements c.program_is_in_range.ensures c.in-Err-parts_of_statements.error _ c.in-Err-parts_of_statements.is c.parts_of_statements.ensures

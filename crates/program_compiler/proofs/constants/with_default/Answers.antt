@@ -2,8 +2,8 @@
 use Rattle.std.proofs.Common.{◌≡◌, ◌∷◌, ◌∙◌, [], ap, sym, refl}
 use Rattle.std.specs.Str.{bytes_eq}
 use Rattle.program_definition.specs.Numbering.{adding, number}
-use Rattle.program_ir.specs.declared.lines.Constant.TheVariants.{Default}
-use Rattle.program_ir.specs.Lines.{bytes_of}
+use Rattle.program_ir.specs.declared.statements.Constant.TheVariants.{Default}
+use Rattle.program_ir.specs.Statements.{bytes_of}
 use Rattle.program_compiler.proofs.Defaults.{default_before, defaults_on}
 use Rattle.program_compiler.proofs.Linked.{at_some}
 use Rattle.program_compiler.proofs.constants.with_default.Goals as goal

@@ -2,7 +2,7 @@
 use Rattle.std.proofs.Common.{◌≡◌, ◌∷◌, [], subst}
 use Rattle.std.specs.Str.{bytes_eq}
 use Rattle.program_definition.specs.Numbering.{number}
-use Rattle.program_ir.specs.Lines.{bytes_of as bytes_of_constant}
+use Rattle.program_ir.specs.Statements.{bytes_of as bytes_of_constant}
 use Rattle.program_compiler.specs.Parts.{Narrows}
 use Rattle.program_compiler.proofs.Linked.{at_some}
 use Rattle.program_compiler.proofs.linking.putting.Goals as goal

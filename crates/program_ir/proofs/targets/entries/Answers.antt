@@ -3,7 +3,7 @@ use Rattle.std.proofs.Common.{◌≤◌, ◌∙◌, ◌++◌, sym, ap, subst, ma
 use Rattle.std.specs.Prelude.{slice_get, string_bytes}
 use Rattle.std.proofs.Math.ListN.{drop_of_length-le}
 use Rattle.outcome.specs.declared.mismatch.MismatchKind.TheVariants as kinds
-use Rattle.program_definition.specs.Lines.{miss}
+use Rattle.program_definition.specs.Statements.{miss}
 use Rattle.program_definition.specs.Numbering.{entry_of, same_miss}
 use Rattle.program_definition.specs.Writing.{target}
 use Rattle.resolver.specs.Resolution.{symbol_for as position_of_symbol}
@@ -13,17 +13,17 @@ use Rattle.program_ir.proofs.targets.entries.Goals as goal
 
 pub overflow_cast-lacking : goal.overflow_cast-lacking
 overflow_cast-lacking c =
-    let le = subst (λ n. n ≤ length c.args.misses.now) (sym c.number_of-lacking.ensures) (number_at_most same_miss (miss kinds.NoSymbol c.args.writer c.args.reader) c.args.misses.now) in
+    let le = subst (λ n. n ≤ length c.args.misses.now) (sym c.number_of-lacking.ensures) (number_at_most same_miss (miss kinds.NoSymbol c.args.writer_node c.args.reader_node) c.args.misses.now) in
     let few = c.requires in
     omega (arith, le, few)
 
 pub loop-position-preserved : goal.loop-position-preserved
 loop-position-preserved c =
-    let reader = slice_get c.args.r.now c.args.reader in
+    let reader = slice_get c.args.reader.now c.args.reader_node in
     let G = entry_of c.args.misses.now in
-    let F = target c.args.writer c.args.reader reader in
+    let F = target c.args.writer_node c.args.reader_node reader in
     let text = ap (λ t. entry_at c.number_of-lacking.result (position_of_symbol reader t)) c.as_str.ensures.value in
-    let is = c.entry_for.ensures ∙ text ∙ entry_is c.args.misses.now c.args.writer c.args.reader reader (string_bytes c.index-symbols-position.result) c.number_of-lacking.result c.number_of-lacking.ensures in
+    let is = c.entry_for.ensures ∙ text ∙ entry_is c.args.misses.now c.args.writer_node c.args.reader_node reader (string_bytes c.index-symbols-position.result) c.number_of-lacking.result c.number_of-lacking.ensures in
     rw c.in_ok-push.ensures.items (mapped_on (λ t. G (F (string_bytes t))) c.args.symbols.now c.loop-position.position c.index-symbols-position.result c.loop-position.entries.items c.entry_for.result _
     c.loop-position-test.true c.index-symbols-position.is is c.loop-position.invariant)
 
@@ -31,7 +31,7 @@ pub returns : goal.returns
 returns c =
     let texts = c.args.symbols.now in
     let G = entry_of c.args.misses.now in
-    let F = target c.args.writer c.args.reader (slice_get c.args.r.now c.args.reader) in
+    let F = target c.args.writer_node c.args.reader_node (slice_get c.args.reader.now c.args.reader_node) in
     let old = c.loop-position.entries.items in
     sym (append-nil old)
     ∙ ap (λ l. old ++ map (λ t. G (F (string_bytes t))) l) (sym (drop_of_length-le texts c.loop-position-test.false))

@@ -6,4 +6,4 @@ use Rattle.program_definition.specs.Writing.{target}
 use Rattle.program_ir.proofs.targets.entries.Given as goal
 
 abbrev pub invariant-loop-position : goal.invariant-loop-position
-invariant-loop-position l = l.entries.items ++ map (λ t. entry_of l.misses (target l.writer l.reader (slice_get l.r l.reader) (string_bytes t))) (drop l.position l.symbols) ≡ map (λ t. entry_of l.misses (target l.writer l.reader (slice_get l.r l.reader) (string_bytes t))) l.symbols
+invariant-loop-position l = l.entries.items ++ map (λ t. entry_of l.misses (target l.writer_node l.reader_node (slice_get l.reader l.reader_node) (string_bytes t))) (drop l.position l.symbols) ≡ map (λ t. entry_of l.misses (target l.writer_node l.reader_node (slice_get l.reader l.reader_node) (string_bytes t))) l.symbols

@@ -2,4 +2,4 @@
 use Rattle.program_lowering.proofs.walking.walk.Goals as goal
 
 pub add_sections-requires-clause-known : goal.add_sections-requires-clause-known
-add_sections-requires-clause-known c = c.new-known.ensures c.args.w.now c.args.r.now
+add_sections-requires-clause-known c = c.new-known.ensures c.args.writer.now c.args.reader.now

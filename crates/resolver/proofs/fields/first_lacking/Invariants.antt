@@ -5,4 +5,4 @@ use Rattle.resolver.specs.Resolution.{lacking_from}
 use Rattle.resolver.proofs.fields.first_lacking.Given as goal
 
 abbrev pub invariant-loop-position : goal.invariant-loop-position
-invariant-loop-position l = lacking_from l.routes l.position (fields_of (drop l.position l.rs)) ≡ lacking_from l.routes 0 (fields_of l.rs)
+invariant-loop-position l = lacking_from l.routes l.position (fields_of (drop l.position l.reader_fields)) ≡ lacking_from l.routes 0 (fields_of l.reader_fields)

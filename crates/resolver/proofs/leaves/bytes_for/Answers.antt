@@ -7,6 +7,6 @@ use Rattle.resolver.proofs.leaves.bytes_for.Goals as goal
 
 pub returns-in-Ok : goal.returns-in-Ok
 returns-in-Ok c =
-    let at : slice_get c.args.r.now c.args.rn ≡ Some TextNode = c.kind.ensures.kind ∙ ap (λ k. Some (node_of k)) c.in-Text.is in
+    let at : slice_get c.args.reader.now c.args.reader_node ≡ Some TextNode = c.kind.ensures.kind ∙ ap (λ k. Some (node_of k)) c.in-Text.is in
     let same : string_bytes c.in-Ok.text ≡ c.args.bytes.items = search rules in
     text_made _ _ _ _ _ at (IsUtf8-string_bytes c.in-Ok.text) same

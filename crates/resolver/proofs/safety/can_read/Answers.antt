@@ -20,7 +20,7 @@ add_all-requires c = rw (c.deref.ensures.value, c.loop-place.invariant.writers, 
 pub loop-place-preserved : goal.loop-place-preserved
 loop-place-preserved c =
     let lt : c.loop-place.place < length c.loop-place.pairs.pairs = omega (arith, c.loop-place-test.true, c.len-in-loop-place.ensures.len) in
-    let added : AddsAll (next_pairs c.args.w.now c.args.r.now (c.get-wn.result.0, c.get-wn.result.1)) c.loop-place.pairs c.add_all.new.pairs = rw (c.deref.ensures.value, c.in_ok-next.ensures.pairs) at c.in_ok-add_all.ensures in
+    let added : AddsAll (next_pairs c.args.writer.now c.args.reader.now (c.get-wn.result.0, c.get-wn.result.1)) c.loop-place.pairs c.add_all.new.pairs = rw (c.deref.ensures.value, c.in_ok-next.ensures.pairs) at c.in_ok-add_all.ensures in
     record {
       writers = c.in_ok-add_all.ensures.writers ∙ c.loop-place.invariant.writers;
       readers = c.in_ok-add_all.ensures.readers ∙ c.loop-place.invariant.readers;
@@ -33,5 +33,5 @@ returns c = (λ _. kept_end _ _ _ _ c.loop-place.invariant.kept (omega (arith, c
 pub returns-then-bad : goal.returns-then-bad
 returns-then-bad c =
     let p = c.get-wn.result in
-    let reached = all_at (Reached c.args.w.now c.args.r.now) c.loop-place.pairs.pairs c.loop-place.place p c.loop-place.invariant.kept.reached (omega (arith, c.loop-place-test.true, c.len-in-loop-place.ensures.len)) c.get-wn.ensures.pair in
+    let reached = all_at (Reached c.args.writer.now c.args.reader.now) c.loop-place.pairs.pairs c.loop-place.place p c.loop-place.invariant.kept.reached (omega (arith, c.loop-place-test.true, c.len-in-loop-place.ensures.len)) c.get-wn.ensures.pair in
     (λ h. absurd (let no : false ≡ true = h in cc), λ safe. absurd (safe p reached (told_bad _ _ p (sym c.in_ok-bad.ensures ∙ c.if-bad.true))))

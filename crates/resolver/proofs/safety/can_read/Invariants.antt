@@ -5,10 +5,10 @@ use Rattle.resolver.proofs.safety.can_read.Given as goal
 
 abbrev pub invariant-loop-place : goal.invariant-loop-place
 invariant-loop-place l = record {
-  writers : l.pairs.writers ≡ length l.w;
-  readers : l.pairs.readers ≡ length l.r;
-  kept : Kept l.w l.r l.place l.pairs.pairs;
+  writers : l.pairs.writers ≡ length l.writer;
+  readers : l.pairs.readers ≡ length l.reader;
+  kept : Kept l.writer l.reader l.place l.pairs.pairs;
 }
 
 abbrev pub decreases-loop-place : goal.decreases-loop-place
-decreases-loop-place l = length l.w * length l.r - l.place
+decreases-loop-place l = length l.writer * length l.reader - l.place

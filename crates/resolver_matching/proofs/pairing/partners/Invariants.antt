@@ -6,6 +6,6 @@ use Rattle.resolver_matching.proofs.pairing.partners.Given as goal
 
 abbrev pub invariant-loop-position : goal.invariant-loop-position
 invariant-loop-position l = record {
-  len : length l.partners.items ≡ length l.ws;
-  so_far : with_aliases (field_names (fields_of l.ws)) l.partners.items l.position (fields_of (drop l.position l.rs)) ≡ partners (fields_of l.ws) (fields_of l.rs);
+  len : length l.partners.items ≡ length l.writer_fields;
+  so_far : with_aliases (field_names (fields_of l.writer_fields)) l.partners.items l.position (fields_of (drop l.position l.reader_fields)) ≡ partners (fields_of l.writer_fields) (fields_of l.reader_fields);
 }

@@ -6,4 +6,4 @@ use Rattle.resolver_matching.specs.Partners.{routes, routes_to}
 use Rattle.resolver_matching.proofs.pairing.routes.Given as goal
 
 abbrev pub invariant-loop-field : goal.invariant-loop-field
-invariant-loop-field l = l.routes.items ++ routes_to (fields_of l.rs) (fields_of (iter_rest l.field-iterator.a)) (iter_rest l.field-iterator.b) ≡ routes (fields_of l.ws) (fields_of l.rs)
+invariant-loop-field l = l.routes.items ++ routes_to (fields_of l.reader_fields) (fields_of (iter_rest l.field-iterator.a)) (iter_rest l.field-iterator.b) ≡ routes (fields_of l.writer_fields) (fields_of l.reader_fields)

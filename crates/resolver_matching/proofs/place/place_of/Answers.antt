@@ -8,6 +8,6 @@ first_member-requires c =
     let formed = rw c.in-Union.is at c.kind.ensures.well_formed in
     record {
       writer = c.requires.writer;
-      members = rw c.deref.ensures.value (members_below _ c.args.rn c.in-Union.members.items formed.0);
+      members = rw c.deref.ensures.value (members_below _ c.args.reader_node c.in-Union.members.items formed.0);
       few = rw c.deref.ensures.value formed.1;
     }

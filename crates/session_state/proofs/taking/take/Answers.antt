@@ -12,8 +12,8 @@ returns-in-NoMemory-clause-rows c =
     let slice = c.slice-slice in
     let counted = ap (λ (m : Running). m.state.count) c.machine.ensures in
     let fits : run.machine.state.count + slice.result.rows ≤ 2 ^ 64 - 1 = omega (arith, c.count-counted.type_inv, c.count-counted.ensures, counted, slice.ensures.count) in
-    fewer_rows run.program run.input run.ended c.args.breaks.now c.args.k slice.result.rows run.machine.state slice.new.self.machine.state c.runs_alone_are_counted_and_stay.ensures.go_on c.runs_alone_are_counted_and_stay.ensures.counted c.is_alone.ensures slice.ensures.rows fits slice.ensures.most
-    (subst (λ (why : Why). IsWhy run.program run.input run.ended c.args.breaks.now why c.args.k slice.result.rows slice.new.self.machine.state) c.in-NoMemory.is slice.ensures.why)
+    fewer_rows run.program run.input run.ended c.args.breaks.now c.args.limit slice.result.rows run.machine.state slice.new.self.machine.state c.runs_alone_are_counted_and_stay.ensures.go_on c.runs_alone_are_counted_and_stay.ensures.counted c.is_alone.ensures slice.ensures.rows fits slice.ensures.most
+    (subst (λ (why : Why). IsWhy run.program run.input run.ended c.args.breaks.now why c.args.limit slice.result.rows slice.new.self.machine.state) c.in-NoMemory.is slice.ensures.why)
 
 pub returns-in_default : goal.returns-in_default
 returns-in_default c =
@@ -22,7 +22,7 @@ returns-in_default c =
     let counted = ap (λ (m : Running). m.state.count) c.machine.ensures in
     let fits : run.machine.state.count + slice.result.rows ≤ 2 ^ 64 - 1 = omega (arith, c.count-counted.type_inv, c.count-counted.ensures, counted, slice.ensures.count) in
     record {
-      rows = all_rows run.program run.input run.ended c.args.breaks.now slice.result.why c.args.k slice.result.rows run.machine.state slice.new.self.machine.state c.runs_alone_are_counted_and_stay.ensures.go_on c.runs_alone_are_counted_and_stay.ensures.counted c.is_alone.ensures slice.ensures.rows fits slice.ensures.most c.in_default.not-NoMemory slice.ensures.why;
+      rows = all_rows run.program run.input run.ended c.args.breaks.now slice.result.why c.args.limit slice.result.rows run.machine.state slice.new.self.machine.state c.runs_alone_are_counted_and_stay.ensures.go_on c.runs_alone_are_counted_and_stay.ensures.counted c.is_alone.ensures slice.ensures.rows fits slice.ensures.most c.in_default.not-NoMemory slice.ensures.why;
       most = slice.ensures.most;
       count = slice.ensures.count;
       memory = λ short. absurd (false≢true short);

@@ -2,7 +2,7 @@
 use Rattle.std.proofs.Common.{◌≡◌, ◌++◌, ◌∷◌, [], ◌∙◌, ap, sym, true, false, is_some, refl}
 use Rattle.std.proofs.lemmas.Result.{on_ok_weaker}
 use Rattle.program_definition.specs.Numbering.{has, same_section}
-use Rattle.program_ir.specs.Lines.{section_of}
+use Rattle.program_ir.specs.Statements.{section_of}
 use Rattle.program_ir.specs.Sections.{place}
 use Rattle.program_ir.proofs.Numbered.{has_place}
 use Rattle.program_ir.proofs.sections.Sections.add.Goals as goal

@@ -1,7 +1,7 @@
 -- One more stands last, and the others where they stood.
 use Rattle.std.proofs.Common.{◌≡◌, ◌++◌, ◌∷◌, [], ◌∙◌, ap, sym, refl, rules, length}
-use Rattle.program_definition.specs.Lines.{Main, Write, Skip}
-use Rattle.program_ir.specs.declared.lines.Section.TheVariants as parts
+use Rattle.program_definition.specs.Statements.{Main, Write, Skip}
+use Rattle.program_ir.specs.declared.statements.Section.TheVariants as parts
 use Rattle.program_ir.specs.Sections.{place, sections_in}
 use Rattle.program_ir.proofs.Numbered.{place_other, sections_length, sections_on, skip_at, skip_fresh, table_on}
 use Rattle.program_ir.proofs.sections.Sections.add_skip.Goals as goal

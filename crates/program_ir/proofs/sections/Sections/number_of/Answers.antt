@@ -1,7 +1,7 @@
 -- Under the nodes stands where the routine is.
 use Rattle.std.proofs.Common.{◌∙◌, ap, sym}
-use Rattle.program_definition.specs.Lines.{Write}
-use Rattle.program_ir.specs.Lines.{section_of}
+use Rattle.program_definition.specs.Statements.{Write}
+use Rattle.program_ir.specs.Statements.{section_of}
 use Rattle.program_ir.specs.Sections.{place}
 use Rattle.program_ir.proofs.sections.Sections.number_of.Goals as goal
 

@@ -4,11 +4,11 @@ use Rattle.program_lowering.proofs.Kept.{lacking_on}
 use Rattle.program_lowering.proofs.known.Known.lacking_node.Goals as goal
 
 pub returns-in-Some-clause-node : goal.returns-in-Some-clause-node
-returns-in-Some-clause-node c = c.requires.known.lacking (c.args.wn, c.args.rn) c.in-Some.node (search rules)
+returns-in-Some-clause-node c = c.requires.known.lacking (c.args.writer_node, c.args.reader_node) c.in-Some.node (search rules)
 
 pub returns-clause-known : goal.returns-clause-known
 returns-clause-known c = record {
-  lacking = lacking_on c.args.pair.now.writer.now c.args.pair.now.reader.now c.args.self.now.lacking c.insert.new.self (c.args.wn, c.args.rn) c.in_ok-node.node c.requires.known.lacking c.in_ok-node.ensures c.in_ok-insert.ensures.updates.0;
+  lacking = lacking_on c.args.pair.now.writer.now c.args.pair.now.reader.now c.args.self.now.lacking c.insert.new.self (c.args.writer_node, c.args.reader_node) c.in_ok-node.node c.requires.known.lacking c.in_ok-node.ensures c.in_ok-insert.ensures.updates.0;
   types = c.requires.known.types;
   positions = c.requires.known.positions;
 }

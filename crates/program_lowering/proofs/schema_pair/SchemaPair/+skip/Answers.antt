@@ -1,10 +1,10 @@
--- The lines of each kind of node.
+-- The statements of each kind of node.
 use Rattle.std.proofs.Common.{rules, [], ap, sym, ◌∙◌, refl, append-nil, ◌++◌}
 use Rattle.std.specs.Prelude.{Some}
 use Rattle.std.proofs.lemmas.Result.{on_ok_weaker}
 use Rattle.avro_types.specs.Node.{node_of}
-use Rattle.program_definition.specs.Lines.{branched}
-use Rattle.program_ir.specs.Lines.{lines_in}
+use Rattle.program_definition.specs.Statements.{branched}
+use Rattle.program_ir.specs.Statements.{statements_in}
 use Rattle.program_lowering.proofs.Steps.{body_is, key_then, looped_after, skip_more, skip_none}
 use Rattle.program_lowering.proofs.schema_pair.SchemaPair.+skip.Goals as goal
 
@@ -55,4 +55,4 @@ skip_within-returns-in_ok-parts-in-Union t c =
     let W = c.args.self.now.writer.now in
     let R = c.args.self.now.reader.now in
     let parts = rw c.deref.ensures.value at c.in_ok-parts-in-Union.ensures in
-    on_ok_weaker c.put_branched.result (λ h. skip_more W c.args.levels c.args.n _ (lines_in W R c.args.lines.now.items) _ _ c.if-levels-eq0.false (c.kind.ensures.kind ∙ ap (λ k. Some (node_of k)) c.in-Union.is) refl (h W R ∙ ap (λ ps. lines_in W R c.args.lines.now.items ++ branched ps) parts)) c.put_branched.ensures
+    on_ok_weaker c.put_branched.result (λ h. skip_more W c.args.levels c.args.n _ (statements_in W R c.args.statements.now.items) _ _ c.if-levels-eq0.false (c.kind.ensures.kind ∙ ap (λ k. Some (node_of k)) c.in-Union.is) refl (h W R ∙ ap (λ ps. statements_in W R c.args.statements.now.items ++ branched ps) parts)) c.put_branched.ensures

@@ -2,7 +2,7 @@
 use Rattle.std.proofs.Common.{◌≡◌, ◌<◌, length, ◌+◌, ◌*◌, ◌++◌, drop, map}
 use Rattle.std.specs.List.{AllByRecursion}
 use Rattle.program_definition.specs.Skipping.{skip_within}
-use Rattle.program_ir.specs.Lines.{parts_in}
+use Rattle.program_ir.specs.Statements.{parts_in}
 use Rattle.program_lowering.proofs.schema_pair.SchemaPair.+skip.Given as goal
 
 abbrev pub decreases-skip_within : goal.decreases-skip_within

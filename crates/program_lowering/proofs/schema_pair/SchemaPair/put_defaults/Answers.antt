@@ -6,7 +6,7 @@ use Rattle.std.proofs.Math.ListN.{drop_of_length-le}
 use Rattle.avro_types.specs.Node.{fields_of}
 use Rattle.resolver_matching.specs.Partners.{has_partner}
 use Rattle.program_definition.specs.Writing.{defaults_code}
-use Rattle.program_ir.specs.Lines.{lines_in}
+use Rattle.program_ir.specs.Statements.{statements_in}
 use Rattle.program_lowering.proofs.RoutineSteps.{default_on, field_at}
 use Rattle.program_lowering.proofs.schema_pair.SchemaPair.put_defaults.Goals as goal
 
@@ -20,10 +20,10 @@ loop-position-preserved c = λ W.
     let mark = c.in_ok-marks.ensures.mark i lt in
     let has : c.index.result.now ≡ has_partner i c.args.routes.now = grind (arith, common_steps, mark, c.index.ensures, c.in_ok-marks.ensures.each) in
     let at = ap (λ gs. slice_get gs i) c.requires.fields ∙ field_at rs i f lt is in
-    default_on c.args.routes.now rs i f (lines_in W c.args.self.now.reader.now c.loop-position.lines.items) _ _ lt is (c.in_ok-put_default.ensures W c.args.self.now.reader.now c.args.routes.now has at) (c.loop-position.invariant W)
+    default_on c.args.routes.now rs i f (statements_in W c.args.self.now.reader.now c.loop-position.statements.items) _ _ lt is (c.in_ok-put_default.ensures W c.args.self.now.reader.now c.args.routes.now has at) (c.loop-position.invariant W)
 
 pub returns : goal.returns
 returns c = λ W.
     let i = c.loop-position.position in
-    let lines = lines_in W c.args.self.now.reader.now c.loop-position.lines.items in
-    sym (append-nil lines) ∙ ap (λ rs. lines ++ defaults_code c.args.routes.now i (fields_of rs)) (sym (drop_of_length-le c.args.rs.now c.loop-position-test.false)) ∙ c.loop-position.invariant W
+    let statements = statements_in W c.args.self.now.reader.now c.loop-position.statements.items in
+    sym (append-nil statements) ∙ ap (λ rs. statements ++ defaults_code c.args.routes.now i (fields_of rs)) (sym (drop_of_length-le c.args.rs.now c.loop-position-test.false)) ∙ c.loop-position.invariant W

@@ -1,15 +1,15 @@
--- The lines so far, before those of the fields that are left, are all of them.
+-- The statements so far, before those of the fields that are left, are all of them.
 use Rattle.std.proofs.Common.{◌≡◌, ◌++◌, drop, length}
 use Rattle.resolver_matching.specs.Partners.{AreRoutes}
 use Rattle.avro_types.specs.declared.limits.TheConstants.{MOST_FIELDS}
 use Rattle.program_definition.specs.Writing.{fields_code}
 use Rattle.program_lowering.specs.Known.{AreKnown}
-use Rattle.program_ir.specs.Lines.{lines_in}
+use Rattle.program_ir.specs.Statements.{statements_in}
 use Rattle.program_lowering.proofs.schema_pair.SchemaPair.put_fields.Given as goal
 
 abbrev pub invariant-loop-field : goal.invariant-loop-field
 invariant-loop-field l = record {
-  so_far : lines_in l.self.writer.now l.self.reader.now l.lines.items ++ fields_code l.self.writer.now l.self.reader.now (drop l.field l.routes) ≡ lines_in l.self.writer.now l.self.reader.now l.fn.lines.items ++ fields_code l.self.writer.now l.self.reader.now l.routes;
+  so_far : statements_in l.self.writer.now l.self.reader.now l.statements.items ++ fields_code l.self.writer.now l.self.reader.now (drop l.field l.routes) ≡ statements_in l.self.writer.now l.self.reader.now l.fn.statements.items ++ fields_code l.self.writer.now l.self.reader.now l.routes;
   known : AreKnown l.self.writer.now l.self.reader.now l.known;
   left : AreRoutes (length l.self.writer.now) (length l.self.reader.now) MOST_FIELDS (drop l.field l.routes);
 }

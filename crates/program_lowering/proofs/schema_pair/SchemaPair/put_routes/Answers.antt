@@ -2,17 +2,17 @@
 use Rattle.std.proofs.Common.{◌++◌, length, ap, ◌∙◌}
 use Rattle.std.proofs.lemmas.Result.{on_ok_weaker}
 use Rattle.program_definition.specs.Writing.{fields_code}
-use Rattle.program_ir.specs.Lines.{lines_in, routine_lines}
+use Rattle.program_ir.specs.Statements.{statements_in, routine_statements}
 use Rattle.program_lowering.proofs.Steps.{body_is}
 use Rattle.program_lowering.proofs.schema_pair.SchemaPair.put_routes.Goals as goal
 
-pub returns-clause-lines : goal.returns-clause-lines
-returns-clause-lines c =
+pub returns-clause-statements : goal.returns-clause-statements
+returns-clause-statements c =
     let W = c.args.self.now.writer.now in
     let R = c.args.self.now.reader.now in
-    let old = lines_in W R c.args.lines.now.items in
-    let fields = body_is W R c.new-fields.result.items _ _ c.new-fields.ensures.items c.in_ok-put_fields.ensures.lines in
+    let old = statements_in W R c.args.statements.now.items in
+    let fields = body_is W R c.new-fields.result.items _ _ c.new-fields.ensures.items c.in_ok-put_fields.ensures.statements in
     let defaults = body_is W R c.new-defaults.result.items _ _ c.new-defaults.ensures.items (c.in_ok-put_defaults.ensures W) in
     on_ok_weaker c.put_routine.result (λ h. h W R
-    ∙ ap (λ l. old ++ routine_lines (length c.args.rs.now) l (lines_in W R c.put_defaults.new.lines.items)) fields
-    ∙ ap (λ l. old ++ routine_lines (length c.args.rs.now) (fields_code W R c.args.routes.now) l) defaults) c.put_routine.ensures
+    ∙ ap (λ l. old ++ routine_statements (length c.args.rs.now) l (statements_in W R c.put_defaults.new.statements.items)) fields
+    ∙ ap (λ l. old ++ routine_statements (length c.args.rs.now) (fields_code W R c.args.routes.now) l) defaults) c.put_routine.ensures

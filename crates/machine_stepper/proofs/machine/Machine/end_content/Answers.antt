@@ -2,8 +2,8 @@ use Rattle.std.proofs.Common.{ap, ◌∙◌}
 use Rattle.isa.specs.State.{State}
 use Rattle.machine_stepper.specs.Running.{Running}
 use Rattle.machine_stepper.proofs.Appending.{missed_grows, same_store}
-use Rattle.machine_stepper.proofs.machine.Machine.end_part.Goals as goal
-use Rattle.machine_stepper.proofs.machine.Machine.end_part.Goals.{then-not-is_text-2, else-not-is_text-2}
+use Rattle.machine_stepper.proofs.machine.Machine.end_content.Goals as goal
+use Rattle.machine_stepper.proofs.machine.Machine.end_content.Goals.{then-not-is_text-2, else-not-is_text-2}
 
 pub returns-after-not-is_text-2-clause-appends : goal.returns-after-not-is_text-2-clause-appends
 returns-after-not-is_text-2-clause-appends c =

@@ -1,16 +1,16 @@
 //! How much of a content one row moves.
 
 ghost use Rattle.std.specs.Prelude.{◌≤◌, length};
-ghost use Rattle.machine_rules.specs.Pieces.{HasMoved, IsPiece, part_of};
+ghost use Rattle.machine_rules.specs.Chunks.{HasMoved, IsChunk, content_of};
 ghost use Rattle.machine_rules.specs.Text.{check_of};
 
 use crate::text::TextCheck;
 use avro_bytes::Fault;
-use isa::MOST_PIECE;
+use isa::MOST_CHUNK;
 
 /// A content of which bytes are still to move.
 #[derive(Clone, Copy, Debug)]
-pub struct Part {
+pub struct Content {
     pub left: usize,
     /// Where its first byte stands.
     pub from: usize,
@@ -18,7 +18,7 @@ pub struct Part {
 
 /// How much of a content a row moves.
 #[derive(Clone, Copy)]
-pub enum Piece {
+pub enum Chunk {
     /// As much as a row may move, after which this is known of the content.
     Full(TextCheck),
     /// All that is left.
@@ -26,18 +26,23 @@ pub enum Piece {
 }
 
 /// How much of a content the row at an offset moves. While it is cut, no fault of it is told.
-pub fn piece_at(part: Part, check: TextCheck, input: &[u8], pos: usize) -> Result<Piece, Fault>
+pub fn chunk_at(
+    content: Content,
+    check: TextCheck,
+    input: &[u8],
+    pos: usize,
+) -> Result<Chunk, Fault>
     requires within { pos ≤ length input.now }
-    requires part { HasMoved input.now pos (check_of check) (part_of part) }
-    ensures { IsPiece input.now pos (check_of check) (part_of part) result }
+    requires content { HasMoved input.now pos (check_of check) (content_of content) }
+    ensures { IsChunk input.now pos (check_of check) (content_of content) result }
 {
     let there = input.len() - pos;
-    if there < part.left.min(MOST_PIECE) {
+    if there < content.left.min(MOST_CHUNK) {
         return Err(Fault::Need);
     }
-    if part.left > MOST_PIECE {
-        let check = check.pass(input, part.from, pos, pos + MOST_PIECE);
-        return Ok(Piece::Full(check));
+    if content.left > MOST_CHUNK {
+        let check = check.pass(input, content.from, pos, pos + MOST_CHUNK);
+        return Ok(Chunk::Full(check));
     }
-    Ok(Piece::Rest)
+    Ok(Chunk::Rest)
 }

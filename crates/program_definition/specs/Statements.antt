@@ -1,5 +1,5 @@
--- Lines of a program's code: instructions whose numbers and addresses the whole program decides. All of this is this
--- project's own.
+-- Statements of a program's code: instructions whose numbers and addresses the whole program decides. All of this is
+-- this project's own.
 use Rattle.std.specs.Prelude.{ℕ, ◌+◌, List, [], ◌∷◌, ◌++◌, length}
 use Rattle.outcome.specs.declared.mismatch.Mismatch.{Mismatch}
 use Rattle.outcome.specs.declared.mismatch.MismatchKind.{MismatchKind}
@@ -20,43 +20,43 @@ pub data Target : Type 0 where
   To : (position : ℕ) → Target
   Lacks : (m : Mismatch) → Target
 
-pub data Line : Type 0 where
+pub data Statement : Type 0 where
   -- an instruction whose operand is known
-  Op : (i : Instr) → Line
+  Op : (i : Instr) → Statement
   -- PUT, MISS, BYTESTEXT, ENUM and CALL, with what they name
-  Put : (bytes : List ℕ) → Line
-  Miss : (m : Mismatch) → Line
-  BytesText : (m : Mismatch) → Line
-  Enum : (targets : List Target) → Line
-  Call : (s : Section) → Line
+  Put : (bytes : List ℕ) → Statement
+  Miss : (m : Mismatch) → Statement
+  BytesText : (m : Mismatch) → Statement
+  Enum : (targets : List Target) → Statement
+  Call : (s : Section) → Statement
   -- NEXT, SNEXT or JUMP to an address so far ahead
-  Ahead : (go : ℕ → Instr) → (far : ℕ) → Line
+  Ahead : (go : ℕ → Instr) → (far : ℕ) → Statement
   -- JUMP so far back
-  Back : (far : ℕ) → Line
+  Back : (far : ℕ) → Statement
   -- BRANCH to addresses so far ahead
-  Branch : (fars : List ℕ) → Line
+  Branch : (fars : List ℕ) → Statement
   -- no code: a node that is none of the schema's, or whose arrays, maps and unions hold each other without end, or nodes
   -- that do not go together
-  Lost : Line
+  Lost : Statement
 
 abbrev pub miss : MismatchKind → ℕ → ℕ → Mismatch
 miss kind w r = record { kind = kind; writer_node = w; reader_node = r }
 
 -- L: NEXT e; body; JUMP L; e:
-abbrev pub looped : (ℕ → Instr) → List Line → List Line
+abbrev pub looped : (ℕ → Instr) → List Statement → List Statement
 looped next body = Ahead next (length body + 2) ∷ (body ++ Back (length body + 1) ∷ [])
 
 -- codes, after each but the last a JUMP to where the last ends
-abbrev pub one_of : List (List Line) → List Line
+abbrev pub one_of : List (List Statement) → List Statement
 one_of [] = []
 one_of (code ∷ []) = code
 one_of (code ∷ other ∷ codes) = code ++ Ahead op.Jump (length (one_of (other ∷ codes)) + 1) ∷ one_of (other ∷ codes)
 
 -- where each begins
-abbrev pub begins : ℕ → List (List Line) → List ℕ
+abbrev pub begins : ℕ → List (List Statement) → List ℕ
 begins far [] = []
 begins far (code ∷ codes) = far ∷ begins (far + length code + 1) codes
 
 -- BRANCH t; one code for each member
-abbrev pub branched : List (List Line) → List Line
+abbrev pub branched : List (List Statement) → List Statement
 branched codes = Branch (begins 1 codes) ∷ one_of codes

@@ -3,10 +3,10 @@ use Rattle.std.proofs.Common.{◌≡◌, ◌∙◌, ◌++◌, ◌-◌, ◌+◌, 
 use Rattle.std.specs.Vec.Iter.{into_iter_items}
 use Rattle.std.proofs.Math.ListN.{drop_of_length-le}
 use Rattle.std.proofs.lemmas.Grind.{common_steps}
-use Rattle.program_definition.specs.Lines.{Branch, begins, one_of}
-use Rattle.program_ir.specs.Lines.{lines_in, parts_in}
+use Rattle.program_definition.specs.Statements.{Branch, begins, one_of}
+use Rattle.program_ir.specs.Statements.{statements_in, parts_in}
 use Rattle.program_ir.proofs.Branched.{branch_put, part_on, room}
-use Rattle.program_ir.proofs.lines.put_branched.Goals as goal
+use Rattle.program_ir.proofs.statements.put_branched.Goals as goal
 
 pub loop-part-2-init : goal.loop-part-2-init
 loop-part-2-init c =
@@ -15,7 +15,7 @@ loop-part-2-init c =
     record {
       so_far = λ W R.
           let fars : c.loop-part.fars.items ≡ begins 1 (parts_in W R c.args.parts.items) = grind (arith, common_steps, none, c.loop-part.invariant.begun W R) in
-          branch_put W R (lines_in W R c.args.lines.now.items) _ c.loop-part.fars.items _ _ all (c.in_ok-put.ensures W R ∙ ap (λ ls. lines_in W R ls ++ Branch c.loop-part.fars.items ∷ []) c.loop-part.invariant.same) fars;
+          branch_put W R (statements_in W R c.args.statements.now.items) _ c.loop-part.fars.items _ _ all (c.in_ok-put.ensures W R ∙ ap (λ ls. statements_in W R ls ++ Branch c.loop-part.fars.items ∷ []) c.loop-part.invariant.same) fars;
       far = grind (arith, common_steps);
       left = grind (arith, common_steps);
     }
@@ -26,8 +26,8 @@ loop-part-2-preserved c =
     record {
       so_far = λ W R.
           let next : into_iter_items c.loop-part-2.part-iterator ≡ c.in-Some.part ∷ into_iter_items c.next.new.self = c.in-Some.ensures.steps.0 in
-          part_on W R (lines_in W R c.loop-part-2.lines.items) _ _ c.in-Some.part _ _ (c.in_ok-put_all.ensures W R) far (c.in_ok-put_jump.ensures W R)
-          ∙ ap (λ ps. lines_in W R c.loop-part-2.lines.items ++ one_of (parts_in W R ps)) (sym next) ∙ c.loop-part-2.invariant.so_far W R;
+          part_on W R (statements_in W R c.loop-part-2.statements.items) _ _ c.in-Some.part _ _ (c.in_ok-put_all.ensures W R) far (c.in_ok-put_jump.ensures W R)
+          ∙ ap (λ ps. statements_in W R c.loop-part-2.statements.items ++ one_of (parts_in W R ps)) (sym next) ∙ c.loop-part-2.invariant.so_far W R;
       far = far;
       left = grind (arith, common_steps);
     }
