@@ -87,13 +87,13 @@ impl<'p> Run<'p> {
         self.ended = true;
     }
 
-    /// Takes rows: at most `k`, none at a breakpoint at which no content is begun, and none that cannot be counted.
-    pub fn slice(&mut self, breaks: &[u32], k: u64) -> Slice
+    /// Takes rows: at most `limit`, none at a breakpoint at which no content is begun, and none that cannot be counted.
+    pub fn slice(&mut self, breaks: &[u32], limit: u64) -> Slice
         ensures rows { Rows self.old.program self.old.input self.old.ended breaks.now result.rows
             self.old.machine.state self.new.machine.state }
-        ensures most { result.rows ≤ k }
+        ensures most { result.rows ≤ limit }
         ensures count { self.new.machine.state.count ≡ self.old.machine.state.count + result.rows }
-        ensures why { IsWhy self.old.program self.old.input self.old.ended breaks.now result.why k result.rows
+        ensures why { IsWhy self.old.program self.old.input self.old.ended breaks.now result.why limit result.rows
             self.new.machine.state }
         ensures appends { OnlyAppends self.old.machine self.new.machine }
         ensures memory { result.why ≡ Why.NoMemory
@@ -104,7 +104,7 @@ impl<'p> Run<'p> {
     {
         runs_alone_are_counted_and_stay(); // law
         self.machine
-            .slice(self.program, &self.input, self.ended, breaks, k)
+            .slice(self.program, &self.input, self.ended, breaks, limit)
     }
 
     /// The law that its machine is the program run alone on the bytes that came, as many rows on as it has counted.
@@ -119,16 +119,16 @@ impl<'p> Run<'p> {
     /// and within the row bound where they are all, of 16,777,216 bytes at most: as many rows as the program has
     /// instructions for each unit that is counted at the end and for the whole, and one for each byte. There one slice
     /// of that many rows with no breakpoint ends it, unless memory runs out.
-    pub fn ends_with_the_outcome(&self, w: &Nodes, r: &Nodes)
-        requires { code_of w.now r.now ≡ Some self.now.program }
-        ensures end { EndIsOutcome w.now r.now self.now }
-        ensures early { EarlyEndIsOutcome w.now r.now self.now }
-        ensures bound { EndsWithinBound w.now r.now self.now }
+    pub fn ends_with_the_outcome(&self, writer: &Nodes, reader: &Nodes)
+        requires { code_of writer.now reader.now ≡ Some self.now.program }
+        ensures end { EndIsOutcome writer.now reader.now self.now }
+        ensures early { EarlyEndIsOutcome writer.now reader.now self.now }
+        ensures bound { EndsWithinBound writer.now reader.now self.now }
         ensures count { HasEndedWithinBound self.now }
-        ensures slice { EndsInOneSlice w.now r.now self.now }
+        ensures slice { EndsInOneSlice writer.now reader.now self.now }
     {
         let _opened = &self.machine; // read for the proof
-        program_ends_with_the_outcome(w, r); // law
+        program_ends_with_the_outcome(writer, reader); // law
         runs_alone_are_counted_and_stay(); // law
         row_or_end_is_there(); // law
     }
