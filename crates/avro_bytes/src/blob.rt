@@ -17,18 +17,18 @@ use std::alloc::Global;
 
 /// So many bytes at an offset.
 #[tactic(auto, unfolding(crate::specs::Blob::fixed_at))]
-fn fixed(bytes: &[u8], size: usize, at: usize, m: Meter) -> Result<(&[u8], usize, Meter), Fault>
+fn fixed(bytes: &[u8], size: usize, at: usize, meter: Meter) -> Result<(&[u8], usize, Meter), Fault>
     requires { at ≤ length bytes.now }
-    ensures finds { Finds (λ content. content.now) result (fixed_at size bytes.now at m) }
+    ensures finds { Finds (λ content. content.now) result (fixed_at size bytes.now at meter) }
     ensures before { IfOk result (λ r. length r.0.now ≤ r.1) }
     ensures within { IfOk result (λ r. r.1 ≤ length bytes.now) }
-    ensures depth { IfOk result (λ r. r.2.depth ≡ m.depth) }
-    ensures units { IfOk result (λ r. m.units ≤ r.2.units) }
+    ensures depth { IfOk result (λ r. r.2.depth ≡ meter.depth) }
+    ensures units { IfOk result (λ r. meter.units ≤ r.2.units) }
 {
     if bytes.len() - at < size {
         return Err(Fault::Need);
     }
-    Ok((&bytes[at..at + size], at + size, m))
+    Ok((&bytes[at..at + size], at + size, meter))
 }
 
 /// The content after the length at an offset.
@@ -81,14 +81,19 @@ impl WireForm for Blob {
 
     ghost told = { λ _ before bytes m d f. content_told before bytes m d f };
 
-    fn read(&self, bytes: &[u8], at: usize, m: Meter) -> Result<(Vec<u8>, usize, Meter), Fault> {
-        let (content, to, m) = content(bytes, at, m)?;
-        Ok((Vec::from_slice(self.alloc, content)?, to, m))
+    fn read(
+        &self,
+        bytes: &[u8],
+        at: usize,
+        meter: Meter,
+    ) -> Result<(Vec<u8>, usize, Meter), Fault> {
+        let (content, to, meter) = content(bytes, at, meter)?;
+        Ok((Vec::from_slice(self.alloc, content)?, to, meter))
     }
 
-    fn skip(&self, bytes: &[u8], at: usize, m: Meter) -> Result<(usize, Meter), Fault> {
-        let (_, to, m) = content(bytes, at, m)?;
-        Ok((to, m))
+    fn skip(&self, bytes: &[u8], at: usize, meter: Meter) -> Result<(usize, Meter), Fault> {
+        let (_, to, meter) = content(bytes, at, meter)?;
+        Ok((to, meter))
     }
 }
 
@@ -129,13 +134,18 @@ impl WireForm for FixedBytes {
 
     ghost told = { λ form before bytes m d f. fixed_told form.size before bytes m d f };
 
-    fn read(&self, bytes: &[u8], at: usize, m: Meter) -> Result<(Vec<u8>, usize, Meter), Fault> {
-        let (content, to, m) = fixed(bytes, self.size, at, m)?;
-        Ok((Vec::from_slice(self.alloc, content)?, to, m))
+    fn read(
+        &self,
+        bytes: &[u8],
+        at: usize,
+        meter: Meter,
+    ) -> Result<(Vec<u8>, usize, Meter), Fault> {
+        let (content, to, meter) = fixed(bytes, self.size, at, meter)?;
+        Ok((Vec::from_slice(self.alloc, content)?, to, meter))
     }
 
-    fn skip(&self, bytes: &[u8], at: usize, m: Meter) -> Result<(usize, Meter), Fault> {
-        let (_, to, m) = fixed(bytes, self.size, at, m)?;
-        Ok((to, m))
+    fn skip(&self, bytes: &[u8], at: usize, meter: Meter) -> Result<(usize, Meter), Fault> {
+        let (_, to, meter) = fixed(bytes, self.size, at, meter)?;
+        Ok((to, meter))
     }
 }

@@ -122,16 +122,16 @@ impl BlockWalk {
         self,
         bytes: &[u8],
         at: usize,
-        m: Meter,
+        meter: Meter,
     ) -> Result<(Option<BlockWalk>, usize, Meter), Fault>
         requires in_bounds { at ≤ length bytes.now }
-        requires deep { 0 < m.depth }
-        ensures finds { Finds (λ walk. walk) result (next_item self bytes.now at m) }
+        requires deep { 0 < meter.depth }
+        ensures finds { Finds (λ walk. walk) result (next_item self bytes.now at meter) }
         ensures within { IfOk result (λ r. r.1 ≤ length bytes.now) }
     {
         if self.left > 0 {
             let walk = BlockWalk::walk_of(self.left - 1, self.count_at, self.items_at, self.size);
-            return walk.item(at, m);
+            return walk.item(at, meter);
         }
         if !self.is_met(at) {
             return Err(Fault::Malformed {
@@ -139,7 +139,7 @@ impl BlockWalk {
                 at: self.count_at,
             });
         }
-        BlockWalk::next_block(bytes, at, m)
+        BlockWalk::next_block(bytes, at, meter)
     }
 
     /// Whether the items that end at an offset have the block's size.
@@ -157,25 +157,25 @@ impl BlockWalk {
     fn next_block(
         bytes: &[u8],
         at: usize,
-        m: Meter,
+        meter: Meter,
     ) -> Result<(Option<BlockWalk>, usize, Meter), Fault>
         requires in_bounds { at ≤ length bytes.now }
-        requires deep { 0 < m.depth }
-        ensures finds { Finds (λ walk. walk) result (next_block bytes.now at m) }
+        requires deep { 0 < meter.depth }
+        ensures finds { Finds (λ walk. walk) result (next_block bytes.now at meter) }
         ensures within { IfOk result (λ r. r.1 ≤ length bytes.now) }
     {
-        let (count, to, m) = read_long(bytes, at, m)?;
+        let (count, to, meter) = read_long(bytes, at, meter)?;
         if count == 0 {
             let outside = Meter {
-                depth: m.depth - 1,
-                units: m.units,
+                depth: meter.depth - 1,
+                units: meter.units,
             };
             return Ok((None, to, outside));
         }
         if count > 0 {
-            return BlockWalk::walk_of(count as u64 - 1, at, to, None).item(to, m);
+            return BlockWalk::walk_of(count as u64 - 1, at, to, None).item(to, meter);
         }
-        BlockWalk::sized_block(bytes, at, -(count + 1) as u64, to, m)
+        BlockWalk::sized_block(bytes, at, -(count + 1) as u64, to, meter)
     }
 
     /// The walk inside a block whose size follows.
@@ -185,22 +185,22 @@ impl BlockWalk {
         count_at: usize,
         left: u64,
         at: usize,
-        m: Meter,
+        meter: Meter,
     ) -> Result<(Option<BlockWalk>, usize, Meter), Fault>
         requires in_bounds { at ≤ length bytes.now }
-        ensures finds { Finds (λ walk. walk) result (sized_block bytes.now count_at left at m) }
+        ensures finds { Finds (λ walk. walk) result (sized_block bytes.now count_at left at meter) }
         ensures within { IfOk result (λ r. r.1 ≤ length bytes.now) }
     {
-        let (size, items_at, m) = read_long(bytes, at, m)?;
-        BlockWalk::walk_of(left, count_at, items_at, Some(size)).item(items_at, m)
+        let (size, items_at, meter) = read_long(bytes, at, meter)?;
+        BlockWalk::walk_of(left, count_at, items_at, Some(size)).item(items_at, meter)
     }
 
     /// The walk itself, at an item.
-    fn item(self, at: usize, m: Meter) -> Result<(Option<BlockWalk>, usize, Meter), Fault>
-        ensures finds { Finds (λ walk. walk) result (item_at self at m) }
+    fn item(self, at: usize, meter: Meter) -> Result<(Option<BlockWalk>, usize, Meter), Fault>
+        ensures finds { Finds (λ walk. walk) result (item_at self at meter) }
         ensures within { IfOk result (λ r. r.1 ≡ at) }
     {
-        let inside = m.enter_item(at)?;
+        let inside = meter.enter_item(at)?;
         Ok((Some(self), at, inside))
     }
 }

@@ -68,12 +68,12 @@ impl WireForm for Bool {
 
     ghost told = { λ _ before bytes m d f. boolean_told before bytes m d f };
 
-    fn read(&self, bytes: &[u8], at: usize, m: Meter) -> Result<(bool, usize, Meter), Fault> {
-        read_boolean(bytes, at, m)
+    fn read(&self, bytes: &[u8], at: usize, meter: Meter) -> Result<(bool, usize, Meter), Fault> {
+        read_boolean(bytes, at, meter)
     }
 
-    fn skip(&self, bytes: &[u8], at: usize, m: Meter) -> Result<(usize, Meter), Fault> {
-        let (_, to, m) = read_boolean(bytes, at, m)?;
-        Ok((to, m))
+    fn skip(&self, bytes: &[u8], at: usize, meter: Meter) -> Result<(usize, Meter), Fault> {
+        let (_, to, meter) = read_boolean(bytes, at, meter)?;
+        Ok((to, meter))
     }
 }

@@ -34,20 +34,25 @@ pub trait WireForm {
     ghost lacks: { Self → Decoding Meaning → Type 0 };
 
     /// The value at an offset, the offset after its spelling, and the meter there; else the first fault.
-    fn read(&self, bytes: &[u8], at: usize, m: Meter) -> Result<(Self::Value, usize, Meter), Fault>
+    fn read(
+        &self,
+        bytes: &[u8],
+        at: usize,
+        meter: Meter,
+    ) -> Result<(Self::Value, usize, Meter), Fault>
         requires { at ≤ length bytes.now }
-        ensures reads { Reads meaning (lacks self.now) result (decoding self.now bytes.now at m) }
+        ensures reads { Reads meaning (lacks self.now) result (decoding self.now bytes.now at meter) }
         ensures within { IfOk result (λ r. r.1 ≤ length bytes.now) }
-        ensures depth { IfOk result (λ r. r.2.depth ≡ m.depth) }
-        ensures units { IfOk result (λ r. m.units ≤ r.2.units) };
+        ensures depth { IfOk result (λ r. r.2.depth ≡ meter.depth) }
+        ensures units { IfOk result (λ r. meter.units ≤ r.2.units) };
 
     /// What `read` answers, less the value. It takes no memory.
-    fn skip(&self, bytes: &[u8], at: usize, m: Meter) -> Result<(usize, Meter), Fault>
+    fn skip(&self, bytes: &[u8], at: usize, meter: Meter) -> Result<(usize, Meter), Fault>
         requires { at ≤ length bytes.now }
-        ensures skips { result ≡ skipped (decoding self.now bytes.now at m) }
+        ensures skips { result ≡ skipped (decoding self.now bytes.now at meter) }
         ensures within { IfOk result (λ r. r.0 ≤ length bytes.now) }
-        ensures depth { IfOk result (λ r. r.1.depth ≡ m.depth) }
-        ensures units { IfOk result (λ r. m.units ≤ r.1.units) };
+        ensures depth { IfOk result (λ r. r.1.depth ≡ meter.depth) }
+        ensures units { IfOk result (λ r. meter.units ≤ r.1.units) };
 
     /// What is decoded is spelled so, within the limits.
     ghost sound: { (form : Self) (bytes : List ℕ) (at : ℕ) (m : Meter) (v : Meaning) (to : ℕ) (after : Meter) →

@@ -128,14 +128,14 @@ impl WireForm for Long {
 
     ghost told = { λ _ before bytes m d f. number_told long_limit before bytes m d f };
 
-    fn read(&self, bytes: &[u8], at: usize, m: Meter) -> Result<(i64, usize, Meter), Fault> {
-        read_long(bytes, at, m)
+    fn read(&self, bytes: &[u8], at: usize, meter: Meter) -> Result<(i64, usize, Meter), Fault> {
+        read_long(bytes, at, meter)
     }
 
     #[tactic(auto, unfolding(crate::specs::NumberDecoding::number_at))]
-    fn skip(&self, bytes: &[u8], at: usize, m: Meter) -> Result<(usize, Meter), Fault> {
+    fn skip(&self, bytes: &[u8], at: usize, meter: Meter) -> Result<(usize, Meter), Fault> {
         let (_, to) = read_groups(bytes, at, LONG_BYTES, LONG_LAST)?;
-        Ok((to, m))
+        Ok((to, meter))
     }
 }
 
@@ -169,13 +169,13 @@ impl WireForm for Int {
 
     ghost told = { λ _ before bytes m d f. number_told int_limit before bytes m d f };
 
-    fn read(&self, bytes: &[u8], at: usize, m: Meter) -> Result<(i32, usize, Meter), Fault> {
-        read_int(bytes, at, m)
+    fn read(&self, bytes: &[u8], at: usize, meter: Meter) -> Result<(i32, usize, Meter), Fault> {
+        read_int(bytes, at, meter)
     }
 
     #[tactic(auto, unfolding(crate::specs::NumberDecoding::number_at))]
-    fn skip(&self, bytes: &[u8], at: usize, m: Meter) -> Result<(usize, Meter), Fault> {
+    fn skip(&self, bytes: &[u8], at: usize, meter: Meter) -> Result<(usize, Meter), Fault> {
         let (_, to) = read_groups(bytes, at, INT_BYTES, INT_LAST)?;
-        Ok((to, m))
+        Ok((to, meter))
     }
 }

@@ -71,12 +71,12 @@ impl WireForm for Position {
 
     ghost told = { λ form before bytes m d f. position_told form.bad form.many before bytes m d f };
 
-    fn read(&self, bytes: &[u8], at: usize, m: Meter) -> Result<(u32, usize, Meter), Fault> {
-        read_position(self.bad, self.many, bytes, at, m)
+    fn read(&self, bytes: &[u8], at: usize, meter: Meter) -> Result<(u32, usize, Meter), Fault> {
+        read_position(self.bad, self.many, bytes, at, meter)
     }
 
-    fn skip(&self, bytes: &[u8], at: usize, m: Meter) -> Result<(usize, Meter), Fault> {
-        let (_, to, m) = read_position(self.bad, self.many, bytes, at, m)?;
-        Ok((to, m))
+    fn skip(&self, bytes: &[u8], at: usize, meter: Meter) -> Result<(usize, Meter), Fault> {
+        let (_, to, meter) = read_position(self.bad, self.many, bytes, at, meter)?;
+        Ok((to, meter))
     }
 }

@@ -22,21 +22,21 @@ pub struct Text {
 
 /// The text at an offset, in the bytes themselves.
 #[tactic(auto, using(crate::specs::Laws::Texts::text_complete_is, crate::specs::Laws::Texts::text_bad), unfolding(crate::specs::Text::text_at))]
-fn valid_text(bytes: &[u8], at: usize, m: Meter) -> Result<(&str, usize, Meter), Fault>
+fn valid_text(bytes: &[u8], at: usize, meter: Meter) -> Result<(&str, usize, Meter), Fault>
     requires { at ≤ length bytes.now }
-    ensures finds { Finds (λ text. text.now) result (text_at bytes.now at m) }
+    ensures finds { Finds (λ text. text.now) result (text_at bytes.now at meter) }
     ensures within { IfOk result (λ r. r.1 ≤ length bytes.now) }
-    ensures depth { IfOk result (λ r. r.2.depth ≡ m.depth) }
-    ensures units { IfOk result (λ r. m.units ≤ r.2.units) }
+    ensures depth { IfOk result (λ r. r.2.depth ≡ meter.depth) }
+    ensures units { IfOk result (λ r. meter.units ≤ r.2.units) }
 {
-    let (content, to, m) = content(bytes, at, m)?;
+    let (content, to, meter) = content(bytes, at, meter)?;
     let Ok(text) = simdutf8::compat::from_utf8(content) else {
         return Err(Fault::Malformed {
             kind: MalformedKind::BadText,
             at: to - content.len(),
         });
     };
-    Ok((text, to, m))
+    Ok((text, to, meter))
 }
 
 impl WireForm for Text {
@@ -68,13 +68,13 @@ impl WireForm for Text {
 
     ghost told = { λ _ before bytes m d f. text_told before bytes m d f };
 
-    fn read(&self, bytes: &[u8], at: usize, m: Meter) -> Result<(String, usize, Meter), Fault> {
-        let (text, to, m) = valid_text(bytes, at, m)?;
-        Ok((String::from_str(self.alloc, text)?, to, m))
+    fn read(&self, bytes: &[u8], at: usize, meter: Meter) -> Result<(String, usize, Meter), Fault> {
+        let (text, to, meter) = valid_text(bytes, at, meter)?;
+        Ok((String::from_str(self.alloc, text)?, to, meter))
     }
 
-    fn skip(&self, bytes: &[u8], at: usize, m: Meter) -> Result<(usize, Meter), Fault> {
-        let (_, to, m) = valid_text(bytes, at, m)?;
-        Ok((to, m))
+    fn skip(&self, bytes: &[u8], at: usize, meter: Meter) -> Result<(usize, Meter), Fault> {
+        let (_, to, meter) = valid_text(bytes, at, meter)?;
+        Ok((to, meter))
     }
 }

@@ -85,11 +85,11 @@ impl<'s> WireForm for NodeForm<'s> {
 
     ghost told = { λ f before bytes m d h. datum_told f.nodes f.node before bytes m d h };
 
-    fn read(&self, bytes: &[u8], at: usize, m: Meter) -> Result<(Datum, usize, Meter), Fault> {
-        read_node(self.alloc, self.nodes, self.node, bytes, at, m)
+    fn read(&self, bytes: &[u8], at: usize, meter: Meter) -> Result<(Datum, usize, Meter), Fault> {
+        read_node(self.alloc, self.nodes, self.node, bytes, at, meter)
     }
 
-    fn skip(&self, bytes: &[u8], at: usize, m: Meter) -> Result<(usize, Meter), Fault> {
-        skip_node(self.alloc, self.nodes, self.node, bytes, at, m)
+    fn skip(&self, bytes: &[u8], at: usize, meter: Meter) -> Result<(usize, Meter), Fault> {
+        skip_node(self.alloc, self.nodes, self.node, bytes, at, meter)
     }
 }

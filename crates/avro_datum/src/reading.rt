@@ -52,39 +52,39 @@ fn read_plain(
     node: usize,
     bytes: &[u8],
     at: usize,
-    m: Meter,
+    meter: Meter,
 ) -> Result<(Datum, usize, Meter), Fault>
     requires node { node < length nodes.now }
     requires no_union { is_union (slice_get nodes.now node) ≡ false }
     requires in_bounds { at ≤ length bytes.now }
-    ensures reads { Reads datum_of (Lacks nodes.now node) result (datum_at nodes.now bytes.now node at m) }
+    ensures reads { Reads datum_of (Lacks nodes.now node) result (datum_at nodes.now bytes.now node at meter) }
     ensures within { IfOk result (λ r. r.1 ≤ length bytes.now) }
-    ensures depth { IfOk result (λ r. r.2.depth ≡ m.depth) }
-    ensures units { IfOk result (λ r. m.units ≤ r.2.units) }
+    ensures depth { IfOk result (λ r. r.2.depth ≡ meter.depth) }
+    ensures units { IfOk result (λ r. meter.units ≤ r.2.units) }
 {
     let kind = nodes.kind(node);
     match kind {
         Kind::Record { fields, .. } => {
-            let inside = m.enter_record(at)?;
+            let inside = meter.enter_record(at)?;
             let (data, to, after) = read_fields(alloc, nodes, fields, bytes, at, inside)?;
             let outside = Meter {
-                depth: m.depth,
+                depth: meter.depth,
                 units: after.units,
             };
             Ok((Datum::Record(data), to, outside))
         }
         Kind::Array(inner) => {
-            let (walk, inside) = BlockWalk::begin(at, m)?;
+            let (walk, inside) = BlockWalk::begin(at, meter)?;
             let (data, to, after) = read_items(alloc, nodes, *inner, walk, bytes, at, inside)?;
             Ok((Datum::Array(data), to, after))
         }
         Kind::Map(inner) => {
-            let (walk, inside) = BlockWalk::begin(at, m)?;
+            let (walk, inside) = BlockWalk::begin(at, meter)?;
             let (pairs, to, after) = read_pairs(alloc, nodes, *inner, walk, bytes, at, inside)?;
             Ok((Datum::Map(pairs), to, after))
         }
         Kind::Union(_) => unreachable!(),
-        _ => read_leaf(alloc, kind, bytes, at, m),
+        _ => read_leaf(alloc, kind, bytes, at, meter),
     }
 }
 
@@ -96,19 +96,19 @@ fn read_fields(
     fields: &[Field],
     bytes: &[u8],
     at: usize,
-    m: Meter,
+    meter: Meter,
 ) -> Result<(Vec<Datum>, usize, Meter), Fault>
     requires fields { FieldsBelow (length nodes.now) (fields_of fields.now) }
     requires in_bounds { at ≤ length bytes.now }
     ensures reads { Gathers (λ v. data_of v.items) result
-        (fields_at (node_at (MOST_DEPTH - m.depth) nodes.now bytes.now) (fields_of fields.now) at m) }
+        (fields_at (node_at (MOST_DEPTH - meter.depth) nodes.now bytes.now) (fields_of fields.now) at meter) }
     ensures within { IfOk result (λ r. r.1 ≤ length bytes.now) }
-    ensures depth { IfOk result (λ r. r.2.depth ≡ m.depth) }
-    ensures units { IfOk result (λ r. m.units ≤ r.2.units) }
+    ensures depth { IfOk result (λ r. r.2.depth ≡ meter.depth) }
+    ensures units { IfOk result (λ r. meter.units ≤ r.2.units) }
 {
     let mut data = Vec::new(alloc);
     let mut to = at;
-    let mut so_far = m;
+    let mut so_far = meter;
     for field in fields {
         let (datum, next, after) = read_node(alloc, nodes, field.node, bytes, to, so_far)?;
         data.push(datum)?;
@@ -127,21 +127,22 @@ fn read_items(
     walk: BlockWalk,
     bytes: &[u8],
     at: usize,
-    m: Meter,
+    meter: Meter,
 ) -> Result<(Vec<Datum>, usize, Meter), Fault>
     requires inner { inner < length nodes.now }
     requires in_bounds { at ≤ length bytes.now }
-    requires deep { 0 < m.depth }
+    requires deep { 0 < meter.depth }
     ensures reads { Gathers (λ v. each_datum v.items) result
-        (items_at (steps_left m) (node_at (MOST_DEPTH - m.depth) nodes.now bytes.now inner) bytes.now walk at m) }
+        (items_at (steps_left meter) (node_at (MOST_DEPTH - meter.depth) nodes.now bytes.now inner)
+        bytes.now walk at meter) }
     ensures within { IfOk result (λ r. r.1 ≤ length bytes.now) }
-    ensures depth { IfOk result (λ r. r.2.depth + 1 ≡ m.depth) }
-    ensures units { IfOk result (λ r. m.units ≤ r.2.units) }
+    ensures depth { IfOk result (λ r. r.2.depth + 1 ≡ meter.depth) }
+    ensures units { IfOk result (λ r. meter.units ≤ r.2.units) }
 {
     let mut walk = walk;
     let mut data = Vec::new(alloc);
     let mut to = at;
-    let mut so_far = m;
+    let mut so_far = meter;
     loop {
         let (further, place, opened) = walk.next(bytes, to, so_far)?;
         if !further {
@@ -163,22 +164,22 @@ fn read_pairs(
     walk: BlockWalk,
     bytes: &[u8],
     at: usize,
-    m: Meter,
+    meter: Meter,
 ) -> Result<(Vec<(String, Datum)>, usize, Meter), Fault>
     requires inner { inner < length nodes.now }
     requires in_bounds { at ≤ length bytes.now }
-    requires deep { 0 < m.depth }
+    requires deep { 0 < meter.depth }
     ensures reads { Gathers (λ v. each_pair v.items) result
-        (items_at (steps_left m)
-        (pair_at (node_at (MOST_DEPTH - m.depth) nodes.now bytes.now) bytes.now inner) bytes.now walk at m) }
+        (items_at (steps_left meter)
+        (pair_at (node_at (MOST_DEPTH - meter.depth) nodes.now bytes.now) bytes.now inner) bytes.now walk at meter) }
     ensures within { IfOk result (λ r. r.1 ≤ length bytes.now) }
-    ensures depth { IfOk result (λ r. r.2.depth + 1 ≡ m.depth) }
-    ensures units { IfOk result (λ r. m.units ≤ r.2.units) }
+    ensures depth { IfOk result (λ r. r.2.depth + 1 ≡ meter.depth) }
+    ensures units { IfOk result (λ r. meter.units ≤ r.2.units) }
 {
     let mut walk = walk;
     let mut pairs = Vec::new(alloc);
     let mut to = at;
-    let mut so_far = m;
+    let mut so_far = meter;
     loop {
         let (further, place, opened) = walk.next(bytes, to, so_far)?;
         if !further {
@@ -199,17 +200,17 @@ fn read_pair(
     inner: usize,
     bytes: &[u8],
     at: usize,
-    m: Meter,
+    meter: Meter,
 ) -> Result<((String, Datum), usize, Meter), Fault>
     requires inner { inner < length nodes.now }
     requires in_bounds { at ≤ length bytes.now }
     ensures reads { Gathers pair_of result
-        (pair_at (node_at (MOST_DEPTH - m.depth) nodes.now bytes.now) bytes.now inner at m) }
+        (pair_at (node_at (MOST_DEPTH - meter.depth) nodes.now bytes.now) bytes.now inner at meter) }
     ensures within { IfOk result (λ r. r.1 ≤ length bytes.now) }
-    ensures depth { IfOk result (λ r. r.2.depth ≡ m.depth) }
-    ensures units { IfOk result (λ r. m.units ≤ r.2.units) }
+    ensures depth { IfOk result (λ r. r.2.depth ≡ meter.depth) }
+    ensures units { IfOk result (λ r. meter.units ≤ r.2.units) }
 {
-    let (key, to, after) = Text { alloc }.read(bytes, at, m)?;
+    let (key, to, after) = Text { alloc }.read(bytes, at, meter)?;
     let (datum, end, last) = read_node(alloc, nodes, inner, bytes, to, after)?;
     Ok(((key, datum), end, last))
 }

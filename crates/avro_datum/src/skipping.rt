@@ -46,37 +46,37 @@ fn skip_plain(
     node: usize,
     bytes: &[u8],
     at: usize,
-    m: Meter,
+    meter: Meter,
 ) -> Result<(usize, Meter), Fault>
     requires node { node < length nodes.now }
     requires no_union { is_union (slice_get nodes.now node) ≡ false }
     requires in_bounds { at ≤ length bytes.now }
-    ensures skips { result ≡ skipped (datum_at nodes.now bytes.now node at m) }
+    ensures skips { result ≡ skipped (datum_at nodes.now bytes.now node at meter) }
     ensures within { IfOk result (λ r. r.0 ≤ length bytes.now) }
-    ensures depth { IfOk result (λ r. r.1.depth ≡ m.depth) }
-    ensures units { IfOk result (λ r. m.units ≤ r.1.units) }
+    ensures depth { IfOk result (λ r. r.1.depth ≡ meter.depth) }
+    ensures units { IfOk result (λ r. meter.units ≤ r.1.units) }
 {
     let kind = nodes.kind(node);
     match kind {
         Kind::Record { fields, .. } => {
-            let inside = m.enter_record(at)?;
+            let inside = meter.enter_record(at)?;
             let (to, after) = skip_fields(alloc, nodes, fields, bytes, at, inside)?;
             let outside = Meter {
-                depth: m.depth,
+                depth: meter.depth,
                 units: after.units,
             };
             Ok((to, outside))
         }
         Kind::Array(inner) => {
-            let (walk, inside) = BlockWalk::begin(at, m)?;
+            let (walk, inside) = BlockWalk::begin(at, meter)?;
             skip_items(alloc, nodes, *inner, walk, bytes, at, inside)
         }
         Kind::Map(inner) => {
-            let (walk, inside) = BlockWalk::begin(at, m)?;
+            let (walk, inside) = BlockWalk::begin(at, meter)?;
             skip_pairs(alloc, nodes, *inner, walk, bytes, at, inside)
         }
         Kind::Union(_) => unreachable!(),
-        _ => skip_leaf(alloc, kind, bytes, at, m),
+        _ => skip_leaf(alloc, kind, bytes, at, meter),
     }
 }
 
@@ -88,18 +88,18 @@ fn skip_fields(
     fields: &[Field],
     bytes: &[u8],
     at: usize,
-    m: Meter,
+    meter: Meter,
 ) -> Result<(usize, Meter), Fault>
     requires fields { FieldsBelow (length nodes.now) (fields_of fields.now) }
     requires in_bounds { at ≤ length bytes.now }
     ensures skips { result ≡ skipped
-        (fields_at (node_at (MOST_DEPTH - m.depth) nodes.now bytes.now) (fields_of fields.now) at m) }
+        (fields_at (node_at (MOST_DEPTH - meter.depth) nodes.now bytes.now) (fields_of fields.now) at meter) }
     ensures within { IfOk result (λ r. r.0 ≤ length bytes.now) }
-    ensures depth { IfOk result (λ r. r.1.depth ≡ m.depth) }
-    ensures units { IfOk result (λ r. m.units ≤ r.1.units) }
+    ensures depth { IfOk result (λ r. r.1.depth ≡ meter.depth) }
+    ensures units { IfOk result (λ r. meter.units ≤ r.1.units) }
 {
     let mut to = at;
-    let mut so_far = m;
+    let mut so_far = meter;
     for field in fields {
         let (next, after) = skip_node(alloc, nodes, field.node, bytes, to, so_far)?;
         to = next;
@@ -117,20 +117,21 @@ fn skip_items(
     walk: BlockWalk,
     bytes: &[u8],
     at: usize,
-    m: Meter,
+    meter: Meter,
 ) -> Result<(usize, Meter), Fault>
     requires inner { inner < length nodes.now }
     requires in_bounds { at ≤ length bytes.now }
-    requires deep { 0 < m.depth }
+    requires deep { 0 < meter.depth }
     ensures skips { result ≡ skipped
-        (items_at (steps_left m) (node_at (MOST_DEPTH - m.depth) nodes.now bytes.now inner) bytes.now walk at m) }
+        (items_at (steps_left meter) (node_at (MOST_DEPTH - meter.depth) nodes.now bytes.now inner)
+        bytes.now walk at meter) }
     ensures within { IfOk result (λ r. r.0 ≤ length bytes.now) }
-    ensures depth { IfOk result (λ r. r.1.depth + 1 ≡ m.depth) }
-    ensures units { IfOk result (λ r. m.units ≤ r.1.units) }
+    ensures depth { IfOk result (λ r. r.1.depth + 1 ≡ meter.depth) }
+    ensures units { IfOk result (λ r. meter.units ≤ r.1.units) }
 {
     let mut walk = walk;
     let mut to = at;
-    let mut so_far = m;
+    let mut so_far = meter;
     loop {
         let (further, place, opened) = walk.next(bytes, to, so_far)?;
         if !further {
@@ -151,21 +152,21 @@ fn skip_pairs(
     walk: BlockWalk,
     bytes: &[u8],
     at: usize,
-    m: Meter,
+    meter: Meter,
 ) -> Result<(usize, Meter), Fault>
     requires inner { inner < length nodes.now }
     requires in_bounds { at ≤ length bytes.now }
-    requires deep { 0 < m.depth }
+    requires deep { 0 < meter.depth }
     ensures skips { result ≡ skipped
-        (items_at (steps_left m)
-        (pair_at (node_at (MOST_DEPTH - m.depth) nodes.now bytes.now) bytes.now inner) bytes.now walk at m) }
+        (items_at (steps_left meter)
+        (pair_at (node_at (MOST_DEPTH - meter.depth) nodes.now bytes.now) bytes.now inner) bytes.now walk at meter) }
     ensures within { IfOk result (λ r. r.0 ≤ length bytes.now) }
-    ensures depth { IfOk result (λ r. r.1.depth + 1 ≡ m.depth) }
-    ensures units { IfOk result (λ r. m.units ≤ r.1.units) }
+    ensures depth { IfOk result (λ r. r.1.depth + 1 ≡ meter.depth) }
+    ensures units { IfOk result (λ r. meter.units ≤ r.1.units) }
 {
     let mut walk = walk;
     let mut to = at;
-    let mut so_far = m;
+    let mut so_far = meter;
     loop {
         let (further, place, opened) = walk.next(bytes, to, so_far)?;
         if !further {
@@ -185,16 +186,16 @@ fn skip_pair(
     inner: usize,
     bytes: &[u8],
     at: usize,
-    m: Meter,
+    meter: Meter,
 ) -> Result<(usize, Meter), Fault>
     requires inner { inner < length nodes.now }
     requires in_bounds { at ≤ length bytes.now }
     ensures skips { result ≡ skipped
-        (pair_at (node_at (MOST_DEPTH - m.depth) nodes.now bytes.now) bytes.now inner at m) }
+        (pair_at (node_at (MOST_DEPTH - meter.depth) nodes.now bytes.now) bytes.now inner at meter) }
     ensures within { IfOk result (λ r. r.0 ≤ length bytes.now) }
-    ensures depth { IfOk result (λ r. r.1.depth ≡ m.depth) }
-    ensures units { IfOk result (λ r. m.units ≤ r.1.units) }
+    ensures depth { IfOk result (λ r. r.1.depth ≡ meter.depth) }
+    ensures units { IfOk result (λ r. meter.units ≤ r.1.units) }
 {
-    let (to, after) = Text { alloc }.skip(bytes, at, m)?;
+    let (to, after) = Text { alloc }.skip(bytes, at, meter)?;
     skip_node(alloc, nodes, inner, bytes, to, after)
 }

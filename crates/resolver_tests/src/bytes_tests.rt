@@ -157,7 +157,7 @@ fn read_line(
     form: &str,
     bytes: &[u8],
     at: usize,
-    m: Meter,
+    meter: Meter,
 ) -> Result<String, AllocError>
     requires { at ≤ length bytes.now }
 {
@@ -166,21 +166,21 @@ fn read_line(
         many: 2,
     };
     match form {
-        "int" => both(alloc, &Int, bytes, at, m),
-        "long" => both(alloc, &Long, bytes, at, m),
-        "branch_of_2" => both(alloc, &branch, bytes, at, m),
-        "boolean" => both(alloc, &Bool, bytes, at, m),
-        "text" => both(alloc, &Text { alloc }, bytes, at, m),
-        "bytes" => both(alloc, &Blob { alloc }, bytes, at, m),
-        "fixed_of_3" => both(alloc, &FixedBytes { alloc, size: 3 }, bytes, at, m),
-        "read_int" => debug_line(alloc, read_int(bytes, at, m)),
-        "read_long" => debug_line(alloc, read_long(bytes, at, m)),
-        "read_length" => debug_line(alloc, read_length(bytes, at, m)),
+        "int" => both(alloc, &Int, bytes, at, meter),
+        "long" => both(alloc, &Long, bytes, at, meter),
+        "branch_of_2" => both(alloc, &branch, bytes, at, meter),
+        "boolean" => both(alloc, &Bool, bytes, at, meter),
+        "text" => both(alloc, &Text { alloc }, bytes, at, meter),
+        "bytes" => both(alloc, &Blob { alloc }, bytes, at, meter),
+        "fixed_of_3" => both(alloc, &FixedBytes { alloc, size: 3 }, bytes, at, meter),
+        "read_int" => debug_line(alloc, read_int(bytes, at, meter)),
+        "read_long" => debug_line(alloc, read_long(bytes, at, meter)),
+        "read_length" => debug_line(alloc, read_length(bytes, at, meter)),
         "read_symbol_of_1" => debug_line(
             alloc,
-            read_position(MalformedKind::BadEnum, 1, bytes, at, m),
+            read_position(MalformedKind::BadEnum, 1, bytes, at, meter),
         ),
-        "read_boolean" => debug_line(alloc, read_boolean(bytes, at, m)),
+        "read_boolean" => debug_line(alloc, read_boolean(bytes, at, meter)),
         _ => words_line(alloc, "no such form"),
     }
 }
@@ -198,9 +198,9 @@ fn begun_line(
     alloc: Global,
     walk: &mut BlockWalk,
     at: usize,
-    m: Meter,
+    meter: Meter,
 ) -> Result<String, AllocError> {
-    match BlockWalk::begin(at, m) {
+    match BlockWalk::begin(at, meter) {
         Ok((new, inside)) => {
             *walk = new;
             debug_line(alloc, inside)
@@ -250,16 +250,16 @@ pub(crate) fn call_line(
     let (first, rest) = rest.split_once(' ').unwrap_or((rest, ""));
     let (units, last) = rest.split_once(' ').unwrap_or((rest, ""));
     let (at, units) = (number(first) as usize, number(units));
-    let m = Meter {
+    let meter = Meter {
         depth: number(last),
         units,
     };
     match call {
         "put" => put_line(alloc, first.parse::<i64>().unwrap_or(0)),
-        "record" => debug_line(alloc, m.enter_record(at)),
-        "item" => debug_line(alloc, m.enter_item(at)),
-        "blocks" => debug_line(alloc, m.enter_blocks(at)),
-        "begin" => begun_line(alloc, walk, at, m),
+        "record" => debug_line(alloc, meter.enter_record(at)),
+        "item" => debug_line(alloc, meter.enter_item(at)),
+        "blocks" => debug_line(alloc, meter.enter_blocks(at)),
+        "begin" => begun_line(alloc, walk, at, meter),
         "parts" => debug_line(alloc, parts(walk)),
         _ => bytes_line(alloc, walk, call, at, units, last),
     }

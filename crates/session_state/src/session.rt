@@ -140,7 +140,7 @@ impl<'p> Session<'p> {
         }
     }
 
-    /// Takes rows: at most `k`, and none at a breakpoint at which no content is begun.
+    /// Takes rows: at most `limit`, and none at a breakpoint at which no content is begun.
     pub fn slice(&mut self, limit: u64) -> u64
         ensures rows { TakesRows (slice_rows limit self.old) self.old result self.new }
         ensures most { result ≤ limit }
@@ -157,7 +157,7 @@ impl<'p> Session<'p> {
         taken.rows
     }
 
-    /// Takes rows: at most `n`, whatever breakpoints are set.
+    /// Takes rows: at most `limit`, whatever breakpoints are set.
     pub fn step(&mut self, limit: u64) -> u64
         ensures rows { TakesRows (walk_rows limit self.old) self.old result self.new }
         ensures most { result ≤ limit }
@@ -174,7 +174,7 @@ impl<'p> Session<'p> {
         taken.rows
     }
 
-    /// Takes rows: at most `n`, of which the first alone may be at a breakpoint at which no content is begun.
+    /// Takes rows: at most `limit`, of which the first alone may be at a breakpoint at which no content is begun.
     pub fn go(&mut self, limit: u64) -> u64
         ensures rows { TakesRows (go_rows limit self.old) self.old result self.new }
         ensures most { result ≤ limit }

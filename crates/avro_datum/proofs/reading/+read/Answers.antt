@@ -34,19 +34,19 @@ read_fields-returns-clause-reads t c = ends _ _ _ _ _ _ _ c.loop-field.invariant
 pub read_plain-returns-in_err-inside-in-Record-clause-reads : goal.read_plain-returns-in_err-inside-in-Record-clause-reads
 read_plain-returns-in_err-inside-in-Record-clause-reads t c =
     let p = err_from_is_err_and c.from_residual.result c.from_residual.ensures.1 in
-    rw (p.1, p.2) (not_opened c.args.nodes.now c.args.bytes.now c.args.node c.args.at c.args.m _ _ (rw c.in-Record.is at c.kind-kind.ensures.kind) c.in_err-inside-in-Record.field-0.0 (sym c.in_err-inside-in-Record.ensures))
+    rw (p.1, p.2) (not_opened c.args.nodes.now c.args.bytes.now c.args.node c.args.at c.args.meter _ _ (rw c.in-Record.is at c.kind-kind.ensures.kind) c.in_err-inside-in-Record.field-0.0 (sym c.in_err-inside-in-Record.ensures))
 
 pub read_plain-returns-in_err-data-in-Record-clause-reads : goal.read_plain-returns-in_err-data-in-Record-clause-reads
 read_plain-returns-in_err-data-in-Record-clause-reads t c =
     let p = err_from_is_err_and c.from_residual-in_err-data-in-Record.result c.from_residual-in_err-data-in-Record.ensures.1 in
-    rw (p.1, p.2) (fields_fail c.args.nodes.now c.args.bytes.now c.args.node c.args.at c.args.m _ _ (rw c.in-Record.is at c.kind-kind.ensures.kind) c.in_ok-inside-in-Record.inside c.in_err-data-in-Record.field-0.0 (sym c.in_ok-inside-in-Record.ensures) (rw c.deref.ensures.value at c.in_err-data-in-Record.ensures.reads))
+    rw (p.1, p.2) (fields_fail c.args.nodes.now c.args.bytes.now c.args.node c.args.at c.args.meter _ _ (rw c.in-Record.is at c.kind-kind.ensures.kind) c.in_ok-inside-in-Record.inside c.in_err-data-in-Record.field-0.0 (sym c.in_ok-inside-in-Record.ensures) (rw c.deref.ensures.value at c.in_err-data-in-Record.ensures.reads))
 
 pub read_plain-returns-in_ok-data-in-Record-clause-reads : goal.read_plain-returns-in_ok-data-in-Record-clause-reads
 read_plain-returns-in_ok-data-in-Record-clause-reads t c = fields_end _ _ _ _ _ _ _ (rw c.in-Record.is at c.kind-kind.ensures.kind) c.in_ok-inside-in-Record.inside c.in_ok-data-in-Record.after _ c.in_ok-data-in-Record.data (sym c.in_ok-inside-in-Record.ensures) (rw c.deref.ensures.value at c.in_ok-data-in-Record.ensures.reads)
 
 pub read_plain-returns-in_default : goal.read_plain-returns-in_default
 read_plain-returns-in_default t c = record {
-  reads = reads_leaf c.read_leaf.result c.args.nodes.now c.args.bytes.now c.args.node c.args.at c.args.m _ c.kind-kind.ensures.kind (search rules) c.read_leaf.ensures.reads;
+  reads = reads_leaf c.read_leaf.result c.args.nodes.now c.args.bytes.now c.args.node c.args.at c.args.meter _ c.kind-kind.ensures.kind (search rules) c.read_leaf.ensures.reads;
   within = c.read_leaf.ensures.within;
   depth = c.read_leaf.ensures.depth;
   units = c.read_leaf.ensures.units;
@@ -57,13 +57,13 @@ read_plain-returns-in_default t c = record {
 pub read_plain-returns-in_err-walk-in-Array-clause-reads : goal.read_plain-returns-in_err-walk-in-Array-clause-reads
 read_plain-returns-in_err-walk-in-Array-clause-reads t c =
     let p = err_from_is_err_and c.from_residual-in_err-walk-in-Array.result c.from_residual-in_err-walk-in-Array.ensures.1 in
-    rw (p.1, p.2) (array_not_opened c.args.nodes.now c.args.bytes.now c.args.node c.args.at c.args.m c.in-Array.inner (rw c.in-Array.is at c.kind-kind.ensures.kind) c.in_err-walk-in-Array.field-0.0 c.in_err-walk-in-Array.ensures)
+    rw (p.1, p.2) (array_not_opened c.args.nodes.now c.args.bytes.now c.args.node c.args.at c.args.meter c.in-Array.inner (rw c.in-Array.is at c.kind-kind.ensures.kind) c.in_err-walk-in-Array.field-0.0 c.in_err-walk-in-Array.ensures)
 
 pub read_plain-returns-in_err-data-in-Array-clause-reads : goal.read_plain-returns-in_err-data-in-Array-clause-reads
 read_plain-returns-in_err-data-in-Array-clause-reads t c =
     let p = err_from_is_err_and c.from_residual-in_err-data-in-Array.result c.from_residual-in_err-data-in-Array.ensures.1 in
     let o = c.in_ok-walk-in-Array.ensures in
-    rw (p.1, p.2) (array_fails c.args.nodes.now c.args.bytes.now c.args.node c.args.at c.args.m _ (rw c.in-Array.is at c.kind-kind.ensures.kind) c.in_ok-walk-in-Array.inside c.in_ok-walk-in-Array.walk c.in_err-data-in-Array.field-0.0 o.0 o.1 c.in_err-data-in-Array.ensures.reads)
+    rw (p.1, p.2) (array_fails c.args.nodes.now c.args.bytes.now c.args.node c.args.at c.args.meter _ (rw c.in-Array.is at c.kind-kind.ensures.kind) c.in_ok-walk-in-Array.inside c.in_ok-walk-in-Array.walk c.in_err-data-in-Array.field-0.0 o.0 o.1 c.in_err-data-in-Array.ensures.reads)
 
 pub read_plain-returns-in_ok-data-in-Array-clause-reads : goal.read_plain-returns-in_ok-data-in-Array-clause-reads
 read_plain-returns-in_ok-data-in-Array-clause-reads t c =
@@ -73,13 +73,13 @@ read_plain-returns-in_ok-data-in-Array-clause-reads t c =
 pub read_plain-returns-in_err-walk-in-Map-clause-reads : goal.read_plain-returns-in_err-walk-in-Map-clause-reads
 read_plain-returns-in_err-walk-in-Map-clause-reads t c =
     let p = err_from_is_err_and c.from_residual-in_err-walk-in-Map.result c.from_residual-in_err-walk-in-Map.ensures.1 in
-    rw (p.1, p.2) (map_not_opened c.args.nodes.now c.args.bytes.now c.args.node c.args.at c.args.m c.in-Map.inner (rw c.in-Map.is at c.kind-kind.ensures.kind) c.in_err-walk-in-Map.field-0.0 c.in_err-walk-in-Map.ensures)
+    rw (p.1, p.2) (map_not_opened c.args.nodes.now c.args.bytes.now c.args.node c.args.at c.args.meter c.in-Map.inner (rw c.in-Map.is at c.kind-kind.ensures.kind) c.in_err-walk-in-Map.field-0.0 c.in_err-walk-in-Map.ensures)
 
 pub read_plain-returns-in_err-pairs-in-Map-clause-reads : goal.read_plain-returns-in_err-pairs-in-Map-clause-reads
 read_plain-returns-in_err-pairs-in-Map-clause-reads t c =
     let p = err_from_is_err_and c.from_residual-in_err-pairs-in-Map.result c.from_residual-in_err-pairs-in-Map.ensures.1 in
     let o = c.in_ok-walk-in-Map.ensures in
-    rw (p.1, p.2) (map_fails c.args.nodes.now c.args.bytes.now c.args.node c.args.at c.args.m _ (rw c.in-Map.is at c.kind-kind.ensures.kind) c.in_ok-walk-in-Map.inside c.in_ok-walk-in-Map.walk c.in_err-pairs-in-Map.field-0.0 o.0 o.1 c.in_err-pairs-in-Map.ensures.reads)
+    rw (p.1, p.2) (map_fails c.args.nodes.now c.args.bytes.now c.args.node c.args.at c.args.meter _ (rw c.in-Map.is at c.kind-kind.ensures.kind) c.in_ok-walk-in-Map.inside c.in_ok-walk-in-Map.walk c.in_err-pairs-in-Map.field-0.0 o.0 o.1 c.in_err-pairs-in-Map.ensures.reads)
 
 pub read_plain-returns-in_ok-pairs-in-Map-clause-reads : goal.read_plain-returns-in_ok-pairs-in-Map-clause-reads
 read_plain-returns-in_ok-pairs-in-Map-clause-reads t c =
@@ -166,7 +166,7 @@ pub read_node-returns-in_err-n-clause-reads : goal.read_node-returns-in_err-n-cl
 read_node-returns-in_err-n-clause-reads t c =
     let p = err_from_is_err_and c.from_residual.result c.from_residual.ensures.1 in
     let len : c.len.result ≡ length c.in-Union.members.items = search rules in
-    rw (p.1, p.2) (position_fails c.args.nodes.now c.args.bytes.now c.args.node c.args.at c.args.m _ _ (rw c.in-Union.is at c.kind.ensures.kind) len c.in_err-n.field-0.0 c.in_err-n.ensures.finds)
+    rw (p.1, p.2) (position_fails c.args.nodes.now c.args.bytes.now c.args.node c.args.at c.args.meter _ _ (rw c.in-Union.is at c.kind.ensures.kind) len c.in_err-n.field-0.0 c.in_err-n.ensures.finds)
 
 pub read_node-returns-in_err-datum-clause-reads : goal.read_node-returns-in_err-datum-clause-reads
 read_node-returns-in_err-datum-clause-reads t c =
@@ -174,7 +174,7 @@ read_node-returns-in_err-datum-clause-reads t c =
     let len : c.len.result ≡ length c.in-Union.members.items = search rules in
     let got = slice_get_read c.in-Union.members.items c.len.result c.in_ok-n.n c.index-member.result.now len c.in_ok-n.ensures.position c.index-member.ensures in
     let all = (rw c.in-Union.is at c.kind.ensures.well_formed).0 in
-    rw (p.1, p.2) (member_fails c.args.nodes.now c.args.bytes.now c.args.node c.args.at c.args.m _ _ (rw c.in-Union.is at c.kind.ensures.kind) len c.in_ok-n.n _ _ _ c.in_ok-n.ensures.finds got c.in_ok-n.ensures.depth all c.in_err-datum.field-0.0 c.in_err-datum.ensures.reads)
+    rw (p.1, p.2) (member_fails c.args.nodes.now c.args.bytes.now c.args.node c.args.at c.args.meter _ _ (rw c.in-Union.is at c.kind.ensures.kind) len c.in_ok-n.n _ _ _ c.in_ok-n.ensures.finds got c.in_ok-n.ensures.depth all c.in_err-datum.field-0.0 c.in_err-datum.ensures.reads)
 
 pub read_node-returns-in_err-datum-2-clause-reads : goal.read_node-returns-in_err-datum-2-clause-reads
 read_node-returns-in_err-datum-2-clause-reads t c =
@@ -182,7 +182,7 @@ read_node-returns-in_err-datum-2-clause-reads t c =
     let len : c.len.result ≡ length c.in-Union.members.items = search rules in
     let got = slice_get_read c.in-Union.members.items c.len.result c.in_ok-n.n c.index-member.result.now len c.in_ok-n.ensures.position c.index-member.ensures in
     let all = (rw c.in-Union.is at c.kind.ensures.well_formed).0 in
-    rw (p.1, p.2) (box_fails c.args.nodes.now c.args.bytes.now c.args.node c.args.at c.args.m _ _ (rw c.in-Union.is at c.kind.ensures.kind) len c.in_ok-n.n _ _ _ c.in_ok-n.ensures.finds got c.in_ok-n.ensures.depth all _ _ _ c.in_ok-datum.ensures.reads)
+    rw (p.1, p.2) (box_fails c.args.nodes.now c.args.bytes.now c.args.node c.args.at c.args.meter _ _ (rw c.in-Union.is at c.kind.ensures.kind) len c.in_ok-n.n _ _ _ c.in_ok-n.ensures.finds got c.in_ok-n.ensures.depth all _ _ _ c.in_ok-datum.ensures.reads)
 
 pub read_node-returns-clause-reads : goal.read_node-returns-clause-reads
 read_node-returns-clause-reads t c =
