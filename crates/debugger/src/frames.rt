@@ -9,7 +9,8 @@ ghost use Rattle.debugger.specs.Words.{bytes};
 
 use crate::words::{push_buffer, push_number, push_walk};
 use avro_bytes::BlockWalk;
-use machine_stepper::{BufferAt, FrameView, Machine};
+use machine_stepper::Machine;
+use machine_store::{BufferAt, FrameView};
 use std::alloc::{AllocError, Global};
 use std::fmt::Write;
 

@@ -6,7 +6,8 @@ ghost use Rattle.machine_stepper.specs.Running.{content_of};
 ghost use Rattle.debugger.specs.Words.{bytes, moving_content, number, number_or_none, size_or_none, truth, walk};
 
 use avro_bytes::BlockWalk;
-use machine_stepper::{BufferAt, Content, Machine};
+use machine_stepper::{Content, Machine};
+use machine_store::BufferAt;
 use std::alloc::{AllocError, Global};
 use std::fmt::Write;
 

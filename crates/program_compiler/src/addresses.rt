@@ -7,7 +7,7 @@ ghost use Rattle.program_compiler.specs.Parts.{AreWide, IsWide, Narrows};
 ghost use Rattle.program_ir.specs.Statements.{statement_of, statements_in};
 
 use isa::Lists;
-use program_lowering::Statement;
+use program_ir::Statement;
 use std::alloc::{AllocError, Global};
 
 /// A number as an operand, or none where it takes more than 32 bits.

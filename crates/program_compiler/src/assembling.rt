@@ -17,8 +17,8 @@ use crate::maps::gather_maps;
 use crate::misses::gather_misses;
 use avro_types::Nodes;
 use isa::{Entry, Instr, Lists, MOST_INSTRS, MOST_TABLES, Parts};
-use program_ir::Constants;
-use program_lowering::{CompileError, SectionStatements, Statement};
+use program_ir::{Constants, Statement};
+use program_lowering::{CompileError, SectionStatements};
 use std::alloc::Global;
 use std::collections::BTreeMap;
 

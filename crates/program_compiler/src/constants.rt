@@ -15,8 +15,7 @@ ghost use Rattle.program_ir.specs.Statements.{bytes_of as bytes_of_constant};
 use avro_bytes::put_long;
 use avro_datum::{WriteError, write};
 use avro_types::{Datum, Kind, Nodes};
-use program_ir::Constants;
-use program_lowering::{Constant, Statement};
+use program_ir::{Constant, Constants, Statement};
 use std::alloc::{AllocError, Global};
 use std::collections::BTreeMap;
 

@@ -18,8 +18,8 @@ use crate::addresses::{ahead, operand};
 use crate::constants::bytes_of;
 use avro_types::Nodes;
 use isa::{Instr, MOST_INSTRS};
-use program_ir::{Constants, Misses};
-use program_lowering::{CompileError, Constant, Go, SectionStatements, Statement};
+use program_ir::{Constant, Constants, Go, Misses, Statement};
+use program_lowering::{CompileError, SectionStatements};
 use std::alloc::{AllocError, Global};
 use std::collections::BTreeMap;
 

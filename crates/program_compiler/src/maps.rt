@@ -7,8 +7,7 @@ ghost use Rattle.program_compiler.specs.Tables.{AreShared};
 
 use avro_types::{Kind, Nodes};
 use isa::{Entry, Lists, MOST_TABLES};
-use program_ir::{Misses, entries};
-use program_lowering::Statement;
+use program_ir::{Misses, Statement, entries};
 use std::alloc::{AllocError, Global};
 use std::collections::BTreeMap;
 

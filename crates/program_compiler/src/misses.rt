@@ -9,8 +9,7 @@ ghost use Rattle.program_compiler.specs.Tables.{AreNoted};
 use crate::maps::symbols;
 use avro_types::Nodes;
 use outcome::{Mismatch, MismatchKind};
-use program_ir::{Misses, position_for};
-use program_lowering::Statement;
+use program_ir::{Misses, Statement, position_for};
 use std::alloc::{AllocError, Global};
 use std::collections::BTreeSet;
 

@@ -1,4 +1,4 @@
-//! Programs; used by `program_compiler`, `session_core`.
+//! Programs; used by `program_compiler`.
 //!
 //! The statements of a pair of schemas: the code of each section that is called for, before its numbers and addresses
 //! are known.
@@ -16,5 +16,4 @@ mod walking;
 mod writing;
 
 pub use error::CompileError;
-pub use program_ir::{Constant, Go, Section, Statement};
 pub use walking::{SectionStatements, walk};

@@ -1,6 +1,6 @@
 //! Why a store has no program for a pair.
 
-use program_lowering::CompileError;
+use program_compiler::CompileError;
 use std::alloc::{AllocError, AllocFailed};
 use thiserror::Error;
 
