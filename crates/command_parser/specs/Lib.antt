@@ -1,3 +1,3 @@
-pub mod ReplayLine
+pub mod Request
 pub mod Words
 pub mod Reading

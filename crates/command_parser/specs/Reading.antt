@@ -1,9 +1,13 @@
 -- Which line of `replay` and of `debug` some bytes are. All of this is this project's own.
-use Rattle.std.specs.Prelude.{ℕ, List, [], ◌∷◌, Option, Some, None, option_map, find, codes}
+use Rattle.std.specs.Prelude.{ℕ, if◌then◌else◌, List, [], ◌∷◌, Option, Some, None, option_map, find, codes}
 use Rattle.std.specs.Str.{bytes_eq}
 use Rattle.assembler.specs.Things.{◌>>=◌, at_end}
 use Rattle.schema_registry.specs.declared.level.Level.{Level}
-use Rattle.command_parser.specs.ReplayLine.{ReplayLine, Register, SetLevel, BadLevel, Publish, Begin, Piece, Finish, Slice, Steal, Break, Clear, Refuse, Walk, Go, Show, ListCode, TellResult}
+use Rattle.schema_registry.specs.declared.refusal.Refusal.{Refusal}
+use Rattle.schema_registry.specs.declared.refusal.Refusal.TheVariants.{BadLevel, BadSubject}
+use Rattle.schema_registry.specs.Answer.{is_subject_or_none}
+use Rattle.session_core.specs.Event.{Act, Register, SetLevel, Publish, Begin, On, Piece, Finish, Slice, Steal, Break, Clear, Refuse, Walk, Go}
+use Rattle.command_parser.specs.Request.{Request, Happen, NoLevel, Show, ListCode, TellResult}
 use Rattle.command_parser.specs.Words.{first_number, last_bytes, last_number, last_rows, level_named, number_and_rows, subject_in, two_numbers, two_words, word_and_text, words_of_text}
 use Rattle.command_parser.specs.declared.kind.Kind.{Kind}
 use Rattle.command_parser.specs.declared.kind.Kind.TheVariants as kinds
@@ -41,44 +45,51 @@ all_kinds =
 unfoldable pub kind_named : List ℕ → Option Kind
 kind_named word = find (λ kind. bytes_eq word (kind_name kind)) all_kinds
 
-unfoldable pub register_in : List (List ℕ) → Option ReplayLine
-register_in words = option_map (λ w. Register w.0 w.1) (word_and_text words)
+unfoldable pub register_in : List (List ℕ) → Option Request
+register_in words = option_map (λ w. Happen (Register w.0 w.1)) (word_and_text words)
+
+-- why no level is set by a word that names none: the subject is looked at first
+abbrev pub no_level : Option (List ℕ) → Refusal
+no_level subject = if is_subject_or_none subject then BadLevel else BadSubject
 
 -- the level is set, where the word for it names one
-abbrev pub set_level : Option (List ℕ) → Option Level → ReplayLine
-set_level subject (Some level) = SetLevel subject level
-set_level subject None = BadLevel
+abbrev pub set_level : Option (List ℕ) → Option Level → Request
+set_level subject (Some level) = Happen (SetLevel subject level)
+set_level subject None = NoLevel (no_level subject)
 
-unfoldable pub level_in : List (List ℕ) → Option ReplayLine
+abbrev pub on_session : ℕ → Act → Request
+on_session session act = Happen (On session act)
+
+unfoldable pub level_in : List (List ℕ) → Option Request
 level_in words = option_map (λ w. set_level (subject_in w.0) (level_named w.1)) (two_words words)
 
-unfoldable pub piece_in : List (List ℕ) → Option ReplayLine
+unfoldable pub piece_in : List (List ℕ) → Option Request
 piece_in words = do
   session ← first_number words
   bytes ← last_bytes session.1
-  Some (Piece session.0 bytes)
+  Some (on_session session.0 (Piece bytes))
 
-unfoldable pub slice_in : List (List ℕ) → Option ReplayLine
+unfoldable pub slice_in : List (List ℕ) → Option Request
 slice_in words = do
   session ← first_number words
   rest ← number_and_rows session.1
-  Some (Slice session.0 rest.0 rest.1)
+  Some (on_session session.0 (Slice rest.0 rest.1))
 
--- what a line of a kind says by the words after the first
-abbrev pub line_in : Kind → List (List ℕ) → Option ReplayLine
+-- what a line of a kind asks for by the words after the first
+abbrev pub line_in : Kind → List (List ℕ) → Option Request
 line_in kinds.Register words = register_in words
 line_in kinds.Level words = level_in words
-line_in kinds.Publish words = option_map (λ n. Publish n.0 n.1) (two_numbers words)
-line_in kinds.Begin words = option_map (λ n. Begin n.0 n.1) (two_numbers words)
+line_in kinds.Publish words = option_map (λ n. Happen (Publish n.0 n.1)) (two_numbers words)
+line_in kinds.Begin words = option_map (λ n. Happen (Begin n.0 n.1)) (two_numbers words)
 line_in kinds.Piece words = piece_in words
-line_in kinds.Finish words = option_map Finish (last_number words)
+line_in kinds.Finish words = option_map (λ n. on_session n Finish) (last_number words)
 line_in kinds.Slice words = slice_in words
-line_in kinds.Steal words = option_map (λ n. Steal n.0 n.1) (two_numbers words)
-line_in kinds.Break words = option_map (λ n. Break n.0 n.1) (two_numbers words)
-line_in kinds.Clear words = option_map (λ n. Clear n.0 n.1) (two_numbers words)
-line_in kinds.Refuse words = option_map Refuse (last_number words)
-line_in kinds.Walk words = option_map (λ n. Walk n.0 n.1) (number_and_rows words)
-line_in kinds.Go words = option_map (λ n. Go n.0 n.1) (number_and_rows words)
+line_in kinds.Steal words = option_map (λ n. on_session n.0 (Steal n.1)) (two_numbers words)
+line_in kinds.Break words = option_map (λ n. on_session n.0 (Break n.1)) (two_numbers words)
+line_in kinds.Clear words = option_map (λ n. on_session n.0 (Clear n.1)) (two_numbers words)
+line_in kinds.Refuse words = option_map (λ n. on_session n Refuse) (last_number words)
+line_in kinds.Walk words = option_map (λ n. on_session n.0 (Walk n.1)) (number_and_rows words)
+line_in kinds.Go words = option_map (λ n. on_session n.0 (Go n.1)) (number_and_rows words)
 line_in kinds.Show words = option_map Show (last_number words)
 line_in kinds.List words = option_map ListCode (last_number words)
 line_in kinds.Result words = option_map TellResult (last_number words)
@@ -88,23 +99,23 @@ unfoldable pub kind_in : List (List ℕ) → Option Kind
 kind_in [] = None
 kind_in (word ∷ words) = kind_named word
 
-unfoldable pub replay_line_in : List (List ℕ) → Option ReplayLine
+unfoldable pub replay_line_in : List (List ℕ) → Option Request
 replay_line_in [] = None
 replay_line_in (word ∷ words) = do
   kind ← kind_named word
   line_in kind words
 
-unfoldable pub replay_line : List ℕ → Option ReplayLine
+unfoldable pub replay_line : List ℕ → Option Request
 replay_line line = replay_line_in (words_of_text line)
 
 -- what was read holds the name of a subject
-abbrev pub HasSubject : Option ReplayLine → Type 0
-HasSubject (Some (Register subject text)) = Unit {0}
-HasSubject (Some (SetLevel (Some subject) level)) = Unit {0}
+abbrev pub HasSubject : Option Request → Type 0
+HasSubject (Some (Happen (Register subject text))) = Unit {0}
+HasSubject (Some (Happen (SetLevel (Some subject) level))) = Unit {0}
 HasSubject line = ⊥
 
 -- where reading a line of this kind may want memory: what it says has a name, or there are bytes, malformed or not
-abbrev pub WantsMemory : Option Kind → Option ReplayLine → Type 0
+abbrev pub WantsMemory : Option Kind → Option Request → Type 0
 WantsMemory (Some kinds.Piece) line = Unit {0}
 WantsMemory kind line = HasSubject line
 

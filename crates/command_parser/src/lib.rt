@@ -8,10 +8,10 @@ mod debug_line;
 mod kind;
 mod numbers;
 mod reading;
-mod replay_line;
+mod request;
 mod texts;
 mod words;
 
 pub use debug_line::{DebugLine, read_debug_line};
 pub use reading::read_replay_line;
-pub use replay_line::ReplayLine;
+pub use request::Request;

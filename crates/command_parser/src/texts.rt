@@ -1,33 +1,33 @@
 //! The subjects, levels and schema texts in a line.
 
 ghost use Rattle.std.specs.Prelude.{◌≡◌, IfErr, IfOk, IsSome, Some, option_map, string_bytes};
-ghost use Rattle.command_parser.specs.ReplayLine.{Register, replay_line_of};
-ghost use Rattle.command_parser.specs.Reading.{HasSubject, level_in, piece_in, register_in, set_level};
+ghost use Rattle.command_parser.specs.Request.{Happen, request_of};
+ghost use Rattle.command_parser.specs.Reading.{HasSubject, level_in, no_level, piece_in, register_in, set_level};
+ghost use Rattle.session_core.specs.Event.{Register};
 ghost use Rattle.command_parser.specs.Words.{last_bytes, level_named, subject_in, words_left};
 
 use crate::numbers::first_number;
-use crate::replay_line::ReplayLine;
+use crate::reading::on_session;
+use crate::request::Request;
 use crate::words::{only_word, two_words, word_and_text};
 use assembler::bytes_of;
-use schema_registry::Level;
+use schema_registry::{Level, Refusal, is_subject};
+use session_core::{Act, Event};
 use std::alloc::{AllocError, Global};
 
-/// The line that registers a text.
-fn register(alloc: Global, subject: &str, text: &str) -> Result<ReplayLine, AllocError>
-    ensures { IfOk result (λ line. replay_line_of line ≡ Register subject.now text.now) }
+/// The event that registers a text.
+fn register(alloc: Global, subject: &str, text: &str) -> Result<Request, AllocError>
+    ensures { IfOk result (λ request. request_of request ≡ Happen (Register subject.now text.now)) }
 {
     let subject = String::from_str(alloc, subject)?;
     let text = String::from_str(alloc, text)?;
-    Ok(ReplayLine::Register { subject, text })
+    Ok(Request::Event(Event::Register { subject, text }))
 }
 
 /// A subject, and a schema's text, which is all after the space behind it.
 #[tactic(auto, unfolding(crate::specs::Reading::register_in))]
-pub(crate) fn register_of(
-    alloc: Global,
-    left: Option<&str>,
-) -> Result<Option<ReplayLine>, AllocError>
-    ensures line { IfOk result (λ found. option_map replay_line_of found ≡ register_in (words_left left.entry)) }
+pub(crate) fn register_of(alloc: Global, left: Option<&str>) -> Result<Option<Request>, AllocError>
+    ensures line { IfOk result (λ found. option_map request_of found ≡ register_in (words_left left.entry)) }
     ensures memory { IfErr result (λ e. HasSubject (register_in (words_left left.entry))) }
 {
     let Some((subject, text)) = word_and_text(left) else {
@@ -56,18 +56,29 @@ fn subject_of(alloc: Global, word: &str) -> Result<Option<String>, AllocError>
     Ok(Some(subject))
 }
 
-/// The line that sets a level.
-fn set_level(alloc: Global, subject: &str, level: &str) -> Result<ReplayLine, AllocError>
+/// Why a level is not set by a word that names none: the subject is looked at first.
+fn no_level(subject: &str) -> Refusal
+    ensures { result ≡ no_level (subject_in subject.now) }
+{
+    if subject == "*" || is_subject(subject) {
+        Refusal::BadLevel
+    } else {
+        Refusal::BadSubject
+    }
+}
+
+/// The event that sets a level, or why none is set.
+fn set_level(alloc: Global, subject: &str, level: &str) -> Result<Request, AllocError>
     ensures line { IfOk result
-        (λ line. replay_line_of line ≡ set_level (subject_in subject.now) (level_named level.now)) }
+        (λ request. request_of request ≡ set_level (subject_in subject.now) (level_named level.now)) }
     ensures memory { IfErr result
         (λ e. HasSubject (Some (set_level (subject_in subject.now) (level_named level.now)))) }
 {
     let Some(level) = level_of(level) else {
-        return Ok(ReplayLine::BadLevel);
+        return Ok(Request::NoLevel(no_level(subject)));
     };
     let subject = subject_of(alloc, subject)?;
-    Ok(ReplayLine::Level { subject, level })
+    Ok(Request::Event(Event::Level { subject, level }))
 }
 
 /// A subject and the name of a level.
@@ -75,8 +86,8 @@ fn set_level(alloc: Global, subject: &str, level: &str) -> Result<ReplayLine, Al
 pub(crate) fn level_line_of(
     alloc: Global,
     left: Option<&str>,
-) -> Result<Option<ReplayLine>, AllocError>
-    ensures line { IfOk result (λ found. option_map replay_line_of found ≡ level_in (words_left left.entry)) }
+) -> Result<Option<Request>, AllocError>
+    ensures line { IfOk result (λ found. option_map request_of found ≡ level_in (words_left left.entry)) }
     ensures memory { IfErr result (λ e. HasSubject (level_in (words_left left.entry))) }
 {
     let Some((subject, level)) = two_words(left) else {
@@ -99,14 +110,14 @@ fn last_bytes(alloc: Global, left: Option<&str>) -> Result<Option<Vec<u8>>, Allo
 
 /// The number of a session, and bytes.
 #[tactic(auto, unfolding(crate::specs::Reading::piece_in))]
-pub(crate) fn piece_of(alloc: Global, left: Option<&str>) -> Result<Option<ReplayLine>, AllocError>
-    ensures { IfOk result (λ found. option_map replay_line_of found ≡ piece_in (words_left left.entry)) }
+pub(crate) fn piece_of(alloc: Global, left: Option<&str>) -> Result<Option<Request>, AllocError>
+    ensures { IfOk result (λ found. option_map request_of found ≡ piece_in (words_left left.entry)) }
 {
     let Some((session, left)) = first_number(left) else {
         return Ok(None);
     };
     match last_bytes(alloc, left)? {
-        Some(bytes) => Ok(Some(ReplayLine::Piece { session, bytes })),
+        Some(bytes) => Ok(Some(on_session(session, Act::Piece(bytes)))),
         None => Ok(None),
     }
 }

@@ -9,32 +9,34 @@ use Rattle.isa.specs.Program.{Program}
 use Rattle.outcome.specs.declared.limits.TheConstants.{MOST_PAYLOAD}
 use Rattle.program_definition.specs.Code.{code_of}
 use Rattle.session_state.specs.Changes.{Maybe, Surely, break_refusal, clear_refusal, cleared_at, finished, set_at, with_piece}
-use Rattle.session_state.specs.Names.{refusal_name}
+use Rattle.session_state.specs.Names.{break_refusal_name, clear_refusal_name}
 use Rattle.session_state.specs.Rows.{TakesRows, go_rows, walk_rows}
 use Rattle.session_state.specs.Session.{Session, begun, has_break}
-use Rattle.session_state.specs.declared.refusal.SessionRefusal.{SessionRefusal}
-use Rattle.session_state.specs.declared.refusal.SessionRefusal.TheVariants.{NoMemory}
+use Rattle.session_state.specs.declared.refusal.BreakRefusal.{BreakRefusal}
+use Rattle.session_state.specs.declared.refusal.BreakRefusal.TheVariants.{NoMemory}
+use Rattle.session_state.specs.declared.refusal.ClearRefusal.{ClearRefusal}
 use Rattle.command_sessions.specs.declared.debugging.DebugError.{DebugError}
 use Rattle.command_sessions.specs.declared.debugging.DebugError.TheVariants.{BadHex, ProgramTooLarge, TooLarge}
 use Rattle.command_sessions.specs.Folding.{AnswersAll}
-use Rattle.command_sessions.specs.Telling.{Tells, bad_line, refused_line, code_text, state_text}
+use Rattle.command_sessions.specs.Telling.{bad_line, refused_line}
+use Rattle.debugger.specs.Sessions.{Lists, Shows}
 
 -- what is done is not told
-abbrev pub done_line : Result (Unit {0}) SessionRefusal → List ℕ
-done_line (Ok u) = []
-done_line (Err e) = refused_line (refusal_name e)
+abbrev pub done_line : {E : Type 0} → (E → List ℕ) → Result (Unit {0}) E → List ℕ
+done_line name (Ok u) = []
+done_line name (Err e) = refused_line (name e)
 
 abbrev pub Obeys : DebugLine → List ℕ → Session → Session → Type 0
 Obeys (lines.Break a) answer old new =
-    (done : Result (Unit {0}) SessionRefusal) × Maybe (break_refusal a old) (set_at a old) done old new
-    × IfErr done (λ e. e ≡ NoMemory → has_break a old.breaks ≡ false) × (answer ≡ done_line done)
+    (done : Result (Unit {0}) BreakRefusal) × Maybe NoMemory (break_refusal a old) (set_at a old) done old new
+    × IfErr done (λ e. e ≡ NoMemory → has_break a old.breaks ≡ false) × (answer ≡ done_line break_refusal_name done)
 Obeys (lines.Clear a) answer old new =
-    (done : Result (Unit {0}) SessionRefusal) × Surely (clear_refusal a old) (cleared_at a old) done old new
-    × (answer ≡ done_line done)
+    (done : Result (Unit {0}) ClearRefusal) × Surely (clear_refusal a old) (cleared_at a old) done old new
+    × (answer ≡ done_line clear_refusal_name done)
 Obeys (lines.Step n) answer old new = (rows : ℕ) × TakesRows (walk_rows n old) old rows new × (answer ≡ [])
 Obeys (lines.Go n) answer old new = (rows : ℕ) × TakesRows (go_rows n old) old rows new × (answer ≡ [])
-Obeys lines.Show answer old new = Tells state_text old answer × (new ≡ old)
-Obeys lines.List answer old new = Tells code_text old answer × (new ≡ old)
+Obeys lines.Show answer old new = Shows old answer × (new ≡ old)
+Obeys lines.List answer old new = Lists old answer × (new ≡ old)
 
 abbrev pub AnswersCommand : List ℕ → List ℕ → Session → Session → Type 0
 AnswersCommand line answer old new =

@@ -1,5 +1,4 @@
 pub mod Debugging
 pub mod Folding
 pub mod Replaying
-pub mod Request
 pub mod Telling

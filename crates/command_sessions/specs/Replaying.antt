@@ -3,19 +3,18 @@
 use Rattle.std.specs.Prelude.{◌≡◌, ℕ, List, [], ◌∷◌, ◌++◌, codes, option_map, slice_get, Option, Some, None, MatchOption}
 use Rattle.std.specs.Fmt.{decimal}
 use Rattle.command_parser.specs.Reading.{replay_line}
-use Rattle.isa.specs.State.{State}
 use Rattle.session_state.specs.Session.{Session}
 use Rattle.session_core.specs.Happening.{Happens}
 use Rattle.schema_registry.specs.Refusal as registry
-use Rattle.schema_registry.specs.declared.refusal.Refusal.TheVariants.{BadLevel}
 use Rattle.session_core.specs.Names.{refusal_name}
 use Rattle.session_core.specs.World.{Held, World, no_world}
 use Rattle.session_core.specs.declared.refusal.EventRefusal.TheVariants.{NoSession}
 use Rattle.session_core.specs.declared.reply.EventReply.{EventReply}
 use Rattle.session_core.specs.declared.reply.EventReply.TheVariants as replies
 use Rattle.command_sessions.specs.Folding.{AnswersAll}
-use Rattle.command_sessions.specs.Request.{Happen, ListCode, NoLevel, Request, Show, TellEnd, asks}
-use Rattle.command_sessions.specs.Telling.{Tells, bad_line, refused_line, code_text, end_text, state_text}
+use Rattle.command_parser.specs.Request.{Happen, ListCode, NoLevel, Request, Show, TellResult}
+use Rattle.command_sessions.specs.Telling.{TellsEnd, bad_line, refused_line}
+use Rattle.debugger.specs.Sessions.{Lists, Shows}
 
 -- the reply to an event
 abbrev pub reply_line : EventReply → List ℕ
@@ -29,22 +28,23 @@ abbrev pub session_at : ℕ → World → Option Session
 session_at s world = option_map (λ (held : Held). held.session) (slice_get world.sessions s)
 
 -- a text of a session, where there is one
-abbrev pub TellsOf : (Session → State → List ℕ) → Option Session → List ℕ → Type 0
-TellsOf text (Some s) answer = Tells text s answer
-TellsOf text None answer = answer ≡ refused_line (refusal_name NoSession)
+abbrev pub TellsOf : (Session → List ℕ → Type 0) → Option Session → List ℕ → Type 0
+TellsOf Told (Some s) answer = Told s answer
+TellsOf Told None answer = answer ≡ refused_line (refusal_name NoSession)
 
 abbrev pub AnswersRequest : Request → List ℕ → World → World → Type 0
 AnswersRequest (Happen event) answer old new =
     (reply : EventReply) × Happens event reply old new × (answer ≡ reply_line reply)
-AnswersRequest NoLevel answer old new = (answer ≡ refused_line (registry.refusal_name BadLevel)) × (new ≡ old)
-AnswersRequest (Show s) answer old new = TellsOf state_text (session_at s old) answer × (new ≡ old)
-AnswersRequest (ListCode s) answer old new = TellsOf code_text (session_at s old) answer × (new ≡ old)
-AnswersRequest (TellEnd s) answer old new = TellsOf end_text (session_at s old) answer × (new ≡ old)
+AnswersRequest (NoLevel refusal) answer old new =
+    (answer ≡ refused_line (registry.refusal_name refusal)) × (new ≡ old)
+AnswersRequest (Show s) answer old new = TellsOf Shows (session_at s old) answer × (new ≡ old)
+AnswersRequest (ListCode s) answer old new = TellsOf Lists (session_at s old) answer × (new ≡ old)
+AnswersRequest (TellResult s) answer old new = TellsOf TellsEnd (session_at s old) answer × (new ≡ old)
 
 abbrev pub AnswersLine : List ℕ → List ℕ → World → World → Type 0
 AnswersLine line answer old new =
     MatchOption (replay_line line) ((answer ≡ bad_line) × (new ≡ old))
-    (λ said. AnswersRequest (asks said) answer old new)
+    (λ request. AnswersRequest request answer old new)
 
 abbrev pub IsReplayed : List (List ℕ) → List ℕ → Type 0
 IsReplayed inputs output = (world : World) × AnswersAll AnswersLine inputs output no_world world

@@ -2,8 +2,6 @@
 use Rattle.std.specs.Prelude.{◌≡◌, ℕ, List, [], ◌∷◌, ◌++◌, codes, is_some, Some, if◌then◌else◌}
 use Rattle.std.specs.Fmt.{decimal}
 use Rattle.command_io.specs.RunLine.{line_of_run}
-use Rattle.assembler.specs.Listing.{listing_of}
-use Rattle.debugger.specs.Show.{shown}
 use Rattle.isa.specs.State.{State}
 use Rattle.session_state.specs.Session.{Session, state_of}
 
@@ -20,15 +18,13 @@ end_line s state =
     else if is_some state.end then line_of_run state
     else codes "pending"
 
-abbrev pub state_text : Session → State → List ℕ
-state_text s state = shown state s.out_of_memory
-
-abbrev pub code_text : Session → State → List ℕ
-code_text s state = listing_of s.program
-
 abbrev pub end_text : Session → State → List ℕ
 end_text s state = end_line s state ++ 10 ∷ []
 
 -- a text of a session, in the state in which its machine is
 abbrev pub Tells : (Session → State → List ℕ) → Session → List ℕ → Type 0
 Tells text s answer = (state : State) × (state_of s ≡ Some state) × (answer ≡ text s state)
+
+-- how it ended, in a line
+abbrev pub TellsEnd : Session → List ℕ → Type 0
+TellsEnd s answer = Tells end_text s answer

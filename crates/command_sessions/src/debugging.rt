@@ -3,7 +3,7 @@
 ghost use Rattle.std.specs.Prelude.{◌≡◌, ◌≢◌, ◌++◌, ℕ, List, drop, string_bytes, Err, Ok, IfErr, IfOk, OnOk};
 ghost use Rattle.command_io.specs.Lines.{line_at, lines};
 ghost use Rattle.isa.specs.Program.{Program as Parted};
-ghost use Rattle.command_sessions.specs.Debugging.{AnswersCommand, IsDebugged, Obeys, debugged, done_line, given, within_limit};
+ghost use Rattle.command_sessions.specs.Debugging.{AnswersCommand, IsDebugged, Obeys, debugged, given, within_limit};
 ghost use Rattle.command_sessions.specs.Folding.{Grows};
 
 use crate::telling::{push_code, push_refusal, push_state};
@@ -12,7 +12,7 @@ use command_io::{payload_of, split_line, split_line_or_empty};
 use command_parser::{DebugLine, read_debug_line};
 use isa::Program;
 use program_compiler::{CompileError, compile};
-use session_state::{Session, SessionRefusal};
+use session_state::{PieceRefusal, Session};
 use std::alloc::{AllocError, Global};
 use thiserror::Error;
 
@@ -39,11 +39,23 @@ impl From<AllocError> for DebugError {
     }
 }
 
-/// Appends why a command was refused, where it was.
-fn push_done(output: &mut String, done: Result<(), SessionRefusal>) -> Result<(), AllocError>
-    ensures { OnOk result (string_bytes output.new ≡ string_bytes output.old ++ done_line done) }
+/// Sets a breakpoint, and appends why it was not set, where it was refused.
+fn push_set(session: &mut Session, address: u32, output: &mut String) -> Result<(), AllocError>
+    ensures { OnOk result (Grows (λ answer. Obeys (DebugLine.Break address) answer session.old session.new)
+        (string_bytes output.old) (string_bytes output.new)) }
 {
-    match done {
+    match session.set_break(address) {
+        Ok(()) => Ok(()),
+        Err(refusal) => push_refusal(output, refusal.name()),
+    }
+}
+
+/// Clears a breakpoint, and appends why it was not cleared, where it was refused.
+fn push_cleared(session: &mut Session, address: u32, output: &mut String) -> Result<(), AllocError>
+    ensures { OnOk result (Grows (λ answer. Obeys (DebugLine.Clear address) answer session.old session.new)
+        (string_bytes output.old) (string_bytes output.new)) }
+{
+    match session.clear_break(address) {
         Ok(()) => Ok(()),
         Err(refusal) => push_refusal(output, refusal.name()),
     }
@@ -60,8 +72,8 @@ fn obey(
         (string_bytes output.old) (string_bytes output.new)) }
 {
     match line {
-        DebugLine::Break(address) => push_done(output, session.set_break(address)),
-        DebugLine::Clear(address) => push_done(output, session.clear_break(address)),
+        DebugLine::Break(address) => push_set(session, address, output),
+        DebugLine::Clear(address) => push_cleared(session, address, output),
         DebugLine::Step(rows) => {
             session.step(rows);
             Ok(())
@@ -100,9 +112,9 @@ fn given<'p>(alloc: Global, program: &'p Program, payload: &[u8]) -> Result<Sess
     let mut session = Session::begin(alloc, program);
     match session.piece(payload) {
         Ok(()) => {}
-        Err(SessionRefusal::TooLarge) => return Err(DebugError::TooLarge),
-        Err(SessionRefusal::NoMemory) => return Err(DebugError::NoMemory),
-        Err(_) => unreachable!(),
+        Err(PieceRefusal::TooLarge) => return Err(DebugError::TooLarge),
+        Err(PieceRefusal::NoMemory) => return Err(DebugError::NoMemory),
+        Err(PieceRefusal::Ended) => unreachable!(),
     }
     session.finish();
     Ok(session)

@@ -5,7 +5,6 @@
 
 mod debugging;
 mod replaying;
-mod request;
 mod telling;
 
 pub use debugging::{DebugError, debug};

@@ -4,14 +4,12 @@ ghost use Rattle.std.specs.Prelude.{◌≡◌, ◌++◌, string_bytes, IfOk, OnO
 ghost use Rattle.command_io.specs.Lines.{lines};
 ghost use Rattle.command_sessions.specs.Folding.{Grows};
 ghost use Rattle.command_sessions.specs.Replaying.{AnswersLine, AnswersRequest, IsReplayed, reply_line};
-ghost use Rattle.command_sessions.specs.Request.{request_of};
+ghost use Rattle.command_parser.specs.Request.{request_of};
 
-use crate::request::Request;
 use crate::telling::{push_code, push_end, push_refusal, push_state};
 use command_io::split_line;
-use command_parser::read_replay_line;
+use command_parser::{Request, read_replay_line};
 use memchr::memchr_iter;
-use schema_registry::Refusal;
 use session_core::{EventRefusal, EventReply, PairRow, World};
 use std::alloc::{AllocError, Global};
 use std::fmt::Write;
@@ -45,7 +43,7 @@ fn push_request<'p>(
             let reply = world.event(programs, event);
             push_reply(output, reply)
         }
-        Request::NoLevel => push_refusal(output, Refusal::BadLevel.name()),
+        Request::NoLevel(refusal) => push_refusal(output, refusal.name()),
         Request::Show(number) => match world.session(*number) {
             Some(session) => push_state(alloc, output, session),
             None => push_refusal(output, EventRefusal::NoSession.name()),
@@ -54,7 +52,7 @@ fn push_request<'p>(
             Some(session) => push_code(alloc, output, session),
             None => push_refusal(output, EventRefusal::NoSession.name()),
         },
-        Request::End(number) => match world.session(*number) {
+        Request::Result(number) => match world.session(*number) {
             Some(session) => push_end(alloc, output, session),
             None => push_refusal(output, EventRefusal::NoSession.name()),
         },
@@ -73,10 +71,7 @@ fn push_answer<'p>(
         (string_bytes output.old) (string_bytes output.new)) }
 {
     match read_replay_line(alloc, line)? {
-        Some(said) => {
-            let request = Request::of(said);
-            push_request(alloc, world, programs, &request, output)
-        }
+        Some(request) => push_request(alloc, world, programs, &request, output),
         None => output.push_str("bad line\n"),
     }
 }

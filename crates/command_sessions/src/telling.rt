@@ -2,7 +2,8 @@
 
 ghost use Rattle.std.specs.Prelude.{◌≡◌, ◌++◌, string_bytes, OnOk};
 ghost use Rattle.command_sessions.specs.Folding.{Grows};
-ghost use Rattle.command_sessions.specs.Telling.{Tells, code_text, end_line, end_text, refused_line, state_text};
+ghost use Rattle.command_sessions.specs.Telling.{Tells, TellsEnd, end_line, refused_line};
+ghost use Rattle.debugger.specs.Sessions.{Lists, Shows};
 
 use command_io::push_run;
 use debugger::{list, show};
@@ -23,9 +24,9 @@ pub(crate) fn push_state(
     output: &mut String,
     session: &Session,
 ) -> Result<(), AllocError>
-    ensures { OnOk result (Grows (Tells state_text session.now) (string_bytes output.old) (string_bytes output.new)) }
+    ensures { OnOk result (Grows (Shows session.now) (string_bytes output.old) (string_bytes output.new)) }
 {
-    let text = show(alloc, session.machine(), session.no_memory())?;
+    let text = show(alloc, session)?;
     output.push_str(&text)
 }
 
@@ -35,10 +36,9 @@ pub(crate) fn push_code(
     output: &mut String,
     session: &Session,
 ) -> Result<(), AllocError>
-    ensures { OnOk result (Grows (Tells code_text session.now) (string_bytes output.old) (string_bytes output.new)) }
+    ensures { OnOk result (Grows (Lists session.now) (string_bytes output.old) (string_bytes output.new)) }
 {
-    session.machine();
-    let text = list(alloc, session.program())?;
+    let text = list(alloc, session)?;
     output.push_str(&text)
 }
 
@@ -63,7 +63,7 @@ pub(crate) fn push_end(
     output: &mut String,
     session: &Session,
 ) -> Result<(), AllocError>
-    ensures { OnOk result (Grows (Tells end_text session.now) (string_bytes output.old) (string_bytes output.new)) }
+    ensures { OnOk result (Grows (TellsEnd session.now) (string_bytes output.old) (string_bytes output.new)) }
 {
     push_end_line(alloc, output, session)?;
     output.push_str("\n")

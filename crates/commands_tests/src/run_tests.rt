@@ -131,7 +131,7 @@ fn cuts_and_slices_change_nothing(rt: HostRuntime) -> Result<(), Fail> {
 }
 
 /// Whether a new run takes one row, waits, and ends with another one once it is closed, and can be used again.
-fn assert_waits(rt: &impl Abort, run: &mut Run<'_>) {
+fn assert_waits<'p>(rt: &impl Abort, run: &mut Run<'p>, program: &'p Program) {
     let waits = Slice {
         rows: 1,
         why: Why::Waits,
@@ -143,7 +143,7 @@ fn assert_waits(rt: &impl Abort, run: &mut Run<'_>) {
         why: Why::Ended,
     };
     assert!(rt; run.slice(&[], 100) == ended);
-    run.reset();
+    run.reset(program);
     assert!(rt; run.input().is_empty() && !run.is_closed());
     assert!(rt; run.machine().count() == 0);
 }
@@ -151,7 +151,7 @@ fn assert_waits(rt: &impl Abort, run: &mut Run<'_>) {
 /// The same for a run of a program.
 fn assert_run_waits(rt: &(impl Abort + AllocGlobal), program: &Program) {
     let mut run = Run::new(rt.alloc(), program);
-    assert_waits(rt, &mut run);
+    assert_waits(rt, &mut run, program);
 }
 
 #[test]

@@ -78,7 +78,7 @@ fn push_out(alloc: Global, output: &mut String, machine: &Machine) -> Result<(),
 }
 
 /// The text of a machine's state, with `no_memory` where memory was refused for the last row.
-pub fn show(alloc: Global, machine: &Machine, no_memory: bool) -> Result<String, AllocError>
+pub fn show_machine(alloc: Global, machine: &Machine, no_memory: bool) -> Result<String, AllocError>
     ensures { IfOk result (λ text. string_bytes text ≡ shown machine.now.state no_memory) }
 {
     let mut output = String::new(alloc);
@@ -90,7 +90,7 @@ pub fn show(alloc: Global, machine: &Machine, no_memory: bool) -> Result<String,
 }
 
 /// The listing of a program.
-pub fn list(alloc: Global, program: &Program) -> Result<String, AllocError>
+pub fn list_program(alloc: Global, program: &Program) -> Result<String, AllocError>
     ensures { IfOk result (λ text. string_bytes text ≡ listing_of program.now) }
 {
     disassemble(alloc, program)

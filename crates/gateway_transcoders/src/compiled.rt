@@ -1,19 +1,20 @@
 //! Transcoding by programs that are made once for a pair of schemas, and kept for all threads.
 
-ghost use Rattle.std.specs.Prelude.{◌≡◌, ◌≤◌, Some, IfErr, IfOk, IfSome, length, ⊤};
+ghost use Rattle.std.specs.Prelude.{◌≡◌, ◌≤◌, IfErr, IfOk, IfSome, length, ⊤};
 ghost use Rattle.std.specs.Arc.{arc_value};
 ghost use Rattle.outcome.specs.declared.limits.TheConstants.{MOST_PAYLOAD};
-ghost use Rattle.program_definition.specs.Code.{code_of};
+ghost use Rattle.pair_program.specs.Pair.{IsProgramOf};
 ghost use Rattle.program_lowering.specs.declared.error.CompileError.TheVariants.{ProgramTooLarge};
 ghost use Rattle.schema_registry.specs.Shared.{IsReceiptOf};
 ghost use Rattle.gateway.specs.Transcoding.{HasOutcome, HasNoCode};
 
-use crate::pair_program::{PairOfIds, PairProgram};
+use crate::running::run;
 use avro_schema::Schema;
 use gateway::{Gate, Transcode, TranscodeFault};
 use lru::LruCache;
 use machine::Machine;
 use outcome::Outcome;
+use pair_program::PairProgram;
 use program_compiler::CompileError;
 use schema_registry::{Receipt, SharedRegistry};
 use std::alloc::{AllocError, Global};
@@ -23,6 +24,13 @@ use std::sync::{Arc, Mutex, Wait};
 
 /// How many pairs' programs are kept: those that were used last. The number is this project's own.
 pub const MOST_KEPT_PROGRAMS: usize = 256;
+
+/// The ids of a pair of schemas.
+#[derive(Clone, Copy, PartialEq, Eq, Hash)]
+struct PairOfIds {
+    writer: u32,
+    reader: u32,
+}
 
 /// Transcoding by the program of the pair, in the thread that asks. Programs are kept under a lock that threads share.
 /// Callers see it as the names of the cells of its registry.
@@ -68,7 +76,7 @@ impl<'a> Compiled<'a> {
         writer: &Schema,
         reader: &Schema,
     ) -> Option<Arc<PairProgram, Global>>
-        ensures { IfSome result (λ pair. code_of writer.now.nodes reader.now.nodes ≡ Some (arc_value pair).program) }
+        ensures { IfSome result (λ pair. IsProgramOf writer.now reader.now (arc_value pair)) }
     {
         let kept = self.kept(rt, ids)?;
         if kept.is_of(writer, reader) {
@@ -111,10 +119,10 @@ impl<'a> Compiled<'a> {
         let w = self.registry.schema(writer);
         let r = self.registry.schema(reader);
         if let Some(kept) = self.kept_for(rt, ids, w, r) {
-            return Ok(kept.run(self.alloc, machine, w, r, payload)?);
+            return Ok(run(self.alloc, machine, kept.program(), w, r, payload)?);
         }
         let made = PairProgram::new(self.alloc, w, r)?;
-        let outcome = made.run(self.alloc, machine, w, r, payload);
+        let outcome = run(self.alloc, machine, made.program(), w, r, payload);
         self.keep(rt, ids, made);
         Ok(outcome?)
     }

@@ -4,6 +4,6 @@
 #![tactic(auto)]
 
 mod compiled;
-mod pair_program;
+mod running;
 
 pub use compiled::{Compiled, MOST_KEPT_PROGRAMS};

@@ -2,3 +2,4 @@ mod Alone
 mod Ending
 mod PairErrors
 mod PairRuns
+mod Carry

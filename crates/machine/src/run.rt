@@ -8,7 +8,8 @@ ghost use Rattle.machine_stepper.specs.Contract.{GoesOn, OnlyAppends};
 ghost use Rattle.machine_stepper.specs.Memory.{MayGrow};
 ghost use Rattle.machine_stepper.specs.Running.{end_of};
 ghost use Rattle.machine_stepper.specs.Slice.{IsWhy, Rows};
-ghost use Rattle.machine.specs.Ending.{EarlyEndIsOutcome, EndIsOutcome, EndsInOneSlice, EndsWithinBound, HasEndedWithinBound};
+ghost use Rattle.machine.specs.Ending.{LeadsToOutcome};
+ghost use Rattle.machine.specs.Run.{IsCarry};
 
 use avro_types::Nodes;
 use isa::{End, Program, row_or_end_is_there};
@@ -54,11 +55,12 @@ impl<'p> Run<'p> {
         }
     }
 
-    /// Goes back to what `new` gives for the same program, and keeps the memory.
-    pub fn reset(&mut self)
-        ensures { self.new ≡ begun self.old.program }
+    /// Goes back to what `new` gives for a program, this one's or another, in the room that it has.
+    pub fn reset(&mut self, program: &'p Program)
+        ensures { self.new ≡ begun program.now }
     {
         machines_go_on_with_more_input(); // law
+        self.program = program;
         self.input.clear();
         self.ended = false;
         self.machine.reset();
@@ -121,11 +123,8 @@ impl<'p> Run<'p> {
     /// of that many rows with no breakpoint ends it, unless memory runs out.
     pub fn ends_with_the_outcome(&self, writer: &Nodes, reader: &Nodes)
         requires { code_of writer.now reader.now ≡ Some self.now.program }
-        ensures end { EndIsOutcome writer.now reader.now self.now }
-        ensures early { EarlyEndIsOutcome writer.now reader.now self.now }
-        ensures bound { EndsWithinBound writer.now reader.now self.now }
-        ensures count { HasEndedWithinBound self.now }
-        ensures slice { EndsInOneSlice writer.now reader.now self.now }
+        ensures { LeadsToOutcome writer.now reader.now self.now.program self.now.input self.now.ended
+            self.now.machine.state }
     {
         let _opened = &self.machine; // read for the proof
         program_ends_with_the_outcome(writer, reader); // law
@@ -159,6 +158,13 @@ impl<'p> Run<'p> {
         ensures { result.now ≡ self.now.machine }
     {
         &self.machine
+    }
+
+    /// The bytes of a character that is cut at the end of what has moved of a text; none where there is no such thing.
+    pub fn carry(&self) -> &[u8]
+        ensures { IsCarry self.now.input self.now.machine.state.pos self.now.machine.state.content result.now }
+    {
+        self.machine.carry()
     }
 
     /// How it ended.

@@ -5,7 +5,7 @@ ghost use Rattle.machine_stepper.specs.Running.{IsOn, IsUnder, start};
 
 use crate::programs::push_hex;
 use crate::rows::{assert_questions, assert_rows};
-use debugger::show;
+use debugger::show_machine;
 use isa::Program;
 use machine_stepper::{BufferAt, Machine, Step};
 use std::alloc::{AllocError, Global};
@@ -101,7 +101,7 @@ fn bytes_lie_where_they_were_read(rt: HostRuntime) -> Result<(), Fail> {
 
 /// What a machine shows, and its arena.
 fn shown(alloc: Global, machine: &Machine) -> Result<String, AllocError> {
-    let mut text = show(alloc, machine, false)?;
+    let mut text = show_machine(alloc, machine, false)?;
     let arena = hex::encode(alloc, machine.arena())?;
     text.push_str(arena.as_str())?;
     Ok(text)

@@ -4,7 +4,7 @@ ghost use Rattle.std.specs.Prelude.{◌≡◌};
 ghost use Rattle.machine_stepper.specs.Running.{start};
 
 use crate::rows::{assert_questions, assert_rows};
-use debugger::{list, show};
+use debugger::{list_program, show_machine};
 use isa::Program;
 use machine_stepper::{Machine, Why};
 use std::alloc::{AllocError, Global};
@@ -38,7 +38,7 @@ pub(crate) fn push_shown(
     machine: &Machine,
     no_memory: bool,
 ) -> Result<(), AllocError> {
-    let text = show(alloc, machine, no_memory)?;
+    let text = show_machine(alloc, machine, no_memory)?;
     output.push_str(text.as_str())
 }
 
@@ -68,7 +68,7 @@ pub(crate) fn push_listing(
     output: &mut String,
     program: &Program,
 ) -> Result<(), AllocError> {
-    let text = list(alloc, program)?;
+    let text = list_program(alloc, program)?;
     output.push_str(text.as_str())
 }
 

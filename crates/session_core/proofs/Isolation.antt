@@ -1,29 +1,71 @@
--- A session is what its own events make of it.
-use Rattle.std.proofs.Common.{◌≡◌, ℕ, zero, suc, Bool, true, false, not, cond, List, [], ◌∷◌, ◌++◌, length, Option, Some, None, refl, sym, ap, ◌∙◌, subst, slice_get, slice_set, arith}
+-- A session is what its own accepted acts make of it.
+use Rattle.std.proofs.Common.{◌≡◌, ℕ, zero, suc, Bool, true, false, List, [], ◌∷◌, ◌++◌, length, Option, Some, None, refl, sym, ap, ◌∙◌, subst, inl, inr, slice_get, slice_set, arith}
+use Rattle.std.specs.Prelude.{◌==◌, if◌then◌else◌, Result, Ok, Err}
 use Rattle.isa.specs.Program.{Program}
 use Rattle.avro_schema.specs.Schema.{Declaration}
 use Rattle.schema_registry.specs.Command.{Command, RegisterCommand, SetLevelCommand}
 use Rattle.schema_registry.specs.Reply as replies
-use Rattle.session_state.specs.Session.{begun}
+use Rattle.session_state.specs.declared.refusal.BreakRefusal.TheVariants as breaks
+use Rattle.session_state.specs.declared.refusal.PieceRefusal.TheVariants as pieces
+use Rattle.session_state.specs.Changes.{Maybe, Surely, break_refusal, clear_refusal, cleared_at, piece_refusal, set_at, with_piece}
+use Rattle.session_state.specs.Session.{Session, begun}
 use Rattle.session_core.specs.declared.publish_error.PublishError.TheVariants.{Clash, NoMemory, ProgramTooLarge}
+use Rattle.session_core.specs.declared.refusal.EventRefusal.{EventRefusal}
+use Rattle.session_core.specs.declared.refusal.EventRefusal.TheVariants as refusals
 use Rattle.session_core.specs.declared.reply.EventReply.{EventReply}
 use Rattle.session_core.specs.declared.reply.EventReply.TheVariants.{Done, Id, Refused, Rows, SessionIs}
-use Rattle.session_core.specs.declared.refusal.EventRefusal.TheVariants as refusals
-use Rattle.session_core.specs.Event.{Act, Begin, Event, On, Publish, Register, SetLevel}
+use Rattle.session_core.specs.Acts.{Acts, Slices, of_break, of_clear, of_piece, reply_by, with_session}
+use Rattle.session_core.specs.Event.{Act, Begin, Break, Clear, Event, Finish, Go, On, Piece, Publish, Refuse, Register, SetLevel, Slice, Steal, Walk}
 use Rattle.session_core.specs.Happening.{Accepts, ActsOn, Begins, Happened, Happens, Publishes, PublishesNew, PublishesPair, Refuses, Registers, Step}
-use Rattle.session_core.specs.Isolation.{SessionsAreTheirOwn, is_of_other, own_steps}
+use Rattle.session_core.specs.Isolation.{ActStep, HasBegun, IsItsOwn, Lived, SessionsAreTheirOwn, accepted, begun_by, own_act, own_acts}
 use Rattle.session_core.specs.World.{Held, World, no_world, program_at, schema_at}
+use Rattle.session_core.proofs.ActsKeep.{SamePair, acts-same}
 
--- ---- lists of sessions that are alike in one
+-- ---- what is refused changes nothing
 
-record AreLike (s : ℕ) (xs ys : List Held) : Type 0 where
-  many : length xs ≡ length ys
-  session : slice_get xs s ≡ slice_get ys s
+maybe_stays : {E : Type 0} (none : E) (refusal : Option E) (done : Session) (of : E → EventRefusal) (result : Result (Unit {0}) E) (e : EventRefusal) (old new : Held) → Refused e ≡ reply_by of result → Maybe none refusal done result old.session new.session → new ≡ with_session new.session old → new ≡ old
+maybe_stays none refusal done of (Ok u) e old new told maybe same = absurd (let no : ⊥ = cc in no)
+maybe_stays none refusal done of (Err x) e old new told maybe same = same ∙ ap (λ (s : Session). with_session s old) maybe.1
 
-length_set : (xs : List Held) (i : ℕ) (x : Held) → length (slice_set xs i x) ≡ length xs
-length_set [] i x = refl
-length_set (y ∷ xs) zero x = refl
-length_set (y ∷ xs) (suc i) x = ap suc (length_set xs i x)
+surely_stays : {E : Type 0} (refusal : Option E) (done : Session) (of : E → EventRefusal) (result : Result (Unit {0}) E) (e : EventRefusal) (old new : Held) → Refused e ≡ reply_by of result → Surely refusal done result old.session new.session → new ≡ with_session new.session old → new ≡ old
+surely_stays refusal done of (Ok u) e old new told surely same = absurd (let no : ⊥ = cc in no)
+surely_stays refusal done of (Err x) e old new told surely same = same ∙ ap (λ (s : Session). with_session s old) surely.1
+
+refused_slice : (worker k : ℕ) (e : EventRefusal) (old new : Held) → Slices worker k (Refused e) old new → new ≡ old
+refused_slice worker k refusals.NotHeld old new s = s.1
+refused_slice worker k e old new s = absurd s.1
+
+no_refusal : (e : EventRefusal) → Refused e ≡ Done → ⊥
+no_refusal e told = cc
+
+refused_stays : (act : Act) (e : EventRefusal) (old new : Held) → Acts act (Refused e) old new → new ≡ old
+refused_stays (Piece bytes) e old new (done, told, maybe, memory, same) =
+    maybe_stays pieces.NoMemory (piece_refusal bytes old.session) (with_piece bytes old.session) of_piece done e old new told maybe same
+refused_stays Finish e old new a = absurd (no_refusal e a.0)
+refused_stays (Slice worker k) e old new a = refused_slice worker k e old new a
+refused_stays (Steal worker) e old new a = absurd (no_refusal e a.0)
+refused_stays (Break address) e old new (done, told, maybe, memory, same) =
+    maybe_stays breaks.NoMemory (break_refusal address old.session) (set_at address old.session) of_break done e old new told maybe same
+refused_stays (Clear address) e old new (done, told, surely, same) =
+    surely_stays (clear_refusal address old.session) (cleared_at address old.session) of_clear done e old new told surely same
+refused_stays (Walk n) e old new a = absurd a
+refused_stays (Go n) e old new a = absurd a
+refused_stays Refuse e old new a = absurd (no_refusal e a.0)
+
+accepted_lived : (act : Act) (reply : EventReply) (old new : Held) → Acts act reply old new → Lived (accepted act reply) old new
+accepted_lived act (Refused e) old new a = refused_stays act e old new a
+accepted_lived act reply old new a = (new, a, refl)
+
+lived_both : (xs ys : List ActStep) (old mid new : Held) → Lived xs old mid → Lived ys mid new → Lived (xs ++ ys) old new
+lived_both [] ys old mid new one more = subst (λ (h : Held). Lived ys h new) one more
+lived_both (x ∷ xs) ys old mid new one more = (one.0, one.1, lived_both xs ys one.0 mid new one.2 more)
+
+-- ---- sessions in a list
+
+get_set : (xs : List Held) (i : ℕ) (x y : Held) → slice_get xs i ≡ Some y → slice_get (slice_set xs i x) i ≡ Some x
+get_set [] i x y e = absurd cc
+get_set (z ∷ xs) zero x y e = refl
+get_set (z ∷ xs) (suc i) x y e = get_set xs i x y e
 
 get_other : (xs : List Held) (i k : ℕ) (x : Held) → (i ≡ k → ⊥) → slice_get (slice_set xs i x) k ≡ slice_get xs k
 get_other [] i k x other = refl
@@ -32,186 +74,216 @@ get_other (y ∷ xs) zero (suc k) x other = refl
 get_other (y ∷ xs) (suc i) zero x other = refl
 get_other (y ∷ xs) (suc i) (suc k) x other = get_other xs i k x (λ e. other (ap suc e))
 
-get_same : (xs ys : List Held) (i : ℕ) (x : Held) → length xs ≡ length ys → slice_get (slice_set xs i x) i ≡ slice_get (slice_set ys i x) i
-get_same [] [] i x e = refl
-get_same [] (z ∷ ys) i x e = absurd (omega arith)
-get_same (y ∷ xs) [] i x e = absurd (omega arith)
-get_same (y ∷ xs) (z ∷ ys) zero x e = refl
-get_same (y ∷ xs) (z ∷ ys) (suc i) x e = get_same xs ys i x (omega arith)
+get_added : (xs : List Held) (i : ℕ) (x y : Held) → slice_get xs i ≡ Some y → slice_get (xs ++ x ∷ []) i ≡ Some y
+get_added [] i x y e = absurd cc
+get_added (z ∷ xs) zero x y e = e
+get_added (z ∷ xs) (suc i) x y e = get_added xs i x y e
 
-get_added : (xs ys : List Held) (i : ℕ) (x : Held) → length xs ≡ length ys → slice_get xs i ≡ slice_get ys i → slice_get (xs ++ x ∷ []) i ≡ slice_get (ys ++ x ∷ []) i
-get_added [] [] i x e same = refl
-get_added [] (z ∷ ys) i x e same = absurd (omega arith)
-get_added (y ∷ xs) [] i x e same = absurd (omega arith)
-get_added (y ∷ xs) (z ∷ ys) zero x e same = same
-get_added (y ∷ xs) (z ∷ ys) (suc i) x e same = get_added xs ys i x (omega arith) same
+-- one that was not there is the one that was added
+is_added : (xs : List Held) (i : ℕ) (x y : Held) → slice_get xs i ≡ None → slice_get (xs ++ x ∷ []) i ≡ Some y → (i ≡ length xs) × (y ≡ x)
+is_added [] zero x y none some = (refl, cc)
+is_added [] (suc i) x y none some = absurd cc
+is_added (z ∷ xs) zero x y none some = absurd cc
+is_added (z ∷ xs) (suc i) x y none some = let at = is_added xs i x y none some in (ap suc at.0, at.1)
 
-length_added : (xs ys : List Held) (x : Held) → length xs ≡ length ys → length (xs ++ x ∷ []) ≡ length (ys ++ x ∷ [])
-length_added [] [] x e = refl
-length_added [] (z ∷ ys) x e = absurd (omega arith)
-length_added (y ∷ xs) [] x e = absurd (omega arith)
-length_added (y ∷ xs) (z ∷ ys) x e = ap suc (length_added xs ys x (omega arith))
+none_some : (o : Option Held) (x : Held) → o ≡ None → o ≡ Some x → ⊥
+none_some o x none some = cc
 
-both_set : (s : ℕ) (xs ys : List Held) (x : Held) → AreLike s xs ys → AreLike s (slice_set xs s x) (slice_set ys s x)
-both_set s xs ys x like = record {
-  many = length_set xs s x ∙ like.many ∙ sym (length_set ys s x);
-  session = get_same xs ys s x like.many;
-}
+same_some : (o : Option Held) (x y : Held) → o ≡ Some x → o ≡ Some y → x ≡ y
+same_some o x y one other = cc
 
-both_added : (s : ℕ) (xs ys : List Held) (x : Held) → AreLike s xs ys → AreLike s (xs ++ x ∷ []) (ys ++ x ∷ [])
-both_added s xs ys x like = record {
-  many = length_added xs ys x like.many;
-  session = get_added xs ys s x like.many like.session;
-}
+-- ---- events that are no beginning and no act change no session
 
-other_set : (s t : ℕ) (xs ys : List Held) (x : Held) → (t ≡ s → ⊥) → AreLike s xs ys → AreLike s (slice_set xs t x) ys
-other_set s t xs ys x other like = record {
-  many = length_set xs t x ∙ like.many;
-  session = get_other xs t s x other ∙ like.session;
-}
-
--- ---- one event
-
-abbrev with_sessions : World → List Held → World
-with_sessions w ys = record w { sessions = ys }
-
--- it happens likewise where the other sessions are others
-abbrev Likewise : (World → World → Type 0) → ℕ → World → World → List Held → Type 0
-Likewise R s w next ys = (zs : List Held) × R (with_sessions w ys) (with_sessions next zs) × AreLike s next.sessions zs
-
-module _ (s : ℕ) (w next : World) (ys : List Held) (like : AreLike s w.sessions ys) where
-  still : next.sessions ≡ w.sessions → AreLike s next.sessions ys
-  still e = subst (λ (xs : List Held). AreLike s xs ys) (sym e) like
-
-  sessions_are : (x : World) → next ≡ x → next.sessions ≡ x.sessions
+module _ (old new : World) where
+  sessions_are : (x : World) → new ≡ x → new.sessions ≡ x.sessions
   sessions_are x e = ap (λ (y : World). y.sessions) e
 
-  with_them : (zs : List Held) (x : World) → next ≡ x → with_sessions next zs ≡ with_sessions x zs
-  with_them zs x e = ap (λ (y : World). with_sessions y zs) e
+  refuses_stay : (c : Command) (reply : EventReply) → Refuses c reply old new → new.sessions ≡ old.sessions
+  refuses_stay c (Refused (refusals.OfRegistry e)) h = sessions_are _ h.1
+  refuses_stay c reply h = absurd h
 
-  accepts : (c : Command) (reply : replies.Reply) → Accepts c reply w next → Likewise (Accepts c reply) s w next ys
-  accepts c reply h = (ys, (h.0, with_them ys _ h.1), still (sessions_are _ h.1))
+  registers_stay : (c : Command) (reply : EventReply) → Registers c reply old new → new.sessions ≡ old.sessions
+  registers_stay c (Id id) h = sessions_are _ h.1
+  registers_stay c Done h = refuses_stay c Done h
+  registers_stay c (SessionIs n) h = refuses_stay c (SessionIs n) h
+  registers_stay c (Rows n) h = refuses_stay c (Rows n) h
+  registers_stay c (Refused r) h = refuses_stay c (Refused r) h
 
-  refuses : (c : Command) (reply : EventReply) → Refuses c reply w next → Likewise (Refuses c reply) s w next ys
-  refuses c (Refused (refusals.OfRegistry e)) h = (ys, (h.0, with_them ys _ h.1), still (sessions_are _ h.1))
-  refuses c reply h = absurd h
+  publishes_new_stay : (a b : ℕ) (written read : Declaration) (reply : EventReply) → PublishesNew a b written read reply old new → new.sessions ≡ old.sessions
+  publishes_new_stay a b written read Done h = sessions_are _ h.2
+  publishes_new_stay a b written read (Refused (refusals.OfPublication ProgramTooLarge)) h = sessions_are _ h.1
+  publishes_new_stay a b written read (Refused (refusals.OfPublication Clash)) h = sessions_are _ h
+  publishes_new_stay a b written read (Refused (refusals.OfPublication NoMemory)) h = sessions_are _ h
+  publishes_new_stay a b written read reply h = absurd h
 
-  registers : (c : Command) (reply : EventReply) → Registers c reply w next → Likewise (Registers c reply) s w next ys
-  registers c (Id id) h = accepts c (replies.IdReply id) h
-  registers c Done h = refuses c Done h
-  registers c (SessionIs n) h = refuses c (SessionIs n) h
-  registers c (Rows n) h = refuses c (Rows n) h
-  registers c (Refused r) h = refuses c (Refused r) h
+  publishes_pair_stay : (o : Option Program) (a b : ℕ) (written read : Declaration) (reply : EventReply) → PublishesPair o a b written read reply old new → new.sessions ≡ old.sessions
+  publishes_pair_stay (Some P) a b written read reply h = sessions_are _ h.1
+  publishes_pair_stay None a b written read reply h = publishes_new_stay a b written read reply h
 
-  publishes_new : (a b : ℕ) (written read : Declaration) (reply : EventReply) → PublishesNew a b written read reply w next → Likewise (PublishesNew a b written read reply) s w next ys
-  publishes_new a b written read Done h = (ys, (h.0, h.1, with_them ys _ h.2), still (sessions_are _ h.2))
-  publishes_new a b written read (Refused (refusals.OfPublication ProgramTooLarge)) h = (ys, (h.0, with_them ys _ h.1), still (sessions_are _ h.1))
-  publishes_new a b written read (Refused (refusals.OfPublication Clash)) h = (ys, with_them ys _ h, still (sessions_are _ h))
-  publishes_new a b written read (Refused (refusals.OfPublication NoMemory)) h = (ys, with_them ys _ h, still (sessions_are _ h))
-  publishes_new a b written read reply h = absurd h
+  publishes_stay : (o p : Option Declaration) (a b : ℕ) (reply : EventReply) → Publishes o p a b reply old new → new.sessions ≡ old.sessions
+  publishes_stay (Some written) (Some read) a b reply h = publishes_pair_stay (program_at a b old) a b written read reply h
+  publishes_stay (Some written) None a b reply h = sessions_are _ h.1
+  publishes_stay None p a b reply h = sessions_are _ h.1
 
-  publishes_pair : (o : Option Program) (a b : ℕ) (written read : Declaration) (reply : EventReply) → PublishesPair o a b written read reply w next → Likewise (PublishesPair o a b written read reply) s w next ys
-  publishes_pair (Some P) a b written read reply h = (ys, (h.0, with_them ys _ h.1), still (sessions_are _ h.1))
-  publishes_pair None a b written read reply h = publishes_new a b written read reply h
+-- ---- one event, for a session that is there
 
-  publishes : (o p : Option Declaration) (a b : ℕ) (reply : EventReply) → Publishes o p a b reply w next → Likewise (Publishes o p a b reply) s w next ys
-  publishes (Some written) (Some read) a b reply h = publishes_pair (program_at a b w) a b written read reply h
-  publishes (Some written) None a b reply h = (ys, (h.0, with_them ys _ h.1), still (sessions_are _ h.1))
-  publishes None p a b reply h = (ys, (h.0, with_them ys _ h.1), still (sessions_are _ h.1))
+abbrev GoesOn : List ActStep → Held → Option Held → Type 0
+GoesOn steps held found = (after : Held) × (found ≡ Some after) × Lived steps held after × SamePair held after
 
-  abbrev new_one : ℕ → ℕ → Program → Held
-  new_one a b P = record { holder = 0; writer = a; reader = b; session = begun P }
+same_pair : (held : Held) → SamePair held held
+same_pair held = record { writer = refl; reader = refl; program = refl }
 
-  begins : (o : Option Program) (a b : ℕ) (reply : EventReply) → Begins o a b reply w next → Likewise (Begins o a b reply) s w next ys
-  begins (Some P) a b (SessionIs n) h = (
-    ys ++ new_one a b P ∷ [],
-    (h.0 ∙ like.many, with_them (ys ++ new_one a b P ∷ []) _ h.1),
-    subst (λ (xs : List Held). AreLike s xs (ys ++ new_one a b P ∷ [])) (sym (sessions_are _ h.1)) (both_added s w.sessions ys (new_one a b P) like),
+module _ (s : ℕ) (old new : World) (held : Held) (there : slice_get old.sessions s ≡ Some held) where
+  stays : new.sessions ≡ old.sessions → GoesOn [] held (slice_get new.sessions s)
+  stays e = (held, ap (λ (xs : List Held). slice_get xs s) e ∙ there, refl, same_pair held)
+
+  begins_on : (o : Option Program) (a b : ℕ) (reply : EventReply) → Begins o a b reply old new → GoesOn [] held (slice_get new.sessions s)
+  begins_on (Some P) a b (SessionIs n) h =
+      (held, ap (λ (w : World). slice_get w.sessions s) h.1 ∙ get_added old.sessions s (begun_by a b P) held there, refl, same_pair held)
+  begins_on (Some P) a b (Refused refusals.NoMemory) h = stays (sessions_are old new _ h)
+  begins_on (Some P) a b reply h = absurd h
+  begins_on None a b reply h = stays (sessions_are old new _ h.1)
+
+  own_on : (o : Option Held) (act : Act) (reply : EventReply) → o ≡ Some held → ActsOn o s act reply old new → GoesOn (accepted act reply) held (slice_get new.sessions s)
+  own_on (Some one) act reply e h =
+      let acted = subst (λ (x : Held). Acts act reply x h.0) (same_some (Some one) one held refl e) h.1 in (
+        h.0,
+        ap (λ (w : World). slice_get w.sessions s) h.2 ∙ get_set old.sessions s h.0 held there,
+        accepted_lived act reply held h.0 acted,
+        acts-same act reply held h.0 acted,
+      )
+  own_on None act reply e h = absurd (none_some None held refl e)
+
+  other_on : (o : Option Held) (t : ℕ) (act : Act) (reply : EventReply) → (t ≡ s → ⊥) → ActsOn o t act reply old new → GoesOn [] held (slice_get new.sessions s)
+  other_on (Some one) t act reply other h =
+      (held, ap (λ (w : World). slice_get w.sessions s) h.2 ∙ get_other old.sessions t s h.0 other ∙ there, refl, same_pair held)
+  other_on None t act reply other h = stays (sessions_are old new _ h.1)
+
+  act_on : (b : Bool) (t : ℕ) (act : Act) (reply : EventReply) → (t == s) ≡ b → Happens (On t act) reply old new → GoesOn (if b then accepted act reply else []) held (slice_get new.sessions s)
+  act_on true t act reply e h =
+      let same : t ≡ s = grind arith in
+      own_on (slice_get old.sessions s) act reply there (subst (λ (i : ℕ). ActsOn (slice_get old.sessions i) i act reply old new) same h)
+  act_on false t act reply e h = other_on (slice_get old.sessions t) t act reply (λ (same : t ≡ s). grind arith) h
+
+  event_on : (event : Event) (reply : EventReply) → Happens event reply old new → GoesOn (own_act s event reply) held (slice_get new.sessions s)
+  event_on (Register subject text) reply h = stays (registers_stay old new (RegisterCommand subject text) reply h)
+  event_on (SetLevel subject level) Done h = stays (sessions_are old new _ h.1)
+  event_on (SetLevel subject level) (Id id) h = stays (refuses_stay old new (SetLevelCommand subject level) (Id id) h)
+  event_on (SetLevel subject level) (SessionIs n) h = stays (refuses_stay old new (SetLevelCommand subject level) (SessionIs n) h)
+  event_on (SetLevel subject level) (Rows n) h = stays (refuses_stay old new (SetLevelCommand subject level) (Rows n) h)
+  event_on (SetLevel subject level) (Refused r) h = stays (refuses_stay old new (SetLevelCommand subject level) (Refused r) h)
+  event_on (Publish a b) reply h = stays (publishes_stay old new (schema_at a old) (schema_at b old) a b reply h)
+  event_on (Begin a b) reply h = begins_on (program_at a b old) a b reply h
+  event_on (On t act) reply h = act_on (t == s) t act reply refl h
+
+-- ---- one event, for a session that is not there
+
+abbrev IsBegun : ℕ → Event → EventReply → Held → Type 0
+IsBegun s event reply held = (event ≡ Begin held.writer held.reader) × (reply ≡ SessionIs s)
+    × (held ≡ begun_by held.writer held.reader held.session.program)
+
+-- it is there then, and has begun; or it is still not there; and nothing was its own act
+abbrev Comes : ℕ → Event → EventReply → Option Held → Type 0
+Comes s event reply found = (own_act s event reply ≡ []) × ((held : Held) → found ≡ Some held → IsBegun s event reply held)
+
+module _ (s : ℕ) (old new : World) (none : slice_get old.sessions s ≡ None) where
+  not_there : (event : Event) (reply : EventReply) → new.sessions ≡ old.sessions → (held : Held) → slice_get new.sessions s ≡ Some held → IsBegun s event reply held
+  not_there event reply e held some = absurd (none_some (slice_get new.sessions s) held (ap (λ (xs : List Held). slice_get xs s) e ∙ none) some)
+
+  begins_now : (o : Option Program) (a b : ℕ) (reply : EventReply) → Begins o a b reply old new → (held : Held) → slice_get new.sessions s ≡ Some held → IsBegun s (Begin a b) reply held
+  begins_now (Some P) a b (SessionIs n) h held some =
+      let at = is_added old.sessions s (begun_by a b P) held none (sym (ap (λ (w : World). slice_get w.sessions s) h.1) ∙ some) in
+      subst (IsBegun s (Begin a b) (SessionIs n)) (sym at.1) (refl, ap SessionIs (h.0 ∙ sym at.0), refl)
+  begins_now (Some P) a b (Refused refusals.NoMemory) h held some = not_there (Begin a b) (Refused refusals.NoMemory) (sessions_are old new _ h) held some
+  begins_now (Some P) a b reply h held some = absurd h
+  begins_now None a b reply h held some = not_there (Begin a b) reply (sessions_are old new _ h.1) held some
+
+  absent_own : (o : Option Held) (act : Act) (reply : EventReply) → o ≡ None → ActsOn o s act reply old new → accepted act reply ≡ []
+  absent_own (Some one) act reply e h = absurd (none_some (Some one) one e refl)
+  absent_own None act reply e h = ap (accepted act) h.0
+
+  absent_other : (o : Option Held) (t : ℕ) (act : Act) (reply : EventReply) → slice_get old.sessions t ≡ o → ActsOn o t act reply old new → slice_get new.sessions s ≡ None
+  absent_other (Some one) t act reply e h = ap (λ (w : World). slice_get w.sessions s) h.2 ∙ set_none old.sessions t s h.0 none
+    where
+      set_none : (xs : List Held) (i k : ℕ) (x : Held) → slice_get xs k ≡ None → slice_get (slice_set xs i x) k ≡ None
+      set_none [] i k x n = n
+      set_none (y ∷ xs) zero zero x n = absurd cc
+      set_none (y ∷ xs) zero (suc k) x n = n
+      set_none (y ∷ xs) (suc i) zero x n = n
+      set_none (y ∷ xs) (suc i) (suc k) x n = set_none xs i k x n
+  absent_other None t act reply e h = ap (λ (w : World). slice_get w.sessions s) h.1 ∙ none
+
+  absent_by : (b : Bool) (t : ℕ) (act : Act) (reply : EventReply) → (t == s) ≡ b → Happens (On t act) reply old new → (if b then accepted act reply else []) ≡ []
+  absent_by true t act reply e h =
+      let same : t ≡ s = grind arith in
+      absent_own (slice_get old.sessions s) act reply none (subst (λ (i : ℕ). ActsOn (slice_get old.sessions i) i act reply old new) same h)
+  absent_by false t act reply e h = refl
+
+  event_comes : (event : Event) (reply : EventReply) → Happens event reply old new → Comes s event reply (slice_get new.sessions s)
+  event_comes (Register subject text) reply h = (refl, not_there (Register subject text) reply (registers_stay old new (RegisterCommand subject text) reply h))
+  event_comes (SetLevel subject level) Done h = (refl, not_there (SetLevel subject level) Done (sessions_are old new _ h.1))
+  event_comes (SetLevel subject level) (Id id) h = (refl, not_there (SetLevel subject level) (Id id) (refuses_stay old new (SetLevelCommand subject level) (Id id) h))
+  event_comes (SetLevel subject level) (SessionIs n) h = (refl, not_there (SetLevel subject level) (SessionIs n) (refuses_stay old new (SetLevelCommand subject level) (SessionIs n) h))
+  event_comes (SetLevel subject level) (Rows n) h = (refl, not_there (SetLevel subject level) (Rows n) (refuses_stay old new (SetLevelCommand subject level) (Rows n) h))
+  event_comes (SetLevel subject level) (Refused r) h = (refl, not_there (SetLevel subject level) (Refused r) (refuses_stay old new (SetLevelCommand subject level) (Refused r) h))
+  event_comes (Publish a b) reply h = (refl, not_there (Publish a b) reply (publishes_stay old new (schema_at a old) (schema_at b old) a b reply h))
+  event_comes (Begin a b) reply h = (refl, begins_now (program_at a b old) a b reply h)
+  event_comes (On t act) reply h = (
+    absent_by (t == s) t act reply refl h,
+    λ held some. absurd (none_some (slice_get new.sessions s) held (absent_other (slice_get old.sessions t) t act reply refl h) some),
   )
-  begins (Some P) a b (Refused refusals.NoMemory) h = (ys, with_them ys _ h, still (sessions_are _ h))
-  begins (Some P) a b reply h = absurd h
-  begins None a b reply h = (ys, (h.0, with_them ys _ h.1), still (sessions_are _ h.1))
-
-  acts_on : (o : Option Held) (act : Act) (reply : EventReply) → ActsOn o s act reply w next → Likewise (ActsOn o s act reply) s w next ys
-  acts_on (Some held) act reply h = (
-    slice_set ys s h.0,
-    (h.0, h.1, with_them (slice_set ys s h.0) _ h.2),
-    subst (λ (xs : List Held). AreLike s xs (slice_set ys s h.0)) (sym (sessions_are _ h.2)) (both_set s w.sessions ys h.0 like),
-  )
-  acts_on None act reply h = (ys, (h.0, with_them ys _ h.1), still (sessions_are _ h.1))
-
-  acts_on_own : (act : Act) (reply : EventReply) → Happens (On s act) reply w next → Likewise (Happens (On s act) reply) s w next ys
-  acts_on_own act reply h =
-      let likewise = acts_on (slice_get w.sessions s) act reply h in
-      (likewise.0, subst (λ (o : Option Held). ActsOn o s act reply (with_sessions w ys) (with_sessions next likewise.0)) like.session likewise.1, likewise.2)
-
-  -- an event that is not of another session
-  kept : (e : Event) (reply : EventReply) → is_of_other s e ≡ false → Happens e reply w next → Likewise (Happens e reply) s w next ys
-  kept (Register subject text) reply own h = registers (RegisterCommand subject text) reply h
-  kept (SetLevel subject level) Done own h = accepts (SetLevelCommand subject level) (replies.LevelReply level) h
-  kept (SetLevel subject level) (Id id) own h = refuses (SetLevelCommand subject level) (Id id) h
-  kept (SetLevel subject level) (SessionIs n) own h = refuses (SetLevelCommand subject level) (SessionIs n) h
-  kept (SetLevel subject level) (Rows n) own h = refuses (SetLevelCommand subject level) (Rows n) h
-  kept (SetLevel subject level) (Refused r) own h = refuses (SetLevelCommand subject level) (Refused r) h
-  kept (Publish a b) reply own h = publishes (schema_at a w) (schema_at b w) a b reply h
-  kept (Begin a b) reply own h = begins (program_at a b w) a b reply h
-  kept (On t act) reply own h =
-      let same : s ≡ t = grind arith in
-      subst (λ (i : ℕ). Happens (On i act) reply w next → Likewise (Happens (On i act) reply) s w next ys) same (acts_on_own act reply) h
-
-  -- it changes nothing but other sessions
-  abbrev IsApart : Type 0
-  IsApart = (with_sessions next ys ≡ with_sessions w ys) × AreLike s next.sessions ys
-
-  acts_apart : (o : Option Held) (t : ℕ) (act : Act) (reply : EventReply) → (t ≡ s → ⊥) → ActsOn o t act reply w next → IsApart
-  acts_apart (Some held) t act reply other h = (
-    with_them ys _ h.2,
-    subst (λ (xs : List Held). AreLike s xs ys) (sym (sessions_are _ h.2)) (other_set s t w.sessions ys h.0 other like),
-  )
-  acts_apart None t act reply other h = (with_them ys _ h.1, still (sessions_are _ h.1))
-
-  left_out : (e : Event) (reply : EventReply) → is_of_other s e ≡ true → Happens e reply w next → IsApart
-  left_out (On t act) reply other h = acts_apart (slice_get w.sessions t) t act reply (λ (e : t ≡ s). grind arith) h
-  left_out (Register subject text) reply other h = absurd cc
-  left_out (SetLevel subject level) reply other h = absurd cc
-  left_out (Publish a b) reply other h = absurd cc
-  left_out (Begin a b) reply other h = absurd cc
 
 -- ---- one after another
 
--- the steps happen likewise without those of other sessions
-abbrev Alone : ℕ → List Step → World → World → List Held → Type 0
-Alone s steps w world ys = Likewise (Happened (own_steps s steps)) s w world ys
-
-more : (s : ℕ) (step : Step) (steps : List Step) (w next world : World) (ys : List Held) → AreLike s w.sessions ys
-    → Happens step.event step.reply w next → ((zs : List Held) → AreLike s next.sessions zs → Alone s steps next world zs)
-    → (b : Bool) → is_of_other s step.event ≡ b → Alone s (step ∷ steps) w world ys
-more s step steps w next world ys like h rest true e =
-    let apart = left_out s w next ys like step.event step.reply e h in
-    let alone = rest ys apart.1 in
-    let own : own_steps s (step ∷ steps) ≡ own_steps s steps = ap (λ (b : Bool). cond (not b) (step ∷ own_steps s steps) (own_steps s steps)) e in (
-      alone.0,
-      subst (λ (own : List Step). Happened own (with_sessions w ys) (with_sessions world alone.0)) (sym own)
-          (subst (λ (from : World). Happened (own_steps s steps) from (with_sessions world alone.0)) apart.0 alone.1),
-      alone.2,
-    )
-more s step steps w next world ys like h rest false e =
-    let likewise = kept s w next ys like step.event step.reply e h in
-    let alone = rest likewise.0 likewise.2 in
-    let own : own_steps s (step ∷ steps) ≡ step ∷ own_steps s steps = ap (λ (b : Bool). cond (not b) (step ∷ own_steps s steps) (own_steps s steps)) e in (
-      alone.0,
-      subst (λ (own : List Step). Happened own (with_sessions w ys) (with_sessions world alone.0)) (sym own)
-          (with_sessions next likewise.0, likewise.1, alone.1),
-      alone.2,
+lives : (s : ℕ) (steps : List Step) (old new : World) (held : Held) → Happened steps old new → slice_get old.sessions s ≡ Some held → GoesOn (own_acts s steps) held (slice_get new.sessions s)
+lives s [] old new held h there = (held, ap (λ (w : World). slice_get w.sessions s) h ∙ there, refl, same_pair held)
+lives s (step ∷ steps) old new held h there =
+    let first = event_on s old h.0 held there step.event step.reply h.1 in
+    let rest = lives s steps h.0 new first.0 h.2 first.1 in (
+      rest.0,
+      rest.1,
+      lived_both (own_act s step.event step.reply) (own_acts s steps) held first.0 rest.0 first.2 rest.2,
+      record {
+        writer = rest.3.writer ∙ first.3.writer;
+        reader = rest.3.reader ∙ first.3.reader;
+        program = rest.3.program ∙ first.3.program;
+      },
     )
 
-alone_from : (s : ℕ) (steps : List Step) (w world : World) (ys : List Held) → AreLike s w.sessions ys → Happened steps w world → Alone s steps w world ys
-alone_from s [] w world ys like h =
-    (ys, ap (λ (x : World). with_sessions x ys) h, subst (λ (xs : List Held). AreLike s xs ys) (sym (ap (λ (x : World). x.sessions) h)) like)
-alone_from s (step ∷ steps) w world ys like h =
-    more s step steps w h.0 world ys like h.1 (λ zs on. alone_from s steps h.0 world zs on h.2) (is_of_other s step.event) refl
+-- what began is what was begun, of the same pair
+begun_as : (s : ℕ) (steps : List Step) (one held : Held) → one ≡ begun_by one.writer one.reader one.session.program → SamePair one held → Lived (own_acts s steps) one held
+    → Lived (own_acts s steps) (begun_by held.writer held.reader held.session.program) held
+begun_as s steps one held is same lived =
+    subst (λ (from : Held). Lived (own_acts s steps) from held)
+    (is ∙ ap (λ (w : ℕ). begun_by w one.reader one.session.program) (sym same.writer)
+    ∙ ap (λ (r : ℕ). begun_by held.writer r one.session.program) (sym same.reader)
+    ∙ ap (begun_by held.writer held.reader) (sym same.program)) lived
+
+born : (s : ℕ) (steps : List Step) (old new : World) (held : Held) → Happened steps old new → slice_get old.sessions s ≡ None → slice_get new.sessions s ≡ Some held → IsItsOwn s steps held
+
+born_by : (s : ℕ) (step : Step) (steps : List Step) (old next new : World) (held : Held) → Happens step.event step.reply old next → Happened steps next new → slice_get old.sessions s ≡ None → slice_get new.sessions s ≡ Some held
+    → (o : Option Held) → slice_get next.sessions s ≡ o → IsItsOwn s (step ∷ steps) held
+born_by s step steps old next new held h more none there None e =
+    let comes = event_comes s old next none step.event step.reply h in
+    let later = born s steps next new held more e there in
+    record {
+      began = inr later.began;
+      lived = subst (λ (first : List ActStep). Lived (first ++ own_acts s steps) (begun_by held.writer held.reader held.session.program) held) (sym comes.0) later.lived;
+    }
+born_by s step steps old next new held h more none there (Some one) e =
+    let comes = event_comes s old next none step.event step.reply h in
+    let begun_one = comes.1 one e in
+    let on = lives s steps next new one more e in
+    let same : on.0 ≡ held = same_some (slice_get new.sessions s) on.0 held on.1 there in
+    let pair = subst (SamePair one) same on.3 in
+    let lived = begun_as s steps one held begun_one.2 pair (subst (Lived (own_acts s steps) one) same on.2) in
+    record {
+      began = inl (begun_one.0 ∙ ap (λ (w : ℕ). Begin w one.reader) (sym pair.writer) ∙ ap (Begin held.writer) (sym pair.reader), begun_one.1);
+      lived = subst (λ (first : List ActStep). Lived (first ++ own_acts s steps) (begun_by held.writer held.reader held.session.program) held) (sym comes.0) lived;
+    }
+born s [] old new held h none there = absurd (none_some (slice_get new.sessions s) held (ap (λ (w : World). slice_get w.sessions s) h ∙ none) there)
+born s (step ∷ steps) old new held h none there =
+    born_by s step steps old h.0 new held h.1 h.2 none there (slice_get h.0.sessions s) refl
 
 pub sessions_are_their_own : SessionsAreTheirOwn
-sessions_are_their_own s steps world h =
-    let alone = alone_from s steps no_world world [] (record { many = refl; session = refl }) h in
-    (with_sessions world alone.0, alone.1, record { commands = refl; published = refl; many = alone.2.many; session = alone.2.session })
+sessions_are_their_own s steps world held h there = born s steps no_world world held h refl there

@@ -3,3 +3,4 @@ pub mod Worlds
 pub mod ActsKeep
 pub mod Histories
 pub mod Isolation
+pub mod Determined

@@ -10,7 +10,7 @@ use Rattle.schema_registry.specs.Accepting.{declaration_of, registered, registry
 use Rattle.schema_registry.specs.Command.{Command, RegisterCommand}
 use Rattle.schema_registry.specs.Lists.{Lists, id_of, no_lists, numbered, versions_of, with_text}
 use Rattle.program_definition.specs.Code.{code_of}
-use Rattle.session_state.specs.Ending.{EarlyEndIsOutcome, EndIsOutcome, EndsWithinBound}
+use Rattle.session_state.specs.Ending.{SessionLeadsToOutcome}
 use Rattle.session_core.specs.Ending.{EndsWithOutcome}
 use Rattle.session_core.specs.Kept.{IsKept, IsPublication, IsSession}
 use Rattle.session_core.specs.World.{Held, IsCodeOf, Publication, World, is_of, program_at, schema_after}
@@ -126,12 +126,10 @@ code-of-found cs w r P one other is a b =
     (subst (λ (x : Declaration). code_of is.written.nodes x.nodes ≡ Some P) (same_schema is.read other (sym is.reader_is ∙ b)) is.code)
 
 pub ends-with-outcome : (world : World) (held : Held) (one other : Declaration) → schema_after world.commands held.writer ≡ Some one → schema_after world.commands held.reader ≡ Some other → code_of one.nodes other.nodes ≡ Some held.session.program
-    → EndIsOutcome one.nodes other.nodes held.session → EarlyEndIsOutcome one.nodes other.nodes held.session → EndsWithinBound one.nodes other.nodes held.session → EndsWithOutcome world held
-ends-with-outcome world held one other w r code end early bound = record {
+    → SessionLeadsToOutcome one.nodes other.nodes held.session → EndsWithOutcome world held
+ends-with-outcome world held one other w r code leads = record {
   pair = record { written = one; read = other; writer_is = w; reader_is = r; code = code };
-  end = end;
-  early = early;
-  bound = bound;
+  leads = leads;
 }
 
 -- ---- the registry's answer

@@ -1,53 +1,64 @@
 -- What happens to one session, and what is replied. All of this is this project's own.
-use Rattle.std.specs.Prelude.{◌≡◌, ◌≢◌, ◌<◌, ℕ, false, List, length, Option, Some, None, Result, Ok, Err}
-use Rattle.session_state.specs.declared.refusal.SessionRefusal.{SessionRefusal}
-use Rattle.session_state.specs.declared.refusal.SessionRefusal.TheVariants.{NoMemory}
-use Rattle.session_state.specs.Changes.{break_refusal, clear_refusal, cleared_at, finished, piece_refusal, refused, set_at, with_piece}
+use Rattle.std.specs.Prelude.{◌≡◌, ◌≢◌, ◌<◌, ℕ, false, List, length, Option, Some, None, Result, Ok, Err, IfErr}
+use Rattle.session_state.specs.declared.refusal.BreakRefusal.{BreakRefusal}
+use Rattle.session_state.specs.declared.refusal.BreakRefusal.TheVariants as breaks
+use Rattle.session_state.specs.declared.refusal.ClearRefusal.{ClearRefusal}
+use Rattle.session_state.specs.declared.refusal.ClearRefusal.TheVariants as clears
+use Rattle.session_state.specs.declared.refusal.PieceRefusal.{PieceRefusal}
+use Rattle.session_state.specs.declared.refusal.PieceRefusal.TheVariants as pieces
+use Rattle.session_state.specs.Changes.{Maybe, Surely, break_refusal, clear_refusal, cleared_at, finished, piece_refusal, refused, set_at, with_piece}
 use Rattle.session_state.specs.Rows.{TakesRows, go_rows, slice_rows, walk_rows}
 use Rattle.session_state.specs.Session.{Session, has_break}
 use Rattle.session_core.specs.declared.reply.EventReply.{EventReply}
 use Rattle.session_core.specs.declared.reply.EventReply.TheVariants.{Done, Refused, Rows}
-use Rattle.session_core.specs.declared.refusal.EventRefusal.TheVariants.{NotHeld, OfSession}
+use Rattle.session_core.specs.declared.refusal.EventRefusal.{EventRefusal}
+use Rattle.session_core.specs.declared.refusal.EventRefusal.TheVariants.{TooLarge, Ended, BadAddress, TooManyBreaks, NoMemory, NotHeld}
 use Rattle.session_core.specs.Event.{Act, Break, Clear, Finish, Go, Piece, Refuse, Slice, Steal, Walk}
 use Rattle.session_core.specs.World.{Held}
 
 abbrev pub with_session : Session → Held → Held
 with_session s held = record held { session = s }
 
--- what is replied where a session did what it was asked, or refused it
-abbrev pub reply_to : Result (Unit {0}) SessionRefusal → EventReply
-reply_to (Ok u) = Done
-reply_to (Err e) = Refused (OfSession e)
+-- ---- what is replied where a session refused what it was asked
 
--- It is done, or it is refused and nothing changes.
-abbrev pub Surely : Option SessionRefusal → Session → EventReply → Held → Held → Type 0
-Surely refusal done Done old new = (refusal ≡ None) × (new ≡ with_session done old)
-Surely refusal done (Refused (OfSession e)) old new = (refusal ≡ Some e) × (new ≡ old)
-Surely refusal done reply old new = ⊥
+abbrev pub of_piece : PieceRefusal → EventRefusal
+of_piece pieces.TooLarge = TooLarge
+of_piece pieces.Ended = Ended
+of_piece pieces.NoMemory = NoMemory
 
--- The same, unless memory is refused where it would be done; then nothing changes either.
-abbrev pub Maybe : Option SessionRefusal → Session → EventReply → Held → Held → Type 0
-Maybe refusal done Done old new = (refusal ≡ None) × (new ≡ with_session done old)
-Maybe refusal done (Refused (OfSession e)) old new =
-    ((e ≡ NoMemory → refusal ≡ None) × (e ≢ NoMemory → refusal ≡ Some e)) × (new ≡ old)
-Maybe refusal done reply old new = ⊥
+abbrev pub of_break : BreakRefusal → EventRefusal
+of_break breaks.BadAddress = BadAddress
+of_break breaks.TooManyBreaks = TooManyBreaks
+of_break breaks.NoMemory = NoMemory
 
--- what holds where memory is refused
-abbrev pub WhereNoMemory : EventReply → Type 0 → Type 0
-WhereNoMemory (Refused (OfSession e)) holds = e ≡ NoMemory → holds
-WhereNoMemory reply holds = Unit {0}
+abbrev pub of_clear : ClearRefusal → EventRefusal
+of_clear clears.BadAddress = BadAddress
 
--- No bytes take no memory.
+-- where it did what it was asked, or refused it
+abbrev pub reply_by : {E : Type 0} → (E → EventRefusal) → Result (Unit {0}) E → EventReply
+reply_by refusal_of (Ok u) = Done
+reply_by refusal_of (Err e) = Refused (refusal_of e)
+
+-- ---- acts
+
+-- Bytes are added, or refused as a session does. No bytes take no memory.
 abbrev pub TakesPiece : List ℕ → EventReply → Held → Held → Type 0
-TakesPiece bytes reply old new =
-    Maybe (piece_refusal bytes old.session) (with_piece bytes old.session) reply old new
-    × WhereNoMemory reply (0 < length bytes)
+TakesPiece bytes reply old new = (done : Result (Unit {0}) PieceRefusal) × (reply ≡ reply_by of_piece done)
+    × Maybe pieces.NoMemory (piece_refusal bytes old.session) (with_piece bytes old.session) done old.session new.session
+    × IfErr done (λ e. e ≡ pieces.NoMemory → 0 < length bytes) × (new ≡ with_session new.session old)
 
--- A breakpoint that is set takes no memory.
+-- A breakpoint is set. One that is set takes no memory.
 abbrev pub SetsBreak : ℕ → EventReply → Held → Held → Type 0
-SetsBreak address reply old new =
-    Maybe (break_refusal address old.session) (set_at address old.session) reply old new
-    × WhereNoMemory reply (has_break address old.session.breaks ≡ false)
+SetsBreak address reply old new = (done : Result (Unit {0}) BreakRefusal) × (reply ≡ reply_by of_break done)
+    × Maybe breaks.NoMemory (break_refusal address old.session) (set_at address old.session) done old.session new.session
+    × IfErr done (λ e. e ≡ breaks.NoMemory → has_break address old.session.breaks ≡ false)
+    × (new ≡ with_session new.session old)
+
+-- a breakpoint is cleared
+abbrev pub ClearsBreak : ℕ → EventReply → Held → Held → Type 0
+ClearsBreak address reply old new = (done : Result (Unit {0}) ClearRefusal) × (reply ≡ reply_by of_clear done)
+    × Surely (clear_refusal address old.session) (cleared_at address old.session) done old.session new.session
+    × (new ≡ with_session new.session old)
 
 -- All these rows are taken; or memory is refused, and then some fewer, and the session has ended there, at a row that
 -- may want it.
@@ -62,12 +73,11 @@ Slices worker k reply old new = (old.holder ≡ worker) × Takes (slice_rows k o
 
 abbrev pub Acts : Act → EventReply → Held → Held → Type 0
 Acts (Piece bytes) reply old new = TakesPiece bytes reply old new
-Acts Finish reply old new = Surely None (finished old.session) reply old new
+Acts Finish reply old new = (reply ≡ Done) × (new ≡ with_session (finished old.session) old)
 Acts (Slice worker k) reply old new = Slices worker k reply old new
 Acts (Steal worker) reply old new = (reply ≡ Done) × (new ≡ record old { holder = worker })
 Acts (Break address) reply old new = SetsBreak address reply old new
-Acts (Clear address) reply old new =
-    Surely (clear_refusal address old.session) (cleared_at address old.session) reply old new
+Acts (Clear address) reply old new = ClearsBreak address reply old new
 Acts (Walk n) reply old new = Takes (walk_rows n old.session) reply old new
 Acts (Go n) reply old new = Takes (go_rows n old.session) reply old new
-Acts Refuse reply old new = Surely None (refused old.session) reply old new
+Acts Refuse reply old new = (reply ≡ Done) × (new ≡ with_session (refused old.session) old)

@@ -31,25 +31,9 @@ pub data Event : Type 0 where
   -- the number of the session
   On : ℕ → Act → Event
 
--- the event that a value of the program stands for
-abbrev pub event_of : rust.Event → Event
-event_of (events.Register subject text) = Register (string_bytes subject) (string_bytes text)
-event_of (events.Level subject level) = SetLevel (option_map string_bytes subject) level
-event_of (events.Publish writer reader) = Publish writer reader
-event_of (events.Begin writer reader) = Begin writer reader
-event_of (events.Piece session bytes) = On session (Piece bytes.items)
-event_of (events.Finish session) = On session Finish
-event_of (events.Slice session worker rows) = On session (Slice worker rows)
-event_of (events.Steal session worker) = On session (Steal worker)
-event_of (events.Break session address) = On session (Break address)
-event_of (events.Clear session address) = On session (Clear address)
-event_of (events.Walk session rows) = On session (Walk rows)
-event_of (events.Go session rows) = On session (Go rows)
-event_of (events.Refuse session) = On session Refuse
-
 -- what happens to a session, as a value of the program has it
 abbrev pub act_of : asked.Act → Act
-act_of (acts.Piece bytes) = Piece bytes.now
+act_of (acts.Piece bytes) = Piece bytes.items
 act_of acts.Finish = Finish
 act_of (acts.Slice worker rows) = Slice worker rows
 act_of (acts.Steal worker) = Steal worker
@@ -58,3 +42,11 @@ act_of (acts.Clear address) = Clear address
 act_of (acts.Walk rows) = Walk rows
 act_of (acts.Go rows) = Go rows
 act_of acts.Refuse = Refuse
+
+-- the event that a value of the program stands for
+abbrev pub event_of : rust.Event → Event
+event_of (events.Register subject text) = Register (string_bytes subject) (string_bytes text)
+event_of (events.Level subject level) = SetLevel (option_map string_bytes subject) level
+event_of (events.Publish writer reader) = Publish writer reader
+event_of (events.Begin writer reader) = Begin writer reader
+event_of (events.On session act) = On session (act_of act)

@@ -1,29 +1,68 @@
--- A session is what its own events make of it. All of this is this project's own.
-use Rattle.std.specs.Prelude.{◌≡◌, ℕ, ◌==◌, List, filter, length, Bool, false, not, slice_get}
-use Rattle.session_core.specs.Event.{Event, On}
+-- A session is what its own accepted acts make of it, whatever else happens. All of this is this project's own.
+use Rattle.std.specs.Prelude.{◌≡◌, ◌⊎◌, ℕ, ◌==◌, List, [], ◌∷◌, ◌++◌, Some, if◌then◌else◌, slice_get}
+use Rattle.isa.specs.Program.{Program}
+use Rattle.session_state.specs.Session.{begun}
+use Rattle.session_core.specs.declared.reply.EventReply.{EventReply}
+use Rattle.session_core.specs.declared.reply.EventReply.TheVariants.{Refused, SessionIs}
+use Rattle.session_core.specs.Acts.{Acts}
+use Rattle.session_core.specs.Event.{Act, Begin, Event, On}
 use Rattle.session_core.specs.Happening.{Happened, Step}
-use Rattle.session_core.specs.World.{World, no_world}
+use Rattle.session_core.specs.World.{Held, World, no_world}
 
--- an event of another session
-abbrev pub is_of_other : ℕ → Event → Bool
-is_of_other s (On t act) = not (t == s)
-is_of_other s event = false
+-- ---- what acts make of a session
 
--- the steps with the events of all other sessions left out
-abbrev pub own_steps : ℕ → List Step → List Step
-own_steps s steps = filter (λ (step : Step). not (is_of_other s step.event)) steps
+-- an act, and what was replied to it
+pub record ActStep : Type 0 where
+  pub act : Act
+  pub reply : EventReply
 
--- two worlds that differ in other sessions alone
-pub record IsLike (s : ℕ) (one other : World) : Type 0 where
-  pub commands : one.commands ≡ other.commands
-  pub published : one.published ≡ other.published
-  pub many : length one.sessions ≡ length other.sessions
-  pub session : slice_get one.sessions s ≡ slice_get other.sessions s
+-- acts with these replies make of the one session the other, one after another
+abbrev pub Lived : List ActStep → Held → Held → Type 0
+Lived [] old new = new ≡ old
+Lived (step ∷ steps) old new = (next : Held) × Acts step.act step.reply old next × Lived steps next new
 
--- Where the events of all other sessions are left out, the others have the same replies, and the session is the same.
-abbrev pub IsItsOwn : ℕ → List Step → World → Type 0
-IsItsOwn s steps world = (alone : World) × Happened (own_steps s steps) no_world alone × IsLike s world alone
+-- as it begins: of these ids and this program, held by worker 0
+abbrev pub begun_by : ℕ → ℕ → Program → Held
+begun_by writer reader P = record { holder = 0; writer = writer; reader = reader; session = begun P }
+
+-- ---- its own acts
+
+-- an act that was accepted; one that is refused changes nothing
+abbrev pub accepted : Act → EventReply → List ActStep
+accepted act (Refused refusal) = []
+accepted act reply = record { act = act; reply = reply } ∷ []
+
+-- what a step is to this session: an act of its own that was accepted, or nothing
+abbrev pub own_act : ℕ → Event → EventReply → List ActStep
+own_act s (On t act) reply = if t == s then accepted act reply else []
+own_act s event reply = []
+
+abbrev pub own_acts : ℕ → List Step → List ActStep
+own_acts s [] = []
+own_acts s (step ∷ steps) = own_act s step.event step.reply ++ own_acts s steps
+
+-- among these steps is the beginning of this session, of a pair of these ids
+abbrev pub HasBegun : ℕ → ℕ → ℕ → List Step → Type 0
+HasBegun s writer reader [] = ⊥
+HasBegun s writer reader (step ∷ steps) =
+    ((step.event ≡ Begin writer reader) × (step.reply ≡ SessionIs s)) ⊎ HasBegun s writer reader steps
+
+-- ---- the laws
+
+-- A session began as its pair's, and from there its own accepted acts made it what it is.
+pub record IsItsOwn (s : ℕ) (steps : List Step) (held : Held) : Type 0 where
+  pub began : HasBegun s held.writer held.reader steps
+  pub lived : Lived (own_acts s steps) (begun_by held.writer held.reader held.session.program) held
 
 abbrev pub SessionsAreTheirOwn : Type 0
-SessionsAreTheirOwn =
-    (s : ℕ) (steps : List Step) (world : World) → Happened steps no_world world → IsItsOwn s steps world
+SessionsAreTheirOwn = (s : ℕ) (steps : List Step) (world : World) (held : Held)
+    → Happened steps no_world world → slice_get world.sessions s ≡ Some held → IsItsOwn s steps held
+
+-- acts with their replies lead to one session
+abbrev pub ActsLeadToOne : Type 0
+ActsLeadToOne = (steps : List ActStep) (old one other : Held) → Lived steps old one → Lived steps old other → one ≡ other
+
+-- events with their replies lead to one world
+abbrev pub EventsLeadToOne : Type 0
+EventsLeadToOne =
+    (steps : List Step) (old one other : World) → Happened steps old one → Happened steps old other → one ≡ other

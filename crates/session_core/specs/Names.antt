@@ -1,7 +1,6 @@
 -- The names of refusals. This project's own.
 use Rattle.std.specs.Prelude.{ℕ, List, codes}
 use Rattle.schema_registry.specs.Refusal as registry
-use Rattle.session_state.specs.Names as session
 use Rattle.session_core.specs.declared.publish_error.PublishError.{PublishError}
 use Rattle.session_core.specs.declared.publish_error.PublishError.TheVariants as errors
 use Rattle.session_core.specs.declared.refusal.EventRefusal.{EventRefusal}
@@ -17,7 +16,10 @@ refusal_name refusals.NoSession = codes "NoSession"
 refusal_name refusals.NotHeld = codes "NotHeld"
 refusal_name refusals.NotPublished = codes "NotPublished"
 refusal_name refusals.NoSchema = codes "NoSchema"
+refusal_name refusals.TooLarge = codes "TooLarge"
+refusal_name refusals.Ended = codes "Ended"
+refusal_name refusals.BadAddress = codes "BadAddress"
+refusal_name refusals.TooManyBreaks = codes "TooManyBreaks"
 refusal_name refusals.NoMemory = codes "NoMemory"
-refusal_name (refusals.OfSession refusal) = session.refusal_name refusal
 refusal_name (refusals.OfRegistry refusal) = registry.refusal_name refusal
 refusal_name (refusals.OfPublication error) = error_name error

@@ -1,13 +1,13 @@
 //! A session beside the worker that holds it.
 
 ghost use Rattle.std.specs.Prelude.{◌≡◌};
-ghost use Rattle.session_core.specs.Acts.{Acts, reply_to};
-ghost use Rattle.session_core.specs.Event.{Slice, act_of};
+ghost use Rattle.session_core.specs.Acts.{Acts};
+ghost use Rattle.session_core.specs.Event.{Break, Clear, Piece, Slice, act_of};
 
 use crate::act::Act;
 use crate::refusal::EventRefusal;
 use crate::reply::EventReply;
-use session_state::{Session, SessionRefusal};
+use session_state::Session;
 use std::marker::Model;
 
 /// A session, the worker that holds it, and the ids of its pair.
@@ -29,28 +29,58 @@ impl<'p> Model for Held<'p> {
 
 impl<'p> Held<'p> {
     /// What happens to the session.
-    pub(crate) fn act(&mut self, act: Act) -> EventReply
-        ensures { Acts (act_of act.entry) result self.old self.new }
+    pub(crate) fn act(&mut self, act: &Act) -> EventReply
+        ensures { Acts (act_of act.now) result self.old self.new }
     {
         match act {
-            Act::Piece(bytes) => reply_to(self.session.piece(bytes)),
+            Act::Piece(bytes) => self.piece(bytes),
             Act::Finish => {
                 self.session.finish();
                 EventReply::Done
             }
-            Act::Slice { worker, rows } => self.slice(worker, rows),
+            Act::Slice { worker, rows } => self.slice(*worker, *rows),
             Act::Steal(worker) => {
-                self.holder = worker;
+                self.holder = *worker;
                 EventReply::Done
             }
-            Act::Break(address) => reply_to(self.session.set_break(address)),
-            Act::Clear(address) => reply_to(self.session.clear_break(address)),
-            Act::Walk(rows) => EventReply::Rows(self.session.step(rows)),
-            Act::Go(rows) => EventReply::Rows(self.session.go(rows)),
+            Act::Break(address) => self.set_break(*address),
+            Act::Clear(address) => self.clear_break(*address),
+            Act::Walk(rows) => EventReply::Rows(self.session.step(*rows)),
+            Act::Go(rows) => EventReply::Rows(self.session.go(*rows)),
             Act::Refuse => {
                 self.session.refuse();
                 EventReply::Done
             }
+        }
+    }
+
+    /// More bytes come.
+    fn piece(&mut self, bytes: &[u8]) -> EventReply
+        ensures { Acts (Piece bytes.now) result self.old self.new }
+    {
+        match self.session.piece(bytes) {
+            Ok(()) => EventReply::Done,
+            Err(refusal) => EventReply::Refused(EventRefusal::from(refusal)),
+        }
+    }
+
+    /// A breakpoint is set.
+    fn set_break(&mut self, address: u32) -> EventReply
+        ensures { Acts (Break address) result self.old self.new }
+    {
+        match self.session.set_break(address) {
+            Ok(()) => EventReply::Done,
+            Err(refusal) => EventReply::Refused(EventRefusal::from(refusal)),
+        }
+    }
+
+    /// A breakpoint is cleared.
+    fn clear_break(&mut self, address: u32) -> EventReply
+        ensures { Acts (Clear address) result self.old self.new }
+    {
+        match self.session.clear_break(address) {
+            Ok(()) => EventReply::Done,
+            Err(refusal) => EventReply::Refused(EventRefusal::from(refusal)),
         }
     }
 
@@ -61,16 +91,6 @@ impl<'p> Held<'p> {
         if self.holder != worker {
             return EventReply::Refused(EventRefusal::NotHeld);
         }
-        EventReply::Rows(self.session.slice(rows))
-    }
-}
-
-/// What is replied where a session did what it was asked, or refused it.
-fn reply_to(done: Result<(), SessionRefusal>) -> EventReply
-    ensures { result ≡ reply_to done }
-{
-    match done {
-        Ok(()) => EventReply::Done,
-        Err(refusal) => EventReply::Refused(EventRefusal::OfSession(refusal)),
+        EventReply::Rows(self.session.slice(rows).rows)
     }
 }

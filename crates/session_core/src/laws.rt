@@ -1,9 +1,15 @@
-//! The law that sessions are their own. It does nothing when it runs.
+//! The laws of events. They do nothing when they run.
 
-ghost use Rattle.session_core.specs.Isolation.{SessionsAreTheirOwn};
+ghost use Rattle.session_core.specs.Isolation.{ActsLeadToOne, EventsLeadToOne, SessionsAreTheirOwn};
 
-/// The law that a session is what its own events make of it, with the same replies, whatever happens to other sessions
-/// between them.
+/// The law that a session is what its own accepted acts make of it since it began, with the same replies, whatever all
+/// other events are: registrations, levels, publications, and beginnings and acts of others.
 pub fn sessions_are_their_own()
     ensures { SessionsAreTheirOwn }
+{}
+
+/// The law that acts on a session, and events of a world, with their replies, lead to one session, and to one world.
+pub fn replies_tell_what_happened()
+    ensures acts { ActsLeadToOne }
+    ensures events { EventsLeadToOne }
 {}

@@ -16,13 +16,13 @@ mod reply;
 mod running;
 mod world;
 
+pub use act::Act;
 pub use event::Event;
-pub use laws::sessions_are_their_own;
+pub use laws::{replies_tell_what_happened, sessions_are_their_own};
 pub use pair_row::PairRow;
 pub use programs::Programs;
 pub use publish_error::PublishError;
 pub use refusal::EventRefusal;
 pub use reply::EventReply;
 pub use running::run_events;
-pub use session_state::{MOST_BREAKS, Session, SessionEnd, SessionRefusal};
 pub use world::World;

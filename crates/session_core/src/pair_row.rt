@@ -1,6 +1,6 @@
 //! A store of programs in a row of cells.
 
-ghost use Rattle.std.specs.Prelude.{◌≡◌, Some, None, IfErr, IfOk, IfSome};
+ghost use Rattle.std.specs.Prelude.{◌≡◌, None, IfErr, IfOk};
 ghost use Rattle.program_definition.specs.Code.{code_of};
 ghost use Rattle.session_core.specs.declared.publish_error.PublishError.TheVariants.{ProgramTooLarge};
 ghost use Rattle.session_core.specs.Publishing.{IsPublished};
@@ -10,7 +10,8 @@ use crate::publish_error::PublishError;
 use avro_schema::Schema;
 use isa::Program;
 use once_cell::race::OnceBox;
-use program_compiler::{CompileError, compile};
+use pair_program::PairProgram;
+use program_compiler::CompileError;
 use std::alloc::{AllocError, Global};
 use std::marker::Model;
 
@@ -19,7 +20,7 @@ use std::marker::Model;
 #[derive(Drop)]
 pub struct PairRow {
     alloc: Global,
-    cells: Vec<OnceBox<Entry>>,
+    cells: Vec<OnceBox<PairProgram>>,
 }
 
 impl Model for PairRow {
@@ -28,15 +29,6 @@ impl Model for PairRow {
     ghost Value = { ℕ };
 
     ghost view = { λ row. length row.cells.items };
-}
-
-/// A pair of schemas and its program.
-#[derive(Drop)]
-struct Entry {
-    writer: Schema,
-    reader: Schema,
-    program: Program,
-    ghost made: { code_of writer.nodes reader.nodes ≡ Some program },
 }
 
 impl PairRow {
@@ -57,64 +49,37 @@ impl Programs for PairRow {
         ensures { IsPublished writer.now.nodes reader.now.nodes result }
     {
         for cell in &self.cells {
-            let entry = entry_in(self.alloc, cell, writer, reader)?;
-            if let Some(program) = entry.program_of(writer, reader) {
-                return Ok(program);
+            let pair = pair_in(self.alloc, cell, writer, reader)?;
+            if pair.is_of(writer, reader) {
+                return Ok(pair.program());
             }
         }
         Err(PublishError::Clash)
     }
 }
 
-impl Entry {
-    /// The entry of a pair.
-    fn new(alloc: Global, writer: &Schema, reader: &Schema) -> Result<Entry, PublishError>
-        ensures { IfErr result (λ e. e ≡ ProgramTooLarge → code_of writer.now.nodes reader.now.nodes ≡ None) }
-    {
-        let program = compiled(alloc, writer, reader)?;
-        Ok(Entry {
-            writer: writer.copy()?,
-            reader: reader.copy()?,
-            program,
-        })
-    }
-
-    /// The program, where it is this pair's.
-    fn program_of(&self, writer: &Schema, reader: &Schema) -> Option<&Program>
-        ensures { IfSome result (λ program. code_of writer.now.nodes reader.now.nodes ≡ Some program.now) }
-    {
-        if self.writer.text() != writer.text() || self.reader.text() != reader.text() {
-            return None;
-        }
-        self.writer.same_text_has_same_nodes(writer); // law
-        self.reader.same_text_has_same_nodes(reader); // law
-        Some(&self.program)
-    }
-}
-
-/// The entry that a cell has, which is this pair's where it had none.
-fn entry_in<'c>(
+/// What a cell has, which is this pair's where it had none.
+fn pair_in<'c>(
     alloc: Global,
-    cell: &'c OnceBox<Entry>,
+    cell: &'c OnceBox<PairProgram>,
     writer: &Schema,
     reader: &Schema,
-) -> Result<&'c Entry, PublishError>
+) -> Result<&'c PairProgram, PublishError>
     ensures { IfErr result (λ e. e ≡ ProgramTooLarge → code_of writer.now.nodes reader.now.nodes ≡ None) }
 {
-    if let Some(entry) = cell.get() {
-        return Ok(entry);
+    if let Some(pair) = cell.get() {
+        return Ok(pair);
     }
-    let made = Box::new(alloc, Entry::new(alloc, writer, reader)?)?;
+    let made = Box::new(alloc, made_for(alloc, writer, reader)?)?;
     Ok(cell.get_or_init(move || made))
 }
 
-/// The program of a pair.
-fn compiled(alloc: Global, writer: &Schema, reader: &Schema) -> Result<Program, PublishError>
-    ensures ok { IfOk result (λ program. code_of writer.now.nodes reader.now.nodes ≡ Some program) }
-    ensures err { IfErr result (λ e. e ≡ ProgramTooLarge → code_of writer.now.nodes reader.now.nodes ≡ None) }
+/// A pair with its program.
+fn made_for(alloc: Global, writer: &Schema, reader: &Schema) -> Result<PairProgram, PublishError>
+    ensures { IfErr result (λ e. e ≡ ProgramTooLarge → code_of writer.now.nodes reader.now.nodes ≡ None) }
 {
-    match compile(alloc, writer.nodes(), reader.nodes()) {
-        Ok(program) => Ok(program),
+    match PairProgram::new(alloc, writer, reader) {
+        Ok(pair) => Ok(pair),
         Err(CompileError::ProgramTooLarge) => Err(PublishError::ProgramTooLarge),
         Err(CompileError::NoMemory) => Err(PublishError::NoMemory),
     }

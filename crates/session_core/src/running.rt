@@ -1,11 +1,11 @@
 //! Events, one after another.
 
-ghost use Rattle.std.specs.Prelude.{◌≡◌, [], ℕ, IfOk, OnOk, length, map};
+ghost use Rattle.std.specs.Prelude.{◌≡◌, [], ℕ, IfOk, OnOk, Some, length, map, slice_get};
 ghost use Rattle.session_core.specs.Ending.{SessionEndsWithOutcome};
 ghost use Rattle.session_core.specs.Event.{event_of};
 ghost use Rattle.session_core.specs.Happening.{Happened, steps_of};
 ghost use Rattle.session_core.specs.Isolation.{IsItsOwn};
-ghost use Rattle.session_core.specs.World.{no_world};
+ghost use Rattle.session_core.specs.World.{Held, no_world};
 
 use crate::event::Event;
 use crate::laws::sessions_are_their_own;
@@ -33,8 +33,9 @@ fn take_events<'p, P: Programs>(
     Ok(())
 }
 
-/// The world after events, one after another, with a reply to each. A session's machine ends with the outcome of its
-/// own bytes for its own pair, and each session is what its own events make of it.
+/// The world after events, one after another, with a reply to each. A session's machine is its pair's program, run alone
+/// on its own bytes for as many rows as it counts, and ends with their outcome; and each session is what its own
+/// accepted acts make of it since it began.
 pub fn run_events<'p, P: Programs>(
     alloc: Global,
     programs: &'p P,
@@ -43,8 +44,8 @@ pub fn run_events<'p, P: Programs>(
     ensures many { IfOk result (λ r. length r.1.items ≡ length events.now) }
     ensures happened { IfOk result (λ r. Happened (steps_of (map event_of events.now) r.1.items) no_world r.0) }
     ensures ends { IfOk result (λ r. (session : ℕ) → SessionEndsWithOutcome r.0 session) }
-    ensures own { IfOk result (λ r. (session : ℕ) →
-        IsItsOwn session (steps_of (map event_of events.now) r.1.items) r.0) }
+    ensures own { IfOk result (λ r. (session : ℕ) (held : Held) → slice_get r.0.sessions session ≡ Some held
+        → IsItsOwn session (steps_of (map event_of events.now) r.1.items) held) }
 {
     sessions_are_their_own(); // law
     let mut world = World::new(alloc);

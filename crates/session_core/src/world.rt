@@ -218,8 +218,8 @@ impl<'p> World<'p> {
     }
 
     /// What happens to one session.
-    fn act(&mut self, session: usize, act: Act) -> EventReply
-        ensures { Happens (On session (act_of act.entry)) result self.old self.new }
+    fn act(&mut self, session: usize, act: &Act) -> EventReply
+        ensures { Happens (On session (act_of act.now)) result self.old self.new }
     {
         if session >= self.sessions.len() {
             return EventReply::Refused(EventRefusal::NoSession);
@@ -252,25 +252,7 @@ impl<'p> World<'p> {
             Event::Level { subject, level } => self.set_level(subject, *level),
             Event::Publish { writer, reader } => self.publish(programs, *writer, *reader),
             Event::Begin { writer, reader } => self.begin(*writer, *reader),
-            Event::Piece { session, bytes } => self.act(*session, Act::Piece(bytes)),
-            Event::Finish { session } => self.act(*session, Act::Finish),
-            Event::Slice {
-                session,
-                worker,
-                rows,
-            } => self.act(
-                *session,
-                Act::Slice {
-                    worker: *worker,
-                    rows: *rows,
-                },
-            ),
-            Event::Steal { session, worker } => self.act(*session, Act::Steal(*worker)),
-            Event::Break { session, address } => self.act(*session, Act::Break(*address)),
-            Event::Clear { session, address } => self.act(*session, Act::Clear(*address)),
-            Event::Walk { session, rows } => self.act(*session, Act::Walk(*rows)),
-            Event::Go { session, rows } => self.act(*session, Act::Go(*rows)),
-            Event::Refuse { session } => self.act(*session, Act::Refuse),
+            Event::On { session, act } => self.act(*session, act),
         }
     }
 }

@@ -4,7 +4,7 @@ use crate::again::row_for;
 use crate::same::same;
 use isa::End;
 use outcome::Outcome;
-use session_core::{Event, EventRefusal, EventReply, PublishError, World, run_events};
+use session_core::{Act, Event, EventRefusal, EventReply, PublishError, World, run_events};
 use std::alloc::{AllocError, Global};
 use std::test::Fail;
 
@@ -31,13 +31,9 @@ fn events(alloc: Global) -> Result<Vec<Event>, AllocError> {
         writer: 1,
         reader: 1,
     })?;
-    events.push(Event::Piece { session, bytes })?;
-    events.push(Event::Finish { session })?;
-    events.push(Event::Slice {
-        session,
-        worker,
-        rows,
-    })?;
+    for act in vec![in alloc; Act::Piece(bytes), Act::Finish, Act::Slice { worker, rows }]? {
+        events.push(Event::On { session, act })?;
+    }
     Ok(events)
 }
 

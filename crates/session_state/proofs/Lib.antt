@@ -1,2 +1,5 @@
 pub mod Slices
 pub mod Sessions
+pub mod Breaks
+pub mod Made
+pub mod Crossing

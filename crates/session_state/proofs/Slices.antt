@@ -17,7 +17,7 @@ use Rattle.session_state.specs.Rows.{is_counted_out, slice_from}
 
 -- ---- one row more
 
-not_counted_out : (s : State) → s.count < 2 ^ 64 - 1 → is_counted_out s ≡ false
+pub not_counted_out : (s : State) → s.count < 2 ^ 64 - 1 → is_counted_out s ≡ false
 not_counted_out s few = ne_eqb s.count (2 ^ 64 - 1) (ne_of_lt few)
 
 module _ (P : Program) (input : List ℕ) (ended : Bool) (breaks : List ℕ) where

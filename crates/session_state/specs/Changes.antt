@@ -2,14 +2,18 @@
 use Rattle.std.specs.Prelude.{◌≡◌, ◌≢◌, ℕ, ◌+◌, List, ◌++◌, length, nat_le, nat_lt, true, if◌then◌else◌, Option, Some, None, Result, Ok, Err, is_some}
 use Rattle.outcome.specs.declared.limits.TheConstants.{MOST_PAYLOAD}
 use Rattle.session_state.specs.declared.limits.TheConstants.{MOST_BREAKS}
-use Rattle.session_state.specs.declared.refusal.SessionRefusal.{SessionRefusal}
-use Rattle.session_state.specs.declared.refusal.SessionRefusal.TheVariants.{TooLarge, Ended, BadAddress, TooManyBreaks, NoMemory}
+use Rattle.session_state.specs.declared.refusal.BreakRefusal.{BreakRefusal}
+use Rattle.session_state.specs.declared.refusal.BreakRefusal.TheVariants.{BadAddress, TooManyBreaks}
+use Rattle.session_state.specs.declared.refusal.ClearRefusal.{ClearRefusal}
+use Rattle.session_state.specs.declared.refusal.ClearRefusal.TheVariants as clears
+use Rattle.session_state.specs.declared.refusal.PieceRefusal.{PieceRefusal}
+use Rattle.session_state.specs.declared.refusal.PieceRefusal.TheVariants.{TooLarge, Ended}
 use Rattle.session_state.specs.Session.{Session, end_in, with_break, without_break}
 
 -- ---- pieces
 
 -- a piece that would pass the limit, and then one that comes after the last
-abbrev pub piece_refusal : List ℕ → Session → Option SessionRefusal
+abbrev pub piece_refusal : List ℕ → Session → Option PieceRefusal
 piece_refusal piece s = if nat_lt MOST_PAYLOAD (length s.bytes + length piece) then Some TooLarge
     else if s.closed then Some Ended else None
 
@@ -22,12 +26,12 @@ finished s = record s { closed = true }
 -- ---- breakpoints
 
 -- an address that is none of the program's, and then one more breakpoint than there may be
-abbrev pub break_refusal : ℕ → Session → Option SessionRefusal
+abbrev pub break_refusal : ℕ → Session → Option BreakRefusal
 break_refusal address s = if nat_le (length s.program.code) address then Some BadAddress
     else if nat_lt MOST_BREAKS (length (with_break address s.breaks)) then Some TooManyBreaks else None
 
-abbrev pub clear_refusal : ℕ → Session → Option SessionRefusal
-clear_refusal address s = if nat_le (length s.program.code) address then Some BadAddress else None
+abbrev pub clear_refusal : ℕ → Session → Option ClearRefusal
+clear_refusal address s = if nat_le (length s.program.code) address then Some clears.BadAddress else None
 
 abbrev pub set_at : ℕ → Session → Session
 set_at address s = record s { breaks = with_break address s.breaks }
@@ -43,11 +47,12 @@ refused s = if is_some (end_in s) then s else record s { out_of_memory = true }
 -- ---- answers
 
 -- It is done, or the refusal is told and nothing changes.
-abbrev pub Surely : Option SessionRefusal → Session → Result (Unit {0}) SessionRefusal → Session → Session → Type 0
+abbrev pub Surely : {E : Type 0} → Option E → Session → Result (Unit {0}) E → Session → Session → Type 0
 Surely refusal done (Ok u) old new = (refusal ≡ None) × (new ≡ done)
 Surely refusal done (Err e) old new = (refusal ≡ Some e) × (new ≡ old)
 
 -- The same, unless memory ran out where it would be done, which changes nothing either.
-abbrev pub Maybe : Option SessionRefusal → Session → Result (Unit {0}) SessionRefusal → Session → Session → Type 0
-Maybe refusal done (Ok u) old new = (refusal ≡ None) × (new ≡ done)
-Maybe refusal done (Err e) old new = ((e ≡ NoMemory → refusal ≡ None) × (e ≢ NoMemory → refusal ≡ Some e)) × (new ≡ old)
+abbrev pub Maybe : {E : Type 0} → E → Option E → Session → Result (Unit {0}) E → Session → Session → Type 0
+Maybe no_memory refusal done (Ok u) old new = (refusal ≡ None) × (new ≡ done)
+Maybe no_memory refusal done (Err e) old new =
+    ((e ≡ no_memory → refusal ≡ None) × (e ≢ no_memory → refusal ≡ Some e)) × (new ≡ old)

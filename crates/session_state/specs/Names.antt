@@ -1,11 +1,21 @@
 -- The names of refusals. This project's own.
 use Rattle.std.specs.Prelude.{ℕ, List, codes}
-use Rattle.session_state.specs.declared.refusal.SessionRefusal.{SessionRefusal}
-use Rattle.session_state.specs.declared.refusal.SessionRefusal.TheVariants as refusals
+use Rattle.session_state.specs.declared.refusal.BreakRefusal.{BreakRefusal}
+use Rattle.session_state.specs.declared.refusal.BreakRefusal.TheVariants as breaks
+use Rattle.session_state.specs.declared.refusal.ClearRefusal.{ClearRefusal}
+use Rattle.session_state.specs.declared.refusal.ClearRefusal.TheVariants as clears
+use Rattle.session_state.specs.declared.refusal.PieceRefusal.{PieceRefusal}
+use Rattle.session_state.specs.declared.refusal.PieceRefusal.TheVariants as pieces
 
-abbrev pub refusal_name : SessionRefusal → List ℕ
-refusal_name refusals.TooLarge = codes "TooLarge"
-refusal_name refusals.Ended = codes "Ended"
-refusal_name refusals.BadAddress = codes "BadAddress"
-refusal_name refusals.TooManyBreaks = codes "TooManyBreaks"
-refusal_name refusals.NoMemory = codes "NoMemory"
+abbrev pub piece_refusal_name : PieceRefusal → List ℕ
+piece_refusal_name pieces.TooLarge = codes "TooLarge"
+piece_refusal_name pieces.Ended = codes "Ended"
+piece_refusal_name pieces.NoMemory = codes "NoMemory"
+
+abbrev pub break_refusal_name : BreakRefusal → List ℕ
+break_refusal_name breaks.BadAddress = codes "BadAddress"
+break_refusal_name breaks.TooManyBreaks = codes "TooManyBreaks"
+break_refusal_name breaks.NoMemory = codes "NoMemory"
+
+abbrev pub clear_refusal_name : ClearRefusal → List ℕ
+clear_refusal_name clears.BadAddress = codes "BadAddress"

@@ -1,5 +1,5 @@
 -- How many rows are taken of a session. All of this is this project's own.
-use Rattle.std.specs.Prelude.{◌≡◌, ◌<◌, ◌⊎◌, ℕ, zero, suc, ◌+◌, ◌-◌, ◌^◌, ◌==◌, ◌||◌, Bool, true, List, [], Some, if◌then◌else◌, slice_get}
+use Rattle.std.specs.Prelude.{◌≡◌, ◌<◌, ◌⊎◌, ℕ, zero, suc, ◌+◌, ◌-◌, ◌^◌, ◌==◌, ◌||◌, Bool, true, false, List, [], Some, if◌then◌else◌, slice_get}
 use Rattle.std.specs.Option.{option_map_or}
 use Rattle.resolver_matching.specs.Options.{given}
 use Rattle.isa.specs.Program.{Program}
@@ -32,13 +32,22 @@ module _ (P : Program) (input : List ℕ) (ended : Bool) where
 abbrev pub rows_of : Session → (State → ℕ) → ℕ
 rows_of s rows = if s.out_of_memory then 0 else option_map_or rows (state_of s) 0
 
+-- the rows that are taken under these breakpoints
+abbrev pub rows_under : List ℕ → ℕ → Session → ℕ
+rows_under breaks k s = rows_of s (slice_from s.program s.bytes s.closed breaks k)
+
 -- the rows that a slice takes
 abbrev pub slice_rows : ℕ → Session → ℕ
-slice_rows k s = rows_of s (slice_from s.program s.bytes s.closed s.breaks k)
+slice_rows k s = rows_under s.breaks k s
 
 -- the rows that a walk takes, which heeds no breakpoint
 abbrev pub walk_rows : ℕ → Session → ℕ
-walk_rows n s = rows_of s (slice_from s.program s.bytes s.closed [] n)
+walk_rows n s = rows_under [] n s
+
+-- the breakpoints that are heeded: all of a session's, or none
+abbrev pub heeded : Bool → Session → List ℕ
+heeded true s = s.breaks
+heeded false s = []
 
 -- the rows that are taken to go on from a breakpoint
 abbrev pub go_rows : ℕ → Session → ℕ

@@ -7,9 +7,11 @@ mod end;
 mod limits;
 mod refusal;
 mod session;
+mod slice;
 mod taking;
 
 pub use end::SessionEnd;
 pub use limits::{MOST_BREAKS, limits_are_these};
-pub use refusal::SessionRefusal;
+pub use refusal::{BreakRefusal, ClearRefusal, PieceRefusal};
 pub use session::Session;
+pub use slice::{Slice, Stopped};

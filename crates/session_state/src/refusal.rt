@@ -3,13 +3,20 @@
 use std::alloc::{AllocError, AllocFailed};
 use thiserror::Error;
 
-/// Why a call of a session was refused, which changed nothing.
+/// Why a piece was not taken, which changed nothing.
 #[derive(Clone, Copy, Debug, PartialEq, Eq, Error)]
-pub enum SessionRefusal {
+pub enum PieceRefusal {
     #[error("the bytes with the piece would pass the limit of a payload")]
     TooLarge,
     #[error("a piece comes after the last")]
     Ended,
+    #[error("out of memory")]
+    NoMemory,
+}
+
+/// Why a breakpoint was not set, which changed nothing.
+#[derive(Clone, Copy, Debug, PartialEq, Eq, Error)]
+pub enum BreakRefusal {
     #[error("the address is none of the program's")]
     BadAddress,
     #[error("the session has as many other breakpoints as it may have")]
@@ -18,42 +25,77 @@ pub enum SessionRefusal {
     NoMemory,
 }
 
-impl SessionRefusal {
+/// Why a breakpoint was not cleared, which changed nothing.
+#[derive(Clone, Copy, Debug, PartialEq, Eq, Error)]
+pub enum ClearRefusal {
+    #[error("the address is none of the program's")]
+    BadAddress,
+}
+
+impl PieceRefusal {
     ghost use Rattle.std.specs.Prelude.{◌≡◌};
-    ghost use Rattle.session_state.specs.Names.{refusal_name};
+    ghost use Rattle.session_state.specs.Names.{piece_refusal_name};
 
     /// Its name, as programs print it.
     pub fn name(self) -> &'static str
-        ensures { result.now ≡ refusal_name self }
+        ensures { result.now ≡ piece_refusal_name self }
     {
         match self {
-            SessionRefusal::TooLarge => "TooLarge",
-            SessionRefusal::Ended => "Ended",
-            SessionRefusal::BadAddress => "BadAddress",
-            SessionRefusal::TooManyBreaks => "TooManyBreaks",
-            SessionRefusal::NoMemory => "NoMemory",
+            PieceRefusal::TooLarge => "TooLarge",
+            PieceRefusal::Ended => "Ended",
+            PieceRefusal::NoMemory => "NoMemory",
         }
     }
 }
 
-impl From<AllocError> for SessionRefusal {
+impl BreakRefusal {
     ghost use Rattle.std.specs.Prelude.{◌≡◌};
-    ghost use Rattle.session_state.specs.declared.refusal.SessionRefusal.TheVariants.{NoMemory};
+    ghost use Rattle.session_state.specs.Names.{break_refusal_name};
 
-    ghost from_gives = { λ _ e. e ≡ NoMemory };
-
-    fn from(_error: AllocError) -> SessionRefusal {
-        SessionRefusal::NoMemory
+    /// Its name, as programs print it.
+    pub fn name(self) -> &'static str
+        ensures { result.now ≡ break_refusal_name self }
+    {
+        match self {
+            BreakRefusal::BadAddress => "BadAddress",
+            BreakRefusal::TooManyBreaks => "TooManyBreaks",
+            BreakRefusal::NoMemory => "NoMemory",
+        }
     }
 }
 
-impl<T: Drop> From<AllocFailed<T>> for SessionRefusal {
+impl ClearRefusal {
     ghost use Rattle.std.specs.Prelude.{◌≡◌};
-    ghost use Rattle.session_state.specs.declared.refusal.SessionRefusal.TheVariants.{NoMemory};
+    ghost use Rattle.session_state.specs.Names.{clear_refusal_name};
+
+    /// Its name, as programs print it.
+    pub fn name(self) -> &'static str
+        ensures { result.now ≡ clear_refusal_name self }
+    {
+        match self {
+            ClearRefusal::BadAddress => "BadAddress",
+        }
+    }
+}
+
+impl From<AllocError> for PieceRefusal {
+    ghost use Rattle.std.specs.Prelude.{◌≡◌};
+    ghost use Rattle.session_state.specs.declared.refusal.PieceRefusal.TheVariants.{NoMemory};
 
     ghost from_gives = { λ _ e. e ≡ NoMemory };
 
-    fn from(_error: AllocFailed<T>) -> SessionRefusal {
-        SessionRefusal::NoMemory
+    fn from(_error: AllocError) -> PieceRefusal {
+        PieceRefusal::NoMemory
+    }
+}
+
+impl<T: Drop> From<AllocFailed<T>> for BreakRefusal {
+    ghost use Rattle.std.specs.Prelude.{◌≡◌};
+    ghost use Rattle.session_state.specs.declared.refusal.BreakRefusal.TheVariants.{NoMemory};
+
+    ghost from_gives = { λ _ e. e ≡ NoMemory };
+
+    fn from(_error: AllocFailed<T>) -> BreakRefusal {
+        BreakRefusal::NoMemory
     }
 }

@@ -1,21 +1,23 @@
 //! A program run on bytes that come in pieces, with breakpoints.
 
-ghost use Rattle.std.specs.Prelude.{◌≡◌, ◌≤◌, ◌<◌, ◌+◌, false, length, is_some, option_map, Some, IfErr};
-ghost use Rattle.outcome.specs.declared.limits.TheConstants.{MOST_PAYLOAD};
+ghost use Rattle.std.specs.Prelude.{◌≡◌, ◌≤◌, ◌<◌, ◌+◌, false, is_some, length, option_map, Some, IfErr};
+ghost use Rattle.machine.specs.Run.{IsCarry};
 ghost use Rattle.program_definition.specs.Code.{code_of};
-ghost use Rattle.session_state.specs.declared.limits.TheConstants.{MOST_BREAKS};
 ghost use Rattle.session_state.specs.Changes.{Maybe, Surely, break_refusal, clear_refusal, cleared_at, finished, piece_refusal, refused, set_at, with_piece};
-ghost use Rattle.session_state.specs.Ending.{EarlyEndIsOutcome, EndIsOutcome, EndsWithinBound, end_of};
-ghost use Rattle.session_state.specs.Rows.{TakesRows, go_rows, slice_rows, walk_rows};
+ghost use Rattle.session_state.specs.Ending.{SessionLeadsToOutcome, end_of};
+ghost use Rattle.session_state.specs.Kept.{IsMade, IsSession};
+ghost use Rattle.session_state.specs.Rows.{TakesRows, go_rows, heeded, rows_under, slice_rows, walk_rows};
 ghost use Rattle.session_state.specs.Session.{end_in, has_break, state_of, without_break};
+ghost use Rattle.session_state.specs.Stopping.{IsStopped};
 
 use crate::end::SessionEnd;
 use crate::limits::MOST_BREAKS;
-use crate::refusal::SessionRefusal;
+use crate::refusal::{BreakRefusal, ClearRefusal, PieceRefusal};
+use crate::slice::{Slice, Stopped};
 use crate::taking::take;
 use avro_types::Nodes;
 use isa::{End, Program};
-use machine::{Machine, Run};
+use machine::{Machine, Run, Why};
 use outcome::MOST_PAYLOAD;
 use program_correctness::runs_alone_are_counted_and_stay;
 use std::alloc::Global;
@@ -33,7 +35,8 @@ fn clear(breaks: &mut Vec<u32>, address: u32)
 ///
 /// Callers see how many rows were taken, and by them what its machine is: the program run alone on the bytes that
 /// came, however they were cut and whoever took the rows. What takes rows answers how many; where it finds no memory
-/// for one, the session has ended there, and no other has.
+/// for one, the session has ended there, and no other has. What holds of every session is `IsSession`, and what makes
+/// it `IsMade`.
 #[derive(Drop)]
 pub struct Session<'p> {
     run: Run<'p>,
@@ -42,9 +45,7 @@ pub struct Session<'p> {
 }
 
 impl<'p> Model for Session<'p> {
-    ghost use Rattle.std.specs.Prelude.{◌≤◌, length};
-    ghost use Rattle.outcome.specs.declared.limits.TheConstants.{MOST_PAYLOAD};
-    ghost use Rattle.session_state.specs.declared.limits.TheConstants.{MOST_BREAKS};
+    ghost use Rattle.session_state.specs.Kept.{IsSession};
     ghost use Rattle.session_state.specs.Session.{Session};
 
     ghost Value = { Session };
@@ -58,37 +59,60 @@ impl<'p> Model for Session<'p> {
       out_of_memory = s.out_of_memory;
     } };
 
-    ghost invariant = { λ s. (length s.run.input ≤ MOST_PAYLOAD) × (length s.breaks.items ≤ MOST_BREAKS) };
+    ghost invariant = { λ s. IsSession (record {
+      program = s.run.program;
+      bytes = s.run.input;
+      closed = s.run.ended;
+      breaks = s.breaks.items;
+      count = s.run.machine.state.count;
+      out_of_memory = s.out_of_memory;
+    }) s.run.machine.state };
 }
 
 impl<'p> Session<'p> {
+    ghost use Rattle.isa.specs.State.{State};
     ghost use Rattle.session_state.specs.Session.{begun};
 
     /// A session before its first piece. It takes no memory.
     pub fn begin(alloc: Global, program: &'p Program) -> Session<'p>
         ensures { result ≡ begun program.now }
     {
+        let run = Run::new(alloc, program);
+        run.is_alone(); // law
         Session {
-            run: Run::new(alloc, program),
+            run,
             breaks: Vec::new(alloc),
             out_of_memory: false,
         }
     }
 
-    /// Appends bytes to the payload. `TooLarge` where all bytes would pass `MOST_PAYLOAD`, and then `Ended` where no more were
-    /// to come. A session that has ended takes them too. No bytes take no memory.
-    pub fn piece(&mut self, bytes: &[u8]) -> Result<(), SessionRefusal>
-        ensures taken { Maybe (piece_refusal bytes.now self.old) (with_piece bytes.now self.old) result
-            self.old self.new }
-        ensures memory { IfErr result (λ e. e ≡ SessionRefusal.NoMemory → 0 < length bytes.now) }
+    /// Goes back to what `begin` gives for a program, in the room that it has.
+    pub fn reset(&mut self, program: &'p Program)
+        ensures { self.new ≡ begun program.now }
     {
+        self.run.reset(program);
+        self.run.is_alone(); // law
+        self.breaks.clear();
+        self.out_of_memory = false;
+    }
+
+    /// Appends bytes to the payload. `TooLarge` where all bytes would pass `MOST_PAYLOAD`, and then `Ended` where no
+    /// more were to come. A session that has ended takes them too. No bytes take no memory.
+    pub fn piece(&mut self, bytes: &[u8]) -> Result<(), PieceRefusal>
+        ensures taken { Maybe PieceRefusal.NoMemory (piece_refusal bytes.now self.old) (with_piece bytes.now self.old)
+            result self.old self.new }
+        ensures memory { IfErr result (λ e. e ≡ PieceRefusal.NoMemory → 0 < length bytes.now) }
+    {
+        self.run.is_alone(); // law
         if bytes.len() > MOST_PAYLOAD - self.run.input().len() {
-            return Err(SessionRefusal::TooLarge);
+            return Err(PieceRefusal::TooLarge);
         }
         if self.run.is_closed() {
-            return Err(SessionRefusal::Ended);
+            return Err(PieceRefusal::Ended);
         }
-        self.run.push(bytes)?;
+        let pushed = self.run.push(bytes);
+        self.run.is_alone(); // law
+        pushed?;
         Ok(())
     }
 
@@ -96,35 +120,38 @@ impl<'p> Session<'p> {
     pub fn finish(&mut self)
         ensures { self.new ≡ finished self.old }
     {
+        self.run.is_alone(); // law
         self.run.close();
+        self.run.is_alone(); // law
     }
 
     /// Sets a breakpoint. One that is there is not set again. `BadAddress` where the address is none of the program's,
     /// and then `TooManyBreaks` where `MOST_BREAKS` others are set.
-    pub fn set_break(&mut self, address: u32) -> Result<(), SessionRefusal>
-        ensures set { Maybe (break_refusal address self.old) (set_at address self.old) result self.old self.new }
+    pub fn set_break(&mut self, address: u32) -> Result<(), BreakRefusal>
+        ensures set { Maybe BreakRefusal.NoMemory (break_refusal address self.old) (set_at address self.old)
+            result self.old self.new }
         ensures memory { IfErr result
-            (λ e. e ≡ SessionRefusal.NoMemory → has_break address self.old.breaks ≡ false) }
+            (λ e. e ≡ BreakRefusal.NoMemory → has_break address self.old.breaks ≡ false) }
     {
         if address as usize >= self.run.program().len() {
-            return Err(SessionRefusal::BadAddress);
+            return Err(BreakRefusal::BadAddress);
         }
         if self.breaks.contains(&address) {
             return Ok(());
         }
         if self.breaks.len() >= MOST_BREAKS {
-            return Err(SessionRefusal::TooManyBreaks);
+            return Err(BreakRefusal::TooManyBreaks);
         }
         self.breaks.push(address)?;
         Ok(())
     }
 
     /// Clears a breakpoint, where it is set. `BadAddress` where the address is none of the program's.
-    pub fn clear_break(&mut self, address: u32) -> Result<(), SessionRefusal>
+    pub fn clear_break(&mut self, address: u32) -> Result<(), ClearRefusal>
         ensures { Surely (clear_refusal address self.old) (cleared_at address self.old) result self.old self.new }
     {
         if address as usize >= self.run.program().len() {
-            return Err(SessionRefusal::BadAddress);
+            return Err(ClearRefusal::BadAddress);
         }
         clear(&mut self.breaks, address);
         Ok(())
@@ -140,21 +167,38 @@ impl<'p> Session<'p> {
         }
     }
 
-    /// Takes rows: at most `limit`, and none at a breakpoint at which no content is begun.
-    pub fn slice(&mut self, limit: u64) -> u64
-        ensures rows { TakesRows (slice_rows limit self.old) self.old result self.new }
-        ensures most { result ≤ limit }
+    /// Takes rows: at most `limit`, under its breakpoints, or under none.
+    fn take_rows(&mut self, heeds_breaks: bool, limit: u64) -> Slice
+        ensures rows { TakesRows (rows_under (heeded heeds_breaks self.old) limit self.old) self.old result.rows
+            self.new }
+        ensures most { result.rows ≤ limit }
+        ensures stopped { IsStopped (heeded heeds_breaks self.old) limit result.rows result.stopped self.new }
     {
         if self.out_of_memory {
-            return 0;
+            return Slice {
+                rows: 0,
+                stopped: Stopped::Ended,
+            };
         }
         self.run.is_alone(); // law
-        let taken = take(&mut self.run, &self.breaks, limit);
-        if taken.is_short {
-            self.run.is_alone(); // law
-            self.out_of_memory = true;
+        let breaks: &[u32] = if heeds_breaks { &self.breaks } else { &[] };
+        let taken = take(&mut self.run, breaks, limit);
+        self.run.is_alone(); // law
+        self.out_of_memory = matches!(taken.why, Why::NoMemory);
+        Slice {
+            rows: taken.rows,
+            stopped: Stopped::of(taken.why),
         }
-        taken.rows
+    }
+
+    /// Takes rows: at most `limit`, and none at a breakpoint at which no content is begun. Answers how many, and why no
+    /// more.
+    pub fn slice(&mut self, limit: u64) -> Slice
+        ensures rows { TakesRows (slice_rows limit self.old) self.old result.rows self.new }
+        ensures most { result.rows ≤ limit }
+        ensures stopped { IsStopped self.old.breaks limit result.rows result.stopped self.new }
+    {
+        self.take_rows(true, limit)
     }
 
     /// Takes rows: at most `limit`, whatever breakpoints are set.
@@ -162,16 +206,7 @@ impl<'p> Session<'p> {
         ensures rows { TakesRows (walk_rows limit self.old) self.old result self.new }
         ensures most { result ≤ limit }
     {
-        if self.out_of_memory {
-            return 0;
-        }
-        self.run.is_alone(); // law
-        let taken = take(&mut self.run, &[], limit);
-        if taken.is_short {
-            self.run.is_alone(); // law
-            self.out_of_memory = true;
-        }
-        taken.rows
+        self.take_rows(false, limit).rows
     }
 
     /// Takes rows: at most `limit`, of which the first alone may be at a breakpoint at which no content is begun.
@@ -187,7 +222,7 @@ impl<'p> Session<'p> {
         if self.step(1) == 0 {
             return 0;
         }
-        1 + self.slice(limit - 1)
+        1 + self.slice(limit - 1).rows
     }
 
     /// The program that is run.
@@ -222,9 +257,19 @@ impl<'p> Session<'p> {
     pub fn machine(&self) -> &Machine
         ensures state { state_of self.now ≡ Some result.now.state }
         ensures count { result.now.state.count ≡ self.now.count }
+        ensures session { IsSession self.now result.now.state }
     {
         self.run.is_alone(); // law
         self.run.machine()
+    }
+
+    /// The bytes of a character that is cut at the end of what has moved of a text; none where there is no such thing.
+    pub fn carry(&self) -> &[u8]
+        ensures { (state : State) × (state_of self.now ≡ Some state)
+            × IsCarry self.now.bytes state.pos state.content result.now }
+    {
+        self.run.is_alone(); // law
+        self.run.carry()
     }
 
     /// Whether want of memory has ended it.
@@ -267,21 +312,30 @@ impl<'p> Session<'p> {
         (end, bytes)
     }
 
-    /// The law that its bytes and its breakpoints are within their limits.
-    pub fn is_within_limits(&self)
-        ensures bytes { length self.now.bytes ≤ MOST_PAYLOAD }
-        ensures breaks { length self.now.breaks ≤ MOST_BREAKS }
+    /// The law of what holds of every session: bytes and breakpoints within their limits, breakpoints distinct and of
+    /// the program, its machine the program run alone, and no end of it where memory ended the session.
+    pub fn is_kept(&self)
+        ensures { (state : State) × IsSession self.now state }
     {
         let _opened = &self.breaks; // read for the proof
     }
 
-    /// The law that where its program is that of a pair of schemas and its machine has ended, it is with the outcome of
-    /// the bytes that came, and within the row bound where they are all.
+    /// The law of what a session is: what one piece of its bytes, the end of the payload where it is closed, its
+    /// breakpoints and a walk of as many rows as it counts make of one that has begun, or that one ended by want of
+    /// memory.
+    pub fn is_made(&self)
+        ensures { IsMade self.now }
+    {
+        runs_alone_are_counted_and_stay(); // law
+        let _counted = self.run.machine().count(); // read for the proof
+    }
+
+    /// The law that where its program is that of a pair of schemas, its machine is in a state that leads to the outcome
+    /// of the bytes that came: it ends with that, within the row bound where they are all, and there in one slice with
+    /// no breakpoint of as many rows as that bound, unless memory runs out.
     pub fn ends_with_the_outcome(&self, writer: &Nodes, reader: &Nodes)
         requires { code_of writer.now reader.now ≡ Some self.now.program }
-        ensures end { EndIsOutcome writer.now reader.now self.now }
-        ensures early { EarlyEndIsOutcome writer.now reader.now self.now }
-        ensures bound { EndsWithinBound writer.now reader.now self.now }
+        ensures { SessionLeadsToOutcome writer.now reader.now self.now }
     {
         self.run.is_alone(); // law
         self.run.ends_with_the_outcome(writer, reader); // law

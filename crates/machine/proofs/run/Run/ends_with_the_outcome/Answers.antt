@@ -3,22 +3,18 @@ use Rattle.machine.specs.Run.{IsKept}
 use Rattle.machine.proofs.PairRuns.{ends_early, ends_in_outcome, ends_in_slice, has_ended_within, within_bound}
 use Rattle.machine.proofs.run.Run.ends_with_the_outcome.Goals as goal
 
-pub returns-clause-end : goal.returns-clause-end
-returns-clause-end c =
-    ends_in_outcome c.args.writer.now c.args.reader.now c.args.self.now (subst IsKept c.self.view_is c.self.invariant) c.requires c.program_ends_with_the_outcome.ensures.each_end c.program_ends_with_the_outcome.ensures.early_end
-
-pub returns-clause-early : goal.returns-clause-early
-returns-clause-early c =
-    ends_early c.args.writer.now c.args.reader.now c.args.self.now (subst IsKept c.self.view_is c.self.invariant) c.requires c.program_ends_with_the_outcome.ensures.early_end
-
-pub returns-clause-bound : goal.returns-clause-bound
-returns-clause-bound c =
-    within_bound c.args.writer.now c.args.reader.now c.args.self.now (subst IsKept c.self.view_is c.self.invariant) c.requires c.program_ends_with_the_outcome.ensures.simulated c.runs_alone_are_counted_and_stay.ensures.ends
-
-pub returns-clause-count : goal.returns-clause-count
-returns-clause-count c =
-    has_ended_within c.args.writer.now c.args.reader.now c.args.self.now (subst IsKept c.self.view_is c.self.invariant) c.requires c.program_ends_with_the_outcome.ensures.simulated c.runs_alone_are_counted_and_stay.ensures.ends c.runs_alone_are_counted_and_stay.ensures.stay
-
-pub returns-clause-slice : goal.returns-clause-slice
-returns-clause-slice c =
-    ends_in_slice c.args.writer.now c.args.reader.now c.args.self.now (subst IsKept c.self.view_is c.self.invariant) c.requires c.program_ends_with_the_outcome.ensures.simulated c.runs_alone_are_counted_and_stay.ensures.ends c.runs_alone_are_counted_and_stay.ensures.counted c.runs_alone_are_counted_and_stay.ensures.go_on c.row_or_end_is_there.ensures
+pub returns : goal.returns
+returns c =
+    let W = c.args.writer.now in
+    let R = c.args.reader.now in
+    let run = c.args.self.now in
+    let kept = subst IsKept c.self.view_is c.self.invariant in
+    let pair = c.program_ends_with_the_outcome.ensures in
+    let laws = c.runs_alone_are_counted_and_stay.ensures in
+    record {
+      end = ends_in_outcome W R run kept c.requires pair.each_end pair.early_end;
+      early = ends_early W R run kept c.requires pair.early_end;
+      bound = within_bound W R run kept c.requires pair.simulated laws.ends;
+      count = has_ended_within W R run kept c.requires pair.simulated laws.ends laws.stay;
+      slice = ends_in_slice W R run kept c.requires pair.simulated laws.ends laws.counted laws.go_on c.row_or_end_is_there.ensures;
+    }

@@ -14,4 +14,4 @@ returns c =
     let read = slice_get_read c.deref.result.now (length c.deref.result.now) c.args.session c.in-Some.held.now refl c.in-Some.ensures.lookup.3.0 c.in-Some.ensures.lookup.1 in
     let lookup = subst (λ (hs : List Held). slice_get hs c.args.session ≡ Some c.in-Some.held.now) c.deref.ensures.value read in
     subst (λ (w : World). SessionEndsWithOutcome w c.args.session) c.self.view_is
-    (λ held at. ends-for world one held c.args.session c.in-Some-Some.w.now c.in-Some-Some.r.now c.nodes.result.now c.nodes-2.result.now c.self.invariant at (c.held.view_is ∙ same-held _ _ _ lookup at) (sym c.in-Some-Some.ensures) (sym c.in-Some-Some.ensures') c.nodes.ensures c.nodes-2.ensures c.ends_with_the_outcome.ensures.end c.ends_with_the_outcome.ensures.early c.ends_with_the_outcome.ensures.bound)
+    (λ held at. ends-for world one held c.args.session c.in-Some-Some.w.now c.in-Some-Some.r.now c.nodes.result.now c.nodes-2.result.now c.self.invariant at (c.held.view_is ∙ same-held _ _ _ lookup at) (sym c.in-Some-Some.ensures) (sym c.in-Some-Some.ensures') c.nodes.ensures c.nodes-2.ensures c.ends_with_the_outcome.ensures)

@@ -1,0 +1,18 @@
+//! What a line of `replay` asks for.
+
+use schema_registry::Refusal;
+use session_core::Event;
+
+/// What a line of `replay` asks of a world: an event, or a text of one of its sessions.
+#[derive(Drop)]
+pub enum Request {
+    Event(Event),
+    /// A level was to be set by a word that names none; this is why it is not.
+    NoLevel(Refusal),
+    /// The state of the session of this number.
+    Show(usize),
+    /// The listing of its program.
+    List(usize),
+    /// How it ended.
+    Result(usize),
+}

@@ -1,0 +1,83 @@
+//! The program of a pair of schemas, beside the schemas that it is of.
+
+ghost use Rattle.std.specs.Prelude.{◌≡◌, Some, None, IfErr, IfOk, true};
+ghost use Rattle.pair_program.specs.Pair.{IsProgramOf};
+ghost use Rattle.program_definition.specs.Code.{code_of};
+ghost use Rattle.program_lowering.specs.declared.error.CompileError.TheVariants.{ProgramTooLarge};
+
+use avro_schema::Schema;
+use isa::Program;
+use program_compiler::{CompileError, compile};
+use std::alloc::Global;
+use std::marker::Model;
+
+/// A pair of schemas and its program. Callers see it as a `Pair`.
+#[derive(Drop)]
+pub struct PairProgram {
+    writer: Schema,
+    reader: Schema,
+    program: Program,
+}
+
+impl Model for PairProgram {
+    ghost use Rattle.std.specs.Prelude.{◌≡◌, Some};
+    ghost use Rattle.pair_program.specs.Pair.{Pair};
+    ghost use Rattle.program_definition.specs.Code.{code_of};
+
+    ghost Value = { Pair };
+
+    ghost view = { λ p. record { writer = p.writer; reader = p.reader; program = p.program } };
+
+    ghost invariant = { λ p. code_of p.writer.nodes p.reader.nodes ≡ Some p.program };
+}
+
+impl PairProgram {
+    /// The program of a pair, compiled. `ProgramTooLarge` where it would pass a limit, and then the pair has none;
+    /// `NoMemory` where memory ran out.
+    pub fn new(alloc: Global, writer: &Schema, reader: &Schema) -> Result<PairProgram, CompileError>
+        ensures made { IfOk result (λ pair. IsProgramOf writer.now reader.now pair) }
+        ensures refused { IfErr result (λ e. e ≡ ProgramTooLarge
+            → code_of writer.now.nodes reader.now.nodes ≡ None) }
+    {
+        let program = compile(alloc, writer.nodes(), reader.nodes())?;
+        Ok(PairProgram {
+            writer: writer.copy()?,
+            reader: reader.copy()?,
+            program,
+        })
+    }
+
+    /// Whether it is the program of a pair, which has the compact texts of its own.
+    pub fn is_of(&self, writer: &Schema, reader: &Schema) -> bool
+        ensures { result ≡ true → IsProgramOf writer.now reader.now self.now }
+    {
+        if self.writer.text() != writer.text() || self.reader.text() != reader.text() {
+            return false;
+        }
+        self.writer.same_text_has_same_nodes(writer); // law
+        self.reader.same_text_has_same_nodes(reader); // law
+        true
+    }
+
+    /// The writer's schema.
+    pub fn writer(&self) -> &Schema
+        ensures { result.now ≡ self.now.writer }
+    {
+        &self.writer
+    }
+
+    /// The reader's schema.
+    pub fn reader(&self) -> &Schema
+        ensures { result.now ≡ self.now.reader }
+    {
+        &self.reader
+    }
+
+    /// The program, which is that of its own two schemas.
+    pub fn program(&self) -> &Program
+        ensures program { result.now ≡ self.now.program }
+        ensures pair { code_of self.now.writer.nodes self.now.reader.nodes ≡ Some result.now }
+    {
+        &self.program
+    }
+}

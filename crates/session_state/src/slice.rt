@@ -1,0 +1,40 @@
+//! So many rows of a session, and why no more.
+
+use machine::Why;
+
+/// Why no more rows were taken of a session: the first of these that is true of what is left.
+#[derive(Clone, Copy, Debug, PartialEq, Eq)]
+pub enum Stopped {
+    /// The session has ended, also for want of memory.
+    Ended,
+    /// As many rows were taken as were asked for, or as can be counted.
+    Spent,
+    /// The next instruction is at a breakpoint.
+    Broke,
+    /// The next row needs bytes that have not come.
+    Waits,
+}
+
+/// So many rows of a session, and why no more.
+#[derive(Clone, Copy, Debug, PartialEq, Eq)]
+pub struct Slice {
+    pub rows: u64,
+    pub stopped: Stopped,
+}
+
+impl Stopped {
+    ghost use Rattle.std.specs.Prelude.{◌≡◌};
+    ghost use Rattle.session_state.specs.Stopping.{stopped_of};
+
+    /// Why a session stopped whose run took no more rows for this reason: want of memory ends it.
+    pub(crate) fn of(why: Why) -> Stopped
+        ensures { result ≡ stopped_of why }
+    {
+        match why {
+            Why::Ended | Why::NoMemory => Stopped::Ended,
+            Why::Spent => Stopped::Spent,
+            Why::Broke => Stopped::Broke,
+            Why::Waits => Stopped::Waits,
+        }
+    }
+}
