@@ -9,11 +9,11 @@ use Rattle.program_lowering.proofs.FirstMember.{first_at, first_none, first_of_n
 use Rattle.program_lowering.proofs.schema_pair.SchemaPair.find_member.Goals as goal
 
 pub loop-candidate-init : goal.loop-candidate-init
-loop-candidate-init c = first_of_none (matches c.args.self.now.writer.now c.args.self.now.reader.now c.args.wn) 0 c.args.members.now
+loop-candidate-init c = first_of_none (matches c.args.self.now.writer.now c.args.self.now.reader.now c.args.writer_node) 0 c.args.members.now
 
 pub loop-candidate-preserved : goal.loop-candidate-preserved
 loop-candidate-preserved c =
-    let match = matches c.args.self.now.writer.now c.args.self.now.reader.now c.args.wn in
+    let match = matches c.args.self.now.writer.now c.args.self.now.reader.now c.args.writer_node in
     let candidates = c.args.candidates.now in
     let k = c.loop-candidate.candidate-index in
     let node = get_or candidates k 0 in
@@ -29,21 +29,21 @@ found match candidates members k first end is = ap (λ l. position_from (λ m. i
 
 pub bounds-members-position : goal.bounds-members-position
 bounds-members-position c =
-    let match = matches c.args.self.now.writer.now c.args.self.now.reader.now c.args.wn in
+    let match = matches c.args.self.now.writer.now c.args.self.now.reader.now c.args.writer_node in
     let candidates = c.args.candidates.now in
     (first_at (λ m. is_among m candidates && match m) c.args.members.now c.in-Some.position
     (found match candidates c.args.members.now c.loop-candidate.candidate-index c.loop-candidate.first c.loop-candidate-test.false c.loop-candidate.invariant ∙ c.in-Some.is)).0
 
 pub returns-in-Some-clause-place : goal.returns-in-Some-clause-place
 returns-in-Some-clause-place c =
-    let match = matches c.args.self.now.writer.now c.args.self.now.reader.now c.args.wn in
+    let match = matches c.args.self.now.writer.now c.args.self.now.reader.now c.args.writer_node in
     let candidates = c.args.candidates.now in
     sym (first_at (λ m. is_among m candidates && match m) c.args.members.now c.in-Some.position
     (found match candidates c.args.members.now c.loop-candidate.candidate-index c.loop-candidate.first c.loop-candidate-test.false c.loop-candidate.invariant ∙ c.in-Some.is)).1
 
 pub returns-in-None-clause-place : goal.returns-in-None-clause-place
 returns-in-None-clause-place c =
-    let match = matches c.args.self.now.writer.now c.args.self.now.reader.now c.args.wn in
+    let match = matches c.args.self.now.writer.now c.args.self.now.reader.now c.args.writer_node in
     let candidates = c.args.candidates.now in
     sym (first_none (λ m. is_among m candidates && match m) 0 c.args.members.now
     (found match candidates c.args.members.now c.loop-candidate.candidate-index c.loop-candidate.first c.loop-candidate-test.false c.loop-candidate.invariant ∙ c.in-None.is))
