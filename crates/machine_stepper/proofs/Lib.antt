@@ -7,4 +7,3 @@ pub mod Longer
 mod Bulk
 pub mod Foresight
 pub mod WholePayload
-pub mod Crossing

@@ -7,7 +7,8 @@ use Rattle.std.proofs.lemmas.List.{append_assoc}
 use Rattle.std.proofs.lemmas.List.Folds.{list_any-append}
 use Rattle.session_state.specs.declared.limits.TheConstants.{MOST_BREAKS}
 use Rattle.session_state.specs.Changes.{break_refusal, set_at}
-use Rattle.session_state.specs.Kept.{AreDistinct, AreSet, with_breaks}
+use Rattle.isa.specs.State.{State}
+use Rattle.session_state.specs.Kept.{AreDistinct, AreSet, IsSession, with_breaks}
 use Rattle.session_state.specs.Session.{Session, has_break, with_break, without_break}
 
 -- ---- one more
@@ -72,6 +73,7 @@ not_refused a s set is there few = rw (is, at_address, at_limit) refl
   where
     at_address : nat_le (length s.program.code) a ≡ false
     at_address = grind arith
+
     at_limit : nat_lt MOST_BREAKS (length set) ≡ false
     at_limit = grind arith
 
@@ -87,3 +89,27 @@ all_set (a ∷ breaks) before s is distinct few there =
       (not_refused a s (before ++ a ∷ []) set there.0 (omega (arith, sizes, size, few)), rest.0),
       rest.1 ∙ ap (λ (xs : List ℕ). record s { breaks = xs }) joined,
     )
+
+-- ---- a session with one more, or without some
+
+pub set_kept : (s : Session) (state : State) (a : ℕ) (ys : List ℕ) → IsSession s state → a < length s.program.code → has_break a s.breaks ≡ false → length s.breaks < MOST_BREAKS → ys ≡ s.breaks ++ a ∷ [] → IsSession (record s { breaks = ys }) state
+set_kept s state a ys is there none few e =
+    let size = length-append s.breaks (a ∷ []) in
+    subst (λ (xs : List ℕ). IsSession (record s { breaks = xs }) state) (sym e) (record {
+      bytes = is.bytes;
+      few = omega (arith, size, few);
+      distinct = distinct_then s.breaks a is.distinct none;
+      in_code = all_then (λ (x : ℕ). x < length s.program.code) s.breaks a is.in_code there;
+      alone = is.alone;
+      unended = is.unended;
+    })
+
+pub cleared_kept : (s : Session) (state : State) (a : ℕ) (ys : List ℕ) → IsSession s state → ys ≡ without_break a s.breaks → length ys ≤ length s.breaks → IsSession (record s { breaks = ys }) state
+cleared_kept s state a ys is e fewer = record {
+  bytes = is.bytes;
+  few = omega (arith, is.few, fewer);
+  distinct = subst AreDistinct (sym e) (distinct_kept (λ b. not (b == a)) s.breaks is.distinct);
+  in_code = subst (AllByRecursion (λ (x : ℕ). x < length s.program.code)) (sym e) (all_kept (λ b. not (b == a)) (λ (x : ℕ). x < length s.program.code) s.breaks is.in_code);
+  alone = is.alone;
+  unended = is.unended;
+}

@@ -2,4 +2,3 @@ pub mod Slices
 pub mod Sessions
 pub mod Breaks
 pub mod Made
-pub mod Crossing

@@ -47,6 +47,7 @@ module _ (P : Program) (input : List ℕ) (ended : Bool) (go_on : RunsGoOn) (cou
       let next = go_on P input ended m 1 s at ∙ one_row P input ended s first.0 first.1 in
       one_on P input ended [] n s (Some first.0) (not_counted_out s room) (no_break (not (is_some s.content))) first.1
       ∙ ap (λ (k : ℕ). 1 + k) (all_taken n (m + 1) first.0 last next first.2 (omega (arith, few)))
+      ∙ (let e : 1 + n ≡ suc n = omega arith in e)
 
   alone_at_first : run_alone P input ended 0 ≡ Some start
   unfolding rows_from
@@ -77,7 +78,7 @@ module _ (s : Session) (state : State) (is : IsSession s state) (go_on : RunsGoO
       ∙ all_taken s.program s.bytes s.closed go_on counted s.count 0 start state (alone_at_first s.program s.bytes s.closed go_on counted) is.alone (omega (arith, few))
 
   remade_as : remade s ≡ record s { out_of_memory = false }
-  remade_as = ap (walked s.count) sets.1 ∙ ap (λ (n : ℕ). record s { count = n; out_of_memory = false }) rows
+  remade_as = ap (walked s.count) sets.1 ∙ ap (λ (n : ℕ). record s { count = n; out_of_memory = false }) (let e : 0 + walk_rows s.count (stood s) ≡ s.count = omega (arith, rows) in e)
 
   no_end : end_in (record s { out_of_memory = false }) ≡ option_map session_end state.end
   no_end = ap (λ (o : Option State). option_map session_end (option_and_then (λ (t : State). t.end) o)) is.alone
@@ -91,7 +92,7 @@ module _ (s : Session) (state : State) (is : IsSession s state) (go_on : RunsGoO
   made_by true e = sym (ap refused remade_as ∙ refused_as e)
   made_by false e = sym (remade_as ∙ ap (λ (b : Bool). record s { out_of_memory = b }) (sym e))
 
-  few_bytes : nat_lt MOST_PAYLOAD (length s.bytes) ≡ false
+  few_bytes : nat_lt MOST_PAYLOAD (0 + length s.bytes) ≡ false
   few_bytes = let le = is.bytes in grind (arith, le)
 
   pub made : IsMade s

@@ -1,5 +1,5 @@
 -- How many rows are taken of a session. All of this is this project's own.
-use Rattle.std.specs.Prelude.{◌≡◌, ◌<◌, ◌⊎◌, ℕ, zero, suc, ◌+◌, ◌-◌, ◌^◌, ◌==◌, ◌||◌, Bool, true, false, List, [], Some, if◌then◌else◌, slice_get}
+use Rattle.std.specs.Prelude.{◌≡◌, ◌<◌, ◌⊎◌, ℕ, zero, suc, ◌+◌, ◌-◌, ◌^◌, ◌==◌, ◌||◌, Bool, true, List, [], Some, if◌then◌else◌, slice_get}
 use Rattle.std.specs.Option.{option_map_or}
 use Rattle.resolver_matching.specs.Options.{given}
 use Rattle.isa.specs.Program.{Program}
@@ -46,8 +46,7 @@ walk_rows n s = rows_under [] n s
 
 -- the breakpoints that are heeded: all of a session's, or none
 abbrev pub heeded : Bool → Session → List ℕ
-heeded true s = s.breaks
-heeded false s = []
+heeded heeds s = if heeds then s.breaks else []
 
 -- the rows that are taken to go on from a breakpoint
 abbrev pub go_rows : ℕ → Session → ℕ

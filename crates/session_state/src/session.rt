@@ -1,6 +1,6 @@
 //! A program run on bytes that come in pieces, with breakpoints.
 
-ghost use Rattle.std.specs.Prelude.{◌≡◌, ◌≤◌, ◌<◌, ◌+◌, false, is_some, length, option_map, Some, IfErr};
+ghost use Rattle.std.specs.Prelude.{◌≡◌, ◌≤◌, ◌<◌, ◌+◌, [], if◌then◌else◌, false, is_some, length, option_map, Some, IfErr};
 ghost use Rattle.machine.specs.Run.{IsCarry};
 ghost use Rattle.program_definition.specs.Code.{code_of};
 ghost use Rattle.session_state.specs.Changes.{Maybe, Surely, break_refusal, clear_refusal, cleared_at, finished, piece_refusal, refused, set_at, with_piece};
@@ -29,6 +29,20 @@ fn clear(breaks: &mut Vec<u32>, address: u32)
     ensures fewer { length breaks.new.items ≤ length breaks.old.items }
 {
     breaks.retain(|b| *b != address);
+}
+
+/// Whether an address is among breakpoints.
+fn is_set(breaks: &[u32], address: u32) -> bool
+    ensures { result ≡ has_break address breaks.now }
+{
+    breaks.contains(&address)
+}
+
+/// The breakpoints that are heeded: all, or none.
+fn heeded(breaks: &[u32], heeds: bool) -> &[u32]
+    ensures { result.now ≡ (if heeds then breaks.now else []) }
+{
+    if heeds { breaks } else { &[] }
 }
 
 /// A program that is run on bytes that come in pieces, with breakpoints.
@@ -136,7 +150,7 @@ impl<'p> Session<'p> {
         if address as usize >= self.run.program().len() {
             return Err(BreakRefusal::BadAddress);
         }
-        if self.breaks.contains(&address) {
+        if is_set(&self.breaks, address) {
             return Ok(());
         }
         if self.breaks.len() >= MOST_BREAKS {
@@ -181,7 +195,7 @@ impl<'p> Session<'p> {
             };
         }
         self.run.is_alone(); // law
-        let breaks: &[u32] = if heeds_breaks { &self.breaks } else { &[] };
+        let breaks = heeded(&self.breaks, heeds_breaks);
         let taken = take(&mut self.run, breaks, limit);
         self.run.is_alone(); // law
         self.out_of_memory = matches!(taken.why, Why::NoMemory);

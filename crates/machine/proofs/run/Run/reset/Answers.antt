@@ -5,5 +5,5 @@ use Rattle.machine.proofs.run.Run.reset.Goals as goal
 
 pub invariant_of-self : goal.invariant_of-self
 invariant_of-self c =
-    subst (λ m. IsKept (run_of c.self.inside.program.now c.clear.new.self.items false m)) (sym c.reset.ensures)
-    (kept_at_start c.self.inside.program.now c.clear.new.self.items false (c.machines_go_on_with_more_input.ensures.under c.self.inside.program.now) (c.machines_go_on_with_more_input.ensures.begins c.clear.new.self.items))
+    subst (λ m. IsKept (run_of c.args.program.now c.clear.new.self.items false m)) (sym c.reset.ensures)
+    (kept_at_start c.args.program.now c.clear.new.self.items false (c.machines_go_on_with_more_input.ensures.under c.args.program.now) (c.machines_go_on_with_more_input.ensures.begins c.clear.new.self.items))

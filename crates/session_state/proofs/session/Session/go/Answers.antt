@@ -12,5 +12,5 @@ returns-then-step-eq0-clause-rows c =
 pub returns-clause-rows : goal.returns-clause-rows
 returns-clause-rows c =
     let one : c.step.result ≡ 1 = omega (arith, c.if-step-eq0.false, c.step.ensures.most) in
-    went c.args.limit c.step.result c.slice.result c.args.self.now c.step.new.self c.slice.new.self c.self.inside.run.machine.state c.if-limit-eq0.false c.runs_alone_are_counted_and_stay.ensures.go_on (sym (ap state_of c.self.view_is) ∙ c.is_alone.ensures) one
+    went c.args.limit c.step.result c.slice.result.rows c.args.self.now c.step.new.self c.slice.new.self c.self.inside.run.machine.state c.if-limit-eq0.false c.runs_alone_are_counted_and_stay.ensures.go_on (sym (ap state_of c.self.view_is) ∙ c.is_alone.ensures) one
     c.step.ensures.rows c.slice.ensures.rows
