@@ -1,4 +1,4 @@
--- That threads may hold and share a pair with its program: it can be sent, and shared.
+-- That threads may hold and share a program, and a pair with its program: they can be sent, and shared.
 use denote.Param.Send.{IsSend, IsSync, sendable}
 use Rattle.std.proofs.Crossing.{crosses}
 use Rattle.std.proofs.MapsCrossing as maps
@@ -8,7 +8,7 @@ use Rattle.avro_types.proofs.name.Name.TheSendSync as name
 use Rattle.avro_types.proofs.symbols.Symbols.TheSendSync as symbols
 use Rattle.avro_types.specs.contracts.nodes.Nodes as nodes
 use Rattle.avro_schema.specs.contracts.schema.Schema as schema
-use Rattle.isa.proofs.Crossing.{program-send, program-sync}
+use Rattle.isa.specs.contracts.program.Program as program
 use Rattle.pair_program.specs.contracts.pair.PairProgram as pair
 
 nodes-send : IsSend nodes.the_row
@@ -22,6 +22,12 @@ schema-send = search (nodes-send, nodes-sync, crosses, sendable) depth 60 fits 2
 
 schema-sync : IsSync schema.the_row
 schema-sync = search (nodes-send, nodes-sync, crosses, sendable) depth 60 fits 20000
+
+pub program-send : IsSend program.the_row
+program-send = search (crosses, sendable) depth 60 fits 20000
+
+pub program-sync : IsSync program.the_row
+program-sync = search (crosses, sendable) depth 60 fits 20000
 
 pub pair-send : IsSend pair.the_row
 pair-send = search (schema-send, program-send, crosses, sendable) depth 60 fits 20000

@@ -21,10 +21,14 @@ pub struct PairProgram {
 
 impl Model for PairProgram {
     ghost use Rattle.std.specs.Prelude.{◌≡◌, Some};
+    ghost use Rattle.std.specs.Coded.{codes};
+    ghost use Rattle.avro_types.specs.DatumCode.{datum_coded};
     ghost use Rattle.pair_program.specs.Pair.{Pair};
     ghost use Rattle.program_definition.specs.Code.{code_of};
 
     ghost Value = { Pair };
+
+    ghost coded = { Prim.hlevel (codes, datum_coded) };
 
     ghost view = { λ p. record { writer = p.writer; reader = p.reader; program = p.program } };
 

@@ -259,18 +259,16 @@ begun_as s steps one held is same lived =
     ∙ ap (λ (r : ℕ). begun_by held.writer r one.session.program) (sym same.reader)
     ∙ ap (begun_by held.writer held.reader) (sym same.program)) lived
 
-born : (s : ℕ) (steps : List Step) (old new : World) (held : Held) → Happened steps old new → slice_get old.sessions s ≡ None → slice_get new.sessions s ≡ Some held → IsItsOwn s steps held
-
 born_by : (s : ℕ) (step : Step) (steps : List Step) (old next new : World) (held : Held) → Happens step.event step.reply old next → Happened steps next new → slice_get old.sessions s ≡ None → slice_get new.sessions s ≡ Some held
-    → (o : Option Held) → slice_get next.sessions s ≡ o → IsItsOwn s (step ∷ steps) held
-born_by s step steps old next new held h more none there None e =
+    → (slice_get next.sessions s ≡ None → IsItsOwn s steps held) → (o : Option Held) → slice_get next.sessions s ≡ o → IsItsOwn s (step ∷ steps) held
+born_by s step steps old next new held h more none there rest None e =
     let comes = event_comes s old next none step.event step.reply h in
-    let later = born s steps next new held more e there in
+    let later = rest e in
     record {
       began = inr later.began;
       lived = subst (λ (first : List ActStep). Lived (first ++ own_acts s steps) (begun_by held.writer held.reader held.session.program) held) (sym comes.0) later.lived;
     }
-born_by s step steps old next new held h more none there (Some one) e =
+born_by s step steps old next new held h more none there rest (Some one) e =
     let comes = event_comes s old next none step.event step.reply h in
     let begun_one = comes.1 one e in
     let on = lives s steps next new one more e in
@@ -281,9 +279,11 @@ born_by s step steps old next new held h more none there (Some one) e =
       began = inl (begun_one.0 ∙ ap (λ (w : ℕ). Begin w one.reader) (sym pair.writer) ∙ ap (Begin held.writer) (sym pair.reader), begun_one.1);
       lived = subst (λ (first : List ActStep). Lived (first ++ own_acts s steps) (begun_by held.writer held.reader held.session.program) held) (sym comes.0) lived;
     }
+
+born : (s : ℕ) (steps : List Step) (old new : World) (held : Held) → Happened steps old new → slice_get old.sessions s ≡ None → slice_get new.sessions s ≡ Some held → IsItsOwn s steps held
 born s [] old new held h none there = absurd (none_some (slice_get new.sessions s) held (ap (λ (w : World). slice_get w.sessions s) h ∙ none) there)
 born s (step ∷ steps) old new held h none there =
-    born_by s step steps old h.0 new held h.1 h.2 none there (slice_get h.0.sessions s) refl
+    born_by s step steps old h.0 new held h.1 h.2 none there (λ none_next. born s steps h.0 new held h.2 none_next there) (slice_get h.0.sessions s) refl
 
 pub sessions_are_their_own : SessionsAreTheirOwn
-sessions_are_their_own s steps world held h there = born s steps no_world world held h refl there
+sessions_are_their_own steps world h s held there = born s steps no_world world held h refl there

@@ -54,9 +54,12 @@ pub record IsItsOwn (s : ℕ) (steps : List Step) (held : Held) : Type 0 where
   pub began : HasBegun s held.writer held.reader steps
   pub lived : Lived (own_acts s steps) (begun_by held.writer held.reader held.session.program) held
 
+-- each of a world's
+abbrev pub AreTheirOwn : List Step → World → Type 0
+AreTheirOwn steps world = (s : ℕ) (held : Held) → slice_get world.sessions s ≡ Some held → IsItsOwn s steps held
+
 abbrev pub SessionsAreTheirOwn : Type 0
-SessionsAreTheirOwn = (s : ℕ) (steps : List Step) (world : World) (held : Held)
-    → Happened steps no_world world → slice_get world.sessions s ≡ Some held → IsItsOwn s steps held
+SessionsAreTheirOwn = (steps : List Step) (world : World) → Happened steps no_world world → AreTheirOwn steps world
 
 -- acts with their replies lead to one session
 abbrev pub ActsLeadToOne : Type 0

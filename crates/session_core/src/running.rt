@@ -1,11 +1,11 @@
 //! Events, one after another.
 
-ghost use Rattle.std.specs.Prelude.{◌≡◌, [], ℕ, IfOk, OnOk, Some, length, map, slice_get};
+ghost use Rattle.std.specs.Prelude.{◌≡◌, [], ℕ, IfOk, OnOk, length, map};
 ghost use Rattle.session_core.specs.Ending.{SessionEndsWithOutcome};
 ghost use Rattle.session_core.specs.Event.{event_of};
 ghost use Rattle.session_core.specs.Happening.{Happened, steps_of};
-ghost use Rattle.session_core.specs.Isolation.{IsItsOwn};
-ghost use Rattle.session_core.specs.World.{Held, no_world};
+ghost use Rattle.session_core.specs.Isolation.{AreTheirOwn};
+ghost use Rattle.session_core.specs.World.{no_world};
 
 use crate::event::Event;
 use crate::laws::sessions_are_their_own;
@@ -44,8 +44,7 @@ pub fn run_events<'p, P: Programs>(
     ensures many { IfOk result (λ r. length r.1.items ≡ length events.now) }
     ensures happened { IfOk result (λ r. Happened (steps_of (map event_of events.now) r.1.items) no_world r.0) }
     ensures ends { IfOk result (λ r. (session : ℕ) → SessionEndsWithOutcome r.0 session) }
-    ensures own { IfOk result (λ r. (session : ℕ) (held : Held) → slice_get r.0.sessions session ≡ Some held
-        → IsItsOwn session (steps_of (map event_of events.now) r.1.items) held) }
+    ensures own { IfOk result (λ r. AreTheirOwn (steps_of (map event_of events.now) r.1.items) r.0) }
 {
     sessions_are_their_own(); // law
     let mut world = World::new(alloc);
