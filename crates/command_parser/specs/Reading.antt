@@ -3,8 +3,9 @@ use Rattle.std.specs.Prelude.{ℕ, List, [], ◌∷◌, Option, Some, None, opti
 use Rattle.std.specs.Str.{bytes_eq}
 use Rattle.assembler.specs.Things.{◌>>=◌, at_end}
 use Rattle.schema_registry.specs.declared.level.Level.{Level}
+use Rattle.schema_registry.specs.Level.{level_named}
 use Rattle.command_parser.specs.ReplayLine.{ReplayLine, Register, SetLevel, BadLevel, Publish, Begin, Piece, Finish, Slice, Steal, Break, Clear, Refuse, Walk, Go, Show, ListCode, TellResult}
-use Rattle.command_parser.specs.Words.{first_number, last_bytes, last_number, last_rows, level_named, number_and_rows, subject_in, two_numbers, two_words, word_and_text, words_of_text}
+use Rattle.command_parser.specs.Words.{first_number, last_bytes, last_number, last_rows, number_and_rows, subject_in, two_numbers, two_words, word_and_text, words_of_text}
 use Rattle.command_parser.specs.declared.kind.Kind.{Kind}
 use Rattle.command_parser.specs.declared.kind.Kind.TheVariants as kinds
 use Rattle.command_parser.specs.declared.debug_kind.DebugKind.{DebugKind}

@@ -3,7 +3,8 @@
 ghost use Rattle.std.specs.Prelude.{◌≡◌, IfErr, IfOk, IsSome, Some, option_map, string_bytes};
 ghost use Rattle.command_parser.specs.ReplayLine.{Register, replay_line_of};
 ghost use Rattle.command_parser.specs.Reading.{HasSubject, level_in, piece_in, register_in, set_level};
-ghost use Rattle.command_parser.specs.Words.{last_bytes, level_named, subject_in, words_left};
+ghost use Rattle.command_parser.specs.Words.{last_bytes, subject_in, words_left};
+ghost use Rattle.schema_registry.specs.Level.{level_named};
 
 use crate::numbers::first_number;
 use crate::replay_line::ReplayLine;

@@ -1,7 +1,8 @@
 //! Levels of compatibility.
 
-ghost use Rattle.std.specs.Prelude.{◌≡◌, ◌≢◌, IfOk, IfErr, OnErr};
-ghost use Rattle.schema_registry.specs.Level.{is_transitive, level_name, new_reads_old, old_reads_new};
+ghost use Rattle.std.specs.Prelude.{◌≡◌};
+ghost use Rattle.std.specs.Option.{ok_or};
+ghost use Rattle.schema_registry.specs.Level.{is_transitive, level_name, level_named, new_reads_old, old_reads_new};
 
 use crate::refusal::Refusal;
 
@@ -33,11 +34,10 @@ impl Level {
         }
     }
 
-    /// The level of a name.
+    /// The level of a name; `BadLevel` where no level has it.
+    #[tactic(auto, using(crate::proofs::Levels::by_name, crate::proofs::Levels::no_name))]
     pub fn parse(text: &str) -> Result<Level, Refusal>
-        ensures level { IfOk result (λ level. level_name level ≡ text.now) }
-        ensures none { OnErr result ((level : Level) → level_name level ≢ text.now) }
-        ensures bad { IfErr result (λ e. e ≡ Refusal.BadLevel) }
+        ensures { result ≡ ok_or (level_named text.now) Refusal.BadLevel }
     {
         match text {
             "BACKWARD" => Ok(Level::Backward),

@@ -6,6 +6,7 @@
 mod command;
 mod compatible;
 mod history;
+mod known_version;
 mod level;
 mod limits;
 mod refusal;
@@ -24,5 +25,5 @@ pub use limits::{
 pub use refusal::Refusal;
 pub use registry::Registry;
 pub use reply::Reply;
-pub use shared::{Receipt, SharedRegistry};
-pub use subject::is_subject;
+pub use shared::{Receipt, Registered, SharedRegistry};
+pub use subject::{is_subject, is_version};
