@@ -10,3 +10,4 @@ pub mod Crossing
 pub mod Cells
 pub mod Levels
 pub mod SomeAnswer
+pub mod MemoryFaults

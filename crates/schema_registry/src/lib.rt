@@ -7,6 +7,7 @@ mod command;
 mod compatible;
 mod history;
 mod known_version;
+mod laws;
 mod level;
 mod limits;
 mod refusal;
@@ -18,6 +19,7 @@ mod shared;
 mod subject;
 
 pub use command::{Command, Version};
+pub use laws::memory_is_no_bad_schema;
 pub use level::Level;
 pub use limits::{
     LONGEST_SUBJECT, MOST_LEVELS, MOST_SCHEMAS, MOST_SUBJECTS, MOST_VERSION, limits_are_these,
