@@ -33,8 +33,7 @@ fn register_all<R: Wait>(
     let mut last = 0;
     for number in 0..count {
         let subject = subject_of(alloc, subjects, number)?;
-        let (id, _) = shared.register(rt, subject, text_of(alloc, number)?)?;
-        last = id;
+        last = shared.register(rt, subject, text_of(alloc, number)?)?.id();
     }
     Ok(last)
 }

@@ -1,3 +1,2 @@
 mod Parts
 mod Numerals
-mod Levels

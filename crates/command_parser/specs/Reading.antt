@@ -6,9 +6,10 @@ use Rattle.schema_registry.specs.declared.level.Level.{Level}
 use Rattle.schema_registry.specs.declared.refusal.Refusal.{Refusal}
 use Rattle.schema_registry.specs.declared.refusal.Refusal.TheVariants.{BadLevel, BadSubject}
 use Rattle.schema_registry.specs.Answer.{is_subject_or_none}
+use Rattle.schema_registry.specs.Level.{level_named}
 use Rattle.session_core.specs.Event.{Act, Register, SetLevel, Publish, Begin, On, Piece, Finish, Slice, Steal, Break, Clear, Refuse, Walk, Go}
 use Rattle.command_parser.specs.Request.{Request, Happen, NoLevel, Show, ListCode, TellResult}
-use Rattle.command_parser.specs.Words.{first_number, last_bytes, last_number, last_rows, level_named, number_and_rows, subject_in, two_numbers, two_words, word_and_text, words_of_text}
+use Rattle.command_parser.specs.Words.{first_number, last_bytes, last_number, last_rows, number_and_rows, subject_in, two_numbers, two_words, word_and_text, words_of_text}
 use Rattle.command_parser.specs.declared.kind.Kind.{Kind}
 use Rattle.command_parser.specs.declared.kind.Kind.TheVariants as kinds
 use Rattle.command_parser.specs.declared.debug_kind.DebugKind.{DebugKind}

@@ -1,12 +1,10 @@
--- What words say: numbers, subjects, levels, bytes. All of this is this project's own.
-use Rattle.std.specs.Prelude.{ℕ, ◌^◌, ◌&&◌, nat_lt, if◌then◌else◌, List, [], ◌∷◌, ◌++◌, Option, Some, None, find, codes}
+-- What words say: numbers, subjects, bytes. All of this is this project's own.
+use Rattle.std.specs.Prelude.{ℕ, ◌^◌, ◌&&◌, nat_lt, if◌then◌else◌, List, [], ◌∷◌, ◌++◌, Option, Some, None, codes}
 use Rattle.std.specs.Borrow.{Bor}
 use Rattle.std.specs.Str.{bytes_eq, is_utf8}
 use Rattle.std.specs.Str.Parse.{digits_value}
 use Rattle.assembler.specs.Things.{◌>>=◌, at_end, bytes_in}
 use Rattle.assembler_lexer.specs.Words.{is_numeral, words}
-use Rattle.schema_registry.specs.declared.level.Level.{Level}
-use Rattle.schema_registry.specs.Level.{all_levels, level_name}
 
 -- the words of a line, which has none where it is no text
 unfoldable pub words_of_text : List ℕ → List (List ℕ)
@@ -100,10 +98,7 @@ last_bytes words = do
   word ← only_word words
   bytes_in word
 
--- ---- levels
-
-unfoldable pub level_named : List ℕ → Option Level
-level_named word = find (λ level. bytes_eq word (level_name level)) all_levels
+-- ---- subjects
 
 -- `*` is no subject
 abbrev pub subject_in : List ℕ → Option (List ℕ)

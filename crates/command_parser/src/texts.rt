@@ -4,7 +4,8 @@ ghost use Rattle.std.specs.Prelude.{◌≡◌, IfErr, IfOk, IsSome, Some, option
 ghost use Rattle.command_parser.specs.Request.{Happen, request_of};
 ghost use Rattle.command_parser.specs.Reading.{HasSubject, level_in, no_level, piece_in, register_in, set_level};
 ghost use Rattle.session_core.specs.Event.{Register};
-ghost use Rattle.command_parser.specs.Words.{last_bytes, level_named, subject_in, words_left};
+ghost use Rattle.command_parser.specs.Words.{last_bytes, subject_in, words_left};
+ghost use Rattle.schema_registry.specs.Level.{level_named};
 
 use crate::numbers::first_number;
 use crate::reading::on_session;

@@ -6,7 +6,7 @@ use Rattle.resolver.specs.Outcome.{IsOutcome}
 use Rattle.schema_registry.specs.Accepting.{compacted}
 use Rattle.schema_registry.specs.Command.{Command}
 use Rattle.schema_registry.specs.Reply.{Reply, EntryReply, IdReply, CompatibleReply, NumbersReply, NamesReply, TextReply, LevelReply}
-use Rattle.schema_registry.specs.Shared.{Shown, IsReceiptOf, IsSomeAnswer, IsSomeId}
+use Rattle.schema_registry.specs.Shared.{Shown, IsReceiptOf, IsSomeAnswer, IsSomeId, ShowsText}
 use Rattle.schema_registry.specs.declared.refusal.Refusal.{Refusal}
 use Rattle.wire_frames.specs.Envelope.{envelope, Opens}
 use Rattle.wire_frames.specs.declared.envelope.EnvelopeError.{EnvelopeError}
@@ -76,15 +76,15 @@ IsTold cells c reply evidence answer =
 -- ---- registrations
 
 -- the id of a receipt whose schema has the compact text of the text
-abbrev pub TellsIdOf : List ℕ → List ℕ → Result (ℕ × Shown) Refusal → Evidence → Answer → Type 0
-TellsIdOf cells text (Ok registered) evidence answer =
-    (evidence ≡ evidences.Shown registered.1) × IsReceiptOf cells registered.1 × (registered.1.id ≡ registered.0)
-    × HasText registered.1 (compacted text) × (answer ≡ Replied (compact_text (id_data registered.0)))
+abbrev pub TellsIdOf : List ℕ → List ℕ → Result Shown Refusal → Evidence → Answer → Type 0
+TellsIdOf cells text (Ok receipt) evidence answer =
+    (evidence ≡ evidences.Shown receipt) × ShowsText cells (compacted text) receipt
+    × (answer ≡ Replied (compact_text (id_data receipt.id)))
 TellsIdOf cells text (Err refusal) evidence answer = answer ≡ Refused (fault_of refusal)
 
 -- what some state of the registry replies to the registration
 pub record TellsId (cells : List ℕ) (subject text : List ℕ) (evidence : Evidence) (answer : Answer) : Type 0 where
-  pub result : Result (ℕ × Shown) Refusal
+  pub result : Result Shown Refusal
   pub replied : IsSomeId subject text result
   pub tells : TellsIdOf cells text result evidence answer
 

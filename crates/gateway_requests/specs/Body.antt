@@ -1,13 +1,12 @@
 -- What a body says (Confluent Schema Registry API; that null stands for a key that is not there is this project's own).
 use Rattle.std.specs.Prelude.{ℕ, ◌&&◌, ◌||◌, Bool, true, false, List, Option, Some, None, Result, Ok, Err, codes, if◌then◌else◌, is_some, option_and_then}
-use Rattle.std.specs.List.{find}
 use Rattle.std.specs.Option.{ok_or}
 use Rattle.std.specs.Str.{bytes_eq, is_utf8}
 use Rattle.serde_json.specs.Data.{Data, null, boolean, number, string, array, object, Items, item, no_items}
 use Rattle.serde_json.specs.Find.{as_array, as_null, as_object, as_str, get}
 use Rattle.serde_json.specs.Read.{read}
 use Rattle.schema_registry.specs.declared.level.Level.{Level}
-use Rattle.schema_registry.specs.Level.{all_levels, level_name}
+use Rattle.schema_registry.specs.Level.{level_named}
 use Rattle.gateway_answers.specs.declared.fault.Fault.{Fault}
 use Rattle.gateway_answers.specs.declared.fault.Fault.TheVariants as faults
 use Rattle.gateway_requests.specs.Steps.{◌>>=◌}
@@ -67,12 +66,12 @@ text_of body = whole_body body >>= (λ bytes. object_of bytes >>= text_in)
 -- ---- a level
 
 -- the level of a name
-abbrev pub level_named : List ℕ → Result Level Fault
-level_named name = ok_or (find (λ level. bytes_eq (level_name level) name) all_levels) faults.BadLevel
+abbrev pub known_level : List ℕ → Result Level Fault
+known_level name = ok_or (level_named name) faults.BadLevel
 
 -- the level in an object
 abbrev pub level_in : Data → Result Level Fault
-level_in d = ok_or (option_and_then as_str (get (codes "compatibility") d)) faults.BadLevel >>= level_named
+level_in d = ok_or (option_and_then as_str (get (codes "compatibility") d)) faults.BadLevel >>= known_level
 
 -- the level in a body
 abbrev pub level_of : Option (List ℕ) → Result Level Fault

@@ -4,7 +4,7 @@ ghost use Rattle.std.specs.Prelude.{◌≡◌, option_map, string_bytes};
 ghost use Rattle.std.specs.Option.{ok_or};
 ghost use Rattle.serde_json.specs.Read.{read};
 ghost use Rattle.serde_json.specs.View.{view};
-ghost use Rattle.gateway_requests.specs.Body.{as_members, as_text, has_no_references, is_avro, level_in, level_named, level_of, object_of, text_in, text_of, whole_body};
+ghost use Rattle.gateway_requests.specs.Body.{as_members, as_text, has_no_references, is_avro, known_level, level_in, level_of, object_of, text_in, text_of, whole_body};
 ghost use Rattle.gateway_requests.specs.Steps.{Tells};
 
 use gateway_answers::Fault;
@@ -115,9 +115,8 @@ pub(crate) fn text_of(alloc: Global, body: Option<&[u8]>) -> Result<String, Faul
 }
 
 /// The level of a name.
-#[tactic(auto, using(crate::proofs::Bodies::none_is_named))]
-fn level_named(name: &str) -> Result<Level, Fault>
-    ensures { result ≡ level_named name.now }
+fn known_level(name: &str) -> Result<Level, Fault>
+    ensures { result ≡ known_level name.now }
 {
     match Level::parse(name) {
         Ok(level) => Ok(level),
@@ -130,7 +129,7 @@ fn level_in(object: &Value) -> Result<Level, Fault>
     ensures { result ≡ level_in (view object.now) }
 {
     match object.get("compatibility").and_then(Value::as_str) {
-        Some(name) => level_named(name),
+        Some(name) => known_level(name),
         None => Err(Fault::BadLevel),
     }
 }

@@ -8,4 +8,6 @@ pub mod Added
 pub mod GivenIds
 pub mod Crossing
 pub mod Cells
+pub mod Levels
 pub mod SomeAnswer
+pub mod MemoryFaults

@@ -10,4 +10,5 @@ pub mod Accepting
 pub mod Answer
 pub mod Answers
 pub mod Tables
+pub mod Receipt
 pub mod Shared

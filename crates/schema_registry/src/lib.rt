@@ -6,6 +6,8 @@
 mod command;
 mod compatible;
 mod history;
+mod known_version;
+mod laws;
 mod level;
 mod limits;
 mod refusal;
@@ -17,6 +19,7 @@ mod shared;
 mod subject;
 
 pub use command::{Command, Version};
+pub use laws::memory_is_no_bad_schema;
 pub use level::Level;
 pub use limits::{
     LONGEST_SUBJECT, MOST_LEVELS, MOST_SCHEMAS, MOST_SUBJECTS, MOST_VERSION, limits_are_these,
@@ -24,5 +27,5 @@ pub use limits::{
 pub use refusal::Refusal;
 pub use registry::Registry;
 pub use reply::Reply;
-pub use shared::{Receipt, SharedRegistry};
-pub use subject::is_subject;
+pub use shared::{Receipt, Registered, SharedRegistry};
+pub use subject::{is_subject, is_version};

@@ -17,6 +17,7 @@ use super::Registry;
 use crate::command::Command;
 use crate::compatible::goes_with_all;
 use crate::history::History;
+use crate::known_version::KnownVersion;
 use crate::limits::MOST_SUBJECTS;
 use crate::refusal::Refusal;
 use crate::reply::Reply;
@@ -55,15 +56,15 @@ pub(crate) fn schema_for(alloc: Global, subject: &str, text: &str) -> Result<Sch
 }
 
 impl Registry {
-    /// The version of a subject that has a schema, and the schema's id.
-    pub(super) fn version_with(&self, subject: &str, schema: &Schema) -> Option<(u32, u32)>
-        ensures { option_map (λ p. entry_of subject.now p.0 p.1) result
+    /// The version of a subject that has a schema.
+    pub(super) fn version_with(&self, subject: &str, schema: &Schema) -> Option<KnownVersion>
+        ensures { option_map (λ known. entry_of subject.now known.number known.id) result
             ≡ with_text schema.now.text (registry_after self.now).schemas
             (versions_of subject.now (registry_after self.now).entries) }
     {
         let id = self.schemas.id_of(schema.text())?;
         let number = self.subjects.get(subject)?.number_of(id)?;
-        Some((number, id))
+        Some(KnownVersion { number, id })
     }
 
     /// Whether a schema goes together with those of a subject's versions that the level names.
@@ -139,9 +140,9 @@ impl Registry {
         ensures ok { OnOk result (self.new ≡ history.commands) }
         ensures err { OnErr result (self.new ≡ self.old) }
     {
-        if let Some((_, id)) = self.version_with(&subject, &schema) {
+        if let Some(known) = self.version_with(&subject, &schema) {
             self.history = history;
-            return Ok(id);
+            return Ok(known.id);
         }
         self.may_add(&subject, &schema)?;
         self.add(subject, schema, history)

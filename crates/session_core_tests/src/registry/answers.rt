@@ -16,8 +16,8 @@ pub(crate) fn register<R: Wait>(
     alloc: Global,
     shared: &SharedRegistry,
     text: &str,
-) -> Result<(u32, Receipt), Refusal>
-    ensures { IfOk result (λ r. IsReceiptOf shared.now r.1 × (r.1.id ≡ r.0)) }
+) -> Result<Receipt, Refusal>
+    ensures { IfOk result (IsReceiptOf shared.now) }
 {
     let subject = String::from_str(alloc, "s")?;
     shared.register(rt, subject, String::from_str(alloc, text)?)
@@ -31,11 +31,11 @@ pub(crate) fn found(shared: &SharedRegistry, id: u32) -> &str {
     }
 }
 
-/// The text that a receipt of an id shows, which agrees with one that is found.
-pub(crate) fn shown<'a>(shared: &'a SharedRegistry, id: u32, receipt: &mut Receipt) -> &'a str
-    requires { IsReceiptOf shared.now receipt.old × (receipt.old.id ≡ id) }
+/// The text that a receipt shows, which agrees with one of its id that is found.
+pub(crate) fn shown<'a>(shared: &'a SharedRegistry, receipt: &mut Receipt) -> &'a str
+    requires { IsReceiptOf shared.now receipt.old }
 {
-    if let Some((_, mut other)) = shared.find(id) {
+    if let Some((_, mut other)) = shared.find(receipt.id()) {
         shared.agree(receipt, &mut other);
     }
     shared.schema(receipt).text()
@@ -48,8 +48,9 @@ fn registered<R: Wait>(
     shared: &SharedRegistry,
     text: &str,
 ) -> Result<String, Refusal> {
-    let (id, mut receipt) = register(rt, alloc, shared, text)?;
-    let text = shown(shared, id, &mut receipt);
+    let mut receipt = register(rt, alloc, shared, text)?;
+    let id = receipt.id();
+    let text = shown(shared, &mut receipt);
     Ok(format!(in alloc; "{id} {text}")?)
 }
 

@@ -38,8 +38,9 @@ fn are_registered<R: Wait>(
     first: usize,
 ) -> Result<bool, Refusal> {
     for text in TEXTS.lines().skip(first).chain(TEXTS.lines().take(first)) {
-        let (id, mut receipt) = register(rt, alloc, shared, text)?;
-        if id > 8 || shown(shared, id, &mut receipt) != found(shared, id) {
+        let mut receipt = register(rt, alloc, shared, text)?;
+        let id = receipt.id();
+        if id > 8 || shown(shared, &mut receipt) != found(shared, id) {
             return Ok(false);
         }
     }

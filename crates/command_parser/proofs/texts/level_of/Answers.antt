@@ -1,5 +1,5 @@
-use Rattle.command_parser.proofs.Levels.{parsed}
+use Rattle.schema_registry.proofs.Levels.{level-read}
 use Rattle.command_parser.proofs.texts.level_of.Goals as goal
 
 pub returns : goal.returns
-returns c = rw c.ok.ensures.value (parsed c.args.word.now c.parse.result c.parse.ensures.level c.parse.ensures.none)
+returns c = rw c.ok.ensures.value (level-read _ _ c.parse.ensures)
