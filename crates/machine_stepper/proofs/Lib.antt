@@ -7,3 +7,4 @@ pub mod Longer
 mod Bulk
 pub mod Foresight
 pub mod WholePayload
+pub mod Crossing

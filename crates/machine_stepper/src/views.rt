@@ -48,7 +48,8 @@ impl Machine {
         self.end.as_ref()
     }
 
-    /// How the run ended, which is taken out.
+    /// How the run ended, which is taken out. This is no row of the instruction table, and leaves a state that no run
+    /// comes to: it is for a machine that is reset next.
     pub fn take_end(&mut self) -> Option<End>
         ensures end { option_map end_of result ≡ self.old.state.end }
         ensures taken { self.new ≡ record self.old { state = record self.old.state { end = None } } }

@@ -2,3 +2,4 @@ pub mod Slices
 pub mod Sessions
 pub mod Breaks
 pub mod Made
+pub mod Crossing

@@ -1,0 +1,10 @@
+-- That threads may hold and share a machine: it can be sent, and shared.
+use denote.Param.Send.{IsSend, IsSync, sendable}
+use Rattle.std.proofs.Crossing.{crosses}
+use Rattle.machine_stepper.specs.contracts.machine.Machine as machine
+
+pub machine-send : IsSend machine.the_row
+machine-send = search (crosses, sendable) depth 60 fits 20000
+
+pub machine-sync : IsSync machine.the_row
+machine-sync = search (crosses, sendable) depth 60 fits 20000
