@@ -12,7 +12,7 @@ use Rattle.machine_ropes.specs.Segments.{AreWithin, IsSegment, bytes_at, bytes_o
 use Rattle.machine_store.proofs.Joining.{AllHeld-later, later-later}
 use Rattle.machine_store.proofs.Laying.{within-back, within-front}
 use Rattle.machine_ropes.proofs.Writing.{bytes_of-append}
-use Rattle.machine_store.proofs.Placing.{Became, added-became, all-drop, closed-became, closing, fewer-laid, held-place, place-there, put-out, put-slot, segments-place, within-place, shows-added-out, shows-added-slot, shows-closed-out, shows-closed-slot}
+use Rattle.machine_store.proofs.Placing.{Became, added-became, closed-became, closing, fewer-laid, held-place, place-there, put-out, put-slot, segments-place, within-place, shows-added-out, shows-added-slot, shows-closed-out, shows-closed-slot}
 
 module _ (arena : List ℕ) (old : List (List Segment)) (out : Buffer) (slots : List Buffer) (laid : Laid) (is : laid_of arena old out slots ≡ laid) (keeps : IsLaid arena old out slots) where
   -- ---- bytes added

@@ -1,5 +1,4 @@
 use Rattle.std.proofs.Common.{◌≡◌, ◌∙◌, ◌++◌, ℕ, List, length, ap, arith}
-use Rattle.machine_store.specs.declared.buffers.Buffer.{Buffer}
 use Rattle.machine_store.specs.declared.buffers.Buffer.TheVariants.{One}
 use Rattle.machine_store.specs.Buffers.{buffer_at}
 use Rattle.machine_ropes.specs.Ropes.{rope_at}

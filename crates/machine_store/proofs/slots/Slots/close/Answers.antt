@@ -1,4 +1,4 @@
-use Rattle.std.proofs.Common.{◌≡◌, ◌∙◌, ◌≤◌, ◌<◌, ℕ, List, ap, arith, get_or, length, set, subst, sym, take}
+use Rattle.std.proofs.Common.{◌∙◌, ◌≤◌, ◌<◌, ℕ, List, ap, arith, get_or, length, set, subst, take}
 use Rattle.machine_store.specs.declared.buffers.Buffer.{Buffer}
 use Rattle.machine_store.specs.declared.slots.HeldBuffer.{HeldBuffer}
 use Rattle.machine_store.specs.Slots.{IsAbove, buffers_of, index_after}

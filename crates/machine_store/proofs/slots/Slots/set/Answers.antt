@@ -1,4 +1,4 @@
-use Rattle.std.proofs.Common.{◌≡◌, ◌∙◌, ◌≤◌, ◌<◌, ℕ, List, ap, arith, get_or, length, refl, set}
+use Rattle.std.proofs.Common.{◌∙◌, ◌≤◌, ◌<◌, ℕ, List, ap, arith, get_or, length, refl, set}
 use Rattle.machine_store.specs.declared.buffers.Buffer.{Buffer}
 use Rattle.machine_store.specs.declared.slots.HeldBuffer.{HeldBuffer}
 use Rattle.machine_store.specs.Slots.{buffers_of, held_after, index_after}
