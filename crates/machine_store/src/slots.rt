@@ -1,4 +1,4 @@
-//! Slots, of which one takes memory from when something came for it or for a later one.
+//! Slots, whose buffers take memory from when something comes for them.
 
 ghost use Rattle.std.specs.Prelude.{ℕ, ◌≡◌, ◌+◌, ◌-◌, ◌^◌, ◌<◌, ◌≤◌, [], ◌++◌, OnErr, OnOk, get_or, length, replicate, set, take, vec_capacity, vec_len};
 ghost use Rattle.machine_store.specs.declared.buffers.Buffer.TheVariants.{Empty};
@@ -49,25 +49,24 @@ fn left_below(held: &[HeldBuffer], first: usize) -> usize
     left
 }
 
-/// Makes room for one buffer more, and for a number at a slot.
+/// Makes room for one buffer more, and for the numbers of so many slots.
 fn make_room(
     index: &mut Vec<u32>,
     held: &mut Vec<HeldBuffer>,
-    slot: usize,
+    slots: usize,
 ) -> Result<(), AllocError>
-    requires { slot < 2 ^ 64 - 1 }
     ensures held { held.new.items ≡ held.old.items }
     ensures same { (i : ℕ) → get_or index.new.items i 0 ≡ get_or index.old.items i 0 }
-    ensures short { (n : ℕ) → slot < n → vec_len index.old ≤ n → vec_len index.new ≤ n }
-    ensures index { OnOk result (slot < vec_len index.new) }
+    ensures short { (n : ℕ) → slots ≤ n → vec_len index.old ≤ n → vec_len index.new ≤ n }
+    ensures index { OnOk result (slots ≤ vec_len index.new) }
     ensures room { OnOk result (vec_len held.new < vec_capacity held.new) }
     ensures few { OnOk result (vec_len held.new < 2 ^ 32 - 1) }
 {
     if held.len() >= u32::MAX as usize {
         return Err(AllocError);
     }
-    if slot >= index.len() {
-        index.resize(slot + 1, 0)?;
+    if slots > index.len() {
+        index.resize(slots, 0)?;
     }
     held.try_reserve(1)
 }
@@ -97,7 +96,7 @@ fn put(index: &mut Vec<u32>, held: &mut Vec<HeldBuffer>, slot: usize, buffer: Bu
 #[derive(Drop)]
 pub(crate) struct Slots {
     len: usize,
-    /// What stands for each slot, up to the last one for which something came.
+    /// What stands for each slot of the records for which something came, and of those below them.
     index: Vec<u32>,
     held: Vec<HeldBuffer>,
 }
@@ -181,7 +180,7 @@ impl Slots {
         ensures set { OnOk result (self.new ≡ set self.old slot buffer) }
         ensures refused { OnErr result (self.new ≡ self.old) }
     {
-        make_room(&mut self.index, &mut self.held, slot)?;
+        make_room(&mut self.index, &mut self.held, self.len)?;
         put(&mut self.index, &mut self.held, slot, buffer);
         Ok(())
     }
@@ -198,7 +197,7 @@ impl Slots {
         ensures closed { OnOk result (self.new ≡ set (take first self.old) slot buffer) }
         ensures refused { OnErr result (self.new ≡ self.old) }
     {
-        make_room(&mut self.index, &mut self.held, slot)?;
+        make_room(&mut self.index, &mut self.held, first)?;
         let left = left_below(&self.held, first);
         self.held.truncate(left);
         self.index.truncate(first);

@@ -9,15 +9,15 @@ pub invariant_of-self : goal.invariant_of-self
 invariant_of-self c =
     let i = c.self.inside in
     let n : c.args.first ≤ i.len = omega (arith, c.requires.first, slot-count i.len i.index.items i.held.items, ap (λ (x : List Buffer). length x) c.self.view_is) in
-    rw c.make_room.ensures.held (kept-same i.len i.index.items c.make_room.new.index.items i.held.items c.self.invariant (omega (arith, c.make_room.ensures.short i.len (omega (arith, n, c.requires.below)) (omega (arith, c.self.invariant.short)))) c.make_room.ensures.same)
+    rw c.make_room.ensures.held (kept-same i.len i.index.items c.make_room.new.index.items i.held.items c.self.invariant (omega (arith, c.make_room.ensures.short i.len n (omega (arith, c.self.invariant.short)))) c.make_room.ensures.same)
 
 pub invariant_of-self-2 : goal.invariant_of-self-2
 invariant_of-self-2 c =
     let i = c.self.inside in
     let left = c.left_below-left.result in
     let n : c.args.first ≤ i.len = omega (arith, c.requires.first, slot-count i.len i.index.items i.held.items, ap (λ (x : List Buffer). length x) c.self.view_is) in
-    let many : length c.make_room.new.index.items ≤ i.len = omega (arith, c.make_room.ensures.short i.len (omega (arith, n, c.requires.below)) (omega (arith, c.self.invariant.short))) in
-    let there : c.args.slot < length c.make_room.new.index.items = omega (arith, c.in_ok-make_room.ensures.index) in
+    let many : length c.make_room.new.index.items ≤ i.len = omega (arith, c.make_room.ensures.short i.len n (omega (arith, c.self.invariant.short))) in
+    let there : c.args.slot < length c.make_room.new.index.items = omega (arith, c.in_ok-make_room.ensures.index, c.requires.below) in
     let above = subst (λ (x : List HeldBuffer). (at : ℕ) → left ≤ at → at < length x → IsAbove c.args.first at x) (c.deref.ensures.value ∙ c.make_room.ensures.held) c.left_below-left.ensures.above in
     let cut_held = c.truncate.ensures.items ∙ ap (λ (x : List HeldBuffer). take left x) c.make_room.ensures.held in
     rw (c.put.ensures.index, c.put.ensures.held) (kept-closed i.len c.args.first left c.args.slot i.index.items c.make_room.new.index.items c.truncate-2.new.self.items i.held.items c.truncate.new.self.items c.args.buffer c.self.invariant n c.requires.below above c.make_room.ensures.same many there c.truncate-2.ensures.items cut_held)
@@ -27,8 +27,8 @@ returns-clause-closed c =
     let i = c.self.inside in
     let left = c.left_below-left.result in
     let n : c.args.first ≤ i.len = omega (arith, c.requires.first, slot-count i.len i.index.items i.held.items, ap (λ (x : List Buffer). length x) c.self.view_is) in
-    let many : length c.make_room.new.index.items ≤ i.len = omega (arith, c.make_room.ensures.short i.len (omega (arith, n, c.requires.below)) (omega (arith, c.self.invariant.short))) in
-    let there : c.args.slot < length c.make_room.new.index.items = omega (arith, c.in_ok-make_room.ensures.index) in
+    let many : length c.make_room.new.index.items ≤ i.len = omega (arith, c.make_room.ensures.short i.len n (omega (arith, c.self.invariant.short))) in
+    let there : c.args.slot < length c.make_room.new.index.items = omega (arith, c.in_ok-make_room.ensures.index, c.requires.below) in
     let above = subst (λ (x : List HeldBuffer). (at : ℕ) → left ≤ at → at < length x → IsAbove c.args.first at x) (c.deref.ensures.value ∙ c.make_room.ensures.held) c.left_below-left.ensures.above in
     let cut_held = c.truncate.ensures.items ∙ ap (λ (x : List HeldBuffer). take left x) c.make_room.ensures.held in
     ap (λ (x : List ℕ). buffers_of c.args.first x c.put.new.held.items) c.put.ensures.index
