@@ -49,7 +49,8 @@ fn left_below(held: &[HeldBuffer], first: usize) -> usize
     left
 }
 
-/// Makes room for one buffer more, and for the numbers of so many slots.
+/// Makes room for one buffer more, and for the numbers of so many slots. More buffers than there are numbers for them
+/// are refused as if there were no memory.
 fn make_room(
     index: &mut Vec<u32>,
     held: &mut Vec<HeldBuffer>,
