@@ -1,9 +1,9 @@
 -- What joining makes of the segments of a buffer, and that all else stays while ropes grow.
-use Rattle.std.proofs.Common.{◌≡◌, ◌≢◌, ◌≤◌, ◌<◌, ℕ, zero, suc, ◌+◌, ◌-◌, Bool, true, false, List, [], ◌∷◌, ◌++◌, length, map, take, drop, get_or, refl, sym, ap, ◌∙◌, arith, append_assoc, length-append, ◌⊎◌, inl, inr, eqb, cond}
+use Rattle.std.proofs.Common.{◌≡◌, ◌≢◌, ◌≤◌, ◌<◌, ℕ, zero, suc, ◌+◌, ◌-◌, Bool, true, false, List, [], ◌∷◌, ◌++◌, length, map, take, drop, get_or, refl, sym, ap, ◌∙◌, subst, arith, append_assoc, length-append, ◌⊎◌, inl, inr, eqb, cond}
 use Rattle.std.proofs.Math.Seq.{take-add}
 use Rattle.std.proofs.lemmas.Bool.{eq-eqb}
 use Rattle.std.proofs.lemmas.Bool.Decides.{eqb_tells}
-use Rattle.std.proofs.lemmas.List.{append-nil, drop-drop, get_or_append_left, get_or_at}
+use Rattle.std.proofs.lemmas.List.{append-nil, drop-drop, drop-map, drop_all, get_or_append_left, get_or_at, length-map}
 use Rattle.machine_store.specs.declared.buffers.Buffer.{Buffer}
 use Rattle.machine_store.specs.declared.buffers.Buffer.TheVariants as buffers
 use Rattle.machine_ropes.specs.declared.segment.Segment.{Segment}
@@ -101,34 +101,44 @@ bytes-with_segment arena n (l ∷ []) s f le = one_after arena l s n (eqb l.end 
 bytes-with_segment arena n (x ∷ y ∷ ys) s f le =
     ap (λ (z : List ℕ). bytes_at arena x ++ z) (bytes-with_segment arena n (y ∷ ys) s f.2 le) ∙ sym (append_assoc (bytes_at arena x) (bytes_of arena (y ∷ ys)) (bytes_at arena s))
 
--- ---- a loop over buffers
+-- ---- a loop over slots
 
-pub record HasJoined (old new : List (List Segment)) (buffer joined : Buffer) (others : List Buffer) (index : ℕ) : Type 0 where
+-- those from a first one on, up to another one, are joined
+pub record HasJoined (old new : List (List Segment)) (buffer joined : Buffer) (slots : List Buffer) (first to : ℕ) : Type 0 where
   pub later : IsLater old new
   pub held : IsHeld new joined
-  pub rest : with_lists (segments_of new joined) (drop index (map (segments_of old) others)) ≡ with_lists (segments_of old buffer) (map (segments_of old) others)
+  pub rest : with_lists (segments_of new joined) (drop to (map (segments_of old) slots)) ≡ with_lists (segments_of old buffer) (drop first (map (segments_of old) slots))
+
+pub same-joined : (ropes : List (List Segment)) (buffer : Buffer) (slots : List Buffer) (first : ℕ) → IsHeld ropes buffer → HasJoined ropes ropes buffer buffer slots first first
+same-joined ropes buffer slots first h = record { later = record { more = []; is = sym (append-nil ropes) }; held = h; rest = refl }
 
 pub held-at : (ropes : List (List Segment)) (bs : List Buffer) (i : ℕ) (d : Buffer) → AllHeld ropes bs → i < length bs → IsHeld ropes (get_or bs i d)
 held-at ropes [] i d h lt = absurd (omega (arith, lt))
 held-at ropes (b ∷ bs) zero d h lt = h.0
 held-at ropes (b ∷ bs) (suc i) d h lt = held-at ropes bs i d h.1 (omega (arith, lt))
 
-pub next-held : (old new : List (List Segment)) (buffer joined : Buffer) (others : List Buffer) (index : ℕ) (d : Buffer) → AllHeld old others → HasJoined old new buffer joined others index → index < length others → IsHeld new (get_or others index d)
-next-held old new buffer joined others index d all has lt = IsHeld-later old new (get_or others index d) has.later (held-at old others index d all lt)
-
-next-list : (old : List (List Segment)) (others : List Buffer) (index : ℕ) (d : Buffer) → index < length others → drop index (map (segments_of old) others) ≡ segments_of old (get_or others index d) ∷ drop (index + 1) (map (segments_of old) others)
-next-list old [] index d lt = absurd (omega (arith, lt))
+next-list : (old : List (List Segment)) (slots : List Buffer) (i : ℕ) (d : Buffer) → i < length slots → drop i (map (segments_of old) slots) ≡ segments_of old (get_or slots i d) ∷ drop (i + 1) (map (segments_of old) slots)
+next-list old [] i d lt = absurd (omega (arith, lt))
 next-list old (b ∷ bs) zero d lt = refl
-next-list old (b ∷ bs) (suc index) d lt = next-list old bs index d (omega (arith, lt)) ∙ ap (λ (n : ℕ). segments_of old (get_or bs index d) ∷ drop n (map (segments_of old) (b ∷ bs))) (let e : suc (index + 1) ≡ suc index + 1 = omega arith in e)
+next-list old (b ∷ bs) (suc i) d lt = next-list old bs i d (omega (arith, lt)) ∙ ap (λ (n : ℕ). segments_of old (get_or bs i d) ∷ drop n (map (segments_of old) (b ∷ bs))) (let e : suc (i + 1) ≡ suc i + 1 = omega arith in e)
 
-pub one-joined : (old new next : List (List Segment)) (buffer joined more : Buffer) (others : List Buffer) (index : ℕ) (d : Buffer) → AllHeld old others → HasJoined old new buffer joined others index → index < length others →
-    segments_of next more ≡ with_segments (segments_of new joined) (segments_of new (get_or others index d)) → IsHeld next more → IsLater new next → HasJoined old next buffer more others (index + 1)
-one-joined old new next buffer joined more others index d all has lt e held later =
-    let same : segments_of new (get_or others index d) ≡ segments_of old (get_or others index d) = segments-later old new (get_or others index d) has.later (held-at old others index d all lt) in
-    record {
-      later = later-later old new next has.later later;
-      held = held;
-      rest = ap (λ (x : List Segment). with_lists x (drop (index + 1) (map (segments_of old) others))) (e ∙ ap (with_segments (segments_of new joined)) same)
-          ∙ ap (with_lists (segments_of new joined)) (sym (next-list old others index d lt))
-          ∙ has.rest;
-    }
+module _ (old new : List (List Segment)) (buffer joined : Buffer) (slots : List Buffer) (first to : ℕ) (all : AllHeld old slots) (has : HasJoined old new buffer joined slots first to) where
+  pub next-held : (slot : Buffer) → slot ≡ get_or slots to buffers.Empty → to < length slots → IsHeld new slot
+  next-held slot is lt = subst (IsHeld new) (sym is) (IsHeld-later old new (get_or slots to buffers.Empty) has.later (held-at old slots to buffers.Empty all lt))
+
+  pub one-joined : (next : List (List Segment)) (slot more : Buffer) → slot ≡ get_or slots to buffers.Empty → to < length slots →
+      segments_of next more ≡ with_segments (segments_of new joined) (segments_of new slot) → IsHeld next more → IsLater new next → HasJoined old next buffer more slots first (to + 1)
+  one-joined next slot more is lt e held later =
+      let same : segments_of new slot ≡ segments_of old (get_or slots to buffers.Empty) = ap (segments_of new) is ∙ segments-later old new (get_or slots to buffers.Empty) has.later (held-at old slots to buffers.Empty all lt) in
+      record {
+        later = later-later old new next has.later later;
+        held = held;
+        rest = ap (λ (x : List Segment). with_lists x (drop (to + 1) (map (segments_of old) slots))) (e ∙ ap (with_segments (segments_of new joined)) same)
+            ∙ ap (with_lists (segments_of new joined)) (sym (next-list old slots to buffers.Empty lt))
+            ∙ has.rest;
+      }
+
+  pub all-joined : length slots ≤ to → segments_of new joined ≡ with_lists (segments_of old buffer) (map (segments_of old) (drop first slots))
+  all-joined le =
+      ap (with_lists (segments_of new joined)) (sym (drop_all to (map (segments_of old) slots) (omega (arith, le, length-map slots (segments_of old))))) ∙ has.rest
+      ∙ ap (with_lists (segments_of old buffer)) (drop-map (segments_of old) first slots)

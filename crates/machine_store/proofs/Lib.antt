@@ -1,5 +1,6 @@
 pub mod Joining
 pub mod Laying
+pub mod Slotting
 pub mod Placing
 pub mod Putting
 pub mod Texts

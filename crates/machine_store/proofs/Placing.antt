@@ -1,8 +1,8 @@
 -- Buffers in their places: what stays while ropes and the arena grow, and what a buffer that is put shows.
-use Rattle.std.proofs.Common.{◌≡◌, ◌≤◌, ◌<◌, ℕ, zero, suc, ◌+◌, ◌-◌, Bool, true, false, cond, List, [], ◌∷◌, ◌++◌, length, map, take, drop, get_or, set, replicate, refl, sym, ap, ◌∙◌, subst, arith, append_assoc, length-append}
+use Rattle.std.proofs.Common.{◌≡◌, ◌≤◌, ◌<◌, ℕ, zero, suc, ◌+◌, cond, List, [], ◌∷◌, ◌++◌, length, map, take, drop, get_or, set, replicate, refl, sym, ap, ◌∙◌, subst, arith, append_assoc, length-append}
 use Rattle.std.specs.Prelude.{Result, Ok, Err, OnErr, OnOk, is_ok}
 use Rattle.std.specs.List.{AllByRecursion}
-use Rattle.std.proofs.lemmas.List.{drop-map, get_or-map, length-map, map-append, map-set, take-map, take_all}
+use Rattle.std.proofs.lemmas.List.{drop-map, get_or-map, length-map, map-append, map-set, take-map}
 use Rattle.machine_store.specs.declared.buffers.Buffer.{Buffer}
 use Rattle.machine_store.specs.declared.buffers.Buffer.TheVariants as buffers
 use Rattle.machine_store.specs.declared.buffers.TargetBuffer.{TargetBuffer}
@@ -239,18 +239,9 @@ opened-laid arena ropes out slots more f = record {
   };
 }
 
-filled : (more n m : ℕ) (slots new : List Buffer) → m ≡ length slots → n ≡ m + more → new ≡ take n slots ++ replicate (n - m) buffers.Empty → new ≡ slots ++ replicate more buffers.Empty
-filled more n m slots new s e is =
-    is ∙ ap (λ (x : List Buffer). x ++ replicate (n - m) buffers.Empty) (take_all n slots (omega (arith, e, s))) ∙ ap (λ (k : ℕ). slots ++ replicate k buffers.Empty) (let z : n - m ≡ more = omega (arith, e) in z)
-
-pub resized-laid : (arena : List ℕ) (ropes : List (List Segment)) (out : Buffer) (slots new : List Buffer) (more n m : ℕ) (b : Bool) → IsLaid arena ropes out slots → m ≡ length slots → n ≡ m + more → new ≡ cond b (take n slots ++ replicate (n - m) buffers.Empty) slots → IsLaid arena ropes out new
-resized-laid arena ropes out slots new more n m true f s e is = subst (IsLaid arena ropes out) (sym (filled more n m slots new s e is)) (opened-laid arena ropes out slots more f)
-resized-laid arena ropes out slots new more n m false f s e is = subst (IsLaid arena ropes out) (sym is) f
-
-pub shows-opened : (arena : List ℕ) (ropes : List (List Segment)) (out : Buffer) (slots new : List Buffer) (more n m : ℕ) (laid : Laid) → laid_of arena ropes out slots ≡ laid → m ≡ length slots → n ≡ m + more → new ≡ take n slots ++ replicate (n - m) buffers.Empty → laid_of arena ropes out new ≡ with_opened more laid
-shows-opened arena ropes out slots new more n m laid is s e r =
-    ap (laid_of arena ropes out) (filled more n m slots new s e r)
-    ∙ ap (λ (x : List (List Segment)). record { arena = arena; out = segments_of ropes out; slots = x }) (map-append (segments_of ropes) slots (replicate more buffers.Empty) ∙ ap (λ (x : List (List Segment)). map (segments_of ropes) slots ++ x) (map-replicate (segments_of ropes) more buffers.Empty))
+pub shows-opened : (arena : List ℕ) (ropes : List (List Segment)) (out : Buffer) (slots : List Buffer) (more : ℕ) (laid : Laid) → laid_of arena ropes out slots ≡ laid → laid_of arena ropes out (slots ++ replicate more buffers.Empty) ≡ with_opened more laid
+shows-opened arena ropes out slots more laid is =
+    ap (λ (x : List (List Segment)). record { arena = arena; out = segments_of ropes out; slots = x }) (map-append (segments_of ropes) slots (replicate more buffers.Empty) ∙ ap (λ (x : List (List Segment)). map (segments_of ropes) slots ++ x) (map-replicate (segments_of ropes) more buffers.Empty))
     ∙ ap (with_opened more) is
 
 pub emptied-laid : (arena : List ℕ) (ropes : List (List Segment)) (slots : List Buffer) (n : ℕ) → ropes ≡ [] ∷ [] → slots ≡ replicate n buffers.Empty → IsLaid arena ropes buffers.Empty slots
@@ -274,10 +265,19 @@ pub on_err : {A E P : Type 0} (r : Result A E) → P → OnErr r P
 on_err (Ok a) p = tt
 on_err (Err e) p = p
 
-pub on_resized : {A E : Type 0} (r : Result A E) (arena : List ℕ) (ropes : List (List Segment)) (out : Buffer) (slots new : List Buffer) (more n m : ℕ) (laid : Laid) → laid_of arena ropes out slots ≡ laid → m ≡ length slots → n ≡ m + more →
-    new ≡ cond (is_ok r) (take n slots ++ replicate (n - m) buffers.Empty) slots → OnOk r (laid_of arena ropes out new ≡ with_opened more laid)
-on_resized (Ok a) arena ropes out slots new more n m laid is s e r = shows-opened arena ropes out slots new more n m laid is s e r
-on_resized (Err e) arena ropes out slots new more n m laid is s d r = tt
+-- what one call leaves, where it opens slots or is refused
+pub kept-either : {A E : Type 0} (r : Result A E) (arena : List ℕ) (ropes : List (List Segment)) (out : Buffer) (slots new : List Buffer) (more : ℕ) → IsLaid arena ropes out slots → OnOk r (new ≡ slots ++ replicate more buffers.Empty) → OnErr r (new ≡ slots) → IsLaid arena ropes out new
+kept-either (Ok a) arena ropes out slots new more f o e = subst (IsLaid arena ropes out) (sym o) (opened-laid arena ropes out slots more f)
+kept-either (Err x) arena ropes out slots new more f o e = subst (IsLaid arena ropes out) (sym e) f
+
+pub shown-either : {A E : Type 0} (r : Result A E) (arena : List ℕ) (ropes : List (List Segment)) (out : Buffer) (slots new : List Buffer) (more : ℕ) (laid : Laid) → laid_of arena ropes out slots ≡ laid → OnOk r (new ≡ slots ++ replicate more buffers.Empty) →
+    OnOk r (laid_of arena ropes out new ≡ with_opened more laid)
+shown-either (Ok a) arena ropes out slots new more laid is o = ap (laid_of arena ropes out) o ∙ shows-opened arena ropes out slots more laid is
+shown-either (Err x) arena ropes out slots new more laid is o = tt
+
+pub refused-either : {A E : Type 0} (r : Result A E) (arena : List ℕ) (ropes : List (List Segment)) (out : Buffer) (slots new : List Buffer) (laid : Laid) → laid_of arena ropes out slots ≡ laid → OnErr r (new ≡ slots) → OnErr r (laid_of arena ropes out new ≡ laid)
+refused-either (Ok a) arena ropes out slots new laid is e = tt
+refused-either (Err x) arena ropes out slots new laid is e = ap (laid_of arena ropes out) e ∙ is
 
 -- the buffer at an offset lies in the arena
 pub within-place : (arena : List ℕ) (ropes : List (List Segment)) (out : Buffer) (slots : List Buffer) (place : TargetBuffer) (b : Buffer) → IsLaid arena ropes out slots → IsPlace (length slots) place → b ≡ buffer_at out slots place → AreWithin (length arena) (segments_of ropes b)

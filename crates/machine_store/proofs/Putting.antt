@@ -1,18 +1,18 @@
 -- What adding and closing leave: buffers that lie in the arena, and show what they should.
-use Rattle.std.proofs.Common.{◌≡◌, ◌≤◌, ◌<◌, ℕ, ◌+◌, ◌-◌, List, [], ◌∷◌, ◌++◌, length, map, take, drop, set, refl, sym, ap, ◌∙◌, subst, arith}
-use Rattle.std.proofs.lemmas.List.{append-nil, length-map, take_rest}
+use Rattle.std.proofs.Common.{◌≡◌, ◌≤◌, ◌<◌, ℕ, ◌+◌, List, [], ◌∷◌, ◌++◌, length, map, take, drop, set, refl, sym, ap, ◌∙◌, subst, arith}
+use Rattle.std.proofs.lemmas.List.{append-nil, length-map}
 use Rattle.machine_store.specs.declared.buffers.Buffer.{Buffer}
 use Rattle.machine_store.specs.declared.buffers.Buffer.TheVariants as buffers
 use Rattle.machine_store.specs.declared.buffers.TargetBuffer.{TargetBuffer}
 use Rattle.machine_store.specs.declared.buffers.TargetBuffer.TheVariants as places
 use Rattle.machine_ropes.specs.declared.segment.Segment.{Segment}
-use Rattle.machine_store.specs.Buffers.{AllHeld, IsHeld, IsLaid, IsLater, IsPlace, Laid, buffer_at, laid_of, segments_at, segments_of, with_added, with_closed}
+use Rattle.machine_store.specs.Buffers.{AllHeld, IsHeld, IsLaid, IsLater, IsPlace, Laid, buffer_at, laid_of, out_after, segments_at, segments_of, slots_after, with_added, with_closed}
 use Rattle.machine_ropes.specs.Ropes.{rope_at}
 use Rattle.machine_ropes.specs.Segments.{AreWithin, IsSegment, bytes_at, bytes_of, with_bytes, with_lists}
 use Rattle.machine_store.proofs.Joining.{AllHeld-later, later-later}
 use Rattle.machine_store.proofs.Laying.{within-back, within-front}
 use Rattle.machine_ropes.proofs.Writing.{bytes_of-append}
-use Rattle.machine_store.proofs.Placing.{Became, added-became, all-drop, closed-became, closing, fewer-laid, held-place, place-there, put-out, put-slot, segments-place, within-place, shows-added-out, shows-added-slot, shows-closed-out, shows-closed-slot}
+use Rattle.machine_store.proofs.Placing.{Became, added-became, closed-became, closing, fewer-laid, held-place, place-there, put-out, put-slot, segments-place, within-place, shows-added-out, shows-added-slot, shows-closed-out, shows-closed-slot}
 
 module _ (arena : List ℕ) (old : List (List Segment)) (out : Buffer) (slots : List Buffer) (laid : Laid) (is : laid_of arena old out slots ≡ laid) (keeps : IsLaid arena old out slots) where
   -- ---- bytes added
@@ -33,7 +33,7 @@ module _ (arena : List ℕ) (old : List (List Segment)) (out : Buffer) (slots : 
       added-became arena grown bytes old new out b slots place from (from + length bytes) keeps (place-there arena old out slots place laid is a.there) a.begins refl a.later a.longer a.held
       (a.segments ∙ ap (λ (x : Buffer). with_bytes (segments_of old x) (record { place = from; end = from + length bytes })) a.at)
 
-  pub added-out : (grown bytes : List ℕ) (new : List (List Segment)) (r b : Buffer) (place : TargetBuffer) (from : ℕ) → Added grown bytes new r b place from → place ≡ places.Out →
+  added-out : (grown bytes : List ℕ) (new : List (List Segment)) (r b : Buffer) (place : TargetBuffer) (from : ℕ) → Added grown bytes new r b place from → place ≡ places.Out →
       IsLaid grown new b slots × (laid_of grown new b slots ≡ with_added place bytes laid)
   added-out grown bytes new r b place from a e =
       let g = subst (λ (x : TargetBuffer). Became arena grown bytes old new b (with_bytes (segments_of old (buffer_at out slots x)) (record { place = length arena; end = length arena + length bytes }))) e (became grown bytes new r b place from a) in (
@@ -41,7 +41,7 @@ module _ (arena : List ℕ) (old : List (List Segment)) (out : Buffer) (slots : 
         shows-added-out arena grown bytes old new out b slots laid is keeps g ∙ ap (λ (x : TargetBuffer). with_added x bytes laid) (sym e),
       )
 
-  pub added-slot : (grown bytes : List ℕ) (new : List (List Segment)) (r b : Buffer) (place : TargetBuffer) (from i : ℕ) → Added grown bytes new r b place from → place ≡ places.Slot i →
+  added-slot : (grown bytes : List ℕ) (new : List (List Segment)) (r b : Buffer) (place : TargetBuffer) (from i : ℕ) → Added grown bytes new r b place from → place ≡ places.Slot i →
       IsLaid grown new out (set slots i b) × (laid_of grown new out (set slots i b) ≡ with_added place bytes laid)
   added-slot grown bytes new r b place from i a e =
       let g = subst (λ (x : TargetBuffer). Became arena grown bytes old new b (with_bytes (segments_of old (buffer_at out slots x)) (record { place = length arena; end = length arena + length bytes }))) e (became grown bytes new r b place from a) in
@@ -50,12 +50,15 @@ module _ (arena : List ℕ) (old : List (List Segment)) (out : Buffer) (slots : 
         shows-added-slot arena grown bytes old new out b slots i laid is keeps lt g ∙ ap (λ (x : TargetBuffer). with_added x bytes laid) (sym e),
       )
 
+  pub added-put : (grown bytes : List ℕ) (new : List (List Segment)) (r b : Buffer) (place : TargetBuffer) (from : ℕ) → Added grown bytes new r b place from →
+      IsLaid grown new (out_after place b out) (slots_after place b slots) × (laid_of grown new (out_after place b out) (slots_after place b slots) ≡ with_added place bytes laid)
+  added-put grown bytes new r b places.Out from a = added-out grown bytes new r b places.Out from a refl
+  added-put grown bytes new r b (places.Slot i) from a = added-slot grown bytes new r b (places.Slot i) from i a refl
+
   -- ---- slots closed
 
-  pub slots-held : (one : List (List Segment)) (first : ℕ) (others : List Buffer) → IsLater old one → others ≡ slots → AllHeld one (take (length others - first) (drop first others))
-  slots-held one first others l e =
-      subst (λ (x : List Buffer). AllHeld one (take (length x - first) (drop first x))) (sym e)
-      (subst (AllHeld one) (sym (take_rest slots first)) (AllHeld-later old one (drop first slots) l (all-drop (IsHeld old) first slots keeps.rest)))
+  pub slots-held : (one : List (List Segment)) → IsLater old one → AllHeld one slots
+  slots-held one l = AllHeld-later old one slots l keeps.rest
 
   pub record Closed (grown around : List ℕ) (one two new : List (List Segment)) (r b c d : Buffer) (into : TargetBuffer) (first before from : ℕ) : Type 0 where
     pub there : IsPlace first into
@@ -65,9 +68,7 @@ module _ (arena : List ℕ) (old : List (List Segment)) (out : Buffer) (slots : 
     pub at : r ≡ buffer_at out slots into
     pub front : segments_of one b ≡ with_bytes (segments_of old r) (record { place = from; end = from + before })
     pub later1 : IsLater old one
-    pub others : List Buffer
-    pub same : others ≡ slots
-    pub middle : segments_of two c ≡ with_lists (segments_of one b) (map (segments_of one) (take (length others - first) (drop first others)))
+    pub middle : segments_of two c ≡ with_lists (segments_of one b) (map (segments_of one) (drop first slots))
     pub later2 : IsLater one two
     pub back : segments_of new d ≡ with_bytes (segments_of two c) (record { place = from + before; end = from + length around })
     pub held : IsHeld new d
@@ -87,10 +88,10 @@ module _ (arena : List ℕ) (old : List (List Segment)) (out : Buffer) (slots : 
       let there : IsPlace (length slots) into = place-below first (length slots) into (omega (arith, a.some, how-many)) a.there in
       closed-became arena grown around old one two new out b c d slots into first before from keeps there a.begins a.fits a.longer a.later1
       (a.front ∙ ap (λ (x : Buffer). with_bytes (segments_of old x) (record { place = from; end = from + before })) a.at) a.later2
-      (a.middle ∙ ap (λ (x : List Buffer). with_lists (segments_of one b) (map (segments_of one) (take (length x - first) (drop first x)))) a.same ∙ ap (λ (x : List Buffer). with_lists (segments_of one b) (map (segments_of one) x)) (take_rest slots first))
+      a.middle
       a.later3 a.back a.held (later-later old two new (later-later old one two a.later1 a.later2) a.later3)
 
-  pub closed-out : (grown around : List ℕ) (one two new : List (List Segment)) (r b c d : Buffer) (into : TargetBuffer) (first before from : ℕ) → Closed grown around one two new r b c d into first before from → into ≡ places.Out →
+  closed-out : (grown around : List ℕ) (one two new : List (List Segment)) (r b c d : Buffer) (into : TargetBuffer) (first before from : ℕ) → Closed grown around one two new r b c d into first before from → into ≡ places.Out →
       IsLaid grown new d (take first slots) × (laid_of grown new d (take first slots) ≡ with_closed first into around before laid)
   closed-out grown around one two new r b c d into first before from a e =
       let g = subst (λ (x : TargetBuffer). Became arena grown around old new d (closing arena (segments_of old (buffer_at out slots x)) (drop first (map (segments_of old) slots)) around before)) e (closed grown around one two new r b c d into first before from a) in (
@@ -98,7 +99,7 @@ module _ (arena : List ℕ) (old : List (List Segment)) (out : Buffer) (slots : 
         shows-closed-out arena grown around old new out d slots first before laid is keeps g ∙ ap (λ (x : TargetBuffer). with_closed first x around before laid) (sym e),
       )
 
-  pub closed-slot : (grown around : List ℕ) (one two new : List (List Segment)) (r b c d : Buffer) (into : TargetBuffer) (first before from i : ℕ) → Closed grown around one two new r b c d into first before from → into ≡ places.Slot i →
+  closed-slot : (grown around : List ℕ) (one two new : List (List Segment)) (r b c d : Buffer) (into : TargetBuffer) (first before from i : ℕ) → Closed grown around one two new r b c d into first before from → into ≡ places.Slot i →
       IsLaid grown new out (set (take first slots) i d) × (laid_of grown new out (set (take first slots) i d) ≡ with_closed first into around before laid)
   closed-slot grown around one two new r b c d into first before from i a e =
       let g = subst (λ (x : TargetBuffer). Became arena grown around old new d (closing arena (segments_of old (buffer_at out slots x)) (drop first (map (segments_of old) slots)) around before)) e (closed grown around one two new r b c d into first before from a) in
@@ -106,6 +107,11 @@ module _ (arena : List ℕ) (old : List (List Segment)) (out : Buffer) (slots : 
         put-slot arena grown around old new out d (take first slots) i (closing arena (segments_of old (buffer_at out slots (places.Slot i))) (drop first (map (segments_of old) slots)) around before) (fewer-laid arena old out slots first keeps) g,
         shows-closed-slot arena grown around old new out d slots i first before laid is keeps lt g ∙ ap (λ (x : TargetBuffer). with_closed first x around before laid) (sym e),
       )
+
+  pub closed-put : (grown around : List ℕ) (one two new : List (List Segment)) (r b c d : Buffer) (into : TargetBuffer) (first before from : ℕ) → Closed grown around one two new r b c d into first before from →
+      IsLaid grown new (out_after into d out) (slots_after into d (take first slots)) × (laid_of grown new (out_after into d out) (slots_after into d (take first slots)) ≡ with_closed first into around before laid)
+  closed-put grown around one two new r b c d places.Out first before from a = closed-out grown around one two new r b c d places.Out first before from a refl
+  closed-put grown around one two new r b c d (places.Slot i) first before from a = closed-slot grown around one two new r b c d (places.Slot i) first before from i a refl
 
   -- ---- a buffer of more segments, as it is written
 

@@ -1,11 +1,12 @@
 //! Buffers, as segments of one arena.
 
-ghost use Rattle.std.specs.Prelude.{◌≡◌, ◌≢◌, ◌+◌, ◌-◌, ◌^◌, ◌<◌, ◌≤◌, [], ◌++◌, length, map, slice_get, OnErr, OnOk, IfOk};
+ghost use Rattle.std.specs.Prelude.{◌≡◌, ◌≢◌, ◌+◌, ◌-◌, ◌^◌, ◌<◌, ◌≤◌, [], ◌++◌, drop, length, map, slice_get, take, OnErr, OnOk, IfOk};
 ghost use Rattle.isa.specs.declared.limits.TheConstants.{MOST_SLOTS};
 ghost use Rattle.machine_store.specs.declared.buffers.Buffer.TheVariants.{Empty};
-ghost use Rattle.machine_store.specs.Buffers.{AreLaid, AreRopes, IsHeld, AllHeld, IsLater, IsPlace, buffer_at, segments_at, segments_of, with_added, with_closed, with_fewer, with_none, with_opened};
+ghost use Rattle.machine_store.specs.Buffers.{AreLaid, AreRopes, IsHeld, AllHeld, IsLater, IsPlace, buffer_at, out_after, segments_at, segments_of, slots_after, with_added, with_closed, with_fewer, with_none, with_opened};
 ghost use Rattle.machine_ropes.specs.Segments.{bytes_of, with_bytes, with_lists, with_segment, with_segments};
 
+use crate::slots::Slots;
 use machine_ropes::{Ropes, Segment};
 use std::alloc::{AllocError, Global};
 use std::marker::Model;
@@ -135,35 +136,83 @@ fn joined_buffer(ropes: &mut Ropes, buffer: Buffer, behind: Buffer) -> Result<Bu
     }
 }
 
-/// The buffer with those of others after its own, in order.
-fn joined_buffers(
+/// The buffer with those of the slots from a first one on after its own, in order.
+fn joined_slots(
     ropes: &mut Ropes,
     buffer: Buffer,
-    others: &[Buffer],
+    slots: &Slots,
+    first: usize,
 ) -> Result<Buffer, AllocError>
     requires ropes { AreRopes ropes.old }
     requires held { IsHeld ropes.old buffer }
-    requires others { AllHeld ropes.old others.now }
+    requires slots { AllHeld ropes.old slots.now }
     ensures segments { IfOk result (λ b. segments_of ropes.new b
-        ≡ with_lists (segments_of ropes.old buffer) (map (segments_of ropes.old) others.now)) }
+        ≡ with_lists (segments_of ropes.old buffer) (map (segments_of ropes.old) (drop first slots.now))) }
     ensures held { IfOk result (λ b. IsHeld ropes.new b) }
     ensures later { IsLater ropes.old ropes.new }
 {
     let mut joined = buffer;
-    for other in others {
-        joined = joined_buffer(ropes, joined, *other)?;
+    for slot in first..slots.len() {
+        joined = joined_buffer(ropes, joined, slots.get(slot))?;
     }
     Ok(joined)
 }
 
 /// The buffer at an offset.
-fn buffer_at(out: Buffer, slots: &[Buffer], place: TargetBuffer) -> Buffer
+fn buffer_at(out: Buffer, slots: &Slots, place: TargetBuffer) -> Buffer
     requires { IsPlace (length slots.now) place }
     ensures { result ≡ buffer_at out slots.now place }
 {
     match place {
         TargetBuffer::Out => out,
-        TargetBuffer::Slot(number) => slots[number],
+        TargetBuffer::Slot(number) => slots.get(number),
+    }
+}
+
+/// Puts a buffer into its place.
+fn put(
+    out: &mut Buffer,
+    slots: &mut Slots,
+    place: TargetBuffer,
+    buffer: Buffer,
+) -> Result<(), AllocError>
+    requires { IsPlace (length slots.old) place }
+    ensures out { OnOk result (out.new ≡ out_after place buffer out.old) }
+    ensures slots { OnOk result (slots.new ≡ slots_after place buffer slots.old) }
+    ensures same_out { OnErr result (out.new ≡ out.old) }
+    ensures same_slots { OnErr result (slots.new ≡ slots.old) }
+{
+    match place {
+        TargetBuffer::Out => {
+            *out = buffer;
+            Ok(())
+        }
+        TargetBuffer::Slot(number) => slots.set(number, buffer),
+    }
+}
+
+/// Takes away the slots from a first one on, and puts a buffer into its place.
+fn put_below(
+    out: &mut Buffer,
+    slots: &mut Slots,
+    first: usize,
+    place: TargetBuffer,
+    buffer: Buffer,
+) -> Result<(), AllocError>
+    requires first { first ≤ length slots.old }
+    requires place { IsPlace first place }
+    ensures out { OnOk result (out.new ≡ out_after place buffer out.old) }
+    ensures slots { OnOk result (slots.new ≡ slots_after place buffer (take first slots.old)) }
+    ensures same_out { OnErr result (out.new ≡ out.old) }
+    ensures same_slots { OnErr result (slots.new ≡ slots.old) }
+{
+    match place {
+        TargetBuffer::Out => {
+            slots.shorten(first);
+            *out = buffer;
+            Ok(())
+        }
+        TargetBuffer::Slot(number) => slots.close(first, number, buffer),
     }
 }
 
@@ -190,7 +239,7 @@ pub struct Buffers {
     arena: Vec<u8>,
     ropes: Ropes,
     out: Buffer,
-    slots: Vec<Buffer>,
+    slots: Slots,
 }
 
 impl Model for Buffers {
@@ -198,9 +247,9 @@ impl Model for Buffers {
 
     ghost Value = { Laid };
 
-    ghost view = { λ b. laid_of b.arena.items b.ropes b.out b.slots.items };
+    ghost view = { λ b. laid_of b.arena.items b.ropes b.out b.slots };
 
-    ghost invariant = { λ b. IsLaid b.arena.items b.ropes b.out b.slots.items };
+    ghost invariant = { λ b. IsLaid b.arena.items b.ropes b.out b.slots };
 }
 
 impl Buffers {
@@ -212,7 +261,7 @@ impl Buffers {
             arena: Vec::new(alloc),
             ropes: Ropes::new(alloc),
             out: Buffer::Empty,
-            slots: Vec::new(alloc),
+            slots: Slots::new(alloc),
         }
     }
 
@@ -261,11 +310,9 @@ impl Buffers {
         };
         let buffer = buffer_at(self.out, &self.slots, place);
         let buffer = joined_bytes(&mut self.ropes, buffer, segment)?;
+        self.arena.try_reserve(bytes.len())?;
+        put(&mut self.out, &mut self.slots, place, buffer)?;
         self.arena.extend_from_slice(bytes)?;
-        match place {
-            TargetBuffer::Out => self.out = buffer,
-            TargetBuffer::Slot(number) => self.slots[number] = buffer,
-        }
         Ok(())
     }
 
@@ -275,8 +322,7 @@ impl Buffers {
         ensures opened { OnOk result (self.new ≡ with_opened more self.old) }
         ensures refused { OnErr result (self.new ≡ self.old) }
     {
-        let len = self.slots.len();
-        self.slots.resize(len + more, Buffer::Empty)
+        self.slots.open(more)
     }
 
     /// Takes away the slots from a first one on, and appends them, in order, to a buffer, with so many of the bytes
@@ -305,14 +351,11 @@ impl Buffers {
         };
         let buffer = buffer_at(self.out, &self.slots, into);
         let buffer = joined_bytes(&mut self.ropes, buffer, front)?;
-        let buffer = joined_buffers(&mut self.ropes, buffer, &self.slots[first..])?;
+        let buffer = joined_slots(&mut self.ropes, buffer, &self.slots, first)?;
         let buffer = joined_bytes(&mut self.ropes, buffer, back)?;
+        self.arena.try_reserve(around.len())?;
+        put_below(&mut self.out, &mut self.slots, first, into, buffer)?;
         self.arena.extend_from_slice(around)?;
-        self.slots.truncate(first);
-        match into {
-            TargetBuffer::Out => self.out = buffer,
-            TargetBuffer::Slot(number) => self.slots[number] = buffer,
-        }
         Ok(())
     }
 
@@ -320,7 +363,7 @@ impl Buffers {
     pub fn shorten(&mut self, first: usize)
         ensures { self.new ≡ with_fewer first self.old }
     {
-        self.slots.truncate(first);
+        self.slots.shorten(first);
     }
 
     /// Empties the output and each slot.
@@ -330,7 +373,7 @@ impl Buffers {
         self.arena.clear();
         self.ropes.clear();
         self.out = Buffer::Empty;
-        self.slots.fill(Buffer::Empty);
+        self.slots.empty_all();
     }
 
     /// Appends the bytes of a buffer to others. What stands behind those after an `Err` is not said.

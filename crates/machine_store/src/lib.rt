@@ -4,6 +4,7 @@
 #![tactic(auto)]
 
 mod buffers;
+mod slots;
 mod store;
 mod views;
 

@@ -6,11 +6,11 @@ use Rattle.machine_store.proofs.Placing.{fewer-laid}
 use Rattle.machine_store.proofs.buffers.Buffers.shorten.Goals as goal
 
 pub invariant_of-self : goal.invariant_of-self
-invariant_of-self c = let i = c.self.inside in rw c.truncate.ensures.items (fewer-laid i.arena.items i.ropes i.out i.slots.items c.args.first c.self.invariant)
+invariant_of-self c = let i = c.self.inside in rw c.shorten.ensures (fewer-laid i.arena.items i.ropes i.out i.slots c.args.first c.self.invariant)
 
 pub returns : goal.returns
 returns c =
     let i = c.self.inside in
-    ap (laid_of i.arena.items i.ropes i.out) c.truncate.ensures.items
-    ∙ ap (λ (x : List (List Segment)). record { arena = i.arena.items; out = segments_of i.ropes i.out; slots = x }) (sym (take-map (segments_of i.ropes) c.args.first i.slots.items))
+    ap (laid_of i.arena.items i.ropes i.out) c.shorten.ensures
+    ∙ ap (λ (x : List (List Segment)). record { arena = i.arena.items; out = segments_of i.ropes i.out; slots = x }) (sym (take-map (segments_of i.ropes) c.args.first i.slots))
     ∙ ap (with_fewer c.args.first) c.self.view_is
