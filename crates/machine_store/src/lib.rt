@@ -1,4 +1,4 @@
-//! Machine; used by `machine_stepper`.
+//! Machine; used by `machine_stepper`, `debugger`.
 //!
 //! What a run holds: open frames, and buffers whose bytes lie in one arena.
 #![tactic(auto)]
