@@ -1,11 +1,9 @@
-pub mod Crossing
 pub mod Declared
 pub mod DeclaredFits
 pub mod DeclaredSizes
-pub mod DefaultSizes
 pub mod DefaultsConform
+pub mod DefaultSizes
 pub mod DraftsConform
-pub mod FaultsOfText
 pub mod Fits
 pub mod JsonSizes
 pub mod ReadSizes

@@ -1,4 +1,4 @@
-//! Schemas; used by `schema_registry`, `pair_program`, `session_core` and 2 others.
+//! Schemas; used by `schema_registry`, `session_core`, `commands`, `gateway_transcoders`.
 //!
 //! Avro schemas, and data by their kinds (Avro 1.11 Specification, "Schema Declaration").
 #![tactic(auto)]

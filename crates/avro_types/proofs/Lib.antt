@@ -1,4 +1,3 @@
 mod AliasPlaces
 mod Copies
 mod SymbolPositions
-pub mod Crossing

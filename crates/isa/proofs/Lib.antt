@@ -8,4 +8,3 @@ mod Proper
 mod RowLaws
 pub mod Worked
 pub mod Operations
-pub mod Crossing

@@ -1,4 +1,4 @@
-//! Programs; used by `machine`, `pair_program`, `session_core` and 3 others.
+//! Programs; used by `machine`, `session_core`, `command_sessions` and 2 others.
 //!
 //! The compiler: from a pair of schemas to their program.
 #![tactic(auto)]

@@ -10,4 +10,5 @@ pub mod Crossing
 pub mod Cells
 pub mod Levels
 pub mod SomeAnswer
+pub mod FaultsOfText
 pub mod MemoryFaults
