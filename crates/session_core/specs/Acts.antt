@@ -44,13 +44,15 @@ reply_by refusal_of (Err e) = Refused (refusal_of e)
 -- Bytes are added, or refused as a session does. No bytes take no memory.
 abbrev pub TakesPiece : List ℕ → EventReply → Held → Held → Type 0
 TakesPiece bytes reply old new = (done : Result (Unit {0}) PieceRefusal) × (reply ≡ reply_by of_piece done)
-    × Maybe pieces.NoMemory (piece_refusal bytes old.session) (with_piece bytes old.session) done old.session new.session
+    × Maybe pieces.NoMemory (piece_refusal bytes old.session) (with_piece bytes old.session) done
+    old.session new.session
     × IfErr done (λ e. e ≡ pieces.NoMemory → 0 < length bytes) × (new ≡ with_session new.session old)
 
 -- A breakpoint is set. One that is set takes no memory.
 abbrev pub SetsBreak : ℕ → EventReply → Held → Held → Type 0
 SetsBreak address reply old new = (done : Result (Unit {0}) BreakRefusal) × (reply ≡ reply_by of_break done)
-    × Maybe breaks.NoMemory (break_refusal address old.session) (set_at address old.session) done old.session new.session
+    × Maybe breaks.NoMemory (break_refusal address old.session) (set_at address old.session) done
+    old.session new.session
     × IfErr done (λ e. e ≡ breaks.NoMemory → has_break address old.session.breaks ≡ false)
     × (new ≡ with_session new.session old)
 

@@ -63,7 +63,8 @@ SessionsAreTheirOwn = (steps : List Step) (world : World) → Happened steps no_
 
 -- acts with their replies lead to one session
 abbrev pub ActsLeadToOne : Type 0
-ActsLeadToOne = (steps : List ActStep) (old one other : Held) → Lived steps old one → Lived steps old other → one ≡ other
+ActsLeadToOne =
+    (steps : List ActStep) (old one other : Held) → Lived steps old one → Lived steps old other → one ≡ other
 
 -- events with their replies lead to one world
 abbrev pub EventsLeadToOne : Type 0

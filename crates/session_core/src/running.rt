@@ -33,8 +33,8 @@ fn take_events<'p, P: Programs>(
     Ok(())
 }
 
-/// The world after events, one after another, with a reply to each. A session's machine is its pair's program, run alone
-/// on its own bytes for as many rows as it counts, and ends with their outcome; and each session is what its own
+/// The world after events, one after another, with a reply to each. A session's machine is its pair's program, run
+/// alone on its own bytes for as many rows as it counts, and ends with their outcome; and each session is what its own
 /// accepted acts make of it since it began.
 pub fn run_events<'p, P: Programs>(
     alloc: Global,

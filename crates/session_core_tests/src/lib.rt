@@ -13,6 +13,8 @@ mod registry;
 #[cfg(test)]
 mod same;
 #[cfg(test)]
+mod session_tests;
+#[cfg(test)]
 mod texts;
 #[cfg(test)]
 mod world_tests;
