@@ -1,4 +1,4 @@
-//! Bytes and data; used by `outcome`, `avro_datum`, `program_compiler` and 6 others.
+//! Bytes and data; used by `outcome`, `avro_datum`, `program_compiler` and others.
 //!
 //! The parts of Avro's binary encoding, each read, skipped and written on its own (Avro 1.11 Specification,
 //! "Binary Encoding").

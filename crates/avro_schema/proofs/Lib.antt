@@ -11,3 +11,5 @@ pub mod SchemaText
 pub mod ValueTexts
 pub mod WalkSizes
 pub mod WholeNodes
+pub mod Crossing
+pub mod FaultsOfText

@@ -1,4 +1,4 @@
-//! Schemas; used by `schema_registry`, `session_core`, `commands`, `gateway_transcoders`.
+//! Schemas; used by `schema_registry`, `pair_program`, `session_core` and others.
 //!
 //! Avro schemas, and data by their kinds (Avro 1.11 Specification, "Schema Declaration").
 #![tactic(auto)]

@@ -1,3 +1,4 @@
 mod AliasPlaces
 mod Copies
 mod SymbolPositions
+pub mod Crossing

@@ -8,3 +8,4 @@ mod Proper
 mod RowLaws
 pub mod Worked
 pub mod Operations
+pub mod Crossing

@@ -1,4 +1,4 @@
-//! Programs; used by `assembler_lexer`, `assembler`, `avro_loader_format` and 16 others.
+//! Programs; used by `assembler_lexer`, `assembler`, `avro_loader_format` and others.
 //!
 //! The instruction table: what programs are, and what each row does to a state.
 #![tactic(auto)]

@@ -1,4 +1,4 @@
-//! Machine; used by `session_state`, `command_io`, `commands` and 2 others.
+//! Machine; used by `session_state`, `command_io`, `commands` and others.
 //!
 //! Programs run on bytes, and payloads transcoded by the program of their pair of schemas.
 #![tactic(auto)]

@@ -1,4 +1,4 @@
-//! Bytes and data; used by `avro_datum`, `resolver`, `isa` and 17 others.
+//! Bytes and data; used by `avro_datum`, `resolver`, `isa` and others.
 //!
 //! What becomes of a payload: the types that every way of transcoding answers with, and their limits.
 #![tactic(auto)]

@@ -1,4 +1,4 @@
-//! Programs; used by `machine`, `session_core`, `command_sessions` and 2 others.
+//! Programs; used by `pair_program`, `machine`, `session_core` and others.
 //!
 //! The compiler: from a pair of schemas to their program.
 #![tactic(auto)]

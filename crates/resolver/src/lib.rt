@@ -1,4 +1,4 @@
-//! Resolution; used by `schema_registry`, `program_ir`, `program_lowering` and 3 others.
+//! Resolution; used by `schema_registry`, `program_ir`, `program_lowering` and others.
 //!
 //! What a reader makes of a writer's data (Avro 1.11 Specification, "Schema Resolution").
 #![tactic(auto)]

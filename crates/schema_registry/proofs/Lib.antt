@@ -10,5 +10,4 @@ pub mod Crossing
 pub mod Cells
 pub mod Levels
 pub mod SomeAnswer
-pub mod FaultsOfText
 pub mod MemoryFaults

@@ -2,7 +2,8 @@
 use denote.Param.Send.{IsSend, IsSync, sendable}
 use denote.Ref.{NamedLft}
 use Rattle.std.proofs.Crossing.{crosses}
-use Rattle.machine_stepper.proofs.Crossing.{machine-send, machine-sync, program-sync}
+use Rattle.isa.proofs.Crossing.{program-sync}
+use Rattle.machine_stepper.proofs.Crossing.{machine-send, machine-sync}
 use Rattle.session_state.specs.contracts.session.Session as session
 
 pub session-send : (κ : NamedLft) → IsSend (session.the_row κ)
