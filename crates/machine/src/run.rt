@@ -1,6 +1,6 @@
 //! A run of a program on bytes that come in pieces.
 
-ghost use Rattle.std.specs.Prelude.{◌≡◌, ◌≤◌, ◌<◌, ◌+◌, ◌++◌, length, slice_get, OnOk, OnErr, option_map, Some, false, true};
+ghost use Rattle.std.specs.Prelude.{◌≡◌, ◌≤◌, ◌<◌, ◌+◌, ◌++◌, length, slice_get, IfErr, OnOk, OnErr, option_map, Some, false, true};
 ghost use Rattle.isa.specs.Row.{row_of};
 ghost use Rattle.program_definition.specs.Code.{code_of};
 ghost use Rattle.program_correctness.specs.Alone.{run_alone};
@@ -64,6 +64,16 @@ impl<'p> Run<'p> {
         self.input.clear();
         self.ended = false;
         self.machine.reset();
+        self.machine.forget();
+    }
+
+    /// Lets go of memory above what is held, and above that for so many bytes and a 64th of so many slots, frames and
+    /// calls.
+    pub fn shrink_to(&mut self, bytes: usize)
+        ensures { self.new ≡ self.old }
+    {
+        self.input.shrink_to(bytes);
+        self.machine.shrink_to(bytes);
     }
 
     /// Appends bytes to the input. No bytes take no memory.
@@ -79,6 +89,26 @@ impl<'p> Run<'p> {
         machines_go_on_with_more_input(); // law
         runs_alone_are_counted_and_stay(); // law
         self.input.extend_from_slice(piece)
+    }
+
+    /// Appends bytes to the input, as `push` does, of which more than so many, where they are the first, are not copied:
+    /// they take the place of the input's memory. Refused, they are handed back.
+    pub fn push_owned(&mut self, piece: Vec<u8>, most_copied: usize) -> Result<(), Vec<u8>>
+        requires { self.old.ended ≡ false }
+        ensures pushed { OnOk result (self.new ≡ record self.old { input = self.old.input ++ piece.items }) }
+        ensures refused { IfErr result (λ back. (self.new ≡ self.old) × (back.items ≡ piece.items)) }
+        ensures grows { OnErr result (0 < length piece.items) }
+    {
+        if piece.len() > most_copied && self.input.is_empty() {
+            machines_go_on_with_more_input(); // law
+            runs_alone_are_counted_and_stay(); // law
+            self.input = piece;
+            return Ok(());
+        }
+        if self.push(&piece).is_err() {
+            return Err(piece);
+        }
+        Ok(())
     }
 
     /// Ends the input.
@@ -162,7 +192,8 @@ impl<'p> Run<'p> {
 
     /// The bytes of a character that is cut at the end of what has moved of a text; none where there is no such thing.
     pub fn carry(&self) -> &[u8]
-        ensures { IsCarry self.now.input self.now.machine.state.pos self.now.machine.state.content result.now }
+        ensures { IsCarry (slice_get self.now.program.code self.now.machine.state.pc) self.now.input
+            self.now.machine.state.pos self.now.machine.state.content result.now }
     {
         self.machine.carry()
     }
@@ -172,6 +203,20 @@ impl<'p> Run<'p> {
         ensures { option_map end_of result ≡ self.entry.machine.state.end }
     {
         self.machine.into_end()
+    }
+
+    /// How it ended, which is taken out; the run goes back to what `new` gives for its program, in the room that it has.
+    pub fn take_end(&mut self) -> Option<End>
+        ensures end { option_map end_of result ≡ self.old.machine.state.end }
+        ensures begun { self.new ≡ begun self.old.program }
+    {
+        let machine = &mut self.machine;
+        let end = machine.take_end();
+        machines_go_on_with_more_input(); // law
+        self.input.clear();
+        self.ended = false;
+        self.machine.reset();
+        end
     }
 
     /// How it ended, and all bytes that came.

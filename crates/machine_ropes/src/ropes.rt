@@ -54,6 +54,13 @@ impl Ropes {
         self.joints.clear();
     }
 
+    /// Lets go of memory above what is held, and above that for so many ropes.
+    pub fn shrink_to(&mut self, ropes: usize)
+        ensures { self.new ≡ self.old }
+    {
+        self.joints.shrink_to(ropes);
+    }
+
     /// How many segments a rope has, as far as can be counted.
     pub fn len(&self, rope: usize) -> usize
         requires { rope < length self.now }

@@ -89,6 +89,24 @@ impl Machine {
         self.looked = 0;
     }
 
+    /// Lets go of what looking ahead keeps of one program: a run of another may follow.
+    pub fn forget(&mut self)
+        ensures { self.new ≡ self.old }
+    {
+        self.found.forget();
+    }
+
+    /// Lets go of memory above what is held, and above that for so many bytes and a 64th of so many slots, frames and
+    /// calls.
+    pub fn shrink_to(&mut self, bytes: usize)
+        ensures { self.new ≡ self.old }
+    {
+        self.calls.shrink_to(bytes / 64);
+        self.store.shrink_to(bytes);
+        self.scratch.shrink_to(bytes);
+        self.found.shrink_to(bytes);
+    }
+
     /// The address of the next instruction.
     pub fn pc(&self) -> usize
         ensures { result ≡ self.now.state.pc }

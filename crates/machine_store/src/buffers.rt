@@ -275,6 +275,15 @@ impl Buffers {
         self.slots.clear();
     }
 
+    /// Lets go of memory above what is held, and above that for so many bytes and a 64th of so many slots and ropes.
+    pub fn shrink_to(&mut self, bytes: usize)
+        ensures { self.new ≡ self.old }
+    {
+        self.arena.shrink_to(bytes);
+        self.ropes.shrink_to(bytes / 64);
+        self.slots.shrink_to(bytes / 64);
+    }
+
     /// How many slots there are.
     pub fn len(&self) -> usize
         ensures { result ≡ length self.now.slots }

@@ -136,6 +136,14 @@ impl Slots {
         self.held.clear();
     }
 
+    /// Lets go of memory above what is held, and above that for so many slots.
+    pub(crate) fn shrink_to(&mut self, slots: usize)
+        ensures { self.new ≡ self.old }
+    {
+        self.index.shrink_to(slots);
+        self.held.shrink_to(slots);
+    }
+
     /// How many there are.
     pub(crate) fn len(&self) -> usize
         ensures { result ≡ length self.now }

@@ -180,6 +180,14 @@ impl Store {
         self.over = false;
     }
 
+    /// Lets go of memory above what is held, and above that for so many bytes and a 64th of so many slots and frames.
+    pub fn shrink_to(&mut self, bytes: usize)
+        ensures { self.new ≡ self.old }
+    {
+        self.below.shrink_to(bytes / 64);
+        self.buffers.shrink_to(bytes);
+    }
+
     /// How much is open, and how many units there were.
     pub fn meter(&self) -> Meter
         ensures { result ≡ meter_of self.now }

@@ -101,6 +101,26 @@ fn view_at(frame: Frame, end: usize) -> Option<FrameView>
     }
 }
 
+/// What the frame of a number is. Where slots end is asked only where there are some: frames that are skipped have none,
+/// and all frames over them are skipped too.
+fn view_numbered(
+    top: Frame,
+    below: &[Frame],
+    slots: usize,
+    number: usize,
+) -> Option<FrameView>
+    ensures { result ≡ view_in (frame_numbered number (top ∷ reverse below.now) slots) }
+{
+    if number >= below.len() {
+        return None;
+    }
+    match below.get(number + 1) {
+        Some(Frame::Skip) => Some(FrameView::Skip),
+        Some(Frame::SkipBlocks { walk }) => Some(FrameView::SkipBlocks { walk: *walk }),
+        _ => view_in(frame_numbered(top, below, slots, number)),
+    }
+}
+
 /// What a frame is that was found, and where its slots end.
 fn view_in(found: Option<(Frame, usize)>) -> Option<FrameView>
     ensures { result ≡ view_in found }
@@ -133,7 +153,7 @@ impl Store {
     pub fn frame_at(&self, number: usize) -> Option<FrameView>
         ensures { result ≡ option_map view_of (slice_get (reverse self.now.store.frames) number) }
     {
-        view_in(frame_numbered(self.top, &self.below, self.buffers.len(), number))
+        view_numbered(self.top, &self.below, self.buffers.len(), number)
     }
 
     /// Whether a buffer is there.

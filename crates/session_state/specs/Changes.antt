@@ -1,5 +1,5 @@
 -- What else is done to a session, and why it is refused. All of this is this project's own.
-use Rattle.std.specs.Prelude.{◌≡◌, ◌≢◌, ℕ, ◌+◌, List, ◌++◌, length, nat_le, nat_lt, true, if◌then◌else◌, Option, Some, None, Result, Ok, Err, is_some}
+use Rattle.std.specs.Prelude.{◌≡◌, ◌≢◌, ◌<◌, ℕ, ◌+◌, List, ◌++◌, length, nat_le, nat_lt, true, if◌then◌else◌, Option, Some, None, Result, Ok, Err, is_some}
 use Rattle.outcome.specs.declared.limits.TheConstants.{MOST_PAYLOAD}
 use Rattle.session_state.specs.declared.limits.TheConstants.{MOST_BREAKS}
 use Rattle.session_state.specs.declared.refusal.BreakRefusal.{BreakRefusal}
@@ -7,7 +7,7 @@ use Rattle.session_state.specs.declared.refusal.BreakRefusal.TheVariants.{BadAdd
 use Rattle.session_state.specs.declared.refusal.ClearRefusal.{ClearRefusal}
 use Rattle.session_state.specs.declared.refusal.ClearRefusal.TheVariants as clears
 use Rattle.session_state.specs.declared.refusal.PieceRefusal.{PieceRefusal}
-use Rattle.session_state.specs.declared.refusal.PieceRefusal.TheVariants.{TooLarge, Ended}
+use Rattle.session_state.specs.declared.refusal.PieceRefusal.TheVariants.{TooLarge, Ended, NoMemory}
 use Rattle.session_state.specs.Session.{Session, end_in, with_break, without_break}
 
 -- ---- pieces
@@ -19,6 +19,11 @@ piece_refusal piece s = if nat_lt MOST_PAYLOAD (length s.bytes + length piece) t
 
 abbrev pub with_piece : List ℕ → Session → Session
 with_piece piece s = record s { bytes = s.bytes ++ piece }
+
+-- Why a piece is refused: that it would pass the limit or comes after the last, or else want of memory, if it has bytes.
+abbrev pub IsPieceRefusal : PieceRefusal → List ℕ → Session → Type 0
+IsPieceRefusal NoMemory piece s = (piece_refusal piece s ≡ None) × (0 < length piece)
+IsPieceRefusal why piece s = piece_refusal piece s ≡ Some why
 
 abbrev pub finished : Session → Session
 finished s = record s { closed = true }

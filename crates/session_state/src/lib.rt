@@ -11,7 +11,7 @@ mod slice;
 mod taking;
 
 pub use end::SessionEnd;
-pub use limits::{MOST_BREAKS, limits_are_these};
-pub use refusal::{BreakRefusal, ClearRefusal, PieceRefusal};
+pub use limits::{MOST_BREAKS, MOST_ROOM, limits_are_these};
+pub use refusal::{BreakRefusal, ClearRefusal, PieceRefusal, RefusedPiece};
 pub use session::Session;
 pub use slice::{Slice, Stopped};

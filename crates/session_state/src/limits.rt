@@ -1,11 +1,16 @@
-//! The limit of sessions, which is this project's own.
+//! The limits of sessions, which are this project's own.
 
 ghost use Rattle.std.specs.Prelude.{◌≡◌};
 
 /// The greatest number of breakpoints of a session.
 pub const MOST_BREAKS: usize = 64;
 
-/// The law of what the limit is.
+/// For how many bytes a session that has ended or begins anew keeps memory that it has no use for, in each of its lists
+/// of bytes; for a 64th of so many items in each other list.
+pub const MOST_ROOM: usize = 65_536;
+
+/// The law of what the limits are.
 pub fn limits_are_these()
     ensures breaks { MOST_BREAKS ≡ 64 }
+    ensures room { MOST_ROOM ≡ 65536 }
 {}

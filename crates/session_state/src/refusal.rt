@@ -14,6 +14,13 @@ pub enum PieceRefusal {
     NoMemory,
 }
 
+/// A piece that was not taken, which is handed back, and why.
+#[derive(Debug, Drop, PartialEq, Eq)]
+pub struct RefusedPiece {
+    pub why: PieceRefusal,
+    pub piece: Vec<u8>,
+}
+
 /// Why a breakpoint was not set, which changed nothing.
 #[derive(Clone, Copy, Debug, PartialEq, Eq, Error)]
 pub enum BreakRefusal {

@@ -1,18 +1,19 @@
 //! A program run on bytes that come in pieces, with breakpoints.
 
-ghost use Rattle.std.specs.Prelude.{◌≡◌, ◌≤◌, ◌<◌, ◌+◌, [], if◌then◌else◌, false, is_some, length, option_map, Some, IfErr};
+ghost use Rattle.std.specs.Prelude.{◌≡◌, ◌≤◌, ◌<◌, ◌+◌, [], if◌then◌else◌, false, is_some, length, option_map, slice_get, None, Some, IfErr, OnOk};
 ghost use Rattle.machine.specs.Run.{IsCarry};
+ghost use Rattle.machine_stepper.specs.Running.{end_of as machine_end_of};
 ghost use Rattle.program_definition.specs.Code.{code_of};
-ghost use Rattle.session_state.specs.Changes.{Maybe, Surely, break_refusal, clear_refusal, cleared_at, finished, piece_refusal, refused, set_at, with_piece};
+ghost use Rattle.session_state.specs.Changes.{IsPieceRefusal, Maybe, Surely, break_refusal, clear_refusal, cleared_at, finished, piece_refusal, refused, set_at, with_piece};
 ghost use Rattle.session_state.specs.Ending.{SessionLeadsToOutcome, end_of};
 ghost use Rattle.session_state.specs.Kept.{IsMade, IsSession};
 ghost use Rattle.session_state.specs.Rows.{TakesRows, go_rows, heeded, rows_under, slice_rows, walk_rows};
-ghost use Rattle.session_state.specs.Session.{end_in, has_break, state_of, without_break};
+ghost use Rattle.session_state.specs.Session.{OutOfMemory, end_in, has_break, session_end, state_of, without_break};
 ghost use Rattle.session_state.specs.Stopping.{IsStopped};
 
 use crate::end::SessionEnd;
-use crate::limits::MOST_BREAKS;
-use crate::refusal::{BreakRefusal, ClearRefusal, PieceRefusal};
+use crate::limits::{MOST_BREAKS, MOST_ROOM};
+use crate::refusal::{BreakRefusal, ClearRefusal, PieceRefusal, RefusedPiece};
 use crate::slice::{Slice, Stopped};
 use crate::taking::take;
 use avro_types::Nodes;
@@ -43,6 +44,30 @@ fn heeded(breaks: &[u32], heeds: bool) -> &[u32]
     ensures { result.now ≡ (if heeds then breaks.now else []) }
 {
     if heeds { breaks } else { &[] }
+}
+
+/// How a session ended: for want of memory, or as its machine did.
+fn end_after(out_of_memory: bool, end: Option<End>) -> Option<SessionEnd>
+    ensures { option_map end_of result
+        ≡ (if out_of_memory then Some OutOfMemory else option_map session_end (option_map machine_end_of end)) }
+{
+    if out_of_memory {
+        return Some(SessionEnd::NoMemory);
+    }
+    match end {
+        Some(End::Out(outcome)) => Some(SessionEnd::Out(outcome)),
+        Some(End::Trap(trap)) => Some(SessionEnd::Trap(trap)),
+        None => None,
+    }
+}
+
+/// Lets go of memory above what is held, and above that for `MOST_ROOM` bytes, where a run takes no more rows.
+fn let_go(run: &mut Run, why: Why)
+    ensures { run.new ≡ run.old }
+{
+    if matches!(why, Why::Ended | Why::NoMemory) {
+        run.shrink_to(MOST_ROOM);
+    }
 }
 
 /// A program that is run on bytes that come in pieces, with breakpoints.
@@ -110,6 +135,14 @@ impl<'p> Session<'p> {
         self.out_of_memory = false;
     }
 
+    /// Lets go of memory above what is held, and above that for `MOST_ROOM` bytes and a 64th of so many slots, frames
+    /// and calls.
+    pub fn shrink(&mut self)
+        ensures { self.new ≡ self.old }
+    {
+        self.run.shrink_to(MOST_ROOM);
+    }
+
     /// Appends bytes to the payload. `TooLarge` where all bytes would pass `MOST_PAYLOAD`, and then `Ended` where no
     /// more were to come. A session that has ended takes them too. No bytes take no memory.
     pub fn piece(&mut self, bytes: &[u8]) -> Result<(), PieceRefusal>
@@ -128,6 +161,29 @@ impl<'p> Session<'p> {
         self.run.is_alone(); // law
         pushed?;
         Ok(())
+    }
+
+    /// Appends bytes to the payload, as `piece` does. More than `MOST_ROOM` of them that are the first are not copied.
+    /// Refused, they are handed back.
+    pub fn piece_owned(&mut self, bytes: Vec<u8>) -> Result<(), RefusedPiece>
+        ensures ok { OnOk result ((piece_refusal bytes.items self.old ≡ None)
+            × (self.new ≡ with_piece bytes.items self.old)) }
+        ensures refused { IfErr result (λ refused. (self.new ≡ self.old) × (refused.piece.items ≡ bytes.items)) }
+        ensures why { IfErr result (λ refused. IsPieceRefusal refused.why bytes.items self.old) }
+    {
+        self.run.is_alone(); // law
+        if bytes.len() > MOST_PAYLOAD - self.run.input().len() {
+            return Err(RefusedPiece { why: PieceRefusal::TooLarge, piece: bytes });
+        }
+        if self.run.is_closed() {
+            return Err(RefusedPiece { why: PieceRefusal::Ended, piece: bytes });
+        }
+        let pushed = self.run.push_owned(bytes, MOST_ROOM);
+        self.run.is_alone(); // law
+        match pushed {
+            Ok(()) => Ok(()),
+            Err(piece) => Err(RefusedPiece { why: PieceRefusal::NoMemory, piece }),
+        }
     }
 
     /// Ends the payload. A second time changes nothing.
@@ -197,6 +253,7 @@ impl<'p> Session<'p> {
         self.run.is_alone(); // law
         let breaks = heeded(&self.breaks, heeds_breaks);
         let taken = take(&mut self.run, breaks, limit);
+        let_go(&mut self.run, taken.why);
         self.run.is_alone(); // law
         self.out_of_memory = matches!(taken.why, Why::NoMemory);
         Slice {
@@ -280,7 +337,7 @@ impl<'p> Session<'p> {
     /// The bytes of a character that is cut at the end of what has moved of a text; none where there is no such thing.
     pub fn carry(&self) -> &[u8]
         ensures { (state : State) × (state_of self.now ≡ Some state)
-            × IsCarry self.now.bytes state.pos state.content result.now }
+            × IsCarry (slice_get self.now.program.code state.pc) self.now.bytes state.pos state.content result.now }
     {
         self.run.is_alone(); // law
         self.run.carry()
@@ -315,15 +372,22 @@ impl<'p> Session<'p> {
     {
         self.run.is_alone(); // law
         let (end, bytes) = self.run.into_parts();
-        if self.out_of_memory {
-            return (Some(SessionEnd::NoMemory), bytes);
-        }
-        let end = match end {
-            Some(End::Out(outcome)) => Some(SessionEnd::Out(outcome)),
-            Some(End::Trap(trap)) => Some(SessionEnd::Trap(trap)),
-            None => None,
-        };
-        (end, bytes)
+        (end_after(self.out_of_memory, end), bytes)
+    }
+
+    /// How it ended, where it has, which is taken out: the session goes back to what `begin` gives for its program, in
+    /// the room that it has, as `shrink` leaves it.
+    pub fn take_end(&mut self) -> Option<SessionEnd>
+        ensures end { option_map end_of result ≡ end_in self.old }
+        ensures begun { self.new ≡ begun self.old.program }
+    {
+        self.run.is_alone(); // law
+        let end = end_after(self.out_of_memory, self.run.take_end());
+        self.run.shrink_to(MOST_ROOM);
+        self.run.is_alone(); // law
+        self.breaks.clear();
+        self.out_of_memory = false;
+        end
     }
 
     /// The law of what holds of every session: bytes and breakpoints within their limits, breakpoints distinct and of
