@@ -1,6 +1,6 @@
 //! The program of a pair of schemas, beside the schemas that it is of.
 
-ghost use Rattle.std.specs.Prelude.{◌≡◌, Some, None, IfErr, IfOk, true};
+ghost use Rattle.std.specs.Prelude.{◌≡◌, Some, None, IfErr, IfOk, false, true};
 ghost use Rattle.pair_program.specs.Pair.{IsProgramOf};
 ghost use Rattle.program_definition.specs.Code.{code_of};
 ghost use Rattle.program_lowering.specs.declared.error.CompileError.TheVariants.{ProgramTooLarge};
@@ -53,7 +53,9 @@ impl PairProgram {
 
     /// Whether it is the program of a pair, which has the compact texts of its own.
     pub fn is_of(&self, writer: &Schema, reader: &Schema) -> bool
-        ensures { result ≡ true → IsProgramOf writer.now reader.now self.now }
+        ensures same { result ≡ true → IsProgramOf writer.now reader.now self.now }
+        ensures other { result ≡ false → ¬ ((self.now.writer.text ≡ writer.now.text)
+            × (self.now.reader.text ≡ reader.now.text)) }
     {
         if self.writer.text() != writer.text() || self.reader.text() != reader.text() {
             return false;
