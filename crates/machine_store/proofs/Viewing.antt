@@ -14,6 +14,7 @@ use Rattle.machine_store.specs.declared.store.Frame.{Frame}
 use Rattle.machine_store.specs.declared.store.Frame.TheVariants as frames
 use Rattle.machine_store.specs.declared.views.BufferAt.{BufferAt}
 use Rattle.machine_store.specs.declared.views.BufferAt.TheVariants as at
+use Rattle.machine_store.specs.declared.views.FrameView.{FrameView}
 use Rattle.machine_store.specs.declared.views.FrameView.TheVariants as views
 use Rattle.machine_store.specs.Buffers.{AreLaid, IsPlace, Laid, segments_at}
 use Rattle.machine_store.specs.Frames.{AreFrames, first_of, frames_in, segments_in, slot_of}
@@ -59,6 +60,13 @@ not-newest number top frame fs slots end lt is ends =
   where
     turn : (newer older : List Frame) → reverse (frame ∷ newer) ++ reverse older ≡ reverse newer ++ frame ∷ reverse older
     turn newer older = ap (λ l. l ++ reverse older) (reverse-append (frame ∷ []) newer) ∙ append_assoc (reverse newer) (frame ∷ []) (reverse older)
+
+-- what is shown of a frame that has no slots, wherever these end
+pub skipped-seen : (number : ℕ) (top frame : Frame) (fs : List Frame) (slots : ℕ) (view : FrameView) → number + 1 < length fs → frame ≡ get_or fs (number + 1) frame
+    → ((end : ℕ) → Some view ≡ view_at frame end) → Some view ≡ view_in (frame_numbered number (top ∷ reverse fs) slots)
+skipped-seen number top frame fs slots view lt is shown =
+    let end = end_over (reverse (drop (number + 2) fs)) (end_below top slots) in
+    shown end ∙ ap view_in (not-newest number top frame fs slots end lt is refl)
 
 -- the oldest of the newer frames comes last
 end-last : (newer : List Frame) (frame : Frame) (end : ℕ) → end_over (newer ++ frame ∷ []) end ≡ end_below frame (end_over newer end)

@@ -173,16 +173,25 @@ impl<'p> Session<'p> {
     {
         self.run.is_alone(); // law
         if bytes.len() > MOST_PAYLOAD - self.run.input().len() {
-            return Err(RefusedPiece { why: PieceRefusal::TooLarge, piece: bytes });
+            return Err(RefusedPiece {
+                why: PieceRefusal::TooLarge,
+                piece: bytes,
+            });
         }
         if self.run.is_closed() {
-            return Err(RefusedPiece { why: PieceRefusal::Ended, piece: bytes });
+            return Err(RefusedPiece {
+                why: PieceRefusal::Ended,
+                piece: bytes,
+            });
         }
         let pushed = self.run.push_owned(bytes, MOST_ROOM);
         self.run.is_alone(); // law
         match pushed {
             Ok(()) => Ok(()),
-            Err(piece) => Err(RefusedPiece { why: PieceRefusal::NoMemory, piece }),
+            Err(piece) => Err(RefusedPiece {
+                why: PieceRefusal::NoMemory,
+                piece,
+            }),
         }
     }
 
