@@ -1,0 +1,197 @@
+//! The programs of pairs of a registry's schemas.
+
+ghost use Rattle.std.specs.Prelude.{◌≡◌, None, IfErr, IfOk, IfSome};
+ghost use Rattle.program_cache.specs.Numbers.{number_of_place, pair_number};
+ghost use Rattle.program_cache.specs.Pairs.{IsPairAnswer};
+ghost use Rattle.program_definition.specs.Code.{code_of};
+ghost use Rattle.program_lowering.specs.declared.error.CompileError.TheVariants.{ProgramTooLarge};
+ghost use Rattle.schema_registry.specs.Receipt.{IsReceiptOf};
+ghost use Rattle.session_core.specs.Publishing.{IsPublished};
+
+use crate::cells::Cells;
+use crate::place::Place;
+use crate::refusal::PairRefusal;
+use avro_schema::Schema;
+use isa::Program;
+use once_cell::race::OnceBox;
+use pair_program::PairProgram;
+use program_compiler::CompileError;
+use schema_registry::{MOST_SCHEMAS, Receipt, SharedRegistry};
+use session_core::{Programs, PublishError};
+use std::alloc::{AllocError, Global};
+use std::marker::Model;
+
+/// The cells of some readers' ids, for one writer's.
+type Block = Cells<PairProgram>;
+
+/// The blocks of one writer's id.
+type Row = Cells<Block>;
+
+/// The rows of some writers' ids.
+type Rows = Cells<Row>;
+
+/// The programs of pairs of a registry's schemas, each in a cell by the ids of its writer and its reader. A cell that a
+/// pair has taken is that pair's for good, and cells are made when they are first needed. Callers see a cache as its
+/// registry.
+#[derive(Drop)]
+pub struct ProgramCache<'r> {
+    alloc: Global,
+    registry: &'r SharedRegistry,
+    rows: Cells<Rows>,
+}
+
+impl<'r> Model for ProgramCache<'r> {
+    ghost use Rattle.std.specs.Prelude.{ℕ, List};
+
+    ghost Value = { List ℕ };
+
+    ghost view = { λ c. c.registry.now };
+}
+
+/// What a cell has, which is this pair's where it had none.
+fn held_in<'c>(
+    alloc: Global,
+    cell: &'c OnceBox<PairProgram>,
+    writer: &Schema,
+    reader: &Schema,
+) -> Result<&'c PairProgram, CompileError>
+    ensures { IfErr result (λ e. e ≡ ProgramTooLarge → code_of writer.now.nodes reader.now.nodes ≡ None) }
+{
+    if let Some(pair) = cell.get() {
+        return Ok(pair);
+    }
+    let made = Box::new(alloc, PairProgram::new(alloc, writer, reader)?)?;
+    Ok(cell.get_or_init(move || made))
+}
+
+/// What a cell has, where that is this pair's, as it is where it had none.
+fn pair_in<'c>(
+    alloc: Global,
+    cell: &'c OnceBox<PairProgram>,
+    writer: &Schema,
+    reader: &Schema,
+) -> Result<&'c PairProgram, PairRefusal<'c>>
+    ensures { IsPairAnswer writer.now reader.now result }
+{
+    let held = match held_in(alloc, cell, writer, reader) {
+        Ok(held) => held,
+        Err(CompileError::ProgramTooLarge) => return Err(PairRefusal::ProgramTooLarge),
+        Err(CompileError::NoMemory) => return Err(PairRefusal::NoMemory),
+    };
+    if !held.is_of(writer, reader) {
+        return Err(PairRefusal::Clash(held));
+    }
+    Ok(held)
+}
+
+impl<'r> ProgramCache<'r> {
+    /// An empty cache over a registry.
+    pub fn new(alloc: Global, registry: &'r SharedRegistry) -> Result<ProgramCache<'r>, AllocError>
+        ensures { IfOk result (λ cache. cache ≡ registry.now) }
+    {
+        let rows = Cells::new(alloc)?;
+        Ok(ProgramCache {
+            alloc,
+            registry,
+            rows,
+        })
+    }
+
+    /// The registry under it.
+    pub fn registry(&self) -> &'r SharedRegistry
+        ensures { result.now ≡ self.now }
+    {
+        self.registry
+    }
+
+    /// The place of the cell of two receipts' ids.
+    fn place_of(&self, writer: &Receipt, reader: &Receipt) -> Place
+        requires writer { IsReceiptOf self.now writer.now }
+        requires reader { IsReceiptOf self.now reader.now }
+        ensures { number_of_place result ≡ pair_number writer.now.id reader.now.id }
+    {
+        self.registry.receipt_has_an_id(writer); // law
+        self.registry.receipt_has_an_id(reader); // law
+        Place::of(writer.id(), reader.id())
+    }
+
+    /// The cell at a place.
+    fn cell(&self, place: Place) -> Result<&OnceBox<PairProgram>, AllocError> {
+        let rows = Rows::in_cell(self.alloc, self.rows.at(place.first))?;
+        let row = Row::in_cell(self.alloc, rows.at(place.second))?;
+        let block = Block::in_cell(self.alloc, row.at(place.third))?;
+        Ok(block.at(place.fourth))
+    }
+
+    /// The schemas of two receipts with their program, which is compiled where their cell has none. `ProgramTooLarge`
+    /// where the pair has no program; `Clash` where the cell has that of another pair, which is told; `NoMemory` where
+    /// memory ran out.
+    pub fn pair(
+        &self,
+        writer: &mut Receipt,
+        reader: &mut Receipt,
+    ) -> Result<&PairProgram, PairRefusal<'_>>
+        requires writer { IsReceiptOf self.now writer.old }
+        requires reader { IsReceiptOf self.now reader.old }
+        ensures same { (writer.new ≡ writer.old) × (reader.new ≡ reader.old) }
+        ensures pair { IfSome writer.old.schema (λ w. IfSome reader.old.schema (λ r. IsPairAnswer w r result)) }
+    {
+        let place = self.place_of(writer, reader);
+        let Ok(cell) = self.cell(place) else {
+            return Err(PairRefusal::NoMemory);
+        };
+        let writer = self.registry.schema(writer);
+        let reader = self.registry.schema(reader);
+        pair_in(self.alloc, cell, writer, reader)
+    }
+
+    /// The program of the schemas of two receipts, as `pair` has it. `Clash` tells nothing of the other pair.
+    pub fn program(
+        &self,
+        writer: &mut Receipt,
+        reader: &mut Receipt,
+    ) -> Result<&Program, PublishError>
+        requires writer { IsReceiptOf self.now writer.old }
+        requires reader { IsReceiptOf self.now reader.old }
+        ensures same { (writer.new ≡ writer.old) × (reader.new ≡ reader.old) }
+        ensures program { IfSome writer.old.schema (λ w. IfSome reader.old.schema (λ r.
+            IsPublished w.nodes r.nodes result)) }
+    {
+        match self.pair(writer, reader) {
+            Ok(pair) => Ok(pair.program()),
+            Err(refusal) => Err(refusal.publish_error()),
+        }
+    }
+
+    /// A receipt of a schema of the same compact text, where the registry shows one.
+    fn receipt_of(&self, schema: &Schema) -> Option<Receipt>
+        ensures { IfSome result (λ r. IsReceiptOf self.now r
+            × IfSome r.schema (λ s. s.nodes ≡ schema.now.nodes)) }
+    {
+        for id in 1..=MOST_SCHEMAS as u32 {
+            let Some((found, receipt)) = self.registry.find(id) else {
+                continue;
+            };
+            if found.text() == schema.text() {
+                found.same_text_has_same_nodes(schema); // law
+                return Some(receipt);
+            }
+        }
+        None
+    }
+}
+
+impl<'r> Programs for ProgramCache<'r> {
+    /// `Clash` also where the registry shows no schema of one of the two compact texts.
+    fn publish(&self, writer: &Schema, reader: &Schema) -> Result<&Program, PublishError>
+        ensures { IsPublished writer.now.nodes reader.now.nodes result }
+    {
+        let Some(mut writer) = self.receipt_of(writer) else {
+            return Err(PublishError::Clash);
+        };
+        let Some(mut reader) = self.receipt_of(reader) else {
+            return Err(PublishError::Clash);
+        };
+        self.program(&mut writer, &mut reader)
+    }
+}

@@ -1,0 +1,15 @@
+//! Sessions; used by `session_pool`.
+//!
+//! The programs of pairs of a registry's schemas, each compiled once for all threads, when it is first asked for.
+#![tactic(auto)]
+
+mod cache;
+mod cells;
+mod number;
+mod place;
+mod refusal;
+
+pub use cache::ProgramCache;
+pub use number::pairs_have_their_own_numbers;
+pub use refusal::PairRefusal;
+pub use session_core::{Programs, PublishError};

@@ -1,0 +1,31 @@
+//! Why there is no program of a pair.
+
+ghost use Rattle.program_cache.specs.Pairs.{publish_error};
+ghost use Rattle.std.specs.Prelude.{◌≡◌};
+
+use pair_program::PairProgram;
+use session_core::PublishError;
+
+/// Why there is no program of a pair of schemas.
+#[derive(Clone, Copy)]
+pub enum PairRefusal<'c> {
+    /// The program passes a limit.
+    ProgramTooLarge,
+    /// The cell of the pair's ids has the program of another pair, which is this one.
+    Clash(&'c PairProgram),
+    /// Memory ran out.
+    NoMemory,
+}
+
+impl<'c> PairRefusal<'c> {
+    /// The same without the other pair.
+    pub fn publish_error(self) -> PublishError
+        ensures { result ≡ publish_error self.entry }
+    {
+        match self {
+            PairRefusal::ProgramTooLarge => PublishError::ProgramTooLarge,
+            PairRefusal::Clash(_other) => PublishError::Clash,
+            PairRefusal::NoMemory => PublishError::NoMemory,
+        }
+    }
+}

@@ -1,0 +1,7 @@
+pub mod Crossing
+pub mod Ends
+pub mod Lists
+pub mod Outcomes
+pub mod Pairs
+pub mod Passes
+pub mod Searches

@@ -1,0 +1,16 @@
+-- Why a breakpoint is not set or cleared. All of this is this project's own.
+use Rattle.session_state.specs.declared.refusal.BreakRefusal.{BreakRefusal}
+use Rattle.session_state.specs.declared.refusal.BreakRefusal.TheVariants as breaks
+use Rattle.session_state.specs.declared.refusal.ClearRefusal.{ClearRefusal}
+use Rattle.session_state.specs.declared.refusal.ClearRefusal.TheVariants as clears
+use Rattle.session_pool.specs.declared.debug_error.DebugError.{DebugError}
+use Rattle.session_pool.specs.declared.debug_error.DebugError.TheVariants.{BadAddress, NoMemory, TooManyBreaks}
+
+-- the refusal of a session
+abbrev pub break_error : BreakRefusal → DebugError
+break_error breaks.BadAddress = BadAddress
+break_error breaks.TooManyBreaks = TooManyBreaks
+break_error breaks.NoMemory = NoMemory
+
+abbrev pub clear_error : ClearRefusal → DebugError
+clear_error clears.BadAddress = BadAddress

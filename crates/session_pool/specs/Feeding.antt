@@ -1,0 +1,22 @@
+-- Why a piece is refused. All of this is this project's own.
+use Rattle.std.specs.Prelude.{◌≡◌, ◌<◌, ℕ, ◌+◌, List, length, true}
+use Rattle.outcome.specs.declared.limits.TheConstants.{MOST_PAYLOAD}
+use Rattle.session_state.specs.declared.refusal.PieceRefusal.{PieceRefusal}
+use Rattle.session_state.specs.declared.refusal.PieceRefusal.TheVariants as session
+use Rattle.session_pool_slots.specs.Account.{Account}
+use Rattle.session_pool.specs.declared.refusals.PieceError.{PieceError}
+use Rattle.session_pool.specs.declared.refusals.PieceError.TheVariants.{Busy, Ended, NoMemory, TooLarge}
+
+-- A worker had the session, and the call found it so; all bytes would pass the limit of a payload; no more were to
+-- come; or memory ran out, for a piece with bytes.
+abbrev pub IsWhyNoPiece : PieceError → Account → List ℕ → Type 0 → Type 0
+IsWhyNoPiece Busy a piece found = found
+IsWhyNoPiece TooLarge a piece found = MOST_PAYLOAD < length a.sent + length piece
+IsWhyNoPiece Ended a piece found = a.closed ≡ true
+IsWhyNoPiece NoMemory a piece found = 0 < length piece
+
+-- the refusal of a session
+abbrev pub piece_error : PieceRefusal → PieceError
+piece_error session.TooLarge = TooLarge
+piece_error session.Ended = Ended
+piece_error session.NoMemory = NoMemory

@@ -1,0 +1,9 @@
+pub mod Pass
+pub mod Seats
+pub mod Opening
+pub mod Feeding
+pub mod DebugErrors
+pub mod Debugging
+pub mod Finishing
+pub mod Searching
+pub mod Turning

@@ -1,0 +1,45 @@
+-- What `open` answers. All of this is this project's own.
+use Rattle.std.specs.Prelude.{◌≡◌, ◌∷◌, [], Option, Some, None, IfSome}
+use Rattle.avro_schema.specs.Schema.{Declaration}
+use Rattle.program_definition.specs.Code.{code_of}
+use Rattle.program_cache.specs.declared.refusal.PairRefusal.{PairRefusal}
+use Rattle.program_cache.specs.declared.refusal.PairRefusal.TheVariants as pairs
+use Rattle.session_pool_rule.specs.Results.{IsOccupied, Searched}
+use Rattle.session_pool_rule.specs.Words.{free, ready}
+use Rattle.session_pool_slots.specs.Account.{new_account}
+use Rattle.session_pool_slots.specs.Opening.{FindsNoneFree}
+use Rattle.session_pool_slots.specs.Seats.{knows}
+use Rattle.session_pool.specs.declared.pool.ClientSeat.{ClientSeat}
+use Rattle.session_pool.specs.declared.refusals.OpenError.{OpenError}
+use Rattle.session_pool.specs.declared.refusals.OpenError.TheVariants.{Clash, Full, NoMemory, ProgramTooLarge}
+use Rattle.session_pool.specs.Pass.{Pass}
+use Rattle.session_pool.specs.Seats.{IsGone, KeepsOthers, left, told}
+
+-- the pass is for a session of these two schemas' program
+pub record IsFor (writer reader : Option Declaration) (pass : Pass) : Type 0 where
+  pub of_writer : writer ≡ Some pass.pair.writer
+  pub of_reader : reader ≡ Some pass.pair.reader
+
+-- A session of the pass's program has begun, of which nothing was told, in the first slot that was found free: the
+-- slots below were found taken, in order. The seat had no pass for it, and the slot is left ready.
+pub record HasOpened (old : ClientSeat) (pass : Pass) (new : ClientSeat) : Type 0 where
+  pub begun : told new pass ≡ new_account pass.pair.program
+  pub left : left new pass ≡ ready
+  pub fresh : IsGone old pass
+  pub others : KeepsOthers old pass new
+  pub found : Searched IsOccupied (knows old.slots) pass.slot (free ∷ []) (knows new.slots)
+
+-- The two schemas have no program; or all slots were found taken, in order; or it is another refusal, and no slot was
+-- looked at.
+abbrev pub IsWhyNotOpened : OpenError → Option Declaration → Option Declaration → ClientSeat → ClientSeat → Type 0
+IsWhyNotOpened ProgramTooLarge writer reader old new = IfSome writer (λ w. IfSome reader (λ r.
+    code_of w.nodes r.nodes ≡ None))
+IsWhyNotOpened Full writer reader old new = FindsNoneFree (knows old.slots) (knows new.slots)
+IsWhyNotOpened Clash writer reader old new = knows new.slots ≡ knows old.slots
+IsWhyNotOpened NoMemory writer reader old new = knows new.slots ≡ knows old.slots
+
+-- the refusal of the cache
+abbrev pub open_error : PairRefusal → OpenError
+open_error pairs.ProgramTooLarge = ProgramTooLarge
+open_error (pairs.Clash pair) = Clash
+open_error pairs.NoMemory = NoMemory

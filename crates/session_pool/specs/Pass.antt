@@ -1,0 +1,17 @@
+-- A client's right to a session. All of this is this project's own.
+use Rattle.std.specs.Prelude.{◌≡◌, ℕ, Some}
+use Rattle.pair_program.specs.Pair.{Pair}
+use Rattle.program_correctness.specs.Simulation.{EachEndIsOutcome, EarlyEndIsOutcome}
+use Rattle.program_definition.specs.Code.{code_of}
+
+-- the slot that the session is in, and the pair of schemas with the program that it runs
+pub record Pass : Type 0 where
+  pub slot : ℕ
+  pub pair : Pair
+
+-- The program is the pair's, and each end that it comes to, run alone, is the outcome: that of the bytes that came, and
+-- where more may come of every continuation too.
+pub record LeadsToOutcomes (pair : Pair) : Type 0 where
+  pub code : code_of pair.writer.nodes pair.reader.nodes ≡ Some pair.program
+  pub each_end : EachEndIsOutcome pair.writer.nodes pair.reader.nodes
+  pub early_end : EarlyEndIsOutcome pair.writer.nodes pair.reader.nodes

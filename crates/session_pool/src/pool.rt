@@ -1,0 +1,111 @@
+//! The pool, and its seats.
+
+ghost use Rattle.std.specs.Prelude.{◌≡◌, ◌<◌, ◌≤◌, All, IfOk, vec_len};
+ghost use Rattle.session_pool.specs.declared.limits.TheConstants.{MOST_CLIENTS};
+ghost use Rattle.session_pool_jobs.specs.declared.limits.TheConstants.{MOST_WORKERS};
+
+use program_cache::ProgramCache;
+use session_pool_jobs::{JobSeat, Jobs};
+use session_pool_slots::{SessionSlots, SlotSeat};
+use std::alloc::{AllocError, Global};
+
+/// A pool of sessions that threads share, in slots that clients and workers take in turn, over a cache of programs.
+#[derive(Drop)]
+pub struct SessionPool<'p> {
+    pub(crate) alloc: Global,
+    pub(crate) cache: &'p ProgramCache<'p>,
+    pub(crate) slots: SessionSlots<'p>,
+    pub(crate) jobs: Jobs,
+}
+
+/// A client's seat: what it knows of the slots.
+#[derive(Drop)]
+pub struct ClientSeat<'p> {
+    pub(crate) slots: SlotSeat<'p>,
+}
+
+/// A worker's seat: what it knows of the slots, and its jobs.
+#[derive(Drop)]
+pub struct WorkerSeat<'p> {
+    pub(crate) slots: SlotSeat<'p>,
+    pub(crate) jobs: JobSeat,
+}
+
+impl<'p> SessionPool<'p> {
+    ghost use Rattle.session_pool.specs.Seats.{IsNewClient, IsNewWorker};
+    ghost use Rattle.session_pool_jobs.specs.Calls.{IsEmpty};
+    ghost use Rattle.session_pool_jobs.specs.Seats.{IsSeatOf};
+    ghost use Rattle.session_pool_slots.specs.Seats as slots;
+
+    /// A pool whose slots are free, with seats for so many clients, 1 to `MOST_CLIENTS`, and so many workers, 1 to
+    /// `MOST_WORKERS`.
+    pub fn new(
+        alloc: Global,
+        cache: &'p ProgramCache<'p>,
+        clients: usize,
+        workers: usize,
+    ) -> Result<(SessionPool<'p>, Vec<ClientSeat<'p>>, Vec<WorkerSeat<'p>>), AllocError>
+        requires clients { (1 ≤ clients) × (clients ≤ MOST_CLIENTS) }
+        requires workers { (1 ≤ workers) × (workers ≤ MOST_WORKERS) }
+        ensures cache { IfOk result (λ new. new.0.cache.now ≡ cache.now) }
+        ensures counts { IfOk result (λ new. (vec_len new.1 ≡ clients) × (vec_len new.2 ≡ workers)) }
+        ensures clients { IfOk result (λ new. All (IsNewClient new.0) new.1.items) }
+        ensures workers { IfOk result (λ new. All (IsNewWorker new.0) new.2.items) }
+    {
+        let new_jobs = Jobs::new(alloc, workers)?;
+        let (slots, mut first) = SessionSlots::new(alloc)?;
+        let pool = SessionPool {
+            alloc,
+            cache,
+            slots,
+            jobs: new_jobs.jobs,
+        };
+        let clients = pool.client_seats(&mut first, clients)?;
+        let workers = pool.worker_seats(&mut first, new_jobs.seats)?;
+        Ok((pool, clients, workers))
+    }
+
+    /// The cache of programs under it.
+    pub fn cache(&self) -> &'p ProgramCache<'p>
+        ensures { result.now ≡ self.now.cache.now }
+    {
+        self.cache
+    }
+
+    /// Seats for so many clients, made beside a first one.
+    fn client_seats(
+        &self,
+        first: &mut SlotSeat<'p>,
+        count: usize,
+    ) -> Result<Vec<ClientSeat<'p>>, AllocError>
+        requires { slots.IsSeatOf self.now.slots first.old }
+        ensures first { slots.IsSeatOf self.now.slots first.new }
+        ensures seats { IfOk result (λ seats. (vec_len seats ≡ count) × All (IsNewClient self.now) seats.items) }
+    {
+        let mut seats = Vec::new(self.alloc);
+        for _ in 0..count {
+            let slots = self.slots.another(first);
+            seats.push(ClientSeat { slots })?;
+        }
+        Ok(seats)
+    }
+
+    /// Seats for the workers of these jobs, made beside a first one.
+    fn worker_seats(
+        &self,
+        first: &mut SlotSeat<'p>,
+        jobs: Vec<JobSeat>,
+    ) -> Result<Vec<WorkerSeat<'p>>, AllocError>
+        requires first { slots.IsSeatOf self.now.slots first.old }
+        requires jobs { All (IsSeatOf self.now.jobs) jobs.items × All IsEmpty jobs.items }
+        ensures seats { IfOk result (λ seats. (vec_len seats ≡ vec_len jobs)
+            × All (IsNewWorker self.now) seats.items) }
+    {
+        let mut seats = Vec::new(self.alloc);
+        for jobs in jobs {
+            let slots = self.slots.another(first);
+            seats.push(WorkerSeat { slots, jobs })?;
+        }
+        Ok(seats)
+    }
+}

@@ -1,0 +1,87 @@
+//! Why a call of the pool was refused.
+
+use crate::pass::Pass;
+use program_cache::PairRefusal;
+use session_state::PieceRefusal;
+use thiserror::Error;
+
+/// Why no session was opened.
+#[derive(Clone, Copy, Debug, PartialEq, Eq, Error)]
+pub enum OpenError {
+    #[error("the program passes a limit")]
+    ProgramTooLarge,
+    #[error("the cell of the program has that of another pair")]
+    Clash,
+    #[error("no slot is free")]
+    Full,
+    #[error("out of memory")]
+    NoMemory,
+}
+
+/// Why a piece was not taken.
+#[derive(Clone, Copy, Debug, PartialEq, Eq, Error)]
+pub enum PieceError {
+    #[error("a worker has the session")]
+    Busy,
+    #[error("the bytes with the piece would pass the limit of a payload")]
+    TooLarge,
+    #[error("a piece comes after the last")]
+    Ended,
+    #[error("out of memory")]
+    NoMemory,
+}
+
+/// A piece that was not taken, which is handed back, and why.
+#[derive(Debug, Drop, PartialEq, Eq)]
+pub struct ReturnedPiece {
+    pub why: PieceError,
+    pub piece: Vec<u8>,
+}
+
+/// Why a session's end is not told yet.
+#[derive(Clone, Copy, Debug, PartialEq, Eq, Error)]
+pub enum NotYet {
+    #[error("a worker has the session")]
+    Busy,
+    #[error("the session has not ended")]
+    Pending,
+}
+
+/// A pass that is handed back, and why.
+#[derive(Drop)]
+pub struct ReturnedPass<W> {
+    pub why: W,
+    pub pass: Pass,
+}
+
+impl OpenError {
+    ghost use Rattle.std.specs.Prelude.{◌≡◌};
+    ghost use Rattle.session_pool.specs.Opening.{open_error};
+
+    /// The refusal of the cache.
+    pub(crate) fn of(refusal: PairRefusal) -> OpenError
+        ensures { result ≡ open_error refusal.entry }
+    {
+        match refusal {
+            PairRefusal::ProgramTooLarge => OpenError::ProgramTooLarge,
+            PairRefusal::Clash(_other) => OpenError::Clash,
+            PairRefusal::NoMemory => OpenError::NoMemory,
+        }
+    }
+}
+
+impl PieceError {
+    ghost use Rattle.std.specs.Prelude.{◌≡◌};
+    ghost use Rattle.session_pool.specs.Feeding.{piece_error};
+
+    /// The refusal of a session.
+    pub(crate) fn of(refusal: PieceRefusal) -> PieceError
+        ensures { result ≡ piece_error refusal }
+    {
+        match refusal {
+            PieceRefusal::TooLarge => PieceError::TooLarge,
+            PieceRefusal::Ended => PieceError::Ended,
+            PieceRefusal::NoMemory => PieceError::NoMemory,
+        }
+    }
+}

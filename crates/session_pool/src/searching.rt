@@ -1,0 +1,112 @@
+//! How a worker comes to a session that is ready.
+
+ghost use Rattle.session_pool_slots.specs.Seats.{IsSeatOf as IsSlotSeatOf, Rests as IsAtRest};
+ghost use Rattle.session_pool_jobs.specs.Seats.{IsSeatOf};
+
+use crate::pool::{SessionPool, WorkerSeat};
+use session_pool_jobs::JobSeat;
+use session_pool_rule::READY;
+use session_pool_slots::{SLOTS, SlotSeat};
+
+impl<'p> SessionPool<'p> {
+    ghost use Rattle.session_pool.specs.Seats.{RestsWorker};
+    ghost use Rattle.session_pool.specs.Searching.{FindsByJobs, FindsReady};
+
+    /// Takes a session that is ready: by one of the worker's own jobs, else by one that it steals from each other worker
+    /// in turn, else the first that a scan of all slots finds.
+    pub(crate) fn find(&self, seat: &mut WorkerSeat<'p>) -> Option<u32>
+        requires { RestsWorker self.now seat.old }
+        ensures jobs { IsSeatOf self.now.jobs seat.new.jobs }
+        ensures seat { IsSlotSeatOf self.now.slots seat.new.slots }
+        ensures found { FindsReady seat.old.slots result seat.new.slots }
+    {
+        match self.find_by_jobs(seat) {
+            Some(slot) => Some(slot),
+            None => self.scan(seat),
+        }
+    }
+
+    /// Takes a session by one of the worker's own jobs, or by one that it steals.
+    fn find_by_jobs(&self, seat: &mut WorkerSeat<'p>) -> Option<u32>
+        requires { RestsWorker self.now seat.old }
+        ensures jobs { IsSeatOf self.now.jobs seat.new.jobs }
+        ensures seat { IsSlotSeatOf self.now.slots seat.new.slots }
+        ensures found { FindsByJobs seat.old.slots result seat.new.slots }
+    {
+        match self.take_own(seat) {
+            Some(slot) => Some(slot),
+            None => self.steal_in_turn(seat),
+        }
+    }
+
+    /// Takes a session by one of the worker's own jobs.
+    fn take_own(&self, seat: &mut WorkerSeat<'p>) -> Option<u32>
+        requires { RestsWorker self.now seat.old }
+        ensures jobs { IsSeatOf self.now.jobs seat.new.jobs }
+        ensures seat { IsSlotSeatOf self.now.slots seat.new.slots }
+        ensures found { FindsByJobs seat.old.slots result seat.new.slots }
+    {
+        let slot = self.jobs.take(&mut seat.jobs)?;
+        self.take_job(&mut seat.slots, slot)
+    }
+
+    /// Takes a session by one job of another worker, each in turn.
+    fn steal_in_turn(&self, seat: &mut WorkerSeat<'p>) -> Option<u32>
+        requires { RestsWorker self.now seat.old }
+        ensures jobs { IsSeatOf self.now.jobs seat.new.jobs }
+        ensures seat { IsSlotSeatOf self.now.slots seat.new.slots }
+        ensures found { FindsByJobs seat.old.slots result seat.new.slots }
+    {
+        let own = seat.jobs.number();
+        for from in 0..self.jobs.workers() {
+            if from == own {
+                continue;
+            }
+            if let Some(slot) = self.jobs.steal(&mut seat.jobs, from) {
+                if let Some(slot) = self.take_job(&mut seat.slots, slot) {
+                    return Some(slot);
+                }
+            }
+        }
+        None
+    }
+
+    /// Takes the session of a job's slot, where it is ready. A number that is no slot's is let go.
+    fn take_job(&self, seat: &mut SlotSeat<'p>, slot: u32) -> Option<u32>
+        requires { IsAtRest self.now.slots seat.old }
+        ensures seat { IsSlotSeatOf self.now.slots seat.new }
+        ensures found { FindsByJobs seat.old result seat.new }
+    {
+        if slot as usize >= SLOTS {
+            return None;
+        }
+        if self.slots.take_ready(seat, slot) != READY {
+            return None;
+        }
+        Some(slot)
+    }
+
+    /// Takes the session of the first slot that is ready, and keeps the further ones that are as jobs.
+    fn scan(&self, seat: &mut WorkerSeat<'p>) -> Option<u32>
+        requires { RestsWorker self.now seat.old }
+        ensures jobs { IsSeatOf self.now.jobs seat.new.jobs }
+        ensures seat { IsSlotSeatOf self.now.slots seat.new.slots }
+        ensures found { FindsReady seat.old.slots result seat.new.slots }
+    {
+        let slot = self.slots.scan(&mut seat.slots)?;
+        self.keep_further(&mut seat.jobs, slot + 1);
+        Some(slot)
+    }
+
+    /// Keeps the slots from one on that are ready as jobs, as far as they are taken.
+    fn keep_further(&self, jobs: &mut JobSeat, from: u32)
+        requires { IsSeatOf self.now.jobs jobs.old }
+        ensures { IsSeatOf self.now.jobs jobs.new }
+    {
+        for slot in from..SLOTS as u32 {
+            if self.slots.is_ready(slot) {
+                let _hint = self.jobs.put(jobs, slot);
+            }
+        }
+    }
+}

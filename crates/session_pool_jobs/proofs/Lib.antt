@@ -1,0 +1,5 @@
+mod Balance
+mod Places
+mod Making
+pub mod Steals
+pub mod Crossing

@@ -1,0 +1,5 @@
+pub mod Tallies
+pub mod Passes
+pub mod Seats
+pub mod Calls
+pub mod Thefts

@@ -1,0 +1,25 @@
+-- The rule of a deque of numbers. All of this is this project's own.
+use Rattle.std.specs.Prelude.{◌≡◌, ◌≢◌, ℕ, ◌+◌, ◌==◌, if◌then◌else◌, List, [], ◌∷◌}
+use mathlib.Core.Option.{some}
+use lib.ListN.{get_elem?}
+use Rattle.session_pool_jobs.specs.declared.tally.Tally.{Tally}
+
+-- what was put and what was taken
+abbrev pub tally : List ℕ → List ℕ → Tally
+tally put taken = record { put = put; taken = taken }
+
+-- how often a number is in a list
+abbrev pub times : ℕ → List ℕ → ℕ
+times slot [] = 0
+times slot (x ∷ xs) = (if x == slot then 1 else 0) + times slot xs
+
+-- a sum over all tallies
+abbrev pub total : (Tally → ℕ) → List Tally → ℕ
+total count [] = 0
+total count (t ∷ ts) = count t + total count ts
+
+-- Each number was put as often as it was taken and is there; and the owner alone, whose tally is the first, has put.
+pub record Balances (slots : List ℕ) (tallies : List Tally) : Type 0 where
+  pub balance : (slot : ℕ) → total (λ t. times slot t.put) tallies
+      ≡ total (λ t. times slot t.taken) tallies + times slot slots
+  pub owner : (port : ℕ) (t : Tally) → get_elem? tallies port ≡ some t → port ≢ 0 → t.put ≡ []

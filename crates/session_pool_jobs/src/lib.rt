@@ -1,0 +1,16 @@
+//! Sessions; used by `session_pool`.
+//!
+//! Numbers of slots that workers keep for themselves and steal from one another.
+#![tactic(auto)]
+
+mod jobs;
+mod limits;
+mod refusal;
+mod seat;
+mod tally;
+
+pub use jobs::{Jobs, NewJobs};
+pub use limits::{MOST_KEPT, MOST_WORKERS, limits_are_these};
+pub use refusal::PutRefusal;
+pub use seat::JobSeat;
+pub use tally::Tally;

@@ -1,0 +1,7 @@
+pub mod Accounts
+mod Leaving
+mod Stops
+mod Hands
+mod Begun
+mod Searches
+pub mod Crossing

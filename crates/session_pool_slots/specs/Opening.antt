@@ -1,0 +1,39 @@
+-- What the search for a free slot comes to.
+use Rattle.std.specs.Prelude.{◌≡◌, ◌<◌, ℕ, [], ◌∷◌, Option, Some, None}
+use Rattle.isa.specs.Program.{Program}
+use Rattle.session_state.specs.Session.{Session}
+use Rattle.session_pool_rule.specs.Words.{free, ready, slots}
+use Rattle.session_pool_rule.specs.Steps.{new_pass, pass_in}
+use Rattle.session_pool_rule.specs.Results.{Claimed, HasSame, IsOccupied, Others, Searched}
+use Rattle.session_pool_slots.specs.declared.slots.SlotSeat.{SlotSeat}
+use Rattle.session_pool_slots.specs.Account.{new_account, opened}
+use Rattle.session_pool_slots.specs.Known.{Known, pass_of}
+use Rattle.session_pool_slots.specs.Seats.{knows}
+
+-- The client claimed the slot for this session, and what the slot kept is out with it.
+pub record HasClaimed (old : SlotSeat) (slot : ℕ) (session : Session) (new : SlotSeat) : Type 0 where
+  pub claimed : Claimed opened (knows old) slot session (knows new)
+  pub kept : Option Session
+  pub holds : new.seat.me.1 ≡ (slot, kept) ∷ []
+
+-- the slot is claimed for this session, and what it kept is out
+pub record IsClaimed (slot : ℕ) (session : Session) (seat : SlotSeat) : Type 0 where
+  pub inside : slot < slots
+  pub pass : pass_of slot (knows seat) ≡ Some (new_pass (opened session) session)
+  pub kept : Option Session
+  pub holds : seat.seat.me.1 ≡ (slot, kept) ∷ []
+
+-- The slots below this one were found taken, in order, and this one free; the client has a pass for it, and gave a
+-- session of the program that begins back there, ready.
+pub record HasBegun (v : Known) (slot : ℕ) (program : Program) (w : Known) : Type 0 where
+  pub inside : slot < slots
+  pub found : Searched IsOccupied v slot (free ∷ []) w
+  -- the client had no pass for it
+  pub fresh : pass_of slot v ≡ None
+  pub now : pass_of slot w ≡ Some (pass_in (new_account program) ready)
+  pub others : Others v slot w
+
+-- all slots were found taken, in order, and nothing else has changed
+pub record FindsNoneFree (v w : Known) : Type 0 where
+  pub found : Searched IsOccupied v slots [] w
+  pub same : HasSame v w

@@ -1,0 +1,46 @@
+-- What a worker's steps come to.
+use Rattle.std.specs.Prelude.{◌≡◌, ◌≤◌, ℕ, List, [], ◌∷◌, ◌++◌}
+use Rattle.session_state.specs.declared.slice.Stopped.{Stopped}
+use Rattle.session_state.specs.Rows.{TakesRows, slice_rows}
+use Rattle.session_state.specs.Session.{Session}
+use Rattle.session_state.specs.Stopping.{IsStopped}
+use Rattle.session_pool_rule.specs.Words.{ready, slots}
+use Rattle.session_pool_rule.specs.Steps.{handing}
+use Rattle.session_pool_rule.specs.Results.{HasNoted, IsUnready, Searched, words_of}
+use Rattle.session_pool_slots.specs.declared.slots.SlotSeat.{SlotSeat}
+use Rattle.session_pool_slots.specs.declared.working.RunSlice.{RunSlice}
+use Rattle.session_pool_slots.specs.Account.{has_ended}
+use Rattle.session_pool_slots.specs.Known.{Known}
+use Rattle.session_pool_slots.specs.Leaving.{word_after_slice}
+use Rattle.session_pool_slots.specs.Seats.{HoldsNothing, knows}
+
+-- the slot was passed: the words that were found of it are those of one that is not ready
+pub record LooksUnready (old : SlotSeat) (slot : ℕ) (new : SlotSeat) : Type 0 where
+  pub words : List ℕ
+  pub unready : IsUnready words
+  pub found : (knows new).found ≡ (knows old).found ++ words_of slot words
+  pub holds : HoldsNothing new
+
+-- the slots below this one were passed, in order, and the worker has the session of this one
+pub record TakesFirst (old : SlotSeat) (slot : ℕ) (new : SlotSeat) : Type 0 where
+  pub found : Searched IsUnready (knows old) slot (ready ∷ ready ∷ []) (knows new)
+  pub noted : HasNoted has_ended new.seat.me slot
+
+-- all slots were passed, in order
+pub record FindsNoneReady (old new : SlotSeat) : Type 0 where
+  pub found : Searched IsUnready (knows old) slots [] (knows new)
+  pub holds : HoldsNothing new
+
+-- The worker ran the session that it had taken of the slot, for a slice of at most so many rows, and gave it back with
+-- the word that goes by why it stopped.
+pub record Runs (v : Known) (slot limit : ℕ) (slice : RunSlice) (w : Known) : Type 0 where
+  pub before : Session
+  pub after : Session
+  pub stopped : Stopped
+  pub handed : w.handed ≡ v.handed ++ handing slot before after slice.word ∷ []
+  pub takes : TakesRows (slice_rows limit before) before slice.rows after
+  pub most : slice.rows ≤ limit
+  pub why : IsStopped before.breaks limit slice.rows stopped after
+  pub word : slice.word ≡ word_after_slice stopped
+  pub found : w.found ≡ v.found
+  pub passes : w.passes ≡ v.passes

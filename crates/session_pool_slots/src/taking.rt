@@ -1,0 +1,138 @@
+//! The steps of a client's calls: it takes its session out of its slot, gives it back, or frees the slot.
+
+ghost use Rattle.std.specs.Prelude.{◌≡◌, ◌≢◌, ◌≤◌, MatchResult, Some};
+ghost use mathlib.Core.Option.{none};
+ghost use Rattle.atomic_table.specs.Table.{step};
+ghost use Rattle.session_pool_rule.specs.Words.{IsWordOf, slots, with_client, with_worker};
+ghost use Rattle.session_pool_rule.specs.Results.{Freed, GaveBack, HasIn, HasOut, IsOut};
+ghost use Rattle.session_pool_slots.specs.Account.{NoRows, RowsOn, has_ended, kept, told_all};
+ghost use Rattle.session_pool_slots.specs.Known.{PassData, pass_of};
+ghost use Rattle.session_pool_slots.specs.Kinds.{taken};
+
+use crate::kinds::{Free, Give, Take, Tell};
+use crate::slots::{SessionSlots, SlotSeat};
+use session_pool_rule::{FREE, READY, WITH_CLIENT, WITH_WORKER};
+use session_state::Session;
+use thiserror::Error;
+
+/// A worker has the session.
+#[derive(Clone, Copy, Debug, PartialEq, Eq, Error)]
+#[error("a worker has the session")]
+pub struct Busy;
+
+/// A session that was taken out of its slot, and the word that was found there.
+#[derive(Drop)]
+pub struct TakenOut<'p> {
+    pub session: Session<'p>,
+    pub word: u64,
+}
+
+impl<'p> SessionSlots<'p> {
+    ghost use Rattle.session_pool_slots.specs.Seats.{HoldsEmpty, HoldsNothing, IsSeatOf, Rests, knows};
+    ghost use Rattle.session_pool_slots.specs.Taking.{Expects, FindsBusy, HasTaken, TakesOut};
+
+    /// Tries to take the client's session from this word. Answers the word that was found.
+    fn take_from(&self, seat: &mut SlotSeat<'p>, slot: u32, expected: u64) -> u64
+        requires seat { IsSeatOf self.now seat.old }
+        requires pass { Expects (knows seat.old) slot expected }
+        ensures seat { IsSeatOf self.now seat.new }
+        ensures taken { taken (step slots slot expected with_client none) seat.old.seat.me result seat.new.seat.me }
+    {
+        self.table
+            .shared
+            .compare_exchange::<Take>(&mut seat.seat, slot as usize, expected, WITH_CLIENT)
+    }
+
+    /// Takes the client's session, unless a worker has it. Answers the word that was found.
+    fn seize(&self, seat: &mut SlotSeat<'p>, slot: u32) -> u64
+        requires seat { Rests self.now seat.old }
+        requires pass { HasIn (knows seat.old) slot }
+        ensures seat { IsSeatOf self.now seat.new }
+        ensures taken { result ≢ with_worker → (pass : PassData) → pass_of slot (knows seat.old) ≡ Some pass
+            → HasTaken seat.old slot pass result seat.new }
+        ensures busy { result ≡ with_worker → FindsBusy seat.old slot seat.new }
+    {
+        let found = self.take_from(seat, slot, READY);
+        if found == WITH_WORKER || found == READY {
+            return found;
+        }
+        self.take_from(seat, slot, found);
+        found
+    }
+
+    /// Takes the client's session out of its slot. `Busy` where a worker has it.
+    pub fn take_out(&self, seat: &mut SlotSeat<'p>, slot: u32) -> Result<TakenOut<'p>, Busy>
+        requires seat { Rests self.now seat.old }
+        requires pass { HasIn (knows seat.old) slot }
+        ensures seat { IsSeatOf self.now seat.new }
+        ensures taken { MatchResult result
+            (λ taken. TakesOut seat.old slot taken.word taken.session seat.new)
+            (λ _. FindsBusy seat.old slot seat.new) }
+    {
+        let word = self.seize(seat, slot);
+        if word == WITH_WORKER {
+            return Err(Busy);
+        }
+        let session = self
+            .table
+            .shared
+            .exchange(&mut seat.seat, slot as usize, None)
+            .unwrap();
+        Ok(TakenOut { session, word })
+    }
+
+    /// Gives back the session that the client took out, no rows on, with this word.
+    pub fn give_back(&self, seat: &mut SlotSeat<'p>, slot: u32, session: Session<'p>, word: u64)
+        requires seat { IsSeatOf self.now seat.old × HoldsEmpty slot seat.old }
+        requires pass { HasOut (knows seat.old) slot
+            (λ pass before. NoRows before session × (pass.account.seen ≤ session.count)) }
+        requires word { IsWordOf (has_ended session) word }
+        ensures seat { Rests self.now seat.new }
+        ensures gave { GaveBack kept (knows seat.old) slot session.entry word (knows seat.new) }
+    {
+        drop(
+            self.table
+                .shared
+                .exchange(&mut seat.seat, slot as usize, Some(session)),
+        );
+        self.table
+            .shared
+            .store::<Give>(&mut seat.seat, slot as usize, word);
+    }
+
+    /// Gives back the session that the client took out, some rows on, with this word. The client is told how many rows
+    /// were taken of it in all.
+    pub fn tell_back(&self, seat: &mut SlotSeat<'p>, slot: u32, session: Session<'p>, word: u64)
+        requires seat { IsSeatOf self.now seat.old × HoldsEmpty slot seat.old }
+        requires pass { HasOut (knows seat.old) slot (λ pass before. RowsOn before session) }
+        requires word { IsWordOf (has_ended session) word }
+        ensures seat { Rests self.now seat.new }
+        ensures gave { GaveBack told_all (knows seat.old) slot session.entry word (knows seat.new) }
+    {
+        drop(
+            self.table
+                .shared
+                .exchange(&mut seat.seat, slot as usize, Some(session)),
+        );
+        self.table
+            .shared
+            .store::<Tell>(&mut seat.seat, slot as usize, word);
+    }
+
+    /// Frees the slot of the session that the client took out. The slot keeps a session, for whoever claims it next.
+    pub fn free(&self, seat: &mut SlotSeat<'p>, slot: u32, kept: Session<'p>)
+        requires seat { IsSeatOf self.now seat.old × HoldsEmpty slot seat.old }
+        requires pass { IsOut (knows seat.old) slot }
+        ensures seat { Rests self.now seat.new }
+        ensures freed { Freed (knows seat.old) slot (knows seat.new) }
+    {
+        drop(
+            self.table
+                .shared
+                .exchange(&mut seat.seat, slot as usize, Some(kept)),
+        );
+        self.table
+            .shared
+            .store::<Free>(&mut seat.seat, slot as usize, FREE);
+    }
+}
