@@ -12,8 +12,8 @@ impl<'p> SessionPool<'p> {
     ghost use Rattle.session_pool.specs.Seats.{RestsWorker};
     ghost use Rattle.session_pool.specs.Searching.{FindsByJobs, FindsReady};
 
-    /// Takes a session that is ready: by one of the worker's own jobs, else by one that it steals from each other worker
-    /// in turn, else the first that a scan of all slots finds.
+    /// Takes a session that is ready: by one of the worker's own jobs, else by one that it steals from each other
+    /// worker in turn, else the first that a scan of all slots finds.
     pub(crate) fn find(&self, seat: &mut WorkerSeat<'p>) -> Option<u32>
         requires { RestsWorker self.now seat.old }
         ensures jobs { IsSeatOf self.now.jobs seat.new.jobs }
