@@ -3,6 +3,7 @@ pub mod Seats
 pub mod Opening
 pub mod Feeding
 pub mod DebugErrors
+pub mod Commands
 pub mod Debugging
 pub mod Finishing
 pub mod Searching

@@ -7,6 +7,7 @@ use crate::debug_error::DebugError;
 use crate::pass::Pass;
 use crate::pool::{ClientSeat, SessionPool};
 use debugger::{list, show};
+use session_core::Act;
 use session_pool_slots::word_after;
 
 /// What a debugger asks of a session.
@@ -35,6 +36,24 @@ pub enum DebugReply {
     Rows(u64),
     /// The text.
     Text(String),
+}
+
+impl DebugCommand {
+    ghost use Rattle.session_core.specs.Event.{act_of};
+    ghost use Rattle.session_pool.specs.Commands.{command_of};
+
+    /// The command that an act of a session is, where it is one that a debugger asks for.
+    pub fn of(act: &Act) -> Option<DebugCommand>
+        ensures { result ≡ command_of (act_of act.now) }
+    {
+        match act {
+            Act::Break(address) => Some(DebugCommand::Break(*address)),
+            Act::Clear(address) => Some(DebugCommand::Clear(*address)),
+            Act::Walk(limit) => Some(DebugCommand::Walk(*limit)),
+            Act::Go(limit) => Some(DebugCommand::Go(*limit)),
+            _ => None,
+        }
+    }
 }
 
 impl<'p> SessionPool<'p> {

@@ -1,0 +1,5 @@
+use Rattle.session_pool_jobs.specs.Seats.{IsSeatOf}
+use Rattle.session_pool_tests.proofs.jobs.put_many.Given as goal
+
+abbrev pub invariant-loop-slot : goal.invariant-loop-slot
+invariant-loop-slot l = IsSeatOf l.jobs l.seat

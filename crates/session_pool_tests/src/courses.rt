@@ -1,0 +1,136 @@
+//! Sessions from their begin to their end.
+
+ghost use Rattle.std.specs.Prelude.{◌≡◌, IfOk};
+ghost use Rattle.schema_registry.specs.Receipt.{IsReceiptOf};
+ghost use Rattle.session_pool.specs.Seats.{IsPassOf, Rests, RestsWorker};
+
+use outcome::Outcome;
+use schema_registry::Receipt;
+use session_pool::{
+    ClientSeat, Finished, NotYet, Pass, PieceError, ReturnedPass, SessionEnd, SessionPool,
+    WorkerSeat,
+};
+use std::alloc::Global;
+use std::test::Fail;
+
+/// What a session came to, and in which slot.
+#[derive(Debug, Drop)]
+pub(crate) struct Course {
+    pub(crate) slot: u32,
+    pub(crate) output: Vec<u8>,
+    pub(crate) rows: u64,
+}
+
+/// Sends a piece to a session.
+pub(crate) fn send<'p>(
+    alloc: Global,
+    pool: &SessionPool<'p>,
+    seat: &mut ClientSeat<'p>,
+    pass: &Pass,
+    bytes: &[u8],
+) -> Result<(), PieceError>
+    requires seat { Rests pool.now seat.old }
+    requires pass { IsPassOf seat.old pass.now }
+    ensures seat { Rests pool.now seat.new }
+    ensures pass { IsPassOf seat.new pass.now }
+{
+    let Ok(piece) = Vec::from_slice(alloc, bytes) else {
+        return Err(PieceError::NoMemory);
+    };
+    match pool.piece(seat, pass, piece) {
+        Ok(()) => Ok(()),
+        Err(refused) => Err(refused.why),
+    }
+}
+
+/// The output of a session that is done; another end is an error.
+pub(crate) fn output_of(end: SessionEnd) -> Result<Vec<u8>, SessionEnd> {
+    match end {
+        SessionEnd::Out(Outcome::Done(output)) => Ok(output),
+        other => Err(other),
+    }
+}
+
+/// The pass of a session that has not ended. What came of one that has is an error.
+pub(crate) fn pending<'p>(
+    pool: &SessionPool<'p>,
+    seat: &mut ClientSeat<'p>,
+    pass: Pass,
+) -> Result<Pass, Finished>
+    requires seat { Rests pool.now seat.old }
+    requires pass { IsPassOf seat.old pass }
+    ensures seat { Rests pool.now seat.new }
+    ensures pass { IfOk result (IsPassOf seat.new) }
+{
+    match pool.result(seat, pass) {
+        Ok(finished) => Err(finished),
+        Err(ReturnedPass { pass, .. }) => Ok(pass),
+    }
+}
+
+/// What came of a session that has ended.
+pub(crate) fn finished<'p>(
+    pool: &SessionPool<'p>,
+    seat: &mut ClientSeat<'p>,
+    pass: Pass,
+) -> Result<Finished, NotYet>
+    requires seat { Rests pool.now seat.old }
+    requires pass { IsPassOf seat.old pass }
+    ensures seat { Rests pool.now seat.new }
+{
+    match pool.result(seat, pass) {
+        Ok(finished) => Ok(finished),
+        Err(refused) => Err(refused.why),
+    }
+}
+
+/// A pass of a new session, which has a whole payload.
+pub(crate) fn fed<'p>(
+    alloc: Global,
+    pool: &SessionPool<'p>,
+    seat: &mut ClientSeat<'p>,
+    writer: &mut Receipt,
+    reader: &mut Receipt,
+    payload: &[u8],
+) -> Result<Pass, Fail>
+    requires seat { Rests pool.now seat.old }
+    requires writer { IsReceiptOf pool.now.cache.now writer.old }
+    requires reader { IsReceiptOf pool.now.cache.now reader.old }
+    ensures seat { Rests pool.now seat.new }
+    ensures receipts { (writer.new ≡ writer.old) × (reader.new ≡ reader.old) }
+    ensures pass { IfOk result (IsPassOf seat.new) }
+{
+    let pass = pool.open(seat, writer, reader)?;
+    send(alloc, pool, seat, &pass, payload)?;
+    pool.end(seat, &pass)?;
+    Ok(pass)
+}
+
+/// A session on a whole payload, to its end in one turn.
+pub(crate) fn run_through<'p>(
+    alloc: Global,
+    pool: &SessionPool<'p>,
+    client: &mut ClientSeat<'p>,
+    worker: &mut WorkerSeat<'p>,
+    writer: &mut Receipt,
+    reader: &mut Receipt,
+    payload: &[u8],
+) -> Result<Course, Fail>
+    requires client { Rests pool.now client.old }
+    requires worker { RestsWorker pool.now worker.old }
+    requires writer { IsReceiptOf pool.now.cache.now writer.old }
+    requires reader { IsReceiptOf pool.now.cache.now reader.old }
+    ensures client { Rests pool.now client.new }
+    ensures worker { RestsWorker pool.now worker.new }
+    ensures receipts { (writer.new ≡ writer.old) × (reader.new ≡ reader.old) }
+{
+    let pass = fed(alloc, pool, client, writer, reader, payload)?;
+    let slot = pass.slot();
+    let _turn = pool.turn(worker, 1_000_000);
+    let finished = finished(pool, client, pass)?;
+    Ok(Course {
+        slot,
+        output: output_of(finished.end)?,
+        rows: finished.rows,
+    })
+}

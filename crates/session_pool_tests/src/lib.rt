@@ -1,0 +1,34 @@
+//! Tests and bench; run by `rt ci`.
+//!
+//! Tests of `session_pool`, `session_pool_jobs` and `program_cache`, in one crate over all three, so that each library
+//! is proved once.
+#![tactic(auto)]
+
+#[cfg(test)]
+mod apart;
+#[cfg(test)]
+mod cache;
+#[cfg(test)]
+mod courses;
+#[cfg(test)]
+mod gates;
+#[cfg(test)]
+mod jobs;
+#[cfg(test)]
+mod memory;
+#[cfg(test)]
+mod replies;
+#[cfg(test)]
+mod rows;
+#[cfg(test)]
+mod same;
+#[cfg(test)]
+mod schemas;
+#[cfg(test)]
+mod seats;
+#[cfg(test)]
+mod slots;
+#[cfg(test)]
+mod threads;
+#[cfg(test)]
+mod waiting;

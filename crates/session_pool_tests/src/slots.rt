@@ -1,0 +1,148 @@
+//! Which slots sessions are opened in, and in which order workers come to them.
+
+ghost use Rattle.std.specs.Prelude.{◌≡◌};
+ghost use Rattle.schema_registry.specs.Receipt.{IsReceiptOf};
+ghost use Rattle.session_pool.specs.Seats.{Rests, RestsWorker};
+
+use crate::courses::{fed, run_through};
+use crate::same::same;
+use crate::schemas::{LIST_BYTES, LONG_LIST, RECORD, RECORD_BYTES, registered};
+use crate::seats::{Seated, last_client, last_worker, new_pool};
+use program_cache::ProgramCache;
+use schema_registry::{Receipt, SharedRegistry};
+use session_pool::{ClientSeat, OpenError, SLOTS, SessionPool, Turn};
+use std::alloc::Global;
+use std::test::Fail;
+
+/// A turn that ran one row of a slot's session.
+fn one_row(slot: u32) -> Turn {
+    Turn::Ran { slot, rows: 1 }
+}
+
+/// Opens three sessions of lists, each with a whole payload.
+fn open_three<'p>(
+    alloc: Global,
+    pool: &SessionPool<'p>,
+    seat: &mut ClientSeat<'p>,
+    receipt: &mut Receipt,
+) -> Result<(), Fail>
+    requires seat { Rests pool.now seat.old }
+    requires receipt { IsReceiptOf pool.now.cache.now receipt.old }
+{
+    let mut again = receipt.again();
+    for _ in 0..3 {
+        let _pass = fed(alloc, pool, seat, receipt, &mut again, LIST_BYTES)?;
+    }
+    Ok(())
+}
+
+#[test]
+fn a_worker_comes_to_each_session_in_turn(rt: HostRuntime) -> Result<(), Fail> {
+    let alloc = rt.alloc();
+    let registry = SharedRegistry::new(alloc)?;
+    let cache = ProgramCache::new(alloc, &registry)?;
+    let Seated {
+        pool,
+        mut clients,
+        mut workers,
+    } = new_pool(alloc, &cache, 1, 1)?;
+    let mut client = last_client(&rt, &pool, &mut clients);
+    let mut worker = last_worker(&rt, &pool, &mut workers);
+    let mut receipt = registered(&rt, alloc, &pool, "s", LONG_LIST)?;
+    open_three(alloc, &pool, &mut client, &mut receipt)?;
+    same(&rt, pool.turn(&mut worker, 1), one_row(0));
+    same(&rt, pool.turn(&mut worker, 1), one_row(1));
+    same(&rt, pool.turn(&mut worker, 1), one_row(2));
+    same(&rt, pool.turn(&mut worker, 1), one_row(0));
+    Ok(())
+}
+
+#[test]
+fn a_worker_steals_from_another(rt: HostRuntime) -> Result<(), Fail> {
+    let alloc = rt.alloc();
+    let registry = SharedRegistry::new(alloc)?;
+    let cache = ProgramCache::new(alloc, &registry)?;
+    let Seated {
+        pool,
+        mut clients,
+        mut workers,
+    } = new_pool(alloc, &cache, 1, 2)?;
+    let mut client = last_client(&rt, &pool, &mut clients);
+    let mut thief = last_worker(&rt, &pool, &mut workers);
+    let mut owner = last_worker(&rt, &pool, &mut workers);
+    let mut receipt = registered(&rt, alloc, &pool, "s", LONG_LIST)?;
+    open_three(alloc, &pool, &mut client, &mut receipt)?;
+    same(&rt, pool.turn(&mut owner, 1), one_row(0));
+    same(&rt, pool.turn(&mut thief, 1), one_row(1));
+    Ok(())
+}
+
+/// How many sessions were opened, and why no further one was.
+#[derive(Clone, Copy, Debug, PartialEq, Eq)]
+struct Opened {
+    sessions: usize,
+    refusal: Option<OpenError>,
+}
+
+/// Opens sessions until one is refused, so many at most, and lets go of their passes.
+fn open_all<'p>(
+    pool: &SessionPool<'p>,
+    seat: &mut ClientSeat<'p>,
+    receipt: &mut Receipt,
+    most: usize,
+) -> Opened
+    requires seat { Rests pool.now seat.old }
+    requires receipt { IsReceiptOf pool.now.cache.now receipt.old }
+    ensures seat { Rests pool.now seat.new }
+    ensures receipt { receipt.new ≡ receipt.old }
+{
+    let mut again = receipt.again();
+    for sessions in 0..most {
+        if let Err(error) = pool.open(seat, receipt, &mut again) {
+            return Opened {
+                sessions,
+                refusal: Some(error),
+            };
+        }
+    }
+    Opened {
+        sessions: most,
+        refusal: None,
+    }
+}
+
+#[test]
+fn a_session_too_many_is_refused(rt: HostRuntime) -> Result<(), Fail> {
+    let alloc = rt.alloc();
+    let registry = SharedRegistry::new(alloc)?;
+    let cache = ProgramCache::new(alloc, &registry)?;
+    let Seated {
+        pool,
+        mut clients,
+        mut workers,
+    } = new_pool(alloc, &cache, 2, 1)?;
+    let mut client = last_client(&rt, &pool, &mut clients);
+    let mut other = last_client(&rt, &pool, &mut clients);
+    let mut worker = last_worker(&rt, &pool, &mut workers);
+    let mut receipt = registered(&rt, alloc, &pool, "s", RECORD)?;
+    let mut again = receipt.again();
+    let pass = pool.open(&mut client, &mut receipt, &mut again)?;
+    let full = Opened {
+        sessions: SLOTS - 1,
+        refusal: Some(OpenError::Full),
+    };
+    same(&rt, open_all(&pool, &mut other, &mut receipt, SLOTS), full);
+    assert!(rt; pool.abandon(&mut client, pass).is_ok());
+    let found = run_through(
+        alloc,
+        &pool,
+        &mut client,
+        &mut worker,
+        &mut receipt,
+        &mut again,
+        RECORD_BYTES,
+    )?;
+    same(&rt, found.slot, 0);
+    same(&rt, found.output.as_slice(), RECORD_BYTES);
+    Ok(())
+}
