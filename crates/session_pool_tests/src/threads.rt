@@ -168,11 +168,11 @@ fn all_asking<'a, 'p>(
     alloc: Global,
     pool: &'a SessionPool<'p>,
     mut seats: Vec<ClientSeat<'p>>,
-    record: &mut Receipt,
+    unswapped: &mut Receipt,
     swapped: &mut Receipt,
 ) -> Result<Vec<Asking<'a, 'p>>, AllocError>
     requires seats { All (IsNewClient pool.now) seats.items }
-    requires record { IsReceiptOf pool.now.cache.now record.old }
+    requires unswapped { IsReceiptOf pool.now.cache.now unswapped.old }
     requires swapped { IsReceiptOf pool.now.cache.now swapped.old }
 {
     let mut clients = Vec::new(alloc);
@@ -184,8 +184,8 @@ fn all_asking<'a, 'p>(
             alloc,
             pool,
             seat,
-            writer: record.again(),
-            reader: record.again(),
+            writer: unswapped.again(),
+            reader: unswapped.again(),
             swapped: swapped.again(),
         })?;
     }
@@ -237,11 +237,11 @@ fn eight_clients_and_four_workers(rt: HostRuntime) -> Result<(), Fail> {
         clients,
         workers,
     } = new_pool(alloc, &cache, 8, 4)?;
-    let mut record = registered(&rt, alloc, &pool, "s", RECORD)?;
+    let mut unswapped = registered(&rt, alloc, &pool, "s", RECORD)?;
     let mut swapped = registered(&rt, alloc, &pool, "t", SWAPPED)?;
     let is_over = AtomicBool::new(false);
     let workers = all_working(alloc, &pool, &is_over, workers)?;
-    let clients = all_asking(alloc, &pool, clients, &mut record, &mut swapped)?;
+    let clients = all_asking(alloc, &pool, clients, &mut unswapped, &mut swapped)?;
     let right = run_all(&rt, &is_over, workers, clients)?;
     same(&rt, right.as_slice(), [ROUNDS; 8].as_slice());
     Ok(())

@@ -6,5 +6,5 @@ use Rattle.session_pool_tests.proofs.threads.all_asking.Given as goal
 abbrev pub invariant-loop : goal.invariant-loop
 invariant-loop l =
     All (IsNewClient l.pool) l.seats.items
-    × IsReceiptOf l.pool.cache.now l.record
+    × IsReceiptOf l.pool.cache.now l.unswapped
     × IsReceiptOf l.pool.cache.now l.swapped
