@@ -49,7 +49,6 @@ struct Waiting<'a, 'p> {
     second: ClientSeat<'p>,
     second_pass: Pass,
     ghost ready: { Rests pool.now first × Rests pool.now second },
-    ghost passes: { IsPassOf first first_pass × IsPassOf second second_pass },
 }
 
 /// Stays inside of the first session until the second is answered.
@@ -89,7 +88,9 @@ fn work(working: Working) -> u64 {
 }
 
 /// Whether both sessions are answered, the second first.
-fn wait(waiting: Waiting) -> bool {
+fn wait(waiting: Waiting) -> bool
+    requires { IsPassOf waiting.first waiting.first_pass × IsPassOf waiting.second waiting.second_pass }
+{
     let Waiting {
         pool,
         flags,
@@ -137,7 +138,9 @@ fn run_all<'a, 'p, R: Threads + Sync>(
     rt: &R,
     workers: Vec<Working<'a, 'p>>,
     waiting: Waiting<'a, 'p>,
-) -> Result<bool, AllocError> {
+) -> Result<bool, AllocError>
+    requires { IsPassOf waiting.first waiting.first_pass × IsPassOf waiting.second waiting.second_pass }
+{
     let (worked, waited) = thread::join(rt, || work_all(rt, workers), || wait(waiting));
     worked?;
     Ok(waited)

@@ -49,7 +49,6 @@ struct Asking<'a, 'p> {
     seat: ClientSeat<'p>,
     pass: Pass,
     ghost ready: { Rests pool.now seat },
-    ghost known: { IsPassOf seat pass },
 }
 
 /// Takes a turn that is held inside, and then turns until the client needs no more. Answers the first.
@@ -154,7 +153,9 @@ fn asked_and_fed<'p>(
 }
 
 /// The same, and then the worker needs to wait for nothing more.
-fn ask(asking: Asking) -> Option<Finished> {
+fn ask(asking: Asking) -> Option<Finished>
+    requires { IsPassOf asking.seat asking.pass }
+{
     let Asking {
         alloc,
         pool,
@@ -176,7 +177,9 @@ struct Met {
 }
 
 /// Both at once.
-fn meet<'a, 'p, R: Threads>(rt: &R, held: Held<'a, 'p>, asking: Asking<'a, 'p>) -> Met {
+fn meet<'a, 'p, R: Threads>(rt: &R, held: Held<'a, 'p>, asking: Asking<'a, 'p>) -> Met
+    requires { IsPassOf asking.seat asking.pass }
+{
     let (turn, finished) = thread::join(rt, || hold(held), || ask(asking));
     Met { turn, finished }
 }

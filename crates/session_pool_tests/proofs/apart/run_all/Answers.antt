@@ -1,8 +1,21 @@
 -- What is given to a thread may be.
-use denote.Param.Send.{sendable}
+use denote.Param.Send.{IsSend, sendable, shr_send}
+use denote.Param.SendFields.{declared_send, as_row_send}
+use denote.Ref.{NamedLft}
 use Rattle.std.proofs.Crossing.{crosses}
-use Rattle.session_pool_tests.proofs.Crossing.{working-apart-send}
+use Rattle.session_pool.proofs.Crossing.{pool-sync, worker-send}
+use Rattle.session_pool_tests.proofs.apart.Flags.TheSendSync as flags
+use Rattle.session_pool_tests.specs.contracts.apart.Working as working_apart
 use Rattle.session_pool_tests.proofs.apart.run_all.Goals as goal
+
+working-apart-send : (α κ : NamedLft) → IsSend (working_apart.the_row α κ)
+working-apart-send α κ = declared_send (working_apart.the_type α κ) (
+  search (pool-sync, shr_send, as_row_send) depth 60 fits 20000,
+  (
+    search (flags.the_sync, shr_send, as_row_send) depth 60 fits 20000,
+    (search (worker-send, as_row_send) depth 60 fits 20000, tt),
+  ),
+)
 
 pub join-worked-requires-send-F : goal.join-worked-requires-send-F
 join-worked-requires-send-F g c κs within = search (working-apart-send, crosses, c.type_bounds, sendable) depth 60 fits 20000
