@@ -1,0 +1,38 @@
+//! A gate of whoever waits for a session, by which he runs sessions himself.
+
+ghost use Rattle.session_pool.specs.Seats.{RestsWorker};
+
+use gateway::{Gate, Place};
+use session_pool::{SessionPool, Turn, WorkerSeat};
+
+/// How many rows a client's turn takes at most.
+pub const SLICE: u64 = 10_000;
+
+/// A gate that takes a turn each time it is asked. It always says yes.
+#[derive(Drop)]
+pub struct Helping<'a, 'p> {
+    pool: &'a SessionPool<'p>,
+    seat: WorkerSeat<'p>,
+    ghost rests: { RestsWorker pool.now seat },
+}
+
+impl<'a, 'p> Helping<'a, 'p> {
+    /// A gate that takes turns by a worker's seat of the pool.
+    pub fn new(pool: &'a SessionPool<'p>, seat: WorkerSeat<'p>) -> Helping<'a, 'p>
+        requires { RestsWorker pool.now seat }
+    {
+        Helping { pool, seat }
+    }
+
+    /// Takes a turn of at most `SLICE` rows.
+    pub fn turn(&mut self) -> Turn {
+        self.pool.turn(&mut self.seat, SLICE)
+    }
+}
+
+impl<'a, 'p> Gate for Helping<'a, 'p> {
+    fn at(&mut self, _place: Place) -> bool {
+        self.turn();
+        true
+    }
+}

@@ -1,0 +1,30 @@
+//! Seats that are handed out one by one.
+
+ghost use Rattle.std.specs.Prelude.{All, IfSome};
+ghost use Rattle.session_pool.specs.Seats.{IsNewClient, IsNewWorker, Rests, RestsWorker};
+
+use session_pool::{ClientSeat, SessionPool, WorkerSeat};
+
+/// Takes the last of some clients' seats. `None` where none is left.
+pub fn pop_client<'p>(
+    pool: &SessionPool<'p>,
+    seats: &mut Vec<ClientSeat<'p>>,
+) -> Option<ClientSeat<'p>>
+    requires { All (IsNewClient pool.now) seats.old.items }
+    ensures seat { IfSome result (Rests pool.now) }
+    ensures others { All (IsNewClient pool.now) seats.new.items }
+{
+    seats.pop()
+}
+
+/// Takes the last of some workers' seats. `None` where none is left.
+pub fn pop_worker<'p>(
+    pool: &SessionPool<'p>,
+    seats: &mut Vec<WorkerSeat<'p>>,
+) -> Option<WorkerSeat<'p>>
+    requires { All (IsNewWorker pool.now) seats.old.items }
+    ensures seat { IfSome result (RestsWorker pool.now) }
+    ensures others { All (IsNewWorker pool.now) seats.new.items }
+{
+    seats.pop()
+}
