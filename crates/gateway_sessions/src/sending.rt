@@ -10,8 +10,8 @@ use session_pool::{ClientSeat, Pass, PieceError, SessionPool};
 use std::alloc::Global;
 use std::sync::Wait;
 
-/// Sends a session that has just begun a payload as one piece. While a worker has the session it asks the gate and tries
-/// again: `NotFinished` where the gate says no, `NoMemory` where the session found none.
+/// Sends a session that has just begun a payload as one piece. While a worker has the session it asks the gate and
+/// tries again: `NotFinished` where the gate says no, `NoMemory` where the session found none.
 fn send<'p, R: Wait, G: Gate>(
     rt: &R,
     pool: &SessionPool<'p>,
@@ -73,8 +73,8 @@ fn close<'p, R: Wait, G: Gate>(
     unreachable!()
 }
 
-/// Sends a session that has just begun a payload, and tells it that this is the whole. `NotFinished` where the gate says
-/// no, `NoMemory` where memory ran out.
+/// Sends a session that has just begun a payload, and tells it that this is the whole. `NotFinished` where the gate
+/// says no, `NoMemory` where memory ran out.
 pub(crate) fn feed<'p, R: Wait, G: Gate>(
     rt: &R,
     alloc: Global,

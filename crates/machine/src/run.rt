@@ -91,8 +91,8 @@ impl<'p> Run<'p> {
         self.input.extend_from_slice(piece)
     }
 
-    /// Appends bytes to the input, as `push` does, of which more than so many, where they are the first, are not copied:
-    /// they take the place of the input's memory. Refused, they are handed back.
+    /// Appends bytes to the input, as `push` does, of which more than so many, where they are the first, are not
+    /// copied: they take the place of the input's memory. Refused, they are handed back.
     pub fn push_owned(&mut self, piece: Vec<u8>, most_copied: usize) -> Result<(), Vec<u8>>
         requires { self.old.ended ≡ false }
         ensures pushed { OnOk result (self.new ≡ record self.old { input = self.old.input ++ piece.items }) }
@@ -205,7 +205,8 @@ impl<'p> Run<'p> {
         self.machine.into_end()
     }
 
-    /// How it ended, which is taken out; the run goes back to what `new` gives for its program, in the room that it has.
+    /// How it ended, which is taken out; the run goes back to what `new` gives for its program, in the room that it
+    /// has.
     pub fn take_end(&mut self) -> Option<End>
         ensures end { option_map end_of result ≡ self.old.machine.state.end }
         ensures begun { self.new ≡ begun self.old.program }

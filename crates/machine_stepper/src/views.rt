@@ -116,8 +116,8 @@ impl Machine {
         self.store.are_laid(at); // law
     }
 
-    /// The offset in the arena and the length of a segment of a buffer, by its number, where there are so many. It takes
-    /// no memory.
+    /// The offset in the arena and the length of a segment of a buffer, by its number, where there are so many. It
+    /// takes no memory.
     pub fn segment(&self, at: BufferAt, number: usize) -> Option<(usize, usize)>
         ensures there { is_some (buffer_of at self.now.state.store) ≡ true
             → result ≡ option_map place_and_length (slice_get (segments_of_buffer at self.now.layout) number) }

@@ -101,8 +101,8 @@ fn view_at(frame: Frame, end: usize) -> Option<FrameView>
     }
 }
 
-/// What the frame of a number is. Where slots end is asked only where there are some: frames that are skipped have none,
-/// and all frames over them are skipped too.
+/// What the frame of a number is. Where slots end is asked only where there are some: frames that are skipped have
+/// none, and all frames over them are skipped too.
 fn view_numbered(top: Frame, below: &[Frame], slots: usize, number: usize) -> Option<FrameView>
     ensures { result ≡ view_in (frame_numbered number (top ∷ reverse below.now) slots) }
 {

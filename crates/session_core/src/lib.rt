@@ -1,4 +1,4 @@
-//! Sessions; used by `command_parser`, `command_sessions`.
+//! Sessions; used by `command_parser`, `command_sessions`, `program_cache` and others.
 //!
 //! Sessions beside a registry, and what happens to them, one event after another.
 #![tactic(auto)]

@@ -1,4 +1,4 @@
-//! Sessions; used by `session_pool_slots`.
+//! Sessions; used by `session_pool_slots`, `session_pool`.
 //!
 //! The rule of slots whose sessions clients and workers take in turn, over whatever a session is: the words of a slot,
 //! the kinds of step that change one, and what each tells. It is definitions, and the lemmas that each step keeps it.

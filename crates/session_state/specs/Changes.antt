@@ -20,7 +20,8 @@ piece_refusal piece s = if nat_lt MOST_PAYLOAD (length s.bytes + length piece) t
 abbrev pub with_piece : List ℕ → Session → Session
 with_piece piece s = record s { bytes = s.bytes ++ piece }
 
--- Why a piece is refused: that it would pass the limit or comes after the last, or else want of memory, if it has bytes.
+-- Why a piece is refused: that it would pass the limit or comes after the last, or else want of memory, if it has
+-- bytes.
 abbrev pub IsPieceRefusal : PieceRefusal → List ℕ → Session → Type 0
 IsPieceRefusal NoMemory piece s = (piece_refusal piece s ≡ None) × (0 < length piece)
 IsPieceRefusal why piece s = piece_refusal piece s ≡ Some why

@@ -1,4 +1,4 @@
-//! Sessions; used by `session_core`, `debugger`, `command_sessions`.
+//! Sessions; used by `session_core`, `debugger`, `session_pool_slots` and others.
 //!
 //! Sessions: a program run on bytes that come in pieces, with breakpoints, until it ends or memory does.
 #![tactic(auto)]

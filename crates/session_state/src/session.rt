@@ -236,7 +236,7 @@ impl<'p> Session<'p> {
         Ok(())
     }
 
-    /// Ends it for want of memory, where it has not ended.
+    /// Ends it for want of memory, where it has not ended, and lets go of memory as `shrink` does.
     pub fn refuse(&mut self)
         ensures { self.new ≡ refused self.old }
     {
@@ -244,6 +244,7 @@ impl<'p> Session<'p> {
         if self.run.machine().end().is_none() {
             self.out_of_memory = true;
         }
+        self.run.shrink_to(MOST_ROOM);
     }
 
     /// Takes rows: at most `limit`, under its breakpoints, or under none.
