@@ -49,9 +49,13 @@ fn serve<
     };
     let options = ServeOptions {
         clients: words.clients,
+        workers: words.workers,
         each: words.each,
         request_timeout: Duration::from_secs(u64::from(words.request_timeout)),
     };
+    if !options.is_within() {
+        return Ok(Status::BadWords);
+    }
     let mut writer = std::io::writer(rt);
     match serve_on(rt, rt.alloc(), &listener, &options, &mut writer) {
         Ok(()) => Ok(Status::Answered),

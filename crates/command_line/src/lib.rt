@@ -54,6 +54,9 @@ const MOST_PORT: i64 = 65_535;
 /// How many clients there may be.
 const MOST_CLIENTS: i64 = 64;
 
+/// How many workers there may be.
+const MOST_WORKERS: i64 = 64;
+
 /// How many connections a client may be asked to accept.
 const MOST_EACH: i64 = 4_294_967_295;
 
@@ -82,13 +85,15 @@ fn numbered<'a>(
 fn serve<'a>(alloc: Global) -> Result<Command<'a>, AllocError> {
     let port = "The port on 127.0.0.1, 0 for any that is free";
     let clients = "How many threads accept connections";
+    let workers = "How many threads stand beside them for messages that take long";
     let each = "How many connections each of them accepts, 0 for no end";
     let timeout = "How many seconds a request may take to come, and its answer to go";
     Command::new(alloc, "serve")
         .about("Serves the schema registry's API over HTTP, and rewrites messages")
         .after_help(help::SERVE)
         .arg(numbered(alloc, "port", 0, MOST_PORT, "8081", port))?
-        .arg(numbered(alloc, "clients", 1, MOST_CLIENTS, "4", clients))?
+        .arg(numbered(alloc, "clients", 1, MOST_CLIENTS, "16", clients))?
+        .arg(numbered(alloc, "workers", 1, MOST_WORKERS, "4", workers))?
         .arg(numbered(alloc, "each", 0, MOST_EACH, "0", each))?
         .arg(numbered(alloc, "request-timeout", 1, MOST_TIMEOUT, "10", timeout))
 }
@@ -119,11 +124,13 @@ pub fn cli<'a>(alloc: Global) -> Result<Command<'a>, AllocError> {
 fn serve_words_of(words: &ArgMatches<'_>) -> Option<ServeWords> {
     let port: u64 = words.get_one("port")?;
     let clients: u64 = words.get_one("clients")?;
+    let workers: u64 = words.get_one("workers")?;
     let each: u64 = words.get_one("each")?;
     let request_timeout: u64 = words.get_one("request-timeout")?;
     Some(ServeWords {
         port: u16::try_from(port).ok()?,
         clients: u32::try_from(clients).ok()?,
+        workers: u32::try_from(workers).ok()?,
         each: u32::try_from(each).ok()?,
         request_timeout: u32::try_from(request_timeout).ok()?,
     })

@@ -18,7 +18,9 @@ pub struct ServeWords {
     pub port: u16,
     /// How many threads accept connections.
     pub clients: u32,
-    /// How many connections each of them accepts, or 0 for no end.
+    /// How many threads stand beside them for messages that take long.
+    pub workers: u32,
+    /// How many connections each client accepts, or 0 for no end.
     pub each: u32,
     /// How many seconds the bytes of one request may take to come, and then those of its answer to go.
     pub request_timeout: u32,

@@ -1,6 +1,6 @@
 //! A message of one schema, rewritten for another.
 
-ghost use Rattle.std.specs.Prelude.{◌≡◌, ◌≤◌, ◌⊎◌, IfOk, length};
+ghost use Rattle.std.specs.Prelude.{◌≡◌, ◌≤◌, ◌⊎◌, IfOk, vec_len};
 ghost use Rattle.outcome.specs.Outcome.{outcome_of};
 ghost use Rattle.outcome.specs.declared.limits.TheConstants.{MOST_PAYLOAD};
 ghost use Rattle.schema_registry.specs.Shared.{IsReceiptOf};
@@ -64,17 +64,17 @@ fn rewritten<R: Wait, T: Transcode, G: Gate>(
     gate: &mut G,
     writer: &mut Receipt,
     reader: &mut Receipt,
-    payload: &[u8],
+    payload: Vec<u8>,
 ) -> Result<Answer, AllocError>
     requires seat { T.rests transcoder.now seat.old }
     requires writer { IsReceiptOf (T.cells transcoder.now) writer.old }
     requires reader { IsReceiptOf (T.cells transcoder.now) reader.old }
-    requires payload { length payload.now ≤ MOST_PAYLOAD }
+    requires payload { vec_len payload ≤ MOST_PAYLOAD }
     ensures seat { T.rests transcoder.now seat.new }
     ensures writer { writer.new ≡ writer.old }
     ensures reader { reader.new ≡ reader.old }
     ensures answer { IfOk result (λ answer.
-        TellsOutcome writer.old reader.old reader.old.id payload.now (answer_of answer)) }
+        TellsOutcome writer.old reader.old reader.old.id payload.items (answer_of answer)) }
 {
     let id = reader.id();
     match transcoder.transcode(rt, seat, gate, writer, reader, payload) {
@@ -92,15 +92,15 @@ pub(crate) fn tell_message<R: Wait, T: Transcode, G: Gate>(
     seat: &mut T::Seat,
     gate: &mut G,
     id: u32,
-    message: &[u8],
+    message: Vec<u8>,
 ) -> Result<Told, AllocError>
     requires cells { T.cells app.now.transcoder.now ≡ app.now.registry.now }
     requires seat { T.rests app.now.transcoder.now seat.old }
-    requires message { length message.now ≤ MOST_BODY }
+    requires message { vec_len message ≤ MOST_BODY }
     ensures seat { T.rests app.now.transcoder.now seat.new }
     ensures told { IfOk result (λ told. (answer_of told.answer ≡ Refused Fault.NoSchema)
-        ⊎ TellsEnvelope message.now (answer_of told.answer)
-        ⊎ TellsMessage app.now.registry.now id message.now told.evidence (answer_of told.answer)) }
+        ⊎ TellsEnvelope message.items (answer_of told.answer)
+        ⊎ TellsMessage app.now.registry.now id message.items told.evidence (answer_of told.answer)) }
 {
     let Some((_, mut reader)) = app.registry.find(id) else {
         return Ok(refused(Fault::NoSchema));

@@ -50,8 +50,7 @@ fn request_behind<R: Read>(
     };
     let path = path_of(head.path.of(received)).as_bytes();
     match read_body(alloc, reader, &received[head.len..], chosen.body_length) {
-        Ok(Some(body)) => Ok(request_of(alloc, path, Some(&body), chosen.action)),
-        Ok(None) => Ok(request_of(alloc, path, None, chosen.action)),
+        Ok(body) => Ok(request_of(alloc, path, body, chosen.action)),
         Err(ReadError::NoMemory) => Ok(Err(Fault::NoMemory)),
         Err(_) => Err(ReadError::Failed),
     }

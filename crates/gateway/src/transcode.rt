@@ -23,7 +23,7 @@ pub enum TranscodeFault {
 
 /// What gives the outcome of payloads for pairs of receipts of one registry.
 pub trait Transcode {
-    ghost use Rattle.std.specs.Prelude.{◌≡◌, ◌≤◌, ℕ, List, IfOk, length};
+    ghost use Rattle.std.specs.Prelude.{◌≡◌, ◌≤◌, ℕ, List, IfOk, vec_len};
     ghost use Rattle.outcome.specs.declared.limits.TheConstants.{MOST_PAYLOAD};
     ghost use Rattle.schema_registry.specs.Shared.{IsReceiptOf};
     ghost use Rattle.gateway.specs.Transcoding.{HasOutcome, HasNoProgram};
@@ -45,15 +45,15 @@ pub trait Transcode {
         gate: &mut G,
         writer: &mut Receipt,
         reader: &mut Receipt,
-        payload: &[u8],
+        payload: Vec<u8>,
     ) -> Result<Outcome, TranscodeFault>
         requires seat { rests self.now seat.old }
         requires writer { IsReceiptOf (cells self.now) writer.old }
         requires reader { IsReceiptOf (cells self.now) reader.old }
-        requires payload { length payload.now ≤ MOST_PAYLOAD }
+        requires payload { vec_len payload ≤ MOST_PAYLOAD }
         ensures seat { rests self.now seat.new }
         ensures writer { writer.new ≡ writer.old }
         ensures reader { reader.new ≡ reader.old }
-        ensures outcome { IfOk result (HasOutcome writer.old reader.old payload.now) }
+        ensures outcome { IfOk result (HasOutcome writer.old reader.old payload.items) }
         ensures program { HasNoProgram writer.old reader.old result };
 }

@@ -20,65 +20,66 @@ use std::alloc::Global;
 pub fn request_of(
     alloc: Global,
     path: &[u8],
-    body: Option<&[u8]>,
+    body: Option<Vec<u8>>,
     action: Action,
 ) -> Result<Request, Fault>
-    ensures tells { Tells request_of result (asked_for path.now (option_map (λ b. b.now) body.entry) action) }
+    ensures tells { Tells request_of result (asked_for path.now (option_map (λ b. b.items) body) action) }
     ensures size { IfOk result (λ request.
-        IsWithin (size_of (option_map (λ b. b.now) body.entry)) (request_of request)) }
+        IsWithin (size_of (option_map (λ b. b.items) body)) (request_of request)) }
 {
+    let bytes = body.as_deref();
     match action {
         Action::ListSubjects => {
-            whole_body(body)?;
+            whole_body(bytes)?;
             Ok(Request::Command(Command::Subjects))
         }
         Action::Lookup => {
             let subject = subject_of(alloc, segment(2, path))?;
-            let text = text_of(alloc, body)?;
+            let text = text_of(alloc, bytes)?;
             Ok(Request::Command(Command::Lookup { subject, text }))
         }
         Action::ListVersions => {
             let subject = subject_of(alloc, segment(2, path))?;
-            whole_body(body)?;
+            whole_body(bytes)?;
             Ok(Request::Command(Command::Versions { subject }))
         }
         Action::Register => {
             let subject = subject_of(alloc, segment(2, path))?;
-            let text = text_of(alloc, body)?;
+            let text = text_of(alloc, bytes)?;
             Ok(Request::Registration { subject, text })
         }
         Action::ShowVersion => {
             let subject = subject_of(alloc, segment(2, path))?;
             let version = version_of(segment(4, path))?;
-            whole_body(body)?;
+            whole_body(bytes)?;
             Ok(Request::Command(Command::Version { subject, version }))
         }
         Action::ShowSchema => {
-            whole_body(body)?;
+            whole_body(bytes)?;
             let id = id_of(segment(3, path))?;
             Ok(Request::Schema { id })
         }
-        Action::Check => check_of(alloc, path, body),
+        Action::Check => check_of(alloc, path, bytes),
         Action::ShowLevel => {
-            whole_body(body)?;
+            whole_body(bytes)?;
             Ok(Request::Command(Command::Level { subject: None }))
         }
         Action::SetLevel => {
-            let level = level_of(alloc, body)?;
+            let level = level_of(alloc, bytes)?;
             let subject = None;
             Ok(Request::Command(Command::SetLevel { subject, level }))
         }
         Action::ShowSubjectLevel => {
             let subject = Some(subject_of(alloc, segment(2, path))?);
-            whole_body(body)?;
+            whole_body(bytes)?;
             Ok(Request::Command(Command::Level { subject }))
         }
         Action::SetSubjectLevel => {
             let subject = Some(subject_of(alloc, segment(2, path))?);
-            let level = level_of(alloc, body)?;
+            let level = level_of(alloc, bytes)?;
             Ok(Request::Command(Command::SetLevel { subject, level }))
         }
-        Action::Transcode => transcoding_of(alloc, path, body),
+        Action::Transcode => transcoding_of(path, body),
     }
 }
 
@@ -98,14 +99,13 @@ fn check_of(alloc: Global, path: &[u8], body: Option<&[u8]>) -> Result<Request, 
 }
 
 /// The message in the body, for a reader.
-fn transcoding_of(alloc: Global, path: &[u8], body: Option<&[u8]>) -> Result<Request, Fault>
-    ensures tells { Tells request_of result
-        (asked_for path.now (option_map (λ b. b.now) body.entry) Action.Transcode) }
-    ensures size { IfOk result (λ request.
-        IsWithin (size_of (option_map (λ b. b.now) body.entry)) (request_of request)) }
+fn transcoding_of(path: &[u8], body: Option<Vec<u8>>) -> Result<Request, Fault>
+    ensures tells { Tells request_of result (asked_for path.now (option_map (λ b. b.items) body) Action.Transcode) }
+    ensures size { IfOk result (λ request. IsWithin (size_of (option_map (λ b. b.items) body)) (request_of request)) }
 {
-    let bytes = whole_body(body)?;
+    let Some(message) = body else {
+        return Err(Fault::BadRequest);
+    };
     let reader = id_of(segment(2, path))?;
-    let message = bytes.to_vec(alloc)?;
     Ok(Request::Transcoding { reader, message })
 }

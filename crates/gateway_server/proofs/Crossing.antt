@@ -1,28 +1,47 @@
--- That threads may use one `Shared` (it is `Sync`), field by field.
-use denote.Param.Send.{IsSync, shr_sync}
-use denote.Param.SendFields.{FieldsHave, declared_sync, as_row_sync}
+-- That threads may use one `Shared` (it is `Sync`), and that what clients and workers are given may be given to a thread
+-- (`Send`), field by field.
+use denote.Param.Send.{IsSend, IsSync, shr_send, shr_sync}
+use denote.Param.SendFields.{FieldsHave, declared_send, declared_sync, as_row_send, as_row_sync}
 use denote.Ref.{NamedLft}
 use Rattle.std.proofs.Crossing.{sync}
 use Rattle.std.proofs.net.tcp.TcpListener.TheSendSync as listener
 use Rattle.schema_registry.proofs.Crossing.{shared-sync}
-use Rattle.gateway_transcoders.proofs.Crossing.{compiled-sync}
+use Rattle.session_pool.proofs.Crossing.{client-send, pool-sync, worker-send}
 use Rattle.gateway_server.proofs.options.ServeOptions.TheSendSync as options
+use Rattle.gateway_server.proofs.signals.Signals.TheSendSync as signals
+use Rattle.gateway_server.specs.contracts.client.Client as client
 use Rattle.gateway_server.specs.contracts.shared.Shared as shared
+use Rattle.gateway_server.specs.contracts.worker.Worker as worker
 
-fields-sync : (κ : NamedLft) → FieldsHave IsSync (shared.the_type κ).parts
-fields-sync κ = (
+fields-sync : (α κ : NamedLft) → FieldsHave IsSync (shared.the_type α κ).parts
+fields-sync α κ = (
   sync,
   (
     search (shared-sync, shr_sync, as_row_sync) depth 60 fits 20000,
     (
-      search (compiled-sync, shr_sync, as_row_sync) depth 60 fits 20000,
+      search (pool-sync, shr_sync, as_row_sync) depth 60 fits 20000,
       (
-        search (listener.the_sync, shr_sync, as_row_sync) depth 60 fits 20000,
-        (search (options.the_sync, shr_sync, as_row_sync) depth 60 fits 20000, tt),
+        search (signals.the_sync, shr_sync, as_row_sync) depth 60 fits 20000,
+        (
+          search (listener.the_sync, shr_sync, as_row_sync) depth 60 fits 20000,
+          (search (options.the_sync, shr_sync, as_row_sync) depth 60 fits 20000, tt),
+        ),
       ),
     ),
   ),
 )
 
-pub threads-share : (κ : NamedLft) → IsSync (shared.the_row κ)
-threads-share κ = declared_sync (shared.the_type κ) (fields-sync κ)
+pub threads-share : (α κ : NamedLft) → IsSync (shared.the_row α κ)
+threads-share α κ = declared_sync (shared.the_type α κ) (fields-sync α κ)
+
+pub client-goes : (α κ : NamedLft) → IsSend (client.the_row α κ)
+client-goes α κ = declared_send (client.the_type α κ) (
+  search (threads-share, shr_send, as_row_send) depth 60 fits 20000,
+  (search (client-send, as_row_send) depth 60 fits 20000, (search (worker-send, as_row_send) depth 60 fits 20000, tt)),
+)
+
+pub worker-goes : (α κ : NamedLft) → IsSend (worker.the_row α κ)
+worker-goes α κ = declared_send (worker.the_type α κ) (
+  search (threads-share, shr_send, as_row_send) depth 60 fits 20000,
+  (search (worker-send, as_row_send) depth 60 fits 20000, tt),
+)

@@ -1,14 +1,16 @@
 //! A client's thread: the connections that it accepts, one after another.
 
 ghost use Rattle.std.specs.Prelude.{◌≡◌};
+ghost use Rattle.session_pool.specs.Seats.{Rests, RestsWorker};
 
 use crate::connection::serve_connection;
-use crate::gate::Open;
+use crate::gate::ClientGate;
 use crate::options::ServeOptions;
 use crate::shared::Shared;
 use gateway::{App, Gate, Transcode};
 use gateway_requests::Routes;
-use machine::Machine;
+use gateway_sessions::Pooled;
+use session_pool::{ClientSeat, WorkerSeat};
 use std::alloc::{AllocError, Global};
 use std::net::TcpListener;
 use std::sync::Wait;
@@ -17,6 +19,16 @@ use std::time::{Clock, Duration};
 
 /// How many milliseconds a client waits where no connection can be accepted, as where no more files can be open.
 const PAUSE: u64 = 10;
+
+/// What a client's thread is given: a seat for its sessions, and one to take turns by while it waits for them.
+#[derive(Drop)]
+pub(crate) struct Client<'a, 'p> {
+    pub(crate) shared: &'a Shared<'a, 'p>,
+    pub(crate) seat: ClientSeat<'p>,
+    pub(crate) helper: WorkerSeat<'p>,
+    ghost rests: { Rests shared.now.pool.now seat },
+    ghost helps: { RestsWorker shared.now.pool.now helper },
+}
 
 /// Accepts connections, as many as the options say, and answers one request on each: how many were answered. One that
 /// cannot be accepted counts as accepted.
@@ -54,14 +66,21 @@ fn serve_connections<R: Wait + Clock, T: Transcode, G: Gate>(
 }
 
 /// What a client's thread does: how many requests it answered.
-pub(crate) fn run_client<R: Wait + Clock>(rt: &R, shared: &Shared<'_>) -> Result<u64, AllocError> {
+pub(crate) fn run_client<R: Wait + Clock>(
+    rt: &R,
+    client: Client<'_, '_>,
+) -> Result<u64, AllocError> {
+    let Client {
+        shared,
+        mut seat,
+        helper,
+    } = client;
     let app = App {
         registry: shared.registry,
-        transcoder: shared.transcoder,
+        transcoder: &Pooled { pool: shared.pool },
         routes: Routes::new(shared.alloc)?,
     };
-    let mut seat = Machine::new(shared.alloc);
-    let mut gate = Open;
+    let mut gate = ClientGate::new(rt, shared.signals, shared.pool, helper);
     Ok(serve_connections(
         rt,
         shared.alloc,

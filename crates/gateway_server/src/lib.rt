@@ -1,6 +1,7 @@
 //! Edge: HTTP; used by `avrogate`.
 //!
-//! The service on a listener: a thread a client, which accepts connections and answers one request on each.
+//! The service on a listener: a thread a client, which accepts connections and answers one request on each, and workers
+//! beside them, over one pool of sessions.
 #![tactic(auto)]
 
 mod client;
@@ -10,8 +11,10 @@ mod gate;
 mod options;
 mod service;
 mod shared;
+mod signals;
+mod threads;
+mod worker;
 
 pub use command_io::RunError;
-pub use gate::Open;
-pub use options::ServeOptions;
+pub use options::{MOST_SERVING, MOST_WORKING, ServeOptions};
 pub use service::serve_on;

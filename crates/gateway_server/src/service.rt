@@ -1,32 +1,49 @@
-//! The service as a whole: its threads, and what it prints.
+//! The service as a whole: what its threads share, and what it prints.
 
-use crate::client::run_client;
+ghost use Rattle.gateway_server.specs.Options.{IsWithin};
+
 use crate::options::ServeOptions;
 use crate::shared::Shared;
+use crate::signals::Signals;
+use crate::threads::run_threads;
 use command_io::{RunError, write_whole};
-use gateway_transcoders::Compiled;
+use program_cache::ProgramCache;
 use schema_registry::SharedRegistry;
-use std::alloc::{AllocError, Global};
+use session_pool::SessionPool;
+use std::alloc::Global;
 use std::io::Write;
 use std::net::TcpListener;
 use std::sync::Wait;
-use std::thread;
 use std::thread::Threads;
 use std::time::Clock;
 
-/// Each client in a thread of its own, every one joined: how many requests all of them answered.
-fn run_clients<R: Threads + Wait + Clock + Sync>(
+/// Prints a line, and then serves on a listener, over a new registry and a new pool: how many requests were answered.
+fn serve_after<R: Threads + Wait + Clock + Sync, W: Write>(
     rt: &R,
-    shared: &Shared<'_>,
-) -> Result<u64, AllocError> {
-    let client = |_at: usize| run_client(rt, shared);
-    let clients = shared.options.clients as usize;
-    let counts = thread::map_indices(rt, shared.alloc, clients, &client)?;
-    let mut answered: u64 = 0;
-    for count in counts {
-        answered = answered.saturating_add(count?);
-    }
-    Ok(answered)
+    alloc: Global,
+    listener: &TcpListener,
+    options: &ServeOptions,
+    writer: &mut W,
+    line: &str,
+) -> Result<u64, RunError>
+    requires { IsWithin options.now }
+{
+    let registry = SharedRegistry::new(alloc)?;
+    let cache = ProgramCache::new(alloc, &registry)?;
+    let clients = options.clients as usize;
+    let workers = clients + options.workers as usize;
+    let (pool, mut seats, mut helpers) = SessionPool::new(alloc, &cache, clients, workers)?;
+    let signals = Signals::new();
+    let shared = Shared {
+        alloc,
+        registry: &registry,
+        pool: &pool,
+        signals: &signals,
+        listener,
+        options,
+    };
+    write_whole(writer, line.as_bytes())?;
+    Ok(run_threads(rt, &shared, &mut seats, &mut helpers)?)
 }
 
 /// Serves on a listener, over a new registry, until each client has accepted as many connections as the options say. It
@@ -40,23 +57,15 @@ pub fn serve_on<R: Threads + Wait + Clock + Sync, W: Write>(
     listener: &TcpListener,
     options: &ServeOptions,
     writer: &mut W,
-) -> Result<(), RunError> {
-    let registry = SharedRegistry::new(alloc)?;
-    let transcoder = Compiled::new(alloc, &registry)?;
+) -> Result<(), RunError>
+    requires { IsWithin options.now }
+{
     let Ok(address) = listener.local_addr() else {
         return Err(RunError::Read);
     };
     let port = address.port();
     let line = format!(in alloc; "listening {port}\n")?;
-    write_whole(writer, line.as_bytes())?;
-    let shared = Shared {
-        alloc,
-        registry: &registry,
-        transcoder: &transcoder,
-        listener,
-        options,
-    };
-    let answered = run_clients(rt, &shared)?;
+    let answered = serve_after(rt, alloc, listener, options, writer, line.as_str())?;
     let line = format!(in alloc; "served {answered}\n")?;
     write_whole(writer, line.as_bytes())
 }

@@ -3,18 +3,20 @@
 ghost use Rattle.std.specs.Prelude.{◌≡◌};
 
 use crate::options::ServeOptions;
-use gateway_transcoders::Compiled;
+use crate::signals::Signals;
 use schema_registry::SharedRegistry;
+use session_pool::SessionPool;
 use std::alloc::Global;
 use std::net::TcpListener;
 
-/// What the threads of a service share. The transcoder is over the registry.
+/// What the threads of a service share. The pool's programs are of the registry's schemas.
 #[derive(Drop)]
-pub(crate) struct Shared<'a> {
+pub(crate) struct Shared<'a, 'p> {
     pub(crate) alloc: Global,
     pub(crate) registry: &'a SharedRegistry,
-    pub(crate) transcoder: &'a Compiled<'a>,
+    pub(crate) pool: &'a SessionPool<'p>,
+    pub(crate) signals: &'a Signals,
     pub(crate) listener: &'a TcpListener,
     pub(crate) options: &'a ServeOptions,
-    ghost cells: { transcoder.now ≡ registry.now },
+    ghost cells: { pool.now.cache.now ≡ registry.now },
 }

@@ -1,6 +1,6 @@
 //! Transcoding by sessions of a pool.
 
-ghost use Rattle.std.specs.Prelude.{◌≡◌, ◌≢◌, ◌≤◌, IfErr, IfOk, length};
+ghost use Rattle.std.specs.Prelude.{◌≡◌, ◌≢◌, ◌≤◌, IfErr, IfOk, vec_len};
 ghost use Rattle.outcome.specs.declared.limits.TheConstants.{MOST_PAYLOAD};
 ghost use Rattle.session_pool_slots.specs.Account.{new_account};
 ghost use Rattle.session_pool.specs.Seats.{IsPassOf, Rests, told};
@@ -13,13 +13,11 @@ use gateway::{Gate, Transcode, TranscodeFault};
 use outcome::Outcome;
 use schema_registry::Receipt;
 use session_pool::{ClientSeat, OpenError, Pass, SessionPool};
-use std::alloc::Global;
 use std::sync::Wait;
 
 /// Transcoding by sessions of a pool: one for each payload, which whoever takes it runs.
 #[derive(Drop)]
 pub struct Pooled<'a, 'p> {
-    pub alloc: Global,
     pub pool: &'a SessionPool<'p>,
 }
 
@@ -42,18 +40,18 @@ fn outcome_by<'p, R: Wait, G: Gate>(
     seat: &mut ClientSeat<'p>,
     gate: &mut G,
     pass: Pass,
-    payload: &[u8],
+    payload: Vec<u8>,
 ) -> Result<Outcome, TranscodeFault>
     requires seat { Rests transcoder.now.pool.now seat.old }
     requires pass { IsPassOf seat.old pass }
     requires begun { told seat.old pass ≡ new_account pass.pair.program }
-    requires size { length payload.now ≤ MOST_PAYLOAD }
+    requires size { vec_len payload ≤ MOST_PAYLOAD }
     ensures seat { Rests transcoder.now.pool.now seat.new }
-    ensures outcome { IfOk result (IsOutcomeOf pass payload.now) }
+    ensures outcome { IfOk result (IsOutcomeOf pass payload.items) }
     ensures fault { IfErr result (λ e. e ≢ TranscodeFault.ProgramTooLarge) }
 {
     let pool = transcoder.pool;
-    if let Err(fault) = feed(rt, transcoder.alloc, pool, seat, gate, &pass, payload) {
+    if let Err(fault) = feed(rt, pool, seat, gate, &pass, payload) {
         abandon(pool, seat, gate, pass);
         return Err(fault);
     }
@@ -74,7 +72,7 @@ impl<'a, 'p> Transcode for Pooled<'a, 'p> {
         gate: &mut G,
         writer: &mut Receipt,
         reader: &mut Receipt,
-        payload: &[u8],
+        payload: Vec<u8>,
     ) -> Result<Outcome, TranscodeFault> {
         match self.pool.open(seat, writer, reader) {
             Ok(pass) => outcome_by(rt, self, seat, gate, pass, payload),

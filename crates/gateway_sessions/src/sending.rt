@@ -1,13 +1,12 @@
 //! Sending a session a whole payload.
 
-ghost use Rattle.std.specs.Prelude.{◌≡◌, ◌≢◌, ◌≤◌, IfErr, OnOk, length};
+ghost use Rattle.std.specs.Prelude.{◌≡◌, ◌≢◌, ◌≤◌, IfErr, OnOk, vec_len};
 ghost use Rattle.outcome.specs.declared.limits.TheConstants.{MOST_PAYLOAD};
 ghost use Rattle.session_pool_slots.specs.Account.{new_account, with_close, with_sent};
 ghost use Rattle.session_pool.specs.Seats.{IsPassOf, Rests, told};
 
 use gateway::{Gate, Place, TranscodeFault};
 use session_pool::{ClientSeat, Pass, PieceError, SessionPool};
-use std::alloc::Global;
 use std::sync::Wait;
 
 /// Sends a session that has just begun a payload as one piece. While a worker has the session it asks the gate and
@@ -23,7 +22,7 @@ fn send<'p, R: Wait, G: Gate>(
     requires seat { Rests pool.now seat.old }
     requires pass { IsPassOf seat.old pass.now }
     requires begun { told seat.old pass.now ≡ new_account pass.now.pair.program }
-    requires size { length payload.items ≤ MOST_PAYLOAD }
+    requires size { vec_len payload ≤ MOST_PAYLOAD }
     ensures seat { Rests pool.now seat.new }
     ensures pass { IsPassOf seat.new pass.now }
     ensures told { OnOk result (told seat.new pass.now ≡ with_sent payload.items (told seat.old pass.now)) }
@@ -77,27 +76,23 @@ fn close<'p, R: Wait, G: Gate>(
 /// says no, `NoMemory` where memory ran out.
 pub(crate) fn feed<'p, R: Wait, G: Gate>(
     rt: &R,
-    alloc: Global,
     pool: &SessionPool<'p>,
     seat: &mut ClientSeat<'p>,
     gate: &mut G,
     pass: &Pass,
-    payload: &[u8],
+    payload: Vec<u8>,
 ) -> Result<(), TranscodeFault>
     requires seat { Rests pool.now seat.old }
     requires pass { IsPassOf seat.old pass.now }
     requires begun { told seat.old pass.now ≡ new_account pass.now.pair.program }
-    requires size { length payload.now ≤ MOST_PAYLOAD }
+    requires size { vec_len payload ≤ MOST_PAYLOAD }
     ensures seat { Rests pool.now seat.new }
     ensures pass { IsPassOf seat.new pass.now }
     ensures told { OnOk result (told seat.new pass.now
-        ≡ with_close (with_sent payload.now (new_account pass.now.pair.program))) }
+        ≡ with_close (with_sent payload.items (new_account pass.now.pair.program))) }
     ensures fault { IfErr result (λ e. e ≢ TranscodeFault.ProgramTooLarge) }
 {
-    let Ok(bytes) = payload.to_vec(alloc) else {
-        return Err(TranscodeFault::NoMemory);
-    };
-    if let Err(fault) = send(rt, pool, seat, gate, pass, bytes) {
+    if let Err(fault) = send(rt, pool, seat, gate, pass, payload) {
         return Err(fault);
     }
     close(rt, pool, seat, gate, pass)

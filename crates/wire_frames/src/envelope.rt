@@ -36,9 +36,9 @@ impl EnvelopeError {
     }
 }
 
-/// Opens a message: the id of the writer's schema, and the payload (Confluent wire format).
-pub fn open_envelope(message: &[u8]) -> Result<(u32, &[u8]), EnvelopeError>
-    ensures { Opens message.now (λ payload. payload.now) result }
+/// Opens a message: the id of the writer's schema, and the payload, in the message's memory (Confluent wire format).
+pub fn open_envelope(message: Vec<u8>) -> Result<(u32, Vec<u8>), EnvelopeError>
+    ensures { Opens message.items (λ payload. payload.items) result }
 {
     if message.len() < PREFIX_LENGTH {
         return Err(EnvelopeError::ShortEnvelope);
@@ -47,7 +47,9 @@ pub fn open_envelope(message: &[u8]) -> Result<(u32, &[u8]), EnvelopeError>
         return Err(EnvelopeError::BadMagic);
     }
     let id = u32::from_be_bytes([message[1], message[2], message[3], message[4]]);
-    Ok((id, &message[PREFIX_LENGTH..]))
+    let mut payload = message;
+    payload.drain(..PREFIX_LENGTH);
+    Ok((id, payload))
 }
 
 /// Appends what stands before a payload that the schema of this id writes. An `Err` leaves the output as it was.

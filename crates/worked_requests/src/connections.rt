@@ -15,6 +15,9 @@ use std::{io, thread};
 /// How many threads accept connections.
 const CLIENTS: u32 = 2;
 
+/// How many workers stand beside them.
+const WORKERS: u32 = 2;
+
 /// How many seconds a call may wait for the other side at most.
 const PATIENCE: u64 = 10;
 
@@ -130,6 +133,7 @@ fn printed<R: Threads + Wait + Clock + Sync>(
 ) -> Result<Vec<u8>, RunError> {
     let options = ServeOptions {
         clients: CLIENTS,
+        workers: WORKERS,
         each,
         request_timeout: Duration::from_secs(PATIENCE),
     };

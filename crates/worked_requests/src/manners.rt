@@ -61,7 +61,7 @@ fn try_manner<R: Wait>(
     rt: &R,
     alloc: Global,
     output: &mut Vec<u8>,
-    service: &mut Service<'_>,
+    service: &mut Service<'_, '_>,
     row: &Row,
     at_once: &Served,
     manner: &Manner,
@@ -136,7 +136,7 @@ fn try_failing<R: Wait>(
     rt: &R,
     alloc: Global,
     output: &mut Vec<u8>,
-    service: &mut Service<'_>,
+    service: &mut Service<'_, '_>,
     row: &Row,
     at_once: &Served,
     device: Failing,
@@ -157,7 +157,7 @@ pub(crate) fn push_row<R: Wait>(
     rt: &R,
     alloc: Global,
     output: &mut Vec<u8>,
-    service: &mut Service<'_>,
+    service: &mut Service<'_, '_>,
     row: &Row,
 ) -> Result<Vec<u8>, RunError> {
     let at_once = service.serve(rt, alloc, row, AT_ONCE, AT_ONCE);
@@ -182,7 +182,7 @@ pub(crate) fn push_closed<R: Wait>(
     rt: &R,
     alloc: Global,
     output: &mut Vec<u8>,
-    service: &mut Service<'_>,
+    service: &mut Service<'_, '_>,
 ) -> Result<(), RunError> {
     let row = Row {
         request: Vec::new(alloc),

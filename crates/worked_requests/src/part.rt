@@ -5,8 +5,10 @@ use crate::manners::{push_closed, push_row};
 use crate::row::{Row, row_of};
 use crate::service::Service;
 use gateway_server::RunError;
-use gateway_transcoders::Compiled;
+use gateway_sessions::{Helping, Pooled, pop_client, pop_worker};
+use program_cache::ProgramCache;
 use schema_registry::SharedRegistry;
+use session_pool::SessionPool;
 use std::alloc::Global;
 use std::net::{Net, TcpListener, TcpStream};
 use std::sync::Wait;
@@ -51,8 +53,17 @@ fn push_in_memory<R: Wait>(
     rows: &[Row],
 ) -> Result<Vec<Vec<u8>>, RunError> {
     let registry = SharedRegistry::new(alloc)?;
-    let transcoder = Compiled::new(alloc, &registry)?;
-    let mut service = Service::new(alloc, &registry, &transcoder)?;
+    let cache = ProgramCache::new(alloc, &registry)?;
+    let (pool, mut seats, mut helpers) = SessionPool::new(alloc, &cache, 1, 1)?;
+    let (Some(seat), Some(helper)) = (
+        pop_client(&pool, &mut seats),
+        pop_worker(&pool, &mut helpers),
+    ) else {
+        return Err(RunError::Read);
+    };
+    let transcoder = Pooled { pool: &pool };
+    let gate = Helping::new(&pool, helper);
+    let mut service = Service::new(alloc, &registry, &transcoder, seat, gate)?;
     let mut answers = Vec::new(alloc);
     for row in rows {
         answers.push(push_row(rt, alloc, output, &mut service, row)?)?;

@@ -1,25 +1,27 @@
 //! Requests answered in memory.
 
 ghost use Rattle.std.specs.Prelude.{◌≡◌};
+ghost use Rattle.session_pool.specs.Seats.{Rests};
 
 use crate::calls::Behaviour;
 use crate::devices::{Receiver, Sender};
 use crate::row::Row;
 use gateway::{App, ServeError, serve_one};
 use gateway_requests::Routes;
-use gateway_server::Open;
-use gateway_transcoders::Compiled;
-use machine::Machine;
+use gateway_sessions::{Helping, Pooled};
 use schema_registry::SharedRegistry;
+use session_pool::ClientSeat;
 use std::alloc::{AllocError, Global};
 use std::sync::Wait;
 
 /// What requests are answered from, and the seat that all of them take in turn.
 #[derive(Drop)]
-pub(crate) struct Service<'a> {
-    app: App<'a, Compiled<'a>>,
-    seat: Machine,
-    ghost tied: { app.transcoder.now ≡ app.registry.now },
+pub(crate) struct Service<'a, 'p> {
+    app: App<'a, Pooled<'a, 'p>>,
+    seat: ClientSeat<'p>,
+    gate: Helping<'a, 'p>,
+    ghost tied: { app.transcoder.now.pool.now.cache.now ≡ app.registry.now },
+    ghost rests: { Rests app.transcoder.now.pool.now seat },
 }
 
 /// What came of a request.
@@ -34,22 +36,24 @@ pub(crate) struct Served {
     pub(crate) writer_failed: bool,
 }
 
-impl<'a> Service<'a> {
-    /// Answers from a registry. An error where memory ran out.
+impl<'a, 'p> Service<'a, 'p> {
+    /// Answers from a registry, by sessions that run while their answers are waited for. An error where memory ran out.
     pub(crate) fn new(
         alloc: Global,
         registry: &'a SharedRegistry,
-        transcoder: &'a Compiled<'a>,
-    ) -> Result<Service<'a>, AllocError>
-        requires { transcoder.now ≡ registry.now }
+        transcoder: &'a Pooled<'a, 'p>,
+        seat: ClientSeat<'p>,
+        gate: Helping<'a, 'p>,
+    ) -> Result<Service<'a, 'p>, AllocError>
+        requires cells { transcoder.now.pool.now.cache.now ≡ registry.now }
+        requires seat { Rests transcoder.now.pool.now seat }
     {
         let app = App {
             registry,
             transcoder,
             routes: Routes::new(alloc)?,
         };
-        let seat = Machine::new(alloc);
-        Ok(Service { app, seat })
+        Ok(Service { app, seat, gate })
     }
 
     /// Answers a request by a reader and a writer that behave so.
@@ -63,7 +67,6 @@ impl<'a> Service<'a> {
     ) -> Served {
         let mut reader = Sender::new(&row.request, row.is_open, reading);
         let mut writer = Receiver::new(alloc, writing);
-        let mut gate = Open;
         let status = serve_one(
             rt,
             alloc,
@@ -71,7 +74,7 @@ impl<'a> Service<'a> {
             &mut self.seat,
             &mut reader,
             &mut writer,
-            &mut gate,
+            &mut self.gate,
         );
         Served {
             status,
