@@ -1,4 +1,4 @@
-//! Edge: HTTP; used by `gateway_transcoders`, `gateway_server`.
+//! Edge: HTTP; used by `gateway_sessions`, `gateway_server`.
 //!
 //! One request, one answer, over any reader and any writer.
 #![tactic(auto)]

@@ -1,4 +1,4 @@
-//! Edge: HTTP; used by no crate yet, since `gateway_server` goes by `gateway_transcoders`.
+//! Edge: HTTP; used by `gateway_server`.
 //!
 //! How messages are transcoded for requests: by sessions of a pool, which its workers run, and clients while they wait.
 #![tactic(auto)]
