@@ -1,0 +1,16 @@
+#!/usr/bin/env bash
+# Hostile use of `avrogate serve`, all at once: 64 clients, a third of which are slow, cut off or malformed, each of whose
+# answers has to be, byte for byte, the one that was computed for its request; connections that send nothing, which must
+# not stop a service that was started without words; and what the service takes of a processor while nobody asks. A line
+# for each check. It takes about a minute. Not part of the gate.
+# Usage: tests/hostile.sh [PROGRAM]   (crates/avrogate/out/avrogate if it is left out)
+set -euo pipefail
+here=$(dirname "$(realpath "$0")")
+program=$(realpath "${1:-$here/../crates/avrogate/out/avrogate}")
+lines=$(mktemp)
+trap 'rm -f "$lines"' EXIT
+PYTHONDONTWRITEBYTECODE=1 timeout 600 python3 "$here/hostile/hostile.py" "$program" | tee "$lines" || true
+grep -qx 'all were tried' "$lines" || echo 'FAILED the checks: they did not come to their end' | tee -a "$lines"
+failed=$(grep -c '^FAILED ' "$lines" || true)
+echo "$(grep -c '^ok ' "$lines" || true) passed, $failed failed"
+[ "$failed" = 0 ]
