@@ -1,10 +1,11 @@
 #!/usr/bin/env bash
 # `avrogate serve` beside a small server by hand (bench/service.cpp), each with 4 client threads and one request a
-# connection, under the load of wrk (Debian's package, which is installed if it is missing): a schema by its id, and a
-# message of about 100 bytes to a reader with a promoted and an added field. First both have to answer the same bytes;
-# then come 3 rounds of 3 seconds, in each of which all come in turn. It prints, of each, the median of requests a second
-# and of processor time a request (user and system, of the server alone). wrk shares the machine, so that requests a
-# second say less than processor time. It takes under a minute. Not part of the gate.
+# connection, under the load of wrk (Debian's package, which is installed if it is missing): a schema by its id, and
+# messages of about 100 bytes, 10 KB and 1 MiB to a reader with a promoted and an added field, of ours with 1, 2 and 4
+# workers. First all have to answer the same bytes; then come 3 rounds of 2 seconds, in each of which all come in turn.
+# It prints, of each, the median of requests a second and of processor time a request (user and system, of the server
+# alone). wrk shares the machine, so that requests a second say less than processor time. It takes about two minutes. Not
+# part of the gate.
 # Usage: bench/service.sh [PROGRAM]   (crates/avrogate/out/avrogate if it is left out)
 set -euo pipefail
 export PYTHONDONTWRITEBYTECODE=1 PYTHONPATH=$(dirname "$(realpath "$0")")
@@ -19,7 +20,7 @@ import json, os, re, statistics, subprocess, sys, time
 from avro_encoding import number, text
 
 program, folder = sys.argv[1:]
-ROUNDS, SECONDS, THREADS, CONNECTIONS = 3, 3, 2, 16
+ROUNDS, SECONDS, THREADS, CONNECTIONS, WORKERS = 3, 2, 2, 16, (1, 2, 4)
 
 
 def schema(*fields):
@@ -30,9 +31,18 @@ def schema(*fields):
 SHARED = ("id", "long"), ("name", "string"), ("tags", {"type": "array", "items": "string"})
 writer = schema(*SHARED, ("score", "int"))
 reader = schema(*SHARED, ("score", "long"), ("source", "string", "none"))
+
+
+# the message of a record with so many tags
+def message_of(many):
+    tags = ["alpha-%d" % (n % 10) * 2 for n in range(many)]
+    return b"\0\0\0\0\1" + number(1 << 40) + text("Grüße aus dem Büro im Hof") + number(many) + b"".join(map(text, tags)) + b"\0" + number(-1234567)
+
+
 TAGS = ["alpha-%d" % n * 2 for n in range(4)]
-payload = number(1 << 40) + text("Grüße aus dem Büro im Hof") + number(4) + b"".join(map(text, TAGS)) + b"\0" + number(-1234567)
-message = b"\0\0\0\0\1" + payload
+message = message_of(4)
+payload = message[5:]
+MESSAGES = {"100 bytes": message, "10 KB": message_of(600), "1 MiB": message_of(61_680)}
 SPOILT = [message[:-1], message + b"\0", message[:5] + b"\x80" * 10 + payload, message.replace(b"\xc3", b"\xff", 1), message[:4], b"\1" + message[1:],
           b"\0\0\0\0\1" + payload.replace(number(4) + text(TAGS[0]), number(-4) + number(1) + text(TAGS[0]))]
 
@@ -52,9 +62,10 @@ def curl(url, *words, data=None):
 
 
 def same(path, *words, data=None):
-    one, two = (curl(url + path, *words, data=data) for _, url in pair)
-    assert one == two, (path, one, two)
-    return one
+    first, *others = (curl(url + path, *words, data=data) for _, url in started)
+    for other in others:
+        assert first == other, (path, first[:200], other[:200])
+    return first
 
 
 # processor seconds of a process so far
@@ -78,28 +89,36 @@ def load(server, path, script):
 
 servers, faults = [], set()
 try:
-    pair = start([program, "serve", "--port", "0", "--clients", "4"]), start([folder + "/service", "0", "4"])
+    by_hand = start([folder + "/service", "0", "4"])
+    ours = {many: start([program, "serve", "--port", "0", "--clients", "4", "--workers", str(many)]) for many in WORKERS}
+    started = [by_hand, *ours.values()]
     for text_of in (writer, reader):
         assert b'\r\n\r\n{"id":' in same("/subjects/events/versions", data=json.dumps({"schema": text_of}).encode())
     assert b"200 OK" in same("/schemas/ids/1") and b"200 OK" in same("/schemas/ids/2") and b"40403" in same("/schemas/ids/3")
-    assert b"200 OK" in same("/transcode/2", data=message)
+    for sent in MESSAGES.values():
+        assert b"200 OK" in same("/transcode/2", data=sent)
     for spoilt in SPOILT:
         assert b"422 " in same("/transcode/2", data=spoilt)
-    print("both answer the same bytes to %d requests; a message has %d bytes, and is rewritten to %d" % (6 + len(SPOILT), len(payload), len(payload) + 5))
-    with open(folder + "/message", "wb") as out:
-        out.write(message)
-    with open(folder + "/post.lua", "w") as out:
-        out.write('wrk.method = "POST"\nwrk.headers["Content-Type"] = "application/octet-stream"\nwrk.body = io.open("%s/message", "rb"):read("*a")\n' % folder)
-    LOADS = [("GET /schemas/ids/1", "/schemas/ids/1", []), ("POST /transcode/2", "/transcode/2", ["-s", folder + "/post.lua"])]
+    print("all answer the same bytes to %d requests" % (5 + len(MESSAGES) + len(SPOILT)))
+    LOADS = [("GET /schemas/ids/1", "/schemas/ids/1", [], WORKERS[-1:])]
+    for at, (name, sent) in enumerate(MESSAGES.items()):
+        with open(folder + "/message%d" % at, "wb") as out:
+            out.write(sent)
+        with open(folder + "/post%d.lua" % at, "w") as out:
+            out.write('wrk.method = "POST"\nwrk.headers["Content-Type"] = "application/octet-stream"\nwrk.body = io.open("%s/message%d", "rb"):read("*a")\n' % (folder, at))
+        LOADS.append(("a message of " + name, "/transcode/2", ["-s", folder + "/post%d.lua" % at], WORKERS))
     taken = {}
     for _ in range(ROUNDS):
-        for name, path, script in LOADS:
-            for which, server in enumerate(pair):
-                taken.setdefault((name, which), []).append(load(server, path, script))
-    print("%-20s %12s %12s %7s   %14s %12s %7s" % ("", "requests/s", "by hand", "ratio", "processor us", "by hand", "ratio"))
-    for name, _, _ in LOADS:
-        (rate, micros), (their_rate, their_micros) = ([statistics.median(column) for column in zip(*taken[name, which])] for which in (0, 1))
-        print("%-20s %12.0f %12.0f %7.2f   %14.1f %12.1f %7.2f" % (name, rate, their_rate, rate / their_rate, micros, their_micros, micros / their_micros))
+        for name, path, script, many in LOADS:
+            for which in ("by hand", *many):
+                taken.setdefault((name, which), []).append(load(by_hand if which == "by hand" else ours[which], path, script))
+    print("%-32s %12s %12s %7s   %14s %12s %7s" % ("", "requests/s", "by hand", "ratio", "processor us", "by hand", "ratio"))
+    for name, _, _, many in LOADS:
+        their_rate, their_micros = (statistics.median(column) for column in zip(*taken[name, "by hand"]))
+        for workers in many:
+            rate, micros = (statistics.median(column) for column in zip(*taken[name, workers]))
+            label = "%s, %d workers" % (name, workers)
+            print("%-32s %12.0f %12.0f %7.2f   %14.1f %12.1f %7.2f" % (label, rate, their_rate, rate / their_rate, micros, their_micros, micros / their_micros))
     with open("/proc/sys/net/ipv4/ip_local_port_range") as ports:
         low, high = map(int, ports.read().split())
     for fault in sorted(faults):

@@ -1,0 +1,71 @@
+//! Calls that are made again while a worker has the session.
+
+ghost use Rattle.session_pool.specs.Seats.{IsPassOf, Rests};
+
+use session_pool::{ClientSeat, Finished, Pass, ReturnedPass, SessionPool};
+use std::thread;
+
+/// How often a call is made at most.
+const MOST_TRIES: u32 = 10_000_000;
+
+/// Sends a piece once no worker has the session. Whether it was sent.
+pub(crate) fn send_when_free<'p>(
+    pool: &SessionPool<'p>,
+    seat: &mut ClientSeat<'p>,
+    pass: &Pass,
+    mut piece: Vec<u8>,
+) -> bool
+    requires seat { Rests pool.now seat.old }
+    requires pass { IsPassOf seat.old pass.now }
+    ensures seat { Rests pool.now seat.new }
+    ensures pass { IsPassOf seat.new pass.now }
+{
+    for _ in 0..MOST_TRIES {
+        match pool.piece(seat, pass, piece) {
+            Ok(()) => return true,
+            Err(back) => piece = back.piece,
+        }
+        thread::yield_now();
+    }
+    false
+}
+
+/// Ends a session's payload once no worker has the session. Whether it was ended.
+pub(crate) fn end_when_free<'p>(
+    pool: &SessionPool<'p>,
+    seat: &mut ClientSeat<'p>,
+    pass: &Pass,
+) -> bool
+    requires seat { Rests pool.now seat.old }
+    requires pass { IsPassOf seat.old pass.now }
+    ensures seat { Rests pool.now seat.new }
+    ensures pass { IsPassOf seat.new pass.now }
+{
+    for _ in 0..MOST_TRIES {
+        if pool.end(seat, pass).is_ok() {
+            return true;
+        }
+        thread::yield_now();
+    }
+    false
+}
+
+/// What a session comes to, once it has.
+pub(crate) fn finished_in_time<'p>(
+    pool: &SessionPool<'p>,
+    seat: &mut ClientSeat<'p>,
+    mut pass: Pass,
+) -> Option<Finished>
+    requires seat { Rests pool.now seat.old }
+    requires pass { IsPassOf seat.old pass }
+    ensures seat { Rests pool.now seat.new }
+{
+    for _ in 0..MOST_TRIES {
+        match pool.result(seat, pass) {
+            Ok(finished) => return Some(finished),
+            Err(ReturnedPass { pass: back, .. }) => pass = back,
+        }
+        thread::yield_now();
+    }
+    None
+}
