@@ -5,7 +5,7 @@ PROGRAM = sys.argv[1]
 CLIENTS, ROUNDS = 64, 12
 IDLE_CONNECTIONS, IDLE_SECONDS, MOST_IDLE_SHARE = 4, 10, 0.01
 PATIENCE = 60  # seconds for one answer
-LONGS = 200_000  # items of a message that takes many turns
+LONGS = 100_000  # items of a message that takes many turns
 
 
 def number(n):
@@ -96,9 +96,16 @@ def messages(chance):
     return request("POST", "/transcode/2", envelope(1, payload)), answer(200, BYTES, envelope(2, text(b) + number(7)))
 
 
+def longs(seed):
+    chance = random.Random(seed)
+    return number(LONGS) + b"".join(number(chance.randrange(-(1 << 31), 1 << 31)) for _ in range(LONGS)) + b"\0"
+
+
+LONG_PAYLOADS = [longs(seed) for seed in range(4)]  # made before, so that no client waits for them
+
+
 def long_messages(chance):
-    longs = b"".join(number(chance.randrange(-(1 << 31), 1 << 31)) for _ in range(LONGS))
-    payload = number(LONGS) + longs + b"\0"
+    payload = chance.choice(LONG_PAYLOADS)
     return request("POST", "/transcode/4", envelope(3, payload)), answer(200, BYTES, envelope(4, payload))
 
 

@@ -6,7 +6,7 @@ use std::time::Duration;
 
 /// How many milliseconds a thread sleeps at most before it looks again. No contract says that each is woken; were one
 /// not, it would lose so much time.
-const NAP: u64 = 50;
+const NAP: u64 = 1_000;
 
 /// A count of events, of which threads wait for the next.
 #[derive(Drop)]
