@@ -13,8 +13,8 @@ use Rattle.gateway_server.specs.contracts.client.Client as client
 use Rattle.gateway_server.specs.contracts.shared.Shared as shared
 use Rattle.gateway_server.specs.contracts.worker.Worker as worker
 
-fields-sync : (α κ : NamedLft) → FieldsHave IsSync (shared.the_type α κ).parts
-fields-sync α κ = (
+fields-sync : (α ι κ : NamedLft) → FieldsHave IsSync (shared.the_type α ι κ).parts
+fields-sync α ι κ = (
   sync,
   (
     search (shared-sync, shr_sync, as_row_sync) depth 60 fits 20000,
@@ -24,24 +24,24 @@ fields-sync α κ = (
         search (signals.the_sync, shr_sync, as_row_sync) depth 60 fits 20000,
         (
           search (listener.the_sync, shr_sync, as_row_sync) depth 60 fits 20000,
-          (search (options.the_sync, shr_sync, as_row_sync) depth 60 fits 20000, tt),
+          (search (options.the_sync) depth 60 fits 20000, tt),
         ),
       ),
     ),
   ),
 )
 
-pub threads-share : (α κ : NamedLft) → IsSync (shared.the_row α κ)
-threads-share α κ = declared_sync (shared.the_type α κ) (fields-sync α κ)
+pub threads-share : (α ι κ : NamedLft) → IsSync (shared.the_row α ι κ)
+threads-share α ι κ = declared_sync (shared.the_type α ι κ) (fields-sync α ι κ)
 
-pub client-goes : (α κ : NamedLft) → IsSend (client.the_row α κ)
-client-goes α κ = declared_send (client.the_type α κ) (
+pub client-goes : (α ι κ : NamedLft) → IsSend (client.the_row α ι κ)
+client-goes α ι κ = declared_send (client.the_type α ι κ) (
   search (threads-share, shr_send, as_row_send) depth 60 fits 20000,
   (search (client-send, as_row_send) depth 60 fits 20000, (search (worker-send, as_row_send) depth 60 fits 20000, tt)),
 )
 
-pub worker-goes : (α κ : NamedLft) → IsSend (worker.the_row α κ)
-worker-goes α κ = declared_send (worker.the_type α κ) (
+pub worker-goes : (α ι κ : NamedLft) → IsSend (worker.the_row α ι κ)
+worker-goes α ι κ = declared_send (worker.the_type α ι κ) (
   search (threads-share, shr_send, as_row_send) depth 60 fits 20000,
   (search (worker-send, as_row_send) depth 60 fits 20000, tt),
 )

@@ -22,8 +22,8 @@ const PAUSE: u64 = 10;
 
 /// What a client's thread is given: a seat for its sessions, and one to take turns by while it waits for them.
 #[derive(Drop)]
-pub(crate) struct Client<'a, 'p> {
-    pub(crate) shared: &'a Shared<'a, 'p>,
+pub(crate) struct Client<'a, 'l, 'p> {
+    pub(crate) shared: &'a Shared<'a, 'l, 'p>,
     pub(crate) seat: ClientSeat<'p>,
     pub(crate) helper: WorkerSeat<'p>,
     ghost rests: { Rests shared.now.pool.now seat },
@@ -68,7 +68,7 @@ fn serve_connections<R: Wait + Clock, T: Transcode, G: Gate>(
 /// What a client's thread does: how many requests it answered.
 pub(crate) fn run_client<R: Wait + Clock>(
     rt: &R,
-    client: Client<'_, '_>,
+    client: Client<'_, '_, '_>,
 ) -> Result<u64, AllocError> {
     let Client {
         shared,
@@ -88,6 +88,6 @@ pub(crate) fn run_client<R: Wait + Clock>(
         &mut seat,
         &mut gate,
         shared.listener,
-        shared.options,
+        &shared.options,
     ))
 }

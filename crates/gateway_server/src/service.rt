@@ -40,7 +40,7 @@ fn serve_after<R: Threads + Wait + Clock + Sync, W: Write>(
         pool: &pool,
         signals: &signals,
         listener,
-        options,
+        options: *options,
     };
     write_whole(writer, line.as_bytes())?;
     Ok(run_threads(rt, &shared, &mut seats, &mut helpers)?)
