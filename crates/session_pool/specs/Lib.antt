@@ -8,3 +8,4 @@ pub mod Debugging
 pub mod Finishing
 pub mod Searching
 pub mod Turning
+pub mod Order

@@ -1,7 +1,8 @@
 //! How a worker comes to a session that is ready.
 
+ghost use Rattle.std.specs.Prelude.{◌≡◌, MatchOption, Some};
 ghost use Rattle.session_pool_slots.specs.Seats.{IsSeatOf as IsSlotSeatOf, Rests as IsAtRest};
-ghost use Rattle.session_pool_jobs.specs.Seats.{IsSeatOf};
+ghost use Rattle.session_pool_jobs.specs.Seats.{IsSeatOf, workers_of};
 
 use crate::pool::{SessionPool, WorkerSeat};
 use session_pool_jobs::JobSeat;
@@ -10,6 +11,18 @@ use session_pool_slots::{SLOTS, SlotSeat};
 
 impl<'p> SessionPool<'p> {
     ghost use Rattle.session_pool.specs.Seats.{RestsWorker};
+    ghost use Rattle.session_pool.specs.Order.{
+      Comes,
+      JobsMiss,
+      Leads,
+      Misses,
+      OnlyPuts,
+      OwnLeads,
+      OwnMisses,
+      Scans,
+      StealsLead,
+      StealsMiss,
+    };
     ghost use Rattle.session_pool.specs.Searching.{FindsByJobs, FindsReady};
 
     /// Takes a session that is ready: by one of the worker's own jobs, else by one that it steals from each other
@@ -19,6 +32,7 @@ impl<'p> SessionPool<'p> {
         ensures jobs { IsSeatOf self.now.jobs seat.new.jobs }
         ensures seat { IsSlotSeatOf self.now.slots seat.new.slots }
         ensures found { FindsReady seat.old.slots result seat.new.slots }
+        ensures order { Comes self.now seat.old result seat.new }
     {
         match self.find_by_jobs(seat) {
             Some(slot) => Some(slot),
@@ -32,6 +46,9 @@ impl<'p> SessionPool<'p> {
         ensures jobs { IsSeatOf self.now.jobs seat.new.jobs }
         ensures seat { IsSlotSeatOf self.now.slots seat.new.slots }
         ensures found { FindsByJobs seat.old.slots result seat.new.slots }
+        ensures order { MatchOption result
+            (JobsMiss (workers_of self.now.jobs) seat.old seat.new)
+            (λ slot. Comes self.now seat.old (Some slot) seat.new) }
     {
         match self.take_own(seat) {
             Some(slot) => Some(slot),
@@ -45,6 +62,7 @@ impl<'p> SessionPool<'p> {
         ensures jobs { IsSeatOf self.now.jobs seat.new.jobs }
         ensures seat { IsSlotSeatOf self.now.slots seat.new.slots }
         ensures found { FindsByJobs seat.old.slots result seat.new.slots }
+        ensures order { MatchOption result (OwnMisses seat.old seat.new) (λ slot. OwnLeads slot seat.old seat.new) }
     {
         let slot = self.jobs.take(&mut seat.jobs)?;
         self.take_job(&mut seat.slots, slot)
@@ -56,6 +74,9 @@ impl<'p> SessionPool<'p> {
         ensures jobs { IsSeatOf self.now.jobs seat.new.jobs }
         ensures seat { IsSlotSeatOf self.now.slots seat.new.slots }
         ensures found { FindsByJobs seat.old.slots result seat.new.slots }
+        ensures order { MatchOption result
+            (StealsMiss (workers_of self.now.jobs) seat.old seat.new)
+            (λ slot. StealsLead (workers_of self.now.jobs) slot seat.old seat.new) }
     {
         let own = seat.jobs.number();
         for from in 0..self.jobs.workers() {
@@ -76,6 +97,9 @@ impl<'p> SessionPool<'p> {
         requires { IsAtRest self.now.slots seat.old }
         ensures seat { IsSlotSeatOf self.now.slots seat.new }
         ensures found { FindsByJobs seat.old result seat.new }
+        ensures once { MatchOption result
+            (Misses (Some slot) seat.old seat.new)
+            (λ found. (found ≡ slot) × Leads slot seat.old seat.new) }
     {
         if slot as usize >= SLOTS {
             return None;
@@ -92,6 +116,7 @@ impl<'p> SessionPool<'p> {
         ensures jobs { IsSeatOf self.now.jobs seat.new.jobs }
         ensures seat { IsSlotSeatOf self.now.slots seat.new.slots }
         ensures found { FindsReady seat.old.slots result seat.new.slots }
+        ensures order { Scans result seat.old seat.new }
     {
         let slot = self.slots.scan(&mut seat.slots)?;
         self.keep_further(&mut seat.jobs, slot + 1);
@@ -101,7 +126,8 @@ impl<'p> SessionPool<'p> {
     /// Keeps the slots from one on that are ready as jobs, as far as they are taken.
     fn keep_further(&self, jobs: &mut JobSeat, from: u32)
         requires { IsSeatOf self.now.jobs jobs.old }
-        ensures { IsSeatOf self.now.jobs jobs.new }
+        ensures seat { IsSeatOf self.now.jobs jobs.new }
+        ensures puts { OnlyPuts jobs.old jobs.new }
     {
         for slot in from..SLOTS as u32 {
             if self.slots.is_ready(slot) {

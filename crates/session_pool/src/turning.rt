@@ -23,6 +23,7 @@ pub enum Turn {
 
 impl<'p> SessionPool<'p> {
     ghost use Rattle.session_pool.specs.Seats.{RestsWorker};
+    ghost use Rattle.session_pool.specs.Order.{OnlyPuts, TurnsInOrder};
     ghost use Rattle.session_pool.specs.Turning.{Turned};
     ghost use Rattle.session_pool_slots.specs.Seats.{knows};
 
@@ -33,6 +34,7 @@ impl<'p> SessionPool<'p> {
         requires { RestsWorker self.now seat.old }
         ensures seat { RestsWorker self.now seat.new }
         ensures turned { Turned seat.old limit result seat.new }
+        ensures order { TurnsInOrder self.now seat.old limit result seat.new }
     {
         self.turn_at(seat, limit, &mut |_slot: u32| {})
     }
@@ -48,6 +50,7 @@ impl<'p> SessionPool<'p> {
         requires callable { (closure : F) (slot : ℕ) → F.pre closure slot }
         ensures seat { RestsWorker self.now seat.new }
         ensures turned { Turned seat.old limit result seat.new }
+        ensures order { TurnsInOrder self.now seat.old limit result seat.new }
         ensures called { Calls result (λ slot. F.step taken.old slot tt taken.new) (taken.new ≡ taken.old) }
     {
         let Some(slot) = self.find(seat) else {
@@ -68,6 +71,7 @@ impl<'p> SessionPool<'p> {
         requires note { HasNoted has_ended seat.old.slots.seat.me slot }
         ensures seat { RestsWorker self.now seat.new }
         ensures ran { Runs (knows seat.old.slots) slot limit result (knows seat.new.slots) }
+        ensures puts { OnlyPuts seat.old.jobs seat.new.jobs }
     {
         let slice = self.slots.run(&mut seat.slots, slot, limit);
         if slice.word == READY {

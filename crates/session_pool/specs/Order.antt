@@ -1,0 +1,129 @@
+-- In which order a worker looks for a session: its own deque, each other worker's, then all slots. All of this is this
+-- project's own.
+use Rattle.std.specs.Prelude.{◌≡◌, ◌≢◌, ◌<◌, ◌≤◌, ◌⊎◌, ℕ, ◌+◌, List, [], ◌∷◌, ◌++◌, length, Option, Some, None, MatchOption}
+use Rattle.session_pool_jobs.specs.declared.seat.JobSeat.{JobSeat}
+use Rattle.session_pool_jobs.specs.Calls.{Steals, Takes}
+use Rattle.session_pool_jobs.specs.Seats.{kept_by, number_of, put_by, stolen_by, taken_by, workers_of}
+use Rattle.session_pool_rule.specs.Results.{HasNoted, HasSame, words_of}
+use Rattle.session_pool_rule.specs.Words.{ready, slots}
+use Rattle.session_pool_slots.specs.declared.slots.SlotSeat.{SlotSeat}
+use Rattle.session_pool_slots.specs.declared.working.RunSlice.{RunSlice}
+use Rattle.session_pool_slots.specs.Account.{has_ended}
+use Rattle.session_pool_slots.specs.Seats.{knows}
+use Rattle.session_pool_slots.specs.Working.{FindsNoneReady, Runs, TakesFirst}
+use Rattle.session_pool.specs.declared.pool.SessionPool.{SessionPool}
+use Rattle.session_pool.specs.declared.pool.WorkerSeat.{WorkerSeat}
+use Rattle.session_pool.specs.declared.turning.Turn.{Turn}
+use Rattle.session_pool.specs.declared.turning.Turn.TheVariants.{Idle, Ran}
+
+-- ---- a job
+
+-- A job led to the session of its slot: the word of the slot was found, once, to be ready.
+pub record Leads (job : ℕ) (old new : SlotSeat) : Type 0 where
+  pub found : (knows new).found ≡ (knows old).found ++ words_of job (ready ∷ [])
+  pub same : HasSame (knows old) (knows new)
+  pub noted : HasNoted has_ended new.seat.me job
+
+-- It led to none: the word of its slot was found, once, not to be ready.
+pub record FindsUnready (job : ℕ) (old new : SlotSeat) : Type 0 where
+  pub word : ℕ
+  pub unready : word ≢ ready
+  pub found : (knows new).found ≡ (knows old).found ++ words_of job (word ∷ [])
+  pub same : HasSame (knows old) (knows new)
+
+-- What a deque answered led to no session: there was no job, or its number is no slot's, or its slot is not ready.
+abbrev pub Misses : Option ℕ → SlotSeat → SlotSeat → Type 0
+Misses None old new = new ≡ old
+Misses (Some job) old new = ((slots ≤ job) × (new ≡ old)) ⊎ FindsUnready job old new
+
+-- ---- its own deque
+
+-- a job was taken from its own deque, or none was there, and led to no session
+pub record OwnMisses (old new : WorkerSeat) : Type 0 where
+  pub answer : Option ℕ
+  pub takes : Takes answer old.jobs new.jobs
+  pub misses : Misses answer old.slots new.slots
+
+-- a job was taken from its own deque, and led to the session of this slot
+pub record OwnLeads (slot : ℕ) (old new : WorkerSeat) : Type 0 where
+  pub takes : Takes (Some slot) old.jobs new.jobs
+  pub leads : Leads slot old.slots new.slots
+
+-- ---- the deques of other workers
+
+-- a job was stolen from this worker, who is another, or none was, and led to no session
+pub record StealMisses (from : ℕ) (old new : WorkerSeat) : Type 0 where
+  pub other : from ≢ number_of old.jobs
+  pub answer : Option ℕ
+  pub steals : Steals from answer old.jobs new.jobs
+  pub misses : Misses answer old.slots new.slots
+
+-- Of the workers below this number each was stolen from once, in order, but the worker itself; no job led to a session.
+pub data StealsMiss : ℕ → WorkerSeat → WorkerSeat → Type 0 where
+  none : (seat : WorkerSeat) → StealsMiss 0 seat seat
+  itself : (from : ℕ) (old new : WorkerSeat) → StealsMiss from old new → from ≡ number_of new.jobs
+      → StealsMiss (from + 1) old new
+  other : (from : ℕ) (old mid new : WorkerSeat) → StealsMiss from old mid → StealMisses from mid new
+      → StealsMiss (from + 1) old new
+
+-- Each was so below a worker, who is another; the job that was stolen from that one led to the session of this slot.
+pub record StealsLead (workers slot : ℕ) (old new : WorkerSeat) : Type 0 where
+  pub from : ℕ
+  pub within : from < workers
+  pub mid : WorkerSeat
+  pub before : StealsMiss from old mid
+  pub other : from ≢ number_of mid.jobs
+  pub steals : Steals from (Some slot) mid.jobs new.jobs
+  pub leads : Leads slot mid.slots new.slots
+
+-- ---- all slots
+
+-- some numbers were put into its own deque, and none was taken from any
+pub record OnlyPuts (old new : JobSeat) : Type 0 where
+  pub more : List ℕ
+  pub number : number_of new ≡ number_of old
+  pub kept : kept_by new ≡ kept_by old + length more
+  pub put : put_by new ≡ put_by old ++ more
+  pub taken : taken_by new ≡ taken_by old
+  pub stolen : (from : ℕ) → stolen_by new from ≡ stolen_by old from
+
+-- The slots were looked at in order, up to the first that was ready, or all of them where none was. Only after that
+-- were others put into its own deque.
+pub record Scans (result : Option ℕ) (old new : WorkerSeat) : Type 0 where
+  pub found : MatchOption result (FindsNoneReady old.slots new.slots) (λ slot. TakesFirst old.slots slot new.slots)
+  pub same : HasSame (knows old.slots) (knows new.slots)
+  pub jobs : MatchOption result (new.jobs ≡ old.jobs) (λ _. OnlyPuts old.jobs new.jobs)
+
+-- ---- a turn
+
+-- its own deque was looked into first, and then those of all others; none led to a session
+pub record JobsMiss (workers : ℕ) (old new : WorkerSeat) : Type 0 where
+  pub mid : WorkerSeat
+  pub own : OwnMisses old mid
+  pub others : StealsMiss workers mid new
+
+-- How a worker came to the session of a slot, or to none.
+pub data Comes (pool : SessionPool) (old : WorkerSeat) : Option ℕ → WorkerSeat → Type 0 where
+  -- by a job of its own deque, before it looked anywhere else
+  by_own : (slot : ℕ) (new : WorkerSeat) → OwnLeads slot old new → Comes pool old (Some slot) new
+  -- by a job that it stole, once its own deque had led to none
+  by_theft : (slot : ℕ) (mid new : WorkerSeat) → OwnMisses old mid → StealsLead (workers_of pool.jobs) slot mid new
+      → Comes pool old (Some slot) new
+  -- by a scan, or by nothing, once no deque had led to one
+  by_scan : (result : Option ℕ) (mid new : WorkerSeat) → JobsMiss (workers_of pool.jobs) old mid → Scans result mid new
+      → Comes pool old result new
+
+-- The worker came to the session so and ran it. Of what was found nothing came after that, and of jobs only what was
+-- put.
+pub record ComesAndRuns (pool : SessionPool) (old : WorkerSeat) (slot limit rows : ℕ) (new : WorkerSeat) : Type 0 where
+  pub mid : WorkerSeat
+  pub comes : Comes pool old (Some slot) mid
+  pub slice : RunSlice
+  pub count : slice.rows ≡ rows
+  pub runs : Runs (knows mid.slots) slot limit slice (knows new.slots)
+  pub puts : OnlyPuts mid.jobs new.jobs
+
+-- In which order a turn looked.
+abbrev pub TurnsInOrder : SessionPool → WorkerSeat → ℕ → Turn → WorkerSeat → Type 0
+TurnsInOrder pool old limit Idle new = Comes pool old None new
+TurnsInOrder pool old limit (Ran slot rows) new = ComesAndRuns pool old slot limit rows new
