@@ -1,40 +1,18 @@
--- In which order a worker looks.
-use Rattle.std.proofs.Common.{◌≡◌, ◌≢◌, ◌<◌, ◌≤◌, ◌+◌, ℕ, List, [], ◌∷◌, ◌++◌, length, Option, Some, None, MatchOption, MatchResult, Result, Ok, Err, refl, sym, ap, ◌∙◌, subst, append_assoc, append-nil, arith}
-use Rattle.std.proofs.lemmas.List.{length-append}
+-- What the parts of a search, in order, come to together.
+use Rattle.std.proofs.Common.{◌≡◌, ◌≢◌, ◌<◌, ◌+◌, ℕ, Option, Some, None, MatchOption, sym, ◌∙◌, subst}
 use Rattle.session_pool_jobs.specs.declared.seat.JobSeat.{JobSeat}
-use Rattle.session_pool_jobs.specs.declared.refusal.PutRefusal.{PutRefusal}
-use Rattle.session_pool_jobs.specs.Calls.{Puts, Stays, Steals, Takes}
+use Rattle.session_pool_jobs.specs.Calls.{Steals}
 use Rattle.session_pool_jobs.specs.Seats.{IsSeatOf, number_of, workers_of}
 use Rattle.session_pool_slots.specs.declared.slots.SlotSeat.{SlotSeat}
 use Rattle.session_pool_slots.specs.Seats.{IsSeatOf as IsSlotSeatOf, knows}
 use Rattle.session_pool.specs.declared.pool.SessionPool.{SessionPool}
 use Rattle.session_pool.specs.declared.pool.WorkerSeat.{WorkerSeat}
-use Rattle.session_pool.specs.Order.{Comes, JobsMiss, Leads, Misses, OnlyPuts, OwnMisses, StealsLead, StealsMiss}
+use Rattle.session_pool.specs.Order.{Comes, JobsMiss, Leads, Misses, OwnMisses, StealsLead, StealsMiss}
 use Rattle.session_pool.specs.Order.Comes.{by_theft}
 use Rattle.session_pool.specs.Order.StealsMiss.{itself, none, other}
 use Rattle.session_pool.specs.Searching.{LooksByJobs}
 use Rattle.session_pool.specs.Seats.{RestsWorker}
 use Rattle.session_pool.proofs.Searches.{looks_on, no_looks}
-
--- ---- jobs that are put
-
-pub no_puts : (j : JobSeat) → OnlyPuts j j
-no_puts j = record { more = []; number = refl; kept = omega arith; put = sym (append-nil _); taken = refl; stolen = λ from. refl }
-
-pub puts_on : (j k l : JobSeat) → OnlyPuts j k → OnlyPuts k l → OnlyPuts j l
-puts_on j k l a b = record {
-  more = a.more ++ b.more;
-  number = b.number ∙ a.number;
-  kept = omega (arith, a.kept, b.kept, length-append a.more b.more);
-  put = b.put ∙ (ap (λ (xs : List ℕ). xs ++ b.more) a.put ∙ append_assoc _ a.more b.more);
-  taken = b.taken ∙ a.taken;
-  stolen = λ from. b.stolen from ∙ a.stolen from;
-}
-
--- a call that puts a number, or refuses to
-pub puts_once : (r : Result Unit PutRefusal) (slot : ℕ) (j k : JobSeat) → MatchResult r (λ _. Puts slot j k) (λ _. Stays j k) → OnlyPuts j k
-puts_once (Ok _) slot j k p = record { more = slot ∷ []; number = p.number; kept = p.kept; put = p.put; taken = p.taken; stolen = p.stolen }
-puts_once (Err _) slot j k s = record { more = []; number = s.number; kept = omega (arith, s.kept); put = s.put ∙ sym (append-nil _); taken = s.taken; stolen = s.stolen }
 
 -- ---- steals, one from each other worker
 

@@ -1,8 +1,11 @@
--- In which order a worker looks for a session: its own deque, each other worker's, then all slots. All of this is this
--- project's own.
-use Rattle.std.specs.Prelude.{◌≡◌, ◌≢◌, ◌<◌, ◌≤◌, ◌⊎◌, ℕ, ◌+◌, List, [], ◌∷◌, ◌++◌, length, Option, Some, None, MatchOption}
+-- In which order a worker looks for a session. All of this is this project's own.
+-- First it looks into its own deque, then into each other worker's, then at all slots. A seat has a list of the words
+-- that it found, and one of the numbers that it took for each deque: what came first is told by the seat in between, to
+-- which one part of the search led and from which the next went on.
+use Rattle.std.specs.Prelude.{◌≡◌, ◌≢◌, ◌<◌, ◌≤◌, ◌⊎◌, ℕ, ◌+◌, List, [], ◌∷◌, ◌++◌, All, length, Option, Some, None}
+use Rattle.std.specs.Prelude.{MatchOption}
 use Rattle.session_pool_jobs.specs.declared.seat.JobSeat.{JobSeat}
-use Rattle.session_pool_jobs.specs.Calls.{Steals, Takes}
+use Rattle.session_pool_jobs.specs.Calls.{Puts, Stays, Steals, Takes}
 use Rattle.session_pool_jobs.specs.Seats.{kept_by, number_of, put_by, stolen_by, taken_by, workers_of}
 use Rattle.session_pool_rule.specs.Results.{HasNoted, HasSame, words_of}
 use Rattle.session_pool_rule.specs.Words.{ready, slots}
@@ -18,13 +21,13 @@ use Rattle.session_pool.specs.declared.turning.Turn.TheVariants.{Idle, Ran}
 
 -- ---- a job
 
--- A job led to the session of its slot: the word of the slot was found, once, to be ready.
+-- a job led to the session of its slot: the word of the slot was found, once, to be ready
 pub record Leads (job : ℕ) (old new : SlotSeat) : Type 0 where
   pub found : (knows new).found ≡ (knows old).found ++ words_of job (ready ∷ [])
   pub same : HasSame (knows old) (knows new)
   pub noted : HasNoted has_ended new.seat.me job
 
--- It led to none: the word of its slot was found, once, not to be ready.
+-- a job led to none: the word of its slot was found, once, not to be ready
 pub record FindsUnready (job : ℕ) (old new : SlotSeat) : Type 0 where
   pub word : ℕ
   pub unready : word ≢ ready
@@ -59,6 +62,7 @@ pub record StealMisses (from : ℕ) (old new : WorkerSeat) : Type 0 where
   pub misses : Misses answer old.slots new.slots
 
 -- Of the workers below this number each was stolen from once, in order, but the worker itself; no job led to a session.
+-- A steal that answered none leaves no trace with the thief, so of such a one it is not told that it was made.
 pub data StealsMiss : ℕ → WorkerSeat → WorkerSeat → Type 0 where
   none : (seat : WorkerSeat) → StealsMiss 0 seat seat
   itself : (from : ℕ) (old new : WorkerSeat) → StealsMiss from old new → from ≡ number_of new.jobs
@@ -76,23 +80,24 @@ pub record StealsLead (workers slot : ℕ) (old new : WorkerSeat) : Type 0 where
   pub steals : Steals from (Some slot) mid.jobs new.jobs
   pub leads : Leads slot mid.slots new.slots
 
--- ---- all slots
+-- ---- a scan of all slots
 
--- some numbers were put into its own deque, and none was taken from any
-pub record OnlyPuts (old new : JobSeat) : Type 0 where
+-- numbers of slots from this one on were put into its own deque, and none was taken from any
+pub record PutsFrom (from : ℕ) (old new : JobSeat) : Type 0 where
   pub more : List ℕ
+  pub further : All (λ slot. (from ≤ slot) × (slot < slots)) more
   pub number : number_of new ≡ number_of old
   pub kept : kept_by new ≡ kept_by old + length more
   pub put : put_by new ≡ put_by old ++ more
   pub taken : taken_by new ≡ taken_by old
-  pub stolen : (from : ℕ) → stolen_by new from ≡ stolen_by old from
+  pub stolen : (worker : ℕ) → stolen_by new worker ≡ stolen_by old worker
 
--- The slots were looked at in order, up to the first that was ready, or all of them where none was. Only after that
--- were others put into its own deque.
+-- The slots were looked at in order, up to the first that was ready, or all of them where none was; further ones may
+-- have been put into its own deque.
 pub record Scans (result : Option ℕ) (old new : WorkerSeat) : Type 0 where
   pub found : MatchOption result (FindsNoneReady old.slots new.slots) (λ slot. TakesFirst old.slots slot new.slots)
   pub same : HasSame (knows old.slots) (knows new.slots)
-  pub jobs : MatchOption result (new.jobs ≡ old.jobs) (λ _. OnlyPuts old.jobs new.jobs)
+  pub jobs : MatchOption result (new.jobs ≡ old.jobs) (λ slot. PutsFrom (slot + 1) old.jobs new.jobs)
 
 -- ---- a turn
 
@@ -113,17 +118,17 @@ pub data Comes (pool : SessionPool) (old : WorkerSeat) : Option ℕ → WorkerSe
   by_scan : (result : Option ℕ) (mid new : WorkerSeat) → JobsMiss (workers_of pool.jobs) old mid → Scans result mid new
       → Comes pool old result new
 
--- The worker came to the session so and ran it. Of what was found nothing came after that, and of jobs only what was
--- put.
+-- The worker came to the session so, and ran it. After that it found no word, and took no job; it put the slot into its
+-- own deque, or nothing.
 pub record ComesAndRuns (pool : SessionPool) (old : WorkerSeat) (slot limit rows : ℕ) (new : WorkerSeat) : Type 0 where
   pub mid : WorkerSeat
   pub comes : Comes pool old (Some slot) mid
   pub slice : RunSlice
   pub count : slice.rows ≡ rows
   pub runs : Runs (knows mid.slots) slot limit slice (knows new.slots)
-  pub puts : OnlyPuts mid.jobs new.jobs
+  pub jobs : Puts slot mid.jobs new.jobs ⊎ Stays mid.jobs new.jobs
 
--- In which order a turn looked.
+-- in which order a turn looked
 abbrev pub TurnsInOrder : SessionPool → WorkerSeat → ℕ → Turn → WorkerSeat → Type 0
 TurnsInOrder pool old limit Idle new = Comes pool old None new
 TurnsInOrder pool old limit (Ran slot rows) new = ComesAndRuns pool old slot limit rows new

@@ -11,18 +11,8 @@ use session_pool_slots::{SLOTS, SlotSeat};
 
 impl<'p> SessionPool<'p> {
     ghost use Rattle.session_pool.specs.Seats.{RestsWorker};
-    ghost use Rattle.session_pool.specs.Order.{
-      Comes,
-      JobsMiss,
-      Leads,
-      Misses,
-      OnlyPuts,
-      OwnLeads,
-      OwnMisses,
-      Scans,
-      StealsLead,
-      StealsMiss,
-    };
+    ghost use Rattle.session_pool.specs.Order.{Comes, JobsMiss, Leads, Misses, OwnLeads, OwnMisses};
+    ghost use Rattle.session_pool.specs.Order.{PutsFrom, Scans, StealsLead, StealsMiss};
     ghost use Rattle.session_pool.specs.Searching.{FindsByJobs, FindsReady};
 
     /// Takes a session that is ready: by one of the worker's own jobs, else by one that it steals from each other
@@ -127,7 +117,7 @@ impl<'p> SessionPool<'p> {
     fn keep_further(&self, jobs: &mut JobSeat, from: u32)
         requires { IsSeatOf self.now.jobs jobs.old }
         ensures seat { IsSeatOf self.now.jobs jobs.new }
-        ensures puts { OnlyPuts jobs.old jobs.new }
+        ensures puts { PutsFrom from jobs.old jobs.new }
     {
         for slot in from..SLOTS as u32 {
             if self.slots.is_ready(slot) {

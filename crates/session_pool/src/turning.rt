@@ -1,6 +1,6 @@
 //! A worker's turn.
 
-ghost use Rattle.std.specs.Prelude.{◌≡◌, ◌<◌, ℕ};
+ghost use Rattle.std.specs.Prelude.{◌≡◌, ◌<◌, ◌⊎◌, ℕ};
 ghost use Rattle.session_pool_rule.specs.Results.{HasNoted};
 ghost use Rattle.session_pool_slots.specs.Account.{has_ended};
 ghost use Rattle.session_pool_slots.specs.Seats.{IsSeatOf as IsSlotSeatOf};
@@ -23,7 +23,8 @@ pub enum Turn {
 
 impl<'p> SessionPool<'p> {
     ghost use Rattle.session_pool.specs.Seats.{RestsWorker};
-    ghost use Rattle.session_pool.specs.Order.{OnlyPuts, TurnsInOrder};
+    ghost use Rattle.session_pool.specs.Order.{TurnsInOrder};
+    ghost use Rattle.session_pool_jobs.specs.Calls.{Puts, Stays};
     ghost use Rattle.session_pool.specs.Turning.{Turned};
     ghost use Rattle.session_pool_slots.specs.Seats.{knows};
 
@@ -71,7 +72,7 @@ impl<'p> SessionPool<'p> {
         requires note { HasNoted has_ended seat.old.slots.seat.me slot }
         ensures seat { RestsWorker self.now seat.new }
         ensures ran { Runs (knows seat.old.slots) slot limit result (knows seat.new.slots) }
-        ensures puts { OnlyPuts seat.old.jobs seat.new.jobs }
+        ensures puts { Puts slot seat.old.jobs seat.new.jobs ⊎ Stays seat.old.jobs seat.new.jobs }
     {
         let slice = self.slots.run(&mut seat.slots, slot, limit);
         if slice.word == READY {
