@@ -37,11 +37,11 @@ threads-share α ι κ = declared_sync (shared.the_type α ι κ) (fields-sync �
 pub client-goes : (α ι κ : NamedLft) → IsSend (client.the_row α ι κ)
 client-goes α ι κ = declared_send (client.the_type α ι κ) (
   search (threads-share, shr_send, as_row_send) depth 60 fits 20000,
-  (search (client-send, as_row_send) depth 60 fits 20000, (search (worker-send, as_row_send) depth 60 fits 20000, tt)),
+  (search (client-send) depth 60 fits 20000, (search (worker-send) depth 60 fits 20000, tt)),
 )
 
 pub worker-goes : (α ι κ : NamedLft) → IsSend (worker.the_row α ι κ)
 worker-goes α ι κ = declared_send (worker.the_type α ι κ) (
   search (threads-share, shr_send, as_row_send) depth 60 fits 20000,
-  (search (worker-send, as_row_send) depth 60 fits 20000, tt),
+  (search (worker-send) depth 60 fits 20000, tt),
 )
