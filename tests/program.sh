@@ -62,7 +62,7 @@ printf 'finish 0\n' | "$program" replay >/dev/full 2>"$err"; status=$?; : >"$out
 "$program" replay more </dev/null >"$out" 2>"$err"; want 'replay and a further word' 2 none some
 printf '%s02|61\n' "$listing" | "$program" run >/dev/full 2>"$err"; status=$?; : >"$out"; (exit $status); want 'run to a full device' 3 none none
 for words in '--port 65536' '--port -1' '--clients 0' '--clients 65' '--each -1' '--each 4294967296' '--request-timeout 0' \
-  '--request-timeout 3601' '--workers' 'more'; do
+  '--request-timeout 3601' '--workers' '--workers 0' '--workers 65' 'more'; do
   "$program" serve $words </dev/null >"$out" 2>"$err"; want "serve $words" 2 none some
 done
 "$program" serve --help </dev/null >"$out" 2>"$err"; want 'help of serve' 0 some none
