@@ -66,7 +66,6 @@ fn answers_are_the_same_after_a_refused_growth(rt: HostRuntime) -> Result<(), Fa
         pool,
         mut clients,
         mut workers,
-        ..
     } = new_pool(alloc, &cache, 1, 1)?;
     let mut seat = last_client(&rt, &pool, &mut clients);
     let mut gate = Helping::new(&pool, last_worker(&rt, &pool, &mut workers));

@@ -53,7 +53,6 @@ fn a_gate_that_says_no_leaves_the_slot_free(rt: HostRuntime) -> Result<(), Fail>
         pool,
         mut clients,
         mut workers,
-        ..
     } = new_pool(alloc, &cache, 1, 1)?;
     registered(&rt, alloc, &registry, "s", RECORD)?;
     registered(&rt, alloc, &registry, "t", SWAPPED)?;
@@ -104,7 +103,6 @@ fn a_full_pool_is_told_and_serves_again(rt: HostRuntime) -> Result<(), Fail> {
         pool,
         mut clients,
         mut workers,
-        ..
     } = new_pool(alloc, &cache, 3, 1)?;
     let mut receipt = registered(&rt, alloc, &registry, "s", RECORD)?;
     registered(&rt, alloc, &registry, "t", SWAPPED)?;

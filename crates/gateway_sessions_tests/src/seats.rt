@@ -1,6 +1,6 @@
 //! Pools with their seats.
 
-ghost use Rattle.std.specs.Prelude.{◌≡◌, ◌≤◌, All};
+ghost use Rattle.std.specs.Prelude.{◌≡◌, ◌≤◌, All, IfOk};
 ghost use Rattle.session_pool.specs.declared.limits.TheConstants.{MOST_CLIENTS};
 ghost use Rattle.session_pool_jobs.specs.declared.limits.TheConstants.{MOST_WORKERS};
 ghost use Rattle.session_pool.specs.Seats.{IsNewClient, IsNewWorker, Rests, RestsWorker};
@@ -15,10 +15,8 @@ use std::process::Abort;
 #[derive(Drop)]
 pub(crate) struct Seated<'p> {
     pub(crate) pool: SessionPool<'p>,
-    pub(crate) cache: &'p ProgramCache<'p>,
     pub(crate) clients: Vec<ClientSeat<'p>>,
     pub(crate) workers: Vec<WorkerSeat<'p>>,
-    ghost is_over: { pool.cache.now ≡ cache.now },
     ghost clients_rest: { All (IsNewClient pool) clients.items },
     ghost workers_rest: { All (IsNewWorker pool) workers.items },
 }
@@ -32,11 +30,11 @@ pub(crate) fn new_pool<'p>(
 ) -> Result<Seated<'p>, AllocError>
     requires clients { (1 ≤ clients) × (clients ≤ MOST_CLIENTS) }
     requires workers { (1 ≤ workers) × (workers ≤ MOST_WORKERS) }
+    ensures { IfOk result (λ seated. seated.pool.cache.now ≡ cache.now) }
 {
     let (pool, clients, workers) = SessionPool::new(alloc, cache, clients, workers)?;
     Ok(Seated {
         pool,
-        cache,
         clients,
         workers,
     })

@@ -195,7 +195,6 @@ fn four_workers_run_64_sessions_row_by_row(rt: HostRuntime) -> Result<(), Fail> 
         pool,
         mut clients,
         mut workers,
-        ..
     } = new_pool(alloc, &cache, SESSIONS, WORKERS)?;
     let mut receipt = registered(&rt, alloc, &registry, "s", LONG_LIST)?;
     let is_over = AtomicBool::new(false);
