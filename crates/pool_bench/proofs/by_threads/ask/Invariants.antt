@@ -1,0 +1,9 @@
+use Rattle.schema_registry.specs.Receipt.{IsReceiptOf}
+use Rattle.session_pool.specs.Seats.{Rests}
+use Rattle.pool_bench.proofs.by_threads.ask.Given as goal
+
+abbrev pub invariant-loop : goal.invariant-loop
+invariant-loop l =
+    Rests l.pool l.seat
+    × IsReceiptOf l.pool.cache.now l.writer
+    × IsReceiptOf l.pool.cache.now l.reader
