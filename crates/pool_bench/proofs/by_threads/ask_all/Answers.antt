@@ -14,7 +14,7 @@ asking-send α κ = declared_send (asking.the_type α κ) (
   (
     search (pool-sync, shr_send, as_row_send) depth 60 fits 20000,
     (
-      search (client-send, as_row_send) depth 60 fits 20000,
+      search (client-send) depth 60 fits 20000,
       (
         search (receipts.the_send, crosses, sendable) depth 60 fits 20000,
         (

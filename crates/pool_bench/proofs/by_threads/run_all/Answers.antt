@@ -12,7 +12,7 @@ working-send α κ = declared_send (working.the_type α κ) (
   search (pool-sync, shr_send, as_row_send) depth 60 fits 20000,
   (
     search (crosses, sendable) depth 60 fits 20000,
-    (search (worker-send, as_row_send) depth 60 fits 20000, tt),
+    (search (worker-send) depth 60 fits 20000, tt),
   ),
 )
 
