@@ -3,7 +3,7 @@
 # The program, on inputs to each of its words but `replay`: status 4 and nothing written, or the whole answer where a
 # buffer could stay as it was, or, of `debug`, an answer that tells want of memory. The tests that ask again for what was
 # refused: they pass, or end because what they build themselves was refused (an output that is a vector refuses a write
-# then); an answer that changed fails its assertion.
+# then), or because a call that they compare tells want of memory; an answer that changed fails its assertion.
 # Usage, after `rt run` in crates/avrogate and `rt test` in each crate of tests: tests/allocations.sh
 set -uo pipefail
 cd "$(dirname "$0")/.."
@@ -89,7 +89,7 @@ ask_again() {
     for ((n = 1; ; n++)); do
       refused $n "$tests" "$test" || break
       runs=$((runs + 1))
-      if [ $status = 0 ] || grep -qE '[Ee]rror: .*(AllocError|AllocFailed|NoMemory|OutOfMemory)|no memory: (AllocError|AllocFailed|NoMemory)|left: Err\(Write\)' "$folder/out" "$folder/err"; then
+      if [ $status = 0 ] || grep -qE '[Ee]rror: .*(AllocError|AllocFailed|NoMemory|OutOfMemory)|no memory: (AllocError|AllocFailed|NoMemory)|left: Err\((Write|NoMemory)\)' "$folder/out" "$folder/err"; then
         count ok
       else
         count bad "$tests $test, allocation $n: $(cat "$folder/err" "$folder/out" | head -c 300)"
@@ -105,6 +105,7 @@ ask_again resolver_tests pair_tests::{payloads_are_read_and_written,outcomes_of_
 ask_again session_core_tests registry::command_tests::{answers_each_question,levels_compare_what_they_name,refuses_in_order,maps_grow,a_growth_without_memory_changes_nothing}
 ask_again session_core_tests pair_row_tests::{one_cell_holds_one_pair,each_pair_has_its_own_cell}
 ask_again session_pool_tests rows::{a_session_is_fed_piece_by_piece,a_debugger_is_answered,pieces_that_are_refused_are_handed_back}
+ask_again session_pool_tests cache::{one_receipt_gives_one_program,schemas_are_published_by_their_texts}
 ask_again gateway_sessions_tests memory::answers_are_the_same_after_a_refused_growth
 ask_again machine_stepper_tests forms::program_tests::{keeps_lists_and_shares_them,a_program_shows_its_parts}
 ask_again machine_stepper_tests forms::program_tests::parts_are_a_program_or_their_first_fault_is_told
