@@ -1,14 +1,16 @@
 #!/usr/bin/env bash
 # What `avrogate serve` keeps of memory after it has answered: its resident bytes (VmRSS) at the begin, after 10,000
 # messages of 1 KB, and after 256 messages of 16 MiB more, which 8 connections at once send; and the most that it had
-# (VmHWM). Each answer is verified. Targets: under 64 MB, and under 256 MB. It takes about a minute. Not part of the gate.
+# (VmHWM). Each answer is verified. Targets: under 64 MB, and under 256 MB. It comes twice: as it is, and with
+# MALLOC_MMAP_THRESHOLD_=1048576 in the environment, by which the C library gives blocks of a megabyte and more back to
+# the system at once, instead of keeping them for the thread. It takes about a minute. Not part of the gate.
 # Usage: bench/service_memory.sh [PROGRAM]   (crates/avrogate/out/avrogate if it is left out)
 set -euo pipefail
 here=$(dirname "$(realpath "$0")")
 program=$(realpath "${1:-$here/../crates/avrogate/out/avrogate}")
 export PYTHONDONTWRITEBYTECODE=1 PYTHONPATH=$here
 python3 - "$program" <<'PYTHON'
-import json, re, socket, subprocess, sys, threading, time
+import json, os, re, socket, subprocess, sys, threading, time
 from avro_encoding import number
 
 program = sys.argv[1]
@@ -66,17 +68,19 @@ def send_all(size, count):
     assert not wrong, "%d wrong answers" % len(wrong)
 
 
-server = subprocess.Popen([program, "serve", "--port", "0"], stdout=subprocess.PIPE)
-try:
-    port = int(server.stdout.readline().split()[1])
-    assert b'{"id":1}' in post(b"/subjects/t/versions", json.dumps({"schema": json.dumps(SCHEMA)}).encode())
-    tell("at the begin")
-    send_all(1_000, 10_000)
-    tell("after 10,000 messages of 1 KB")
-    send_all(16_777_216, 256)
-    tell("after 256 messages of 16 MiB")
-    assert server.poll() is None
-finally:
-    server.kill()
-    server.wait()
+for name, more in (("as it is", {}), ("with MALLOC_MMAP_THRESHOLD_=1048576", {"MALLOC_MMAP_THRESHOLD_": "1048576"})):
+    server = subprocess.Popen([program, "serve", "--port", "0"], stdout=subprocess.PIPE, env={**os.environ, **more})
+    try:
+        port = int(server.stdout.readline().split()[1])
+        assert b'{"id":1}' in post(b"/subjects/t/versions", json.dumps({"schema": json.dumps(SCHEMA)}).encode())
+        print(name)
+        tell("at the begin")
+        send_all(1_000, 10_000)
+        tell("after 10,000 messages of 1 KB")
+        send_all(16_777_216, 256)
+        tell("after 256 messages of 16 MiB")
+        assert server.poll() is None
+    finally:
+        server.kill()
+        server.wait()
 PYTHON
