@@ -12,6 +12,7 @@ use program_cache::ProgramCache;
 use schema_registry::SharedRegistry;
 use session_pool::ClientSeat;
 use std::alloc::Global;
+use std::process::Abort;
 use std::sync::Wait;
 use std::test::Fail;
 
@@ -57,6 +58,26 @@ fn asked_again<'p, R: Wait, G: Gate>(
     }
 }
 
+/// Asks the three requests, one after another, each once more where memory ran out.
+fn answered<'p, R: Wait + Abort>(
+    rt: &R,
+    alloc: Global,
+    app: &App<'_, Pooled<'_, 'p>>,
+    seat: &mut ClientSeat<'p>,
+    gate: &mut Helping<'_, 'p>,
+) -> Result<(), Fail>
+    requires cells { app.now.transcoder.now.pool.now.cache.now ≡ app.now.registry.now }
+    requires seat { Rests app.now.transcoder.now.pool.now seat.old }
+{
+    let first = asked_again(rt, alloc, app, seat, gate, REGISTER)?;
+    assert!(rt; first.as_slice() == FIRST);
+    let second = asked_again(rt, alloc, app, seat, gate, REGISTER_SWAPPED)?;
+    assert!(rt; second.as_slice() == SECOND);
+    let message = asked_again(rt, alloc, app, seat, gate, MESSAGE)?;
+    assert!(rt; message.as_slice() == REWRITTEN);
+    Ok(())
+}
+
 #[test]
 fn answers_are_the_same_after_a_refused_growth(rt: HostRuntime) -> Result<(), Fail> {
     let alloc = rt.alloc();
@@ -74,11 +95,5 @@ fn answers_are_the_same_after_a_refused_growth(rt: HostRuntime) -> Result<(), Fa
         transcoder: &Pooled { pool: &pool },
         routes: Routes::new(alloc)?,
     };
-    let first = asked_again(&rt, alloc, &app, &mut seat, &mut gate, REGISTER)?;
-    assert!(rt; first.as_slice() == FIRST);
-    let second = asked_again(&rt, alloc, &app, &mut seat, &mut gate, REGISTER_SWAPPED)?;
-    assert!(rt; second.as_slice() == SECOND);
-    let message = asked_again(&rt, alloc, &app, &mut seat, &mut gate, MESSAGE)?;
-    assert!(rt; message.as_slice() == REWRITTEN);
-    Ok(())
+    answered(&rt, alloc, &app, &mut seat, &mut gate)
 }

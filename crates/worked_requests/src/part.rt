@@ -1,5 +1,8 @@
 //! The parts of the input, each with a registry of its own.
 
+ghost use Rattle.std.specs.Prelude.{◌≡◌, All};
+ghost use Rattle.session_pool.specs.Seats.{IsNewClient, IsNewWorker};
+
 use crate::connections::push_connections;
 use crate::manners::{push_closed, push_row};
 use crate::row::{Row, row_of};
@@ -8,7 +11,7 @@ use gateway_server::RunError;
 use gateway_sessions::{Helping, Pooled, pop_client, pop_worker};
 use program_cache::ProgramCache;
 use schema_registry::SharedRegistry;
-use session_pool::SessionPool;
+use session_pool::{ClientSeat, SessionPool, WorkerSeat};
 use std::alloc::Global;
 use std::net::{Net, TcpListener, TcpStream};
 use std::sync::Wait;
@@ -45,6 +48,50 @@ pub(crate) fn parts_of(alloc: Global, text: &str) -> Result<Vec<Part>, RunError>
     Ok(parts)
 }
 
+/// Appends the lines of rows that are answered by a service in memory. Gives the answers.
+fn push_rows<R: Wait>(
+    rt: &R,
+    alloc: Global,
+    output: &mut Vec<u8>,
+    rows: &[Row],
+    service: &mut Service<'_, '_>,
+) -> Result<Vec<Vec<u8>>, RunError> {
+    let mut answers = Vec::new(alloc);
+    for row in rows {
+        answers.push(push_row(rt, alloc, output, service, row)?)?;
+    }
+    push_closed(rt, alloc, output, service)?;
+    Ok(answers)
+}
+
+/// Appends the lines of rows that are answered by sessions of a pool, which run while their answers are waited for.
+/// Gives the answers.
+fn push_by_pool<'a, 'p, R: Wait>(
+    rt: &R,
+    alloc: Global,
+    output: &mut Vec<u8>,
+    rows: &[Row],
+    registry: &'a SharedRegistry,
+    transcoder: &'a Pooled<'a, 'p>,
+    seats: &mut Vec<ClientSeat<'p>>,
+    helpers: &mut Vec<WorkerSeat<'p>>,
+) -> Result<Vec<Vec<u8>>, RunError>
+    requires cells { transcoder.now.pool.now.cache.now ≡ registry.now }
+    requires seats { All (IsNewClient transcoder.now.pool.now) seats.old.items }
+    requires helpers { All (IsNewWorker transcoder.now.pool.now) helpers.old.items }
+{
+    let pool = transcoder.pool;
+    let Some(seat) = pop_client(pool, seats) else {
+        return Err(RunError::Read);
+    };
+    let Some(helper) = pop_worker(pool, helpers) else {
+        return Err(RunError::Read);
+    };
+    let gate = Helping::new(pool, helper);
+    let mut service = Service::new(alloc, registry, transcoder, seat, gate)?;
+    push_rows(rt, alloc, output, rows, &mut service)
+}
+
 /// Appends the lines of rows that are answered in memory, over a new registry. Gives the answers.
 fn push_in_memory<R: Wait>(
     rt: &R,
@@ -55,21 +102,16 @@ fn push_in_memory<R: Wait>(
     let registry = SharedRegistry::new(alloc)?;
     let cache = ProgramCache::new(alloc, &registry)?;
     let (pool, mut seats, mut helpers) = SessionPool::new(alloc, &cache, 1, 1)?;
-    let (Some(seat), Some(helper)) = (
-        pop_client(&pool, &mut seats),
-        pop_worker(&pool, &mut helpers),
-    ) else {
-        return Err(RunError::Read);
-    };
-    let transcoder = Pooled { pool: &pool };
-    let gate = Helping::new(&pool, helper);
-    let mut service = Service::new(alloc, &registry, &transcoder, seat, gate)?;
-    let mut answers = Vec::new(alloc);
-    for row in rows {
-        answers.push(push_row(rt, alloc, output, &mut service, row)?)?;
-    }
-    push_closed(rt, alloc, output, &mut service)?;
-    Ok(answers)
+    push_by_pool(
+        rt,
+        alloc,
+        output,
+        rows,
+        &registry,
+        &Pooled { pool: &pool },
+        &mut seats,
+        &mut helpers,
+    )
 }
 
 /// Appends the title of a part, the lines of its answers, and how many requests were answered over connections.
