@@ -127,7 +127,7 @@ fn one_receipt_gives_one_program(rt: HostRuntime) -> Result<(), Fail> {
 }
 
 /// How many instructions the program of two schemas has, which are sought by their texts.
-fn published_len(
+pub(crate) fn published_len(
     cache: &ProgramCache<'_>,
     writer: &Schema,
     reader: &Schema,
