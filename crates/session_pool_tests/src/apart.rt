@@ -11,6 +11,8 @@ use program_cache::ProgramCache;
 use schema_registry::SharedRegistry;
 use session_pool::{ClientSeat, Pass, SessionPool, Turn, WorkerSeat};
 use std::alloc::{AllocError, Global};
+use std::process::Abort;
+use std::sync::Wait;
 use std::sync::atomic::{AtomicBool, Ordering};
 use std::test::Fail;
 use std::thread;
@@ -146,6 +148,40 @@ fn run_all<'a, 'p, R: Threads + Sync>(
     Ok(waited)
 }
 
+/// Two sessions are answered, the second while a worker is inside of the first.
+fn assert_at_once<'a, 'p, R: Threads + Wait + Abort + Sync>(
+    rt: &R,
+    alloc: Global,
+    pool: &'a SessionPool<'p>,
+    flags: &'a Flags,
+    mut first: ClientSeat<'p>,
+    mut second: ClientSeat<'p>,
+    workers: Vec<WorkerSeat<'p>>,
+) -> Result<(), Fail>
+    requires first { Rests pool.now first }
+    requires second { Rests pool.now second }
+    requires workers { All (IsNewWorker pool.now) workers.items }
+{
+    let payload = RECORD_BYTES;
+    let mut receipt = registered(rt, alloc, pool, "s", RECORD)?;
+    let mut again = receipt.again();
+    let first_pass = fed(alloc, pool, &mut first, &mut receipt, &mut again, payload)?;
+    let second_pass = fed(alloc, pool, &mut second, &mut receipt, &mut again, payload)?;
+    let workers = all_working(alloc, pool, flags, workers)?;
+    let waiting = Waiting {
+        pool,
+        flags,
+        first,
+        first_pass,
+        second,
+        second_pass,
+    };
+    let are_answered = run_all(rt, workers, waiting)?;
+    assert!(rt; are_answered);
+    assert!(rt; !flags.is_late.load(Ordering::SeqCst));
+    Ok(())
+}
+
 #[test]
 fn two_workers_run_at_once(rt: HostRuntime) -> Result<(), Fail> {
     let alloc = rt.alloc();
@@ -156,42 +192,12 @@ fn two_workers_run_at_once(rt: HostRuntime) -> Result<(), Fail> {
         mut clients,
         workers,
     } = new_pool(alloc, &cache, 2, 2)?;
-    let mut first = last_client(&rt, &pool, &mut clients);
-    let mut second = last_client(&rt, &pool, &mut clients);
-    let mut receipt = registered(&rt, alloc, &pool, "s", RECORD)?;
-    let mut again = receipt.again();
-    let first_pass = fed(
-        alloc,
-        &pool,
-        &mut first,
-        &mut receipt,
-        &mut again,
-        RECORD_BYTES,
-    )?;
-    let second_pass = fed(
-        alloc,
-        &pool,
-        &mut second,
-        &mut receipt,
-        &mut again,
-        RECORD_BYTES,
-    )?;
+    let first = last_client(&rt, &pool, &mut clients);
+    let second = last_client(&rt, &pool, &mut clients);
     let flags = Flags {
         is_answered: AtomicBool::new(false),
         is_late: AtomicBool::new(false),
         is_over: AtomicBool::new(false),
     };
-    let workers = all_working(alloc, &pool, &flags, workers)?;
-    let waiting = Waiting {
-        pool: &pool,
-        flags: &flags,
-        first,
-        first_pass,
-        second,
-        second_pass,
-    };
-    let are_answered = run_all(&rt, workers, waiting)?;
-    assert!(rt; are_answered);
-    assert!(rt; !flags.is_late.load(Ordering::SeqCst));
-    Ok(())
+    assert_at_once(&rt, alloc, &pool, &flags, first, second, workers)
 }

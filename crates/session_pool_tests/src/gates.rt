@@ -15,6 +15,8 @@ use session_pool::{
     SessionPool, Turn, WorkerSeat,
 };
 use std::alloc::Global;
+use std::process::Abort;
+use std::sync::Wait;
 use std::sync::atomic::{AtomicBool, Ordering};
 use std::test::Fail;
 use std::thread;
@@ -184,6 +186,42 @@ fn meet<'a, 'p, R: Threads>(rt: &R, held: Held<'a, 'p>, asking: Asking<'a, 'p>) 
     Met { turn, finished }
 }
 
+/// A worker is held inside of a session, each call of whose client is refused as busy; then both come to its end.
+fn assert_met<'a, 'p, R: Threads + Wait + Abort>(
+    rt: &R,
+    alloc: Global,
+    pool: &'a SessionPool<'p>,
+    gate: &'a Gate,
+    mut client: ClientSeat<'p>,
+    worker: WorkerSeat<'p>,
+) -> Result<(), Fail>
+    requires client { Rests pool.now client }
+    requires worker { RestsWorker pool.now worker }
+{
+    let mut receipt = registered(rt, alloc, pool, "s", RECORD)?;
+    let mut again = receipt.again();
+    let pass = pool.open(&mut client, &mut receipt, &mut again)?;
+    let held = Held {
+        pool,
+        gate,
+        seat: worker,
+    };
+    let asking = Asking {
+        alloc,
+        pool,
+        gate,
+        seat: client,
+        pass,
+    };
+    let met = meet(rt, held, asking);
+    same(rt, met.turn, Turn::Ran { slot: 0, rows: 3 });
+    let finished = met.finished.ok_or("not refused as busy, or not answered")?;
+    same(rt, finished.rows, 10);
+    let output = output_of(finished.end)?;
+    same(rt, output.as_slice(), RECORD_BYTES);
+    Ok(())
+}
+
 #[test]
 fn calls_are_busy_while_a_worker_is_inside(rt: HostRuntime) -> Result<(), Fail> {
     let alloc = rt.alloc();
@@ -194,33 +232,12 @@ fn calls_are_busy_while_a_worker_is_inside(rt: HostRuntime) -> Result<(), Fail> 
         mut clients,
         mut workers,
     } = new_pool(alloc, &cache, 1, 1)?;
-    let mut client = last_client(&rt, &pool, &mut clients);
+    let client = last_client(&rt, &pool, &mut clients);
     let worker = last_worker(&rt, &pool, &mut workers);
-    let mut receipt = registered(&rt, alloc, &pool, "s", RECORD)?;
-    let mut again = receipt.again();
-    let pass = pool.open(&mut client, &mut receipt, &mut again)?;
     let gate = Gate {
         is_inside: AtomicBool::new(false),
         may_go_on: AtomicBool::new(false),
         is_over: AtomicBool::new(false),
     };
-    let held = Held {
-        pool: &pool,
-        gate: &gate,
-        seat: worker,
-    };
-    let asking = Asking {
-        alloc,
-        pool: &pool,
-        gate: &gate,
-        seat: client,
-        pass,
-    };
-    let met = meet(&rt, held, asking);
-    same(&rt, met.turn, Turn::Ran { slot: 0, rows: 3 });
-    let finished = met.finished.ok_or("not refused as busy, or not answered")?;
-    same(&rt, finished.rows, 10);
-    let output = output_of(finished.end)?;
-    same(&rt, output.as_slice(), RECORD_BYTES);
-    Ok(())
+    assert_met(&rt, alloc, &pool, &gate, client, worker)
 }

@@ -1,6 +1,8 @@
 //! Sessions in a slot whose last session had a large payload.
 
-use crate::courses::run_through;
+ghost use Rattle.session_pool.specs.Seats.{Rests, RestsWorker};
+
+use crate::courses::{Course, run_through};
 use crate::same::same;
 use crate::schemas::{
     LIST_BYTES, LONG_LIST, RECORD, RECORD_BYTES, SWAPPED, SWAPPED_BYTES, registered,
@@ -8,7 +10,10 @@ use crate::schemas::{
 use crate::seats::{Seated, last_client, last_worker, new_pool};
 use program_cache::ProgramCache;
 use schema_registry::SharedRegistry;
+use session_pool::{ClientSeat, SessionPool, WorkerSeat};
 use std::alloc::{AllocError, Global};
+use std::process::Abort;
+use std::sync::Wait;
 use std::test::Fail;
 
 /// A payload of the record with a string of 1 MiB.
@@ -18,6 +23,69 @@ fn large_payload(alloc: Global) -> Result<Vec<u8>, AllocError> {
         payload.push(b'a')?;
     }
     Ok(payload)
+}
+
+/// What three sessions came to, one after another.
+#[derive(Drop)]
+struct Courses {
+    first: Course,
+    second: Course,
+    third: Course,
+}
+
+/// Runs a session from the record to its swapped form on a payload, one of a list, and one back to the record.
+fn run_three<'p, R: Wait>(
+    rt: &R,
+    alloc: Global,
+    pool: &SessionPool<'p>,
+    client: &mut ClientSeat<'p>,
+    worker: &mut WorkerSeat<'p>,
+    payload: &[u8],
+) -> Result<Courses, Fail>
+    requires client { Rests pool.now client.old }
+    requires worker { RestsWorker pool.now worker.old }
+{
+    let mut unswapped = registered(rt, alloc, pool, "s", RECORD)?;
+    let mut swapped = registered(rt, alloc, pool, "t", SWAPPED)?;
+    let mut list = registered(rt, alloc, pool, "u", LONG_LIST)?;
+    let mut again = list.again();
+    let (writer, reader) = (&mut unswapped, &mut swapped);
+    let first = run_through(alloc, pool, client, worker, writer, reader, payload)?;
+    let second = run_through(
+        alloc, pool, client, worker, &mut list, &mut again, LIST_BYTES,
+    )?;
+    let third = run_through(alloc, pool, client, worker, reader, writer, SWAPPED_BYTES)?;
+    Ok(Courses {
+        first,
+        second,
+        third,
+    })
+}
+
+/// Three sessions come to their outputs in one slot, of which the first had a large payload.
+fn assert_used_again<'p, R: Wait + Abort>(
+    rt: &R,
+    alloc: Global,
+    pool: &SessionPool<'p>,
+    client: &mut ClientSeat<'p>,
+    worker: &mut WorkerSeat<'p>,
+) -> Result<(), Fail>
+    requires client { Rests pool.now client.old }
+    requires worker { RestsWorker pool.now worker.old }
+{
+    let large = large_payload(alloc)?;
+    let Courses {
+        first,
+        second,
+        third,
+    } = run_three(rt, alloc, pool, client, worker, &large)?;
+    same(rt, (first.slot, second.slot, third.slot), (0, 0, 0));
+    same(rt, first.output.len(), large.len());
+    same(rt, first.output.get(4..8), Some([b'a'; 4].as_slice()));
+    same(rt, first.output.last(), Some(&0x36));
+    same(rt, second.output.as_slice(), LIST_BYTES);
+    same(rt, third.output.as_slice(), RECORD_BYTES);
+    Ok(())
 }
 
 #[test]
@@ -32,38 +100,5 @@ fn a_slot_is_used_again(rt: HostRuntime) -> Result<(), Fail> {
     } = new_pool(alloc, &cache, 1, 1)?;
     let mut client = last_client(&rt, &pool, &mut clients);
     let mut worker = last_worker(&rt, &pool, &mut workers);
-    let mut record = registered(&rt, alloc, &pool, "s", RECORD)?;
-    let mut swapped = registered(&rt, alloc, &pool, "t", SWAPPED)?;
-    let mut list = registered(&rt, alloc, &pool, "u", LONG_LIST)?;
-    let mut again = list.again();
-    let (client, worker) = (&mut client, &mut worker);
-    let large = large_payload(alloc)?;
-    let first = run_through(
-        alloc,
-        &pool,
-        client,
-        worker,
-        &mut record,
-        &mut swapped,
-        &large,
-    )?;
-    let second = run_through(
-        alloc, &pool, client, worker, &mut list, &mut again, LIST_BYTES,
-    )?;
-    let third = run_through(
-        alloc,
-        &pool,
-        client,
-        worker,
-        &mut swapped,
-        &mut record,
-        SWAPPED_BYTES,
-    )?;
-    same(&rt, (first.slot, second.slot, third.slot), (0, 0, 0));
-    same(&rt, first.output.len(), large.len());
-    same(&rt, first.output.get(4..8), Some([b'a'; 4].as_slice()));
-    same(&rt, first.output.last(), Some(&0x36));
-    same(&rt, second.output.as_slice(), LIST_BYTES);
-    same(&rt, third.output.as_slice(), RECORD_BYTES);
-    Ok(())
+    assert_used_again(&rt, alloc, &pool, &mut client, &mut worker)
 }

@@ -18,6 +18,7 @@ use session_pool::{
 };
 use std::alloc::Global;
 use std::process::Abort;
+use std::sync::Wait;
 use std::test::Fail;
 
 /// A session that is fed piece by piece: each turn of the worker, and what it came to.
@@ -78,6 +79,28 @@ fn assert_course(rt: &impl Abort, course: &Course, output: &[u8], rows: u64) {
     same(rt, course.rows, rows);
 }
 
+/// A session that is fed piece by piece comes to its output, and so does the next in its slot.
+fn assert_fed<'p, R: Wait + Abort>(
+    rt: &R,
+    alloc: Global,
+    pool: &SessionPool<'p>,
+    client: &mut ClientSeat<'p>,
+    worker: &mut WorkerSeat<'p>,
+) -> Result<(), Fail>
+    requires client { Rests pool.now client.old }
+    requires worker { RestsWorker pool.now worker.old }
+{
+    let mut receipt = registered(rt, alloc, pool, "s", RECORD)?;
+    let mut swapped = registered(rt, alloc, pool, "t", SWAPPED)?;
+    let found = feed_by_pieces(alloc, pool, client, worker, &mut receipt)?;
+    let (writer, reader) = (&mut receipt, &mut swapped);
+    let next = run_through(alloc, pool, client, worker, writer, reader, RECORD_BYTES)?;
+    same(rt, found.turns.as_slice(), TURNS.as_slice());
+    assert_course(rt, &found.course, RECORD_BYTES, 10);
+    assert_course(rt, &next, SWAPPED_BYTES, 10);
+    Ok(())
+}
+
 #[test]
 fn a_session_is_fed_piece_by_piece(rt: HostRuntime) -> Result<(), Fail> {
     let alloc = rt.alloc();
@@ -90,22 +113,7 @@ fn a_session_is_fed_piece_by_piece(rt: HostRuntime) -> Result<(), Fail> {
     } = new_pool(alloc, &cache, 1, 1)?;
     let mut client = last_client(&rt, &pool, &mut clients);
     let mut worker = last_worker(&rt, &pool, &mut workers);
-    let mut receipt = registered(&rt, alloc, &pool, "s", RECORD)?;
-    let mut swapped = registered(&rt, alloc, &pool, "t", SWAPPED)?;
-    let found = feed_by_pieces(alloc, &pool, &mut client, &mut worker, &mut receipt)?;
-    let next = run_through(
-        alloc,
-        &pool,
-        &mut client,
-        &mut worker,
-        &mut receipt,
-        &mut swapped,
-        RECORD_BYTES,
-    )?;
-    same(&rt, found.turns.as_slice(), TURNS.as_slice());
-    assert_course(&rt, &found.course, RECORD_BYTES, 10);
-    assert_course(&rt, &next, SWAPPED_BYTES, 10);
-    Ok(())
+    assert_fed(&rt, alloc, &pool, &mut client, &mut worker)
 }
 
 /// What a debugger asks.
@@ -150,20 +158,19 @@ avro program 1
 ";
 
 /// What a debugger is answered while a session runs on a whole payload, which then comes to its output.
-fn debugging<'p>(
-    rt: &impl Abort,
+fn debugging<'p, R: Wait + Abort>(
+    rt: &R,
     alloc: Global,
     pool: &SessionPool<'p>,
     client: &mut ClientSeat<'p>,
     worker: &mut WorkerSeat<'p>,
-    receipt: &mut Receipt,
 ) -> Result<(), Fail>
     requires client { Rests pool.now client.old }
     requires worker { RestsWorker pool.now worker.old }
-    requires receipt { IsReceiptOf pool.now.cache.now receipt.old }
 {
+    let mut receipt = registered(rt, alloc, pool, "s", RECORD)?;
     let mut again = receipt.again();
-    let pass = fed(alloc, pool, client, receipt, &mut again, RECORD_BYTES)?;
+    let pass = fed(alloc, pool, client, &mut receipt, &mut again, RECORD_BYTES)?;
     let answers = answers(alloc, pool, client, &pass, COMMANDS)?;
     let turn = pool.turn(worker, 100);
     let finished = finished(pool, client, pass)?;
@@ -186,8 +193,7 @@ fn a_debugger_is_answered(rt: HostRuntime) -> Result<(), Fail> {
     } = new_pool(alloc, &cache, 1, 1)?;
     let mut client = last_client(&rt, &pool, &mut clients);
     let mut worker = last_worker(&rt, &pool, &mut workers);
-    let mut receipt = registered(&rt, alloc, &pool, "s", RECORD)?;
-    debugging(&rt, alloc, &pool, &mut client, &mut worker, &mut receipt)
+    debugging(&rt, alloc, &pool, &mut client, &mut worker)
 }
 
 /// How many addresses from 0 on are set as breakpoints before one is refused, and why.
@@ -225,17 +231,18 @@ fn set_breaks<'p>(
 
 /// One breakpoint too many is refused, and the others stay: one of them is set again, and one is cleared for the new
 /// one.
-fn assert_breaks<'p>(
-    rt: &impl Abort,
+fn assert_breaks<'p, R: Wait + Abort>(
+    rt: &R,
+    alloc: Global,
     pool: &SessionPool<'p>,
     seat: &mut ClientSeat<'p>,
-    receipt: &mut Receipt,
 ) -> Result<(), Fail>
-    requires seat { Rests pool.now seat.old }
-    requires receipt { IsReceiptOf pool.now.cache.now receipt.old }
+    requires { Rests pool.now seat.old }
 {
+    let text = longs(alloc, 40)?;
+    let mut receipt = registered(rt, alloc, pool, "s", &text)?;
     let mut again = receipt.again();
-    let pass = pool.open(seat, receipt, &mut again)?;
+    let pass = pool.open(seat, &mut receipt, &mut again)?;
     let found = set_breaks(pool, seat, &pass, 65);
     if found.refusal == Some(DebugError::NoMemory) {
         return Err(Fail::from(DebugError::NoMemory));
@@ -263,9 +270,7 @@ fn a_breakpoint_too_many_is_refused(rt: HostRuntime) -> Result<(), Fail> {
         ..
     } = new_pool(alloc, &cache, 1, 1)?;
     let mut client = last_client(&rt, &pool, &mut clients);
-    let text = longs(alloc, 40)?;
-    let mut receipt = registered(&rt, alloc, &pool, "s", &text)?;
-    assert_breaks(&rt, &pool, &mut client, &mut receipt)
+    assert_breaks(&rt, alloc, &pool, &mut client)
 }
 
 /// A piece is refused so, and as many bytes are handed back.
@@ -293,20 +298,19 @@ fn assert_refused<'p>(
 }
 
 /// Pieces that are too large or come after the end are refused and change nothing of the session.
-fn assert_pieces<'p>(
-    rt: &impl Abort,
+fn assert_pieces<'p, R: Wait + Abort>(
+    rt: &R,
     alloc: Global,
     pool: &SessionPool<'p>,
     client: &mut ClientSeat<'p>,
     worker: &mut WorkerSeat<'p>,
-    receipt: &mut Receipt,
 ) -> Result<(), Fail>
     requires client { Rests pool.now client.old }
     requires worker { RestsWorker pool.now worker.old }
-    requires receipt { IsReceiptOf pool.now.cache.now receipt.old }
 {
+    let mut receipt = registered(rt, alloc, pool, "s", RECORD)?;
     let mut again = receipt.again();
-    let pass = pool.open(client, receipt, &mut again)?;
+    let pass = pool.open(client, &mut receipt, &mut again)?;
     send(alloc, pool, client, &pass, RECORD_BYTES)?;
     let large = vec![in alloc; 0_u8; MOST_PAYLOAD - 4]?;
     assert_refused(rt, pool, client, &pass, large, PieceError::TooLarge);
@@ -332,6 +336,5 @@ fn pieces_that_are_refused_are_handed_back(rt: HostRuntime) -> Result<(), Fail> 
     } = new_pool(alloc, &cache, 1, 1)?;
     let mut client = last_client(&rt, &pool, &mut clients);
     let mut worker = last_worker(&rt, &pool, &mut workers);
-    let mut receipt = registered(&rt, alloc, &pool, "s", RECORD)?;
-    assert_pieces(&rt, alloc, &pool, &mut client, &mut worker, &mut receipt)
+    assert_pieces(&rt, alloc, &pool, &mut client, &mut worker)
 }

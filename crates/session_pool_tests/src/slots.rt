@@ -10,8 +10,10 @@ use crate::schemas::{LIST_BYTES, LONG_LIST, RECORD, RECORD_BYTES, registered};
 use crate::seats::{Seated, last_client, last_worker, new_pool};
 use program_cache::ProgramCache;
 use schema_registry::{Receipt, SharedRegistry};
-use session_pool::{ClientSeat, OpenError, SLOTS, SessionPool, Turn};
+use session_pool::{ClientSeat, OpenError, SLOTS, SessionPool, Turn, WorkerSeat};
 use std::alloc::Global;
+use std::process::Abort;
+use std::sync::Wait;
 use std::test::Fail;
 
 /// A turn that ran one row of a slot's session.
@@ -36,6 +38,26 @@ fn open_three<'p>(
     Ok(())
 }
 
+/// A worker comes to each of three sessions in turn.
+fn assert_in_turn<'p, R: Wait + Abort>(
+    rt: &R,
+    alloc: Global,
+    pool: &SessionPool<'p>,
+    client: &mut ClientSeat<'p>,
+    worker: &mut WorkerSeat<'p>,
+) -> Result<(), Fail>
+    requires client { Rests pool.now client.old }
+    requires worker { RestsWorker pool.now worker.old }
+{
+    let mut receipt = registered(rt, alloc, pool, "s", LONG_LIST)?;
+    open_three(alloc, pool, client, &mut receipt)?;
+    same(rt, pool.turn(worker, 1), one_row(0));
+    same(rt, pool.turn(worker, 1), one_row(1));
+    same(rt, pool.turn(worker, 1), one_row(2));
+    same(rt, pool.turn(worker, 1), one_row(0));
+    Ok(())
+}
+
 #[test]
 fn a_worker_comes_to_each_session_in_turn(rt: HostRuntime) -> Result<(), Fail> {
     let alloc = rt.alloc();
@@ -48,12 +70,26 @@ fn a_worker_comes_to_each_session_in_turn(rt: HostRuntime) -> Result<(), Fail> {
     } = new_pool(alloc, &cache, 1, 1)?;
     let mut client = last_client(&rt, &pool, &mut clients);
     let mut worker = last_worker(&rt, &pool, &mut workers);
-    let mut receipt = registered(&rt, alloc, &pool, "s", LONG_LIST)?;
-    open_three(alloc, &pool, &mut client, &mut receipt)?;
-    same(&rt, pool.turn(&mut worker, 1), one_row(0));
-    same(&rt, pool.turn(&mut worker, 1), one_row(1));
-    same(&rt, pool.turn(&mut worker, 1), one_row(2));
-    same(&rt, pool.turn(&mut worker, 1), one_row(0));
+    assert_in_turn(&rt, alloc, &pool, &mut client, &mut worker)
+}
+
+/// A worker runs the first of three sessions, and another steals the second.
+fn assert_stolen<'p, R: Wait + Abort>(
+    rt: &R,
+    alloc: Global,
+    pool: &SessionPool<'p>,
+    client: &mut ClientSeat<'p>,
+    owner: &mut WorkerSeat<'p>,
+    thief: &mut WorkerSeat<'p>,
+) -> Result<(), Fail>
+    requires client { Rests pool.now client.old }
+    requires owner { RestsWorker pool.now owner.old }
+    requires thief { RestsWorker pool.now thief.old }
+{
+    let mut receipt = registered(rt, alloc, pool, "s", LONG_LIST)?;
+    open_three(alloc, pool, client, &mut receipt)?;
+    same(rt, pool.turn(owner, 1), one_row(0));
+    same(rt, pool.turn(thief, 1), one_row(1));
     Ok(())
 }
 
@@ -70,11 +106,7 @@ fn a_worker_steals_from_another(rt: HostRuntime) -> Result<(), Fail> {
     let mut client = last_client(&rt, &pool, &mut clients);
     let mut thief = last_worker(&rt, &pool, &mut workers);
     let mut owner = last_worker(&rt, &pool, &mut workers);
-    let mut receipt = registered(&rt, alloc, &pool, "s", LONG_LIST)?;
-    open_three(alloc, &pool, &mut client, &mut receipt)?;
-    same(&rt, pool.turn(&mut owner, 1), one_row(0));
-    same(&rt, pool.turn(&mut thief, 1), one_row(1));
-    Ok(())
+    assert_stolen(&rt, alloc, &pool, &mut client, &mut owner, &mut thief)
 }
 
 /// How many sessions were opened, and why no further one was.
@@ -111,6 +143,35 @@ fn open_all<'p>(
     }
 }
 
+/// A client takes a slot, and another all that are left; once the first gives its own up, it has that slot again.
+fn assert_full<'p, R: Wait + Abort>(
+    rt: &R,
+    alloc: Global,
+    pool: &SessionPool<'p>,
+    client: &mut ClientSeat<'p>,
+    other: &mut ClientSeat<'p>,
+    worker: &mut WorkerSeat<'p>,
+) -> Result<(), Fail>
+    requires client { Rests pool.now client.old }
+    requires other { Rests pool.now other.old }
+    requires worker { RestsWorker pool.now worker.old }
+{
+    let mut receipt = registered(rt, alloc, pool, "s", RECORD)?;
+    let mut again = receipt.again();
+    let pass = pool.open(client, &mut receipt, &mut again)?;
+    let full = Opened {
+        sessions: SLOTS - 1,
+        refusal: Some(OpenError::Full),
+    };
+    same(rt, open_all(pool, other, &mut receipt, SLOTS), full);
+    assert!(rt; pool.abandon(client, pass).is_ok());
+    let (writer, reader) = (&mut receipt, &mut again);
+    let found = run_through(alloc, pool, client, worker, writer, reader, RECORD_BYTES)?;
+    same(rt, found.slot, 0);
+    same(rt, found.output.as_slice(), RECORD_BYTES);
+    Ok(())
+}
+
 #[test]
 fn a_session_too_many_is_refused(rt: HostRuntime) -> Result<(), Fail> {
     let alloc = rt.alloc();
@@ -124,25 +185,5 @@ fn a_session_too_many_is_refused(rt: HostRuntime) -> Result<(), Fail> {
     let mut client = last_client(&rt, &pool, &mut clients);
     let mut other = last_client(&rt, &pool, &mut clients);
     let mut worker = last_worker(&rt, &pool, &mut workers);
-    let mut receipt = registered(&rt, alloc, &pool, "s", RECORD)?;
-    let mut again = receipt.again();
-    let pass = pool.open(&mut client, &mut receipt, &mut again)?;
-    let full = Opened {
-        sessions: SLOTS - 1,
-        refusal: Some(OpenError::Full),
-    };
-    same(&rt, open_all(&pool, &mut other, &mut receipt, SLOTS), full);
-    assert!(rt; pool.abandon(&mut client, pass).is_ok());
-    let found = run_through(
-        alloc,
-        &pool,
-        &mut client,
-        &mut worker,
-        &mut receipt,
-        &mut again,
-        RECORD_BYTES,
-    )?;
-    same(&rt, found.slot, 0);
-    same(&rt, found.output.as_slice(), RECORD_BYTES);
-    Ok(())
+    assert_full(&rt, alloc, &pool, &mut client, &mut other, &mut worker)
 }

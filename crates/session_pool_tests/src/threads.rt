@@ -13,6 +13,8 @@ use program_cache::ProgramCache;
 use schema_registry::{Receipt, SharedRegistry};
 use session_pool::{ClientSeat, SessionPool, Turn, WorkerSeat};
 use std::alloc::{AllocError, Global};
+use std::process::Abort;
+use std::sync::Wait;
 use std::sync::atomic::{AtomicBool, Ordering};
 use std::test::Fail;
 use std::thread;
@@ -227,6 +229,27 @@ fn run_all<'a, 'p, R: Threads + Sync>(
     right
 }
 
+/// Each of eight clients is answered rightly in each round.
+fn assert_answered<'a, 'p, R: Threads + Wait + Abort + Sync>(
+    rt: &R,
+    alloc: Global,
+    pool: &'a SessionPool<'p>,
+    is_over: &'a AtomicBool,
+    clients: Vec<ClientSeat<'p>>,
+    workers: Vec<WorkerSeat<'p>>,
+) -> Result<(), Fail>
+    requires clients { All (IsNewClient pool.now) clients.items }
+    requires workers { All (IsNewWorker pool.now) workers.items }
+{
+    let mut unswapped = registered(rt, alloc, pool, "s", RECORD)?;
+    let mut swapped = registered(rt, alloc, pool, "t", SWAPPED)?;
+    let workers = all_working(alloc, pool, is_over, workers)?;
+    let clients = all_asking(alloc, pool, clients, &mut unswapped, &mut swapped)?;
+    let right = run_all(rt, is_over, workers, clients)?;
+    same(rt, right.as_slice(), [ROUNDS; 8].as_slice());
+    Ok(())
+}
+
 #[test]
 fn eight_clients_and_four_workers(rt: HostRuntime) -> Result<(), Fail> {
     let alloc = rt.alloc();
@@ -237,12 +260,6 @@ fn eight_clients_and_four_workers(rt: HostRuntime) -> Result<(), Fail> {
         clients,
         workers,
     } = new_pool(alloc, &cache, 8, 4)?;
-    let mut unswapped = registered(&rt, alloc, &pool, "s", RECORD)?;
-    let mut swapped = registered(&rt, alloc, &pool, "t", SWAPPED)?;
     let is_over = AtomicBool::new(false);
-    let workers = all_working(alloc, &pool, &is_over, workers)?;
-    let clients = all_asking(alloc, &pool, clients, &mut unswapped, &mut swapped)?;
-    let right = run_all(&rt, &is_over, workers, clients)?;
-    same(&rt, right.as_slice(), [ROUNDS; 8].as_slice());
-    Ok(())
+    assert_answered(&rt, alloc, &pool, &is_over, clients, workers)
 }
