@@ -12,5 +12,5 @@ pub use machine_stepper::{
 };
 pub use resolver::{Outcome, TranscodeError};
 pub use run::Run;
-pub use transcoder::{Transcoder, transcode_by};
+pub use transcoder::Transcoder;
 pub use transcoding::{PairError, transcode};
