@@ -1,7 +1,7 @@
 //! Tests and bench; run by `rt ci`.
 //!
-//! Tests of `program_compiler`, `machine`, `command_sessions` and `commands` for what no row of `worked_rows` can show,
-//! in one crate over them, so that each library is proved once.
+//! Tests of `program_compiler`, `machine_plan`, `machine`, `command_sessions` and `commands` for what no row of
+//! `worked_rows` can show, in one crate over them, so that each library is proved once.
 #![tactic(auto)]
 
 #[cfg(test)]
@@ -12,6 +12,8 @@ mod device_tests;
 mod devices;
 #[cfg(test)]
 mod pair_tests;
+#[cfg(test)]
+mod plan_tests;
 #[cfg(test)]
 mod replay_tests;
 #[cfg(test)]

@@ -1,0 +1,248 @@
+//! Plans of programs, and what they find of payloads: that they find anything is in no contract.
+
+use crate::again::{compiled, pair_of};
+use isa::Program;
+use machine_plan::Plan;
+use std::alloc::{AllocError, Global};
+use std::test::Fail;
+
+/// What comes of the plan of a program, on a payload.
+#[derive(Clone, Copy, Debug, PartialEq, Eq)]
+enum Planned {
+    /// The program has none.
+    NoPlan,
+    /// The plan finds nothing.
+    Nothing,
+    /// It finds this output.
+    Output(&'static [u8]),
+}
+
+/// A writer's and a reader's schema, a payload, and what comes of the plan.
+struct Row {
+    writer: &'static str,
+    reader: &'static str,
+    payload: &'static [u8],
+    planned: Planned,
+}
+
+/// A record of a long and a string.
+const RECORD: &str =
+    r#"{"type":"record","name":"T","fields":[{"name":"a","type":"long"},{"name":"b","type":"string"}]}"#;
+
+/// The same with its fields the other way round, and an int by default between them.
+const EVOLVED: &str = r#"{"type":"record","name":"T","fields":[{"name":"b","type":"string"},
+{"name":"d","type":"int","default":7},{"name":"a","type":"long"}]}"#;
+
+/// Its string alone.
+const STRING_ALONE: &str =
+    r#"{"type":"record","name":"T","fields":[{"name":"b","type":"string"}]}"#;
+
+/// Longs.
+const LONGS: &str = r#"{"type":"array","items":"long"}"#;
+
+/// A string, or null.
+const OPTIONAL: &str = r#"["null","string"]"#;
+
+/// A boolean, a string or null.
+const ONE_OF_THREE: &str = r#"["null","boolean","string"]"#;
+
+/// One of three symbols.
+const ENUM: &str = r#"{"type":"enum","name":"E","symbols":["A","B","C"]}"#;
+
+/// The same symbols, the other way round.
+const RENUMBERED: &str = r#"{"type":"enum","name":"E","symbols":["C","B","A"]}"#;
+
+/// Two of them.
+const FEWER: &str = r#"{"type":"enum","name":"E","symbols":["A","B"]}"#;
+
+/// Records.
+const RECORDS: &str = r#"{"type":"array","items":
+{"type":"record","name":"T","fields":[{"name":"a","type":"long"}]}}"#;
+
+/// Strings by keys.
+const MAP: &str = r#"{"type":"map","values":"string"}"#;
+
+const ROWS: &[Row] = &[
+    Row {
+        writer: RECORD,
+        reader: RECORD,
+        payload: &[0x36, 0x06, 0x66, 0x6f, 0x6f],
+        planned: Planned::Output(&[0x36, 0x06, 0x66, 0x6f, 0x6f]),
+    },
+    Row {
+        writer: RECORD,
+        reader: EVOLVED,
+        payload: &[0x36, 0x06, 0x66, 0x6f, 0x6f],
+        planned: Planned::Output(&[0x06, 0x66, 0x6f, 0x6f, 0x0e, 0x36]),
+    },
+    Row {
+        writer: RECORD,
+        reader: STRING_ALONE,
+        payload: &[0x36, 0x06, 0x66, 0x6f, 0x6f],
+        planned: Planned::Output(&[0x06, 0x66, 0x6f, 0x6f]),
+    },
+    // (27 in two bytes)
+    Row {
+        writer: RECORD,
+        reader: RECORD,
+        payload: &[0xb6, 0x00, 0x06, 0x66, 0x6f, 0x6f],
+        planned: Planned::Nothing,
+    },
+    Row {
+        writer: RECORD,
+        reader: EVOLVED,
+        payload: &[0x36, 0x06, 0x66],
+        planned: Planned::Nothing,
+    },
+    Row {
+        writer: RECORD,
+        reader: EVOLVED,
+        payload: &[0x36, 0x06, 0x66, 0x6f, 0x6f, 0x00],
+        planned: Planned::Nothing,
+    },
+    Row {
+        writer: RECORD,
+        reader: RECORD,
+        payload: &[0x36, 0x06, 0x66, 0x6f, 0xff],
+        planned: Planned::Nothing,
+    },
+    Row {
+        writer: LONGS,
+        reader: LONGS,
+        payload: &[0x04, 0x02, 0x80, 0x01, 0x00],
+        planned: Planned::Output(&[0x04, 0x02, 0x80, 0x01, 0x00]),
+    },
+    Row {
+        writer: LONGS,
+        reader: LONGS,
+        payload: &[0x00],
+        planned: Planned::Output(&[0x00]),
+    },
+    // (a block with its size, and two blocks)
+    Row {
+        writer: LONGS,
+        reader: LONGS,
+        payload: &[0x03, 0x04, 0x02, 0x04, 0x00],
+        planned: Planned::Nothing,
+    },
+    Row {
+        writer: LONGS,
+        reader: LONGS,
+        payload: &[0x02, 0x02, 0x02, 0x04, 0x00],
+        planned: Planned::Nothing,
+    },
+    Row {
+        writer: OPTIONAL,
+        reader: OPTIONAL,
+        payload: &[0x00],
+        planned: Planned::Output(&[0x00]),
+    },
+    Row {
+        writer: OPTIONAL,
+        reader: OPTIONAL,
+        payload: &[0x02, 0x02, 0x61],
+        planned: Planned::Output(&[0x02, 0x02, 0x61]),
+    },
+    Row {
+        writer: OPTIONAL,
+        reader: OPTIONAL,
+        payload: &[0x04],
+        planned: Planned::Nothing,
+    },
+    Row {
+        writer: ONE_OF_THREE,
+        reader: ONE_OF_THREE,
+        payload: &[0x00],
+        planned: Planned::NoPlan,
+    },
+    Row {
+        writer: ENUM,
+        reader: ENUM,
+        payload: &[0x04],
+        planned: Planned::Output(&[0x04]),
+    },
+    Row {
+        writer: ENUM,
+        reader: ENUM,
+        payload: &[0x06],
+        planned: Planned::Nothing,
+    },
+    Row {
+        writer: ENUM,
+        reader: RENUMBERED,
+        payload: &[0x04],
+        planned: Planned::Output(&[0x00]),
+    },
+    Row {
+        writer: ENUM,
+        reader: FEWER,
+        payload: &[0x00],
+        planned: Planned::NoPlan,
+    },
+    Row {
+        writer: MAP,
+        reader: MAP,
+        payload: &[0x02, 0x02, 0x61, 0x02, 0x62, 0x00],
+        planned: Planned::Output(&[0x02, 0x02, 0x61, 0x02, 0x62, 0x00]),
+    },
+    Row {
+        writer: MAP,
+        reader: MAP,
+        payload: &[0x02, 0x02, 0x61, 0x02, 0xff, 0x00],
+        planned: Planned::Nothing,
+    },
+    Row {
+        writer: RECORDS,
+        reader: RECORDS,
+        payload: &[0x00],
+        planned: Planned::NoPlan,
+    },
+    Row {
+        writer: RECORD,
+        reader: LONGS,
+        payload: &[0x00],
+        planned: Planned::NoPlan,
+    },
+];
+
+/// Whether that comes of the plan of a program.
+fn is_planned(alloc: Global, program: &Program, payload: &[u8], planned: Planned) -> bool {
+    let Some(plan) = Plan::of(alloc, program) else {
+        return planned == Planned::NoPlan;
+    };
+    let (mut boundaries, mut output) = (Vec::new(alloc), Vec::new(alloc));
+    let found = plan.finds_output(program, payload, &mut boundaries, &mut output);
+    match planned {
+        Planned::NoPlan => false,
+        Planned::Nothing => !found,
+        Planned::Output(bytes) => found && output.as_slice() == bytes,
+    }
+}
+
+/// Whether a row comes out.
+fn is_row(alloc: Global, row: &Row) -> Result<bool, AllocError> {
+    let Ok(pair) = pair_of(alloc, row.writer, row.reader) else {
+        return Err(AllocError);
+    };
+    let Ok(program) = compiled(alloc, &pair) else {
+        return Err(AllocError);
+    };
+    Ok(is_planned(alloc, &program, row.payload, row.planned))
+}
+
+/// How many rows come out, from the first on.
+fn rows_right(alloc: Global) -> Result<usize, AllocError> {
+    for (number, row) in ROWS.iter().enumerate() {
+        if !is_row(alloc, row)? {
+            return Ok(number);
+        }
+    }
+    Ok(ROWS.len())
+}
+
+#[test]
+fn plans_find_usual_outputs(rt: HostRuntime) -> Result<(), Fail> {
+    let right = rows_right(rt.alloc())?;
+    assert_eq!(rt; right, ROWS.len());
+    Ok(())
+}
