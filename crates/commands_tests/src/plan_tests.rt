@@ -2,7 +2,7 @@
 
 use crate::again::{compiled, pair_of};
 use isa::Program;
-use machine_plan::Plan;
+use machine_plan::{Plan, Trail};
 use std::alloc::{AllocError, Global};
 use std::test::Fail;
 
@@ -58,6 +58,30 @@ const FEWER: &str = r#"{"type":"enum","name":"E","symbols":["A","B"]}"#;
 /// Records.
 const RECORDS: &str = r#"{"type":"array","items":
 {"type":"record","name":"T","fields":[{"name":"a","type":"long"}]}}"#;
+
+/// Records of a long and a string.
+const PAIRS: &str = r#"{"type":"array","items":
+{"type":"record","name":"T","fields":[{"name":"a","type":"long"},{"name":"b","type":"string"}]}}"#;
+
+/// The same with their fields the other way round, and an int by default between them.
+const EVOLVED_PAIRS: &str = r#"{"type":"array","items":
+{"type":"record","name":"T","fields":[{"name":"b","type":"string"},
+{"name":"d","type":"int","default":7},{"name":"a","type":"long"}]}}"#;
+
+/// Maps of longs.
+const MAPS: &str = r#"{"type":"array","items":{"type":"map","values":"long"}}"#;
+
+/// Arrays of arrays of records.
+const DEEP: &str = r#"{"type":"array","items":{"type":"array","items":
+{"type":"record","name":"T","fields":[{"name":"a","type":"long"}]}}}"#;
+
+/// A list of longs.
+const LIST: &str = r#"{"type":"record","name":"L","fields":[{"name":"value","type":"long"},
+{"name":"next","type":["null","L"]}]}"#;
+
+/// A list of longs and strings.
+const LIST_OF_PAIRS: &str = r#"{"type":"record","name":"L","fields":[{"name":"a","type":"long"},
+{"name":"b","type":"string"},{"name":"next","type":["null","L"]}]}"#;
 
 /// Strings by keys.
 const MAP: &str = r#"{"type":"map","values":"string"}"#;
@@ -195,7 +219,76 @@ const ROWS: &[Row] = &[
         writer: RECORDS,
         reader: RECORDS,
         payload: &[0x00],
+        planned: Planned::Output(&[0x00]),
+    },
+    Row {
+        writer: RECORDS,
+        reader: RECORDS,
+        payload: &[0x04, 0x02, 0x04, 0x00],
+        planned: Planned::Output(&[0x04, 0x02, 0x04, 0x00]),
+    },
+    Row {
+        writer: PAIRS,
+        reader: EVOLVED_PAIRS,
+        payload: &[0x04, 0x36, 0x06, 0x66, 0x6f, 0x6f, 0x02, 0x02, 0x61, 0x00],
+        planned: Planned::Output(&[
+            0x04, 0x06, 0x66, 0x6f, 0x6f, 0x0e, 0x36, 0x02, 0x61, 0x0e, 0x02, 0x00,
+        ]),
+    },
+    Row {
+        writer: PAIRS,
+        reader: EVOLVED_PAIRS,
+        payload: &[0x00],
+        planned: Planned::Output(&[0x00]),
+    },
+    // (two blocks, an item that is cut, and a byte that is left)
+    Row {
+        writer: PAIRS,
+        reader: EVOLVED_PAIRS,
+        payload: &[0x02, 0x02, 0x02, 0x61, 0x02, 0x02, 0x02, 0x61, 0x00],
+        planned: Planned::Nothing,
+    },
+    Row {
+        writer: PAIRS,
+        reader: EVOLVED_PAIRS,
+        payload: &[0x04, 0x36, 0x06, 0x66, 0x6f, 0x6f, 0x02, 0x04, 0x61],
+        planned: Planned::Nothing,
+    },
+    Row {
+        writer: PAIRS,
+        reader: EVOLVED_PAIRS,
+        payload: &[0x02, 0x02, 0x02, 0x61, 0x00, 0x00],
+        planned: Planned::Nothing,
+    },
+    Row {
+        writer: MAPS,
+        reader: MAPS,
+        payload: &[0x04, 0x02, 0x02, 0x61, 0x06, 0x00, 0x00, 0x00],
+        planned: Planned::Output(&[0x04, 0x02, 0x02, 0x61, 0x06, 0x00, 0x00, 0x00]),
+    },
+    Row {
+        writer: DEEP,
+        reader: DEEP,
+        payload: &[0x00],
         planned: Planned::NoPlan,
+    },
+    Row {
+        writer: LIST,
+        reader: LIST,
+        payload: &[0x02, 0x02, 0x04, 0x02, 0x80, 0x01, 0x00],
+        planned: Planned::Output(&[0x02, 0x02, 0x04, 0x02, 0x80, 0x01, 0x00]),
+    },
+    Row {
+        writer: LIST,
+        reader: LIST,
+        payload: &[0x02, 0x02, 0x04, 0x04],
+        planned: Planned::Nothing,
+    },
+    Row {
+        writer: LIST_OF_PAIRS,
+        reader: LIST_OF_PAIRS,
+        payload: &[0x02, 0x02, 0x61, 0x02, 0x04, 0x00, 0x00],
+        planned: Planned::Output(&[0x02, 0x02, 0x61, 0x02, 0x04, 0x00, 0x00]),
     },
     Row {
         writer: RECORD,
@@ -210,8 +303,8 @@ fn is_planned(alloc: Global, program: &Program, payload: &[u8], planned: Planned
     let Some(plan) = Plan::of(alloc, program) else {
         return planned == Planned::NoPlan;
     };
-    let (mut boundaries, mut output) = (Vec::new(alloc), Vec::new(alloc));
-    let found = plan.finds_output(program, payload, &mut boundaries, &mut output);
+    let (mut trail, mut output) = (Trail::new(alloc), Vec::new(alloc));
+    let found = plan.finds_output(program, payload, &mut trail, &mut output);
     match planned {
         Planned::NoPlan => false,
         Planned::Nothing => !found,
@@ -230,6 +323,33 @@ fn is_row(alloc: Global, row: &Row) -> Result<bool, AllocError> {
     Ok(is_planned(alloc, &program, row.payload, row.planned))
 }
 
+/// A list of so many longs.
+fn list_of(alloc: Global, longs: usize) -> Result<Vec<u8>, AllocError> {
+    let mut list = Vec::new(alloc);
+    for _ in 1..longs {
+        list.extend_from_slice(&[0x02, 0x02])?;
+    }
+    list.extend_from_slice(&[0x02, 0x00])?;
+    Ok(list)
+}
+
+/// Whether the plan of lists finds one of so many longs.
+fn is_list_found(alloc: Global, longs: usize) -> Result<bool, AllocError> {
+    let list = list_of(alloc, longs)?;
+    let Ok(pair) = pair_of(alloc, LIST, LIST) else {
+        return Err(AllocError);
+    };
+    let Ok(program) = compiled(alloc, &pair) else {
+        return Err(AllocError);
+    };
+    let Some(plan) = Plan::of(alloc, &program) else {
+        return Err(AllocError);
+    };
+    let (mut trail, mut output) = (Trail::new(alloc), Vec::new(alloc));
+    let found = plan.finds_output(&program, &list, &mut trail, &mut output);
+    Ok(found && output == list)
+}
+
 /// How many rows come out, from the first on.
 fn rows_right(alloc: Global) -> Result<usize, AllocError> {
     for (number, row) in ROWS.iter().enumerate() {
@@ -244,5 +364,13 @@ fn rows_right(alloc: Global) -> Result<usize, AllocError> {
 fn plans_find_usual_outputs(rt: HostRuntime) -> Result<(), Fail> {
     let right = rows_right(rt.alloc())?;
     assert_eq!(rt; right, ROWS.len());
+    Ok(())
+}
+
+#[test]
+fn plans_find_lists_of_a_thousand_levels(rt: HostRuntime) -> Result<(), Fail> {
+    let most = is_list_found(rt.alloc(), 1_000)?;
+    let more = is_list_found(rt.alloc(), 1_001)?;
+    assert_eq!(rt; (most, more), (true, false));
     Ok(())
 }
