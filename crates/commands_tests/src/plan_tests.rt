@@ -2,7 +2,7 @@
 
 use crate::again::{compiled, pair_of};
 use isa::Program;
-use machine_plan::{Plan, Trail};
+use machine_plan::{Plan, Scratch};
 use std::alloc::{AllocError, Global};
 use std::test::Fail;
 
@@ -303,8 +303,8 @@ fn is_planned(alloc: Global, program: &Program, payload: &[u8], planned: Planned
     let Some(plan) = Plan::of(alloc, program) else {
         return planned == Planned::NoPlan;
     };
-    let (mut trail, mut output) = (Trail::new(alloc), Vec::new(alloc));
-    let found = plan.finds_output(program, payload, &mut trail, &mut output);
+    let (mut scratch, mut output) = (Scratch::new(alloc), Vec::new(alloc));
+    let found = plan.finds_output(program, payload, &mut scratch, &mut output);
     match planned {
         Planned::NoPlan => false,
         Planned::Nothing => !found,
@@ -333,10 +333,9 @@ fn list_of(alloc: Global, longs: usize) -> Result<Vec<u8>, AllocError> {
     Ok(list)
 }
 
-/// Whether the plan of lists finds one of so many longs.
-fn is_list_found(alloc: Global, longs: usize) -> Result<bool, AllocError> {
-    let list = list_of(alloc, longs)?;
-    let Ok(pair) = pair_of(alloc, LIST, LIST) else {
+/// Whether the plan of a schema to itself finds a payload.
+fn is_found(alloc: Global, schema: &str, payload: &[u8]) -> Result<bool, AllocError> {
+    let Ok(pair) = pair_of(alloc, schema, schema) else {
         return Err(AllocError);
     };
     let Ok(program) = compiled(alloc, &pair) else {
@@ -345,9 +344,84 @@ fn is_list_found(alloc: Global, longs: usize) -> Result<bool, AllocError> {
     let Some(plan) = Plan::of(alloc, &program) else {
         return Err(AllocError);
     };
-    let (mut trail, mut output) = (Trail::new(alloc), Vec::new(alloc));
-    let found = plan.finds_output(&program, &list, &mut trail, &mut output);
-    Ok(found && output == list)
+    let (mut scratch, mut output) = (Scratch::new(alloc), Vec::new(alloc));
+    let found = plan.finds_output(&program, payload, &mut scratch, &mut output);
+    Ok(found && output.as_slice() == payload)
+}
+
+/// A number among others, and whether a plan finds them.
+struct Among {
+    number: &'static [u8],
+    found: bool,
+}
+
+/// Numbers of one, of nine and of ten bytes, the greatest of these, one that is greater, one of eleven bytes, and some
+/// that are spelled longer than they need be.
+const AMONG: &[Among] = &[
+    Among {
+        number: &[0x01],
+        found: true,
+    },
+    Among {
+        number: &[0xff, 0xff, 0xff, 0xff, 0xff, 0xff, 0xff, 0xff, 0x7f],
+        found: true,
+    },
+    Among {
+        number: &[0x80, 0x80, 0x80, 0x80, 0x80, 0x80, 0x80, 0x80, 0x80, 0x01],
+        found: true,
+    },
+    Among {
+        number: &[0xff, 0xff, 0xff, 0xff, 0xff, 0xff, 0xff, 0xff, 0xff, 0x01],
+        found: true,
+    },
+    Among {
+        number: &[0xff, 0xff, 0xff, 0xff, 0xff, 0xff, 0xff, 0xff, 0xff, 0x02],
+        found: false,
+    },
+    Among {
+        number: &[
+            0x80, 0x80, 0x80, 0x80, 0x80, 0x80, 0x80, 0x80, 0x80, 0x80, 0x01,
+        ],
+        found: false,
+    },
+    Among {
+        number: &[0x81, 0x00],
+        found: false,
+    },
+    Among {
+        number: &[0x80, 0x80, 0x80, 0x80, 0x80, 0x80, 0x80, 0x80, 0x00],
+        found: false,
+    },
+];
+
+/// An array of 60 longs, of which one stands behind so many others, of five bytes and of two.
+fn array_with(alloc: Global, number: &[u8], before: usize) -> Result<Vec<u8>, AllocError> {
+    let mut array = Vec::new(alloc);
+    array.push(0x78)?;
+    for i in 0..60_usize {
+        let bytes: &[u8] = match (i == before, i % 2) {
+            (true, _) => number,
+            (false, 0) => &[0xff, 0x80, 0xff, 0x80, 0x01],
+            (false, _) => &[0x80, 0x7f],
+        };
+        array.extend_from_slice(bytes)?;
+    }
+    array.push(0x00)?;
+    Ok(array)
+}
+
+/// How often the plan of arrays of longs does as it says, each number being at each place.
+fn arrays_right(alloc: Global) -> Result<usize, AllocError> {
+    let mut right = 0;
+    for among in AMONG {
+        for before in 0..60 {
+            let array = array_with(alloc, among.number, before)?;
+            if is_found(alloc, LONGS, &array)? == among.found {
+                right += 1;
+            }
+        }
+    }
+    Ok(right)
 }
 
 /// How many rows come out, from the first on.
@@ -369,8 +443,15 @@ fn plans_find_usual_outputs(rt: HostRuntime) -> Result<(), Fail> {
 
 #[test]
 fn plans_find_lists_of_a_thousand_levels(rt: HostRuntime) -> Result<(), Fail> {
-    let most = is_list_found(rt.alloc(), 1_000)?;
-    let more = is_list_found(rt.alloc(), 1_001)?;
+    let most = is_found(rt.alloc(), LIST, &list_of(rt.alloc(), 1_000)?)?;
+    let more = is_found(rt.alloc(), LIST, &list_of(rt.alloc(), 1_001)?)?;
     assert_eq!(rt; (most, more), (true, false));
+    Ok(())
+}
+
+#[test]
+fn plans_find_longs_of_any_length_at_any_place(rt: HostRuntime) -> Result<(), Fail> {
+    let right = arrays_right(rt.alloc())?;
+    assert_eq!(rt; right, 60 * AMONG.len());
     Ok(())
 }
