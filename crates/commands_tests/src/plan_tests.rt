@@ -424,6 +424,43 @@ fn arrays_right(alloc: Global) -> Result<usize, AllocError> {
     Ok(right)
 }
 
+/// A length of at most 16,383 bytes.
+fn push_length(bytes: &mut Vec<u8>, length: usize) -> Result<(), AllocError> {
+    if length < 64 {
+        return bytes.extend_from_slice(&[(length * 2) as u8]);
+    }
+    bytes.extend_from_slice(&[(length * 2 % 128 + 128) as u8, (length / 64) as u8])
+}
+
+/// How many texts are put by a plan where they belong, of each length below the one that is told.
+fn texts_right(alloc: Global, lengths: usize) -> Result<usize, AllocError> {
+    let Ok(pair) = pair_of(alloc, RECORD, EVOLVED) else {
+        return Err(AllocError);
+    };
+    let Ok(program) = compiled(alloc, &pair) else {
+        return Err(AllocError);
+    };
+    let Some(plan) = Plan::of(alloc, &program) else {
+        return Err(AllocError);
+    };
+    let (mut scratch, mut output) = (Scratch::new(alloc), Vec::new(alloc));
+    let mut right = 0;
+    for length in 0..lengths {
+        let (mut payload, mut wanted) = (Vec::new(alloc), Vec::new(alloc));
+        payload.push(0x36)?;
+        push_length(&mut payload, length)?;
+        for i in 0..length {
+            payload.push(b'a' + (i % 26) as u8)?;
+        }
+        wanted.extend_from_slice(&payload[1..])?;
+        wanted.extend_from_slice(&[0x0e, 0x36])?;
+        if plan.finds_output(&program, &payload, &mut scratch, &mut output) && output == wanted {
+            right += 1;
+        }
+    }
+    Ok(right)
+}
+
 /// How many rows come out, from the first on.
 fn rows_right(alloc: Global) -> Result<usize, AllocError> {
     for (number, row) in ROWS.iter().enumerate() {
@@ -453,5 +490,12 @@ fn plans_find_lists_of_a_thousand_levels(rt: HostRuntime) -> Result<(), Fail> {
 fn plans_find_longs_of_any_length_at_any_place(rt: HostRuntime) -> Result<(), Fail> {
     let right = arrays_right(rt.alloc())?;
     assert_eq!(rt; right, 60 * AMONG.len());
+    Ok(())
+}
+
+#[test]
+fn plans_put_texts_of_any_length(rt: HostRuntime) -> Result<(), Fail> {
+    let right = texts_right(rt.alloc(), 1_200)?;
+    assert_eq!(rt; right, 1_200);
     Ok(())
 }
