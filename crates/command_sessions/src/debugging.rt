@@ -10,7 +10,7 @@ use crate::telling::{push_code, push_refusal, push_state};
 use avro_types::Nodes;
 use command_io::{payload_of, split_line, split_line_or_empty};
 use command_parser::{DebugLine, read_debug_line};
-use isa::Program;
+use machine::PlannedProgram;
 use program_compiler::{CompileError, compile};
 use session_state::{PieceRefusal, Session};
 use std::alloc::{AllocError, Global};
@@ -104,7 +104,11 @@ fn push_answer(
 }
 
 /// A session that has its whole payload.
-fn given<'p>(alloc: Global, program: &'p Program, payload: &[u8]) -> Result<Session<'p>, DebugError>
+fn given<'p>(
+    alloc: Global,
+    program: &'p PlannedProgram,
+    payload: &[u8],
+) -> Result<Session<'p>, DebugError>
     ensures ok { IfOk result (λ session. (session ≡ given program.now payload.now)
         × (within_limit program.now payload.now ≡ Ok (program.now, payload.now))) }
     ensures err { IfErr result (λ e. e ≢ DebugError.NoMemory → within_limit program.now payload.now ≡ Err e) }
@@ -123,7 +127,7 @@ fn given<'p>(alloc: Global, program: &'p Program, payload: &[u8]) -> Result<Sess
 /// The answers to commands, on a program and its payload.
 fn answers(
     alloc: Global,
-    program: &Program,
+    program: &PlannedProgram,
     payload: &[u8],
     commands: &[u8],
 ) -> Result<String, DebugError>
@@ -157,7 +161,7 @@ pub fn debug(
 {
     let (line, commands) = split_line_or_empty(input);
     let program = match compile(alloc, writer, reader) {
-        Ok(program) => program,
+        Ok(program) => PlannedProgram::new(alloc, program),
         Err(CompileError::ProgramTooLarge) => return Err(DebugError::ProgramTooLarge),
         Err(CompileError::NoMemory) => return Err(DebugError::NoMemory),
     };

@@ -16,8 +16,8 @@ use crate::pieces::pieces_of;
 use crate::refusal::Refusal;
 use assembler::{AsmError, assemble};
 use command_io::{push_run, split_line};
-use isa::{Lists, Program, row_or_end_is_there};
-use machine::{Run, Why};
+use isa::{Lists, row_or_end_is_there};
+use machine::{PlannedProgram, Run, Why};
 use outcome::MOST_PAYLOAD;
 use std::alloc::{AllocError, Global};
 
@@ -41,7 +41,7 @@ fn take_rows(run: &mut Run, steps: u64) -> Result<(), AllocError>
 /// Runs a program on the pieces of a payload, one after another, and on their end.
 fn run_on<'p>(
     alloc: Global,
-    program: &'p Program,
+    program: &'p PlannedProgram,
     steps: u64,
     pieces: &Lists<u8>,
 ) -> Result<Run<'p>, AllocError>
@@ -61,7 +61,7 @@ fn run_on<'p>(
 /// Appends the answer to a payload, without its LF.
 fn push_run_answer(
     alloc: Global,
-    program: &Program,
+    program: &PlannedProgram,
     steps: u64,
     pieces: &Lists<u8>,
     output: &mut String,
@@ -80,7 +80,7 @@ fn push_run_answer(
 /// Appends the answer to a line, without its LF.
 fn push_line_answer(
     alloc: Global,
-    program: &Program,
+    program: &PlannedProgram,
     steps: u64,
     line: &[u8],
     output: &mut String,
@@ -97,7 +97,7 @@ fn push_line_answer(
 /// The answers to payload lines.
 fn answers(
     alloc: Global,
-    program: &Program,
+    program: &PlannedProgram,
     steps: u64,
     payloads: &[u8],
 ) -> Result<String, AllocError>
@@ -123,7 +123,10 @@ pub(crate) fn run_listed(alloc: Global, input: &[u8], steps: u64) -> Result<Stri
 {
     let (listing, payloads) = split_listing(input);
     match assemble(alloc, listing) {
-        Ok(program) => Ok(answers(alloc, &program, steps, payloads)?),
+        Ok(program) => {
+            let program = PlannedProgram::new(alloc, program);
+            Ok(answers(alloc, &program, steps, payloads)?)
+        }
         Err(AsmError::Fault(fault)) => Err(Refusal::BadListing(fault)),
         Err(AsmError::NoMemory) => Err(Refusal::NoMemory),
     }

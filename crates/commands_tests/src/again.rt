@@ -2,7 +2,7 @@
 
 use avro_schema::{Schema, SchemaError};
 use isa::Program;
-use machine::{Outcome, PairError, Run, TranscodeError, Transcoder, transcode};
+use machine::{Outcome, PairError, PlannedProgram, Run, TranscodeError, Transcoder, transcode};
 use program_compiler::{CompileError, compile};
 use std::alloc::{AllocError, Global};
 use std::process::Abort;
@@ -39,9 +39,14 @@ pub(crate) fn compiled(alloc: Global, pair: &Pair) -> Result<Program, CompileErr
 }
 
 /// The program of the schemas of two texts.
-pub(crate) fn program_of(rt: &(impl Abort + AllocGlobal), writer: &str, reader: &str) -> Program {
+pub(crate) fn program_of(
+    rt: &(impl Abort + AllocGlobal),
+    writer: &str,
+    reader: &str,
+) -> PlannedProgram {
     let pair = pair_of(rt.alloc(), writer, reader).expect(rt, "schemas");
-    compiled(rt.alloc(), &pair).expect(rt, "a program")
+    let program = compiled(rt.alloc(), &pair).expect(rt, "a program");
+    PlannedProgram::new(rt.alloc(), program)
 }
 
 /// A transcoder, made again where memory ran out the first time.

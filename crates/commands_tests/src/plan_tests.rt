@@ -1,8 +1,9 @@
 //! Plans of programs, and what they find of payloads: that they find anything is in no contract.
 
-use crate::again::{compiled, pair_of};
-use isa::Program;
-use machine_plan::{Plan, Scratch};
+use crate::again::{compiled, pair_of, pushed};
+use crate::run_tests::NOWHERE;
+use machine::Run;
+use machine_plan::{PlannedProgram, Scratch};
 use std::alloc::{AllocError, Global};
 use std::test::Fail;
 
@@ -298,13 +299,28 @@ const ROWS: &[Row] = &[
     },
 ];
 
-/// Whether that comes of the plan of a program.
-fn is_planned(alloc: Global, program: &Program, payload: &[u8], planned: Planned) -> bool {
-    let Some(plan) = Plan::of(alloc, program) else {
-        return planned == Planned::NoPlan;
+/// The program of the schemas of two texts, with its plan.
+fn planned_program(
+    alloc: Global,
+    writer: &str,
+    reader: &str,
+) -> Result<PlannedProgram, AllocError> {
+    let Ok(pair) = pair_of(alloc, writer, reader) else {
+        return Err(AllocError);
     };
+    let Ok(program) = compiled(alloc, &pair) else {
+        return Err(AllocError);
+    };
+    Ok(PlannedProgram::new(alloc, program))
+}
+
+/// Whether that comes of the plan of a program.
+fn is_planned(alloc: Global, program: &PlannedProgram, payload: &[u8], planned: Planned) -> bool {
+    if !program.has_plan() {
+        return planned == Planned::NoPlan;
+    }
     let (mut scratch, mut output) = (Scratch::new(alloc), Vec::new(alloc));
-    let found = plan.finds_output(program, payload, &mut scratch, &mut output);
+    let found = program.finds_output(payload, &mut scratch, &mut output);
     match planned {
         Planned::NoPlan => false,
         Planned::Nothing => !found,
@@ -314,12 +330,7 @@ fn is_planned(alloc: Global, program: &Program, payload: &[u8], planned: Planned
 
 /// Whether a row comes out.
 fn is_row(alloc: Global, row: &Row) -> Result<bool, AllocError> {
-    let Ok(pair) = pair_of(alloc, row.writer, row.reader) else {
-        return Err(AllocError);
-    };
-    let Ok(program) = compiled(alloc, &pair) else {
-        return Err(AllocError);
-    };
+    let program = planned_program(alloc, row.writer, row.reader)?;
     Ok(is_planned(alloc, &program, row.payload, row.planned))
 }
 
@@ -335,17 +346,12 @@ fn list_of(alloc: Global, longs: usize) -> Result<Vec<u8>, AllocError> {
 
 /// Whether the plan of a schema to itself finds a payload.
 fn is_found(alloc: Global, schema: &str, payload: &[u8]) -> Result<bool, AllocError> {
-    let Ok(pair) = pair_of(alloc, schema, schema) else {
+    let program = planned_program(alloc, schema, schema)?;
+    if !program.has_plan() {
         return Err(AllocError);
-    };
-    let Ok(program) = compiled(alloc, &pair) else {
-        return Err(AllocError);
-    };
-    let Some(plan) = Plan::of(alloc, &program) else {
-        return Err(AllocError);
-    };
+    }
     let (mut scratch, mut output) = (Scratch::new(alloc), Vec::new(alloc));
-    let found = plan.finds_output(&program, payload, &mut scratch, &mut output);
+    let found = program.finds_output(payload, &mut scratch, &mut output);
     Ok(found && output.as_slice() == payload)
 }
 
@@ -439,28 +445,23 @@ fn letters(alloc: Global, length: usize) -> Result<Option<Vec<u8>>, AllocError> 
 }
 
 /// Whether the plan of the program from `RECORD` to `EVOLVED` puts a text where it belongs.
-fn is_put(alloc: Global, program: &Program, text: &[u8]) -> Result<bool, AllocError> {
-    let Some(plan) = Plan::of(alloc, program) else {
+fn is_put(alloc: Global, program: &PlannedProgram, text: &[u8]) -> Result<bool, AllocError> {
+    if !program.has_plan() {
         return Ok(false);
-    };
+    }
     let (mut payload, mut wanted) = (Vec::new(alloc), Vec::new(alloc));
     payload.push(0x36)?;
     payload.extend_from_slice(text)?;
     wanted.extend_from_slice(text)?;
     wanted.extend_from_slice(&[0x0e, 0x36])?;
     let (mut scratch, mut output) = (Scratch::new(alloc), Vec::new(alloc));
-    let found = plan.finds_output(program, &payload, &mut scratch, &mut output);
+    let found = program.finds_output(&payload, &mut scratch, &mut output);
     Ok(found && output == wanted)
 }
 
 /// How many texts are put where they belong, from the empty one on, each a letter longer than the one before.
 fn texts_right(alloc: Global, lengths: usize) -> Result<usize, AllocError> {
-    let Ok(pair) = pair_of(alloc, RECORD, EVOLVED) else {
-        return Err(AllocError);
-    };
-    let Ok(program) = compiled(alloc, &pair) else {
-        return Err(AllocError);
-    };
+    let program = planned_program(alloc, RECORD, EVOLVED)?;
     for length in 0..lengths {
         let Some(text) = letters(alloc, length)? else {
             return Ok(length);
@@ -480,6 +481,67 @@ fn rows_right(alloc: Global) -> Result<usize, AllocError> {
         }
     }
     Ok(ROWS.len())
+}
+
+/// How many rows a run takes on a payload, one by one, before the one that ends it.
+fn rows_alone(alloc: Global, program: &PlannedProgram, payload: &[u8]) -> Result<u64, AllocError> {
+    let mut run = Run::new(alloc, program);
+    pushed(&mut run, payload)?;
+    run.close();
+    Ok(run.slice(&[NOWHERE], u64::MAX).rows.saturating_sub(1))
+}
+
+/// Whether the plan of a program counts as many rows on a payload as a run takes.
+fn is_counted(alloc: Global, program: &PlannedProgram, payload: &[u8]) -> Result<bool, AllocError> {
+    let (mut scratch, mut output) = (Scratch::new(alloc), Vec::new(alloc));
+    let rows = rows_alone(alloc, program, payload)?;
+    match program.rows_on(payload, &mut scratch, &mut output) {
+        Some(last) => Ok(last.rows == rows),
+        None => Ok(false),
+    }
+}
+
+/// For how many of the rows above, from the first on, the rows of the program are counted right, where its plan finds
+/// an output.
+fn rows_counted(alloc: Global) -> Result<usize, AllocError> {
+    for (number, row) in ROWS.iter().enumerate() {
+        let Planned::Output(_) = row.planned else {
+            continue;
+        };
+        let program = planned_program(alloc, row.writer, row.reader)?;
+        if !is_counted(alloc, &program, row.payload)? {
+            return Ok(number);
+        }
+    }
+    Ok(ROWS.len())
+}
+
+/// For how many texts the same holds, from the empty one on, each a letter longer than the one before.
+fn texts_counted(alloc: Global, lengths: usize) -> Result<usize, AllocError> {
+    let program = planned_program(alloc, STRING_ALONE, STRING_ALONE)?;
+    for length in 0..lengths {
+        let Some(text) = letters(alloc, length)? else {
+            return Ok(length);
+        };
+        if !is_counted(alloc, &program, &text)? {
+            return Ok(length);
+        }
+    }
+    Ok(lengths)
+}
+
+#[test]
+fn plans_count_the_rows_that_runs_take(rt: HostRuntime) -> Result<(), Fail> {
+    let right = rows_counted(rt.alloc())?;
+    assert_eq!(rt; right, ROWS.len());
+    Ok(())
+}
+
+#[test]
+fn plans_count_the_rows_of_texts_of_any_length(rt: HostRuntime) -> Result<(), Fail> {
+    let right = texts_counted(rt.alloc(), 300)?;
+    assert_eq!(rt; right, 300);
+    Ok(())
 }
 
 #[test]

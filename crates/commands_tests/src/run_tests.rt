@@ -3,8 +3,7 @@
 use crate::again::{program_of, pushed};
 use crate::rows::{BOTH, COUNTS, SWAPPED};
 use crate::words::end_words;
-use isa::Program;
-use machine::{Run, Slice, Why};
+use machine::{PlannedProgram, Run, Slice, Why};
 use std::alloc::{AllocError, Global};
 use std::process::Abort;
 use std::test::Fail;
@@ -53,7 +52,7 @@ fn drive(run: &mut Run<'_>, payload: &[u8], size: usize, k: u64) -> Result<(), A
 /// What a run shows on a payload in pieces and slices of so many.
 pub(crate) fn cut_run(
     alloc: Global,
-    program: &Program,
+    program: &PlannedProgram,
     payload: &[u8],
     size: usize,
     limit: u64,
@@ -66,7 +65,7 @@ pub(crate) fn cut_run(
 /// Whether one way to cut a payload and its rows comes to that answer.
 fn is_cut_answer(
     alloc: Global,
-    program: &Program,
+    program: &PlannedProgram,
     payload: &[u8],
     (size, k): (usize, u64),
     answer: &str,
@@ -78,7 +77,7 @@ fn is_cut_answer(
 /// Whether each way comes to that answer.
 fn is_answer(
     alloc: Global,
-    program: &Program,
+    program: &PlannedProgram,
     payload: &[u8],
     answer: &str,
 ) -> Result<bool, AllocError> {
@@ -91,7 +90,12 @@ fn is_answer(
 }
 
 /// The same of a payload in hexadecimal.
-fn is_hex_answer(alloc: Global, program: &Program, hex: &str, answer: &str) -> Result<bool, Fail> {
+fn is_hex_answer(
+    alloc: Global,
+    program: &PlannedProgram,
+    hex: &str,
+    answer: &str,
+) -> Result<bool, Fail> {
     let payload = hex::decode(alloc, hex)?;
     Ok(is_answer(alloc, program, &payload, answer)?)
 }
@@ -131,7 +135,7 @@ fn cuts_and_slices_change_nothing(rt: HostRuntime) -> Result<(), Fail> {
 }
 
 /// Whether a new run takes one row, waits, and ends with another one once it is closed, and can be used again.
-fn assert_waits<'p>(rt: &impl Abort, run: &mut Run<'p>, program: &'p Program) {
+fn assert_waits<'p>(rt: &impl Abort, run: &mut Run<'p>, program: &'p PlannedProgram) {
     let waits = Slice {
         rows: 1,
         why: Why::Waits,
@@ -149,7 +153,7 @@ fn assert_waits<'p>(rt: &impl Abort, run: &mut Run<'p>, program: &'p Program) {
 }
 
 /// The same for a run of a program.
-fn assert_run_waits(rt: &(impl Abort + AllocGlobal), program: &Program) {
+fn assert_run_waits(rt: &(impl Abort + AllocGlobal), program: &PlannedProgram) {
     let mut run = Run::new(rt.alloc(), program);
     assert_waits(rt, &mut run, program);
 }
@@ -163,7 +167,7 @@ fn a_run_waits_for_bytes(rt: HostRuntime) {
 
 /// A breakpoint where no instruction stands. Where there is one, nothing is looked for ahead, and contents lie in the
 /// arena in the order in which they were read.
-const NOWHERE: u32 = u32::MAX;
+pub(crate) const NOWHERE: u32 = u32::MAX;
 
 /// Whether the arena of a run on a payload is the payload, after so many rows, with nothing looked for ahead.
 fn has_arena(run: &mut Run<'_>, payload: &[u8], k: u64) -> Result<bool, AllocError> {
@@ -174,7 +178,12 @@ fn has_arena(run: &mut Run<'_>, payload: &[u8], k: u64) -> Result<bool, AllocErr
 }
 
 /// The same for a run of a program.
-fn is_arena(alloc: Global, program: &Program, payload: &[u8], k: u64) -> Result<bool, AllocError> {
+fn is_arena(
+    alloc: Global,
+    program: &PlannedProgram,
+    payload: &[u8],
+    k: u64,
+) -> Result<bool, AllocError> {
     let mut run = Run::new(alloc, program);
     has_arena(&mut run, payload, k)
 }

@@ -10,7 +10,7 @@ use std::sync::Wait;
 
 /// How many rows a worker's turn takes at most: ten times a client's, so that a client that sleeps meanwhile is not
 /// woken for each of its own slices.
-const WORKER_SLICE: u64 = 100_000;
+const WORKER_SLICE: u64 = 10_000_000;
 
 /// What a worker's thread is given.
 #[derive(Drop)]

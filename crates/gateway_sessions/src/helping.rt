@@ -5,8 +5,9 @@ ghost use Rattle.session_pool.specs.Seats.{RestsWorker};
 use gateway::{Gate, Place};
 use session_pool::{SessionPool, Turn, WorkerSeat};
 
-/// How many rows a client's turn takes at most.
-pub const SLICE: u64 = 10_000;
+/// How many rows a client's turn takes at most. Ours: those that are found ahead take some milliseconds, and those that
+/// are taken one by one up to a tenth of a second.
+pub const SLICE: u64 = 1_000_000;
 
 /// A gate that takes a turn each time it is asked. It always says yes.
 #[derive(Drop)]

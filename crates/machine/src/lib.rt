@@ -7,6 +7,7 @@ mod run;
 mod transcoder;
 mod transcoding;
 
+pub use machine_plan::PlannedProgram;
 pub use machine_stepper::{
     BufferAt, Content, FrameView, Machine, Slice, Step, Why, machines_go_on_with_more_input,
 };

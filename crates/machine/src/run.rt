@@ -13,6 +13,7 @@ ghost use Rattle.machine.specs.Run.{IsCarry};
 
 use avro_types::Nodes;
 use isa::{End, Program, row_or_end_is_there};
+use machine_plan::PlannedProgram;
 use machine_stepper::{Machine, Slice, Why, machines_go_on_with_more_input};
 use program_correctness::{program_ends_with_the_outcome, runs_alone_are_counted_and_stay};
 use std::alloc::{AllocError, Global};
@@ -23,7 +24,7 @@ use std::marker::Model;
 /// However they are cut and whoever takes the rows, its machine is the program run alone on all bytes so far.
 #[derive(Drop)]
 pub struct Run<'p> {
-    program: &'p Program,
+    program: &'p PlannedProgram,
     input: Vec<u8>,
     ended: bool,
     machine: Machine,
@@ -43,7 +44,7 @@ impl<'p> Run<'p> {
     ghost use Rattle.machine.specs.Run.{begun};
 
     /// The run before its first row, on no bytes yet. It takes no memory.
-    pub fn new(alloc: Global, program: &'p Program) -> Run<'p>
+    pub fn new(alloc: Global, program: &'p PlannedProgram) -> Run<'p>
         ensures { result ≡ begun program.now }
     {
         machines_go_on_with_more_input(); // law
@@ -56,7 +57,7 @@ impl<'p> Run<'p> {
     }
 
     /// Goes back to what `new` gives for a program, this one's or another, in the room that it has.
-    pub fn reset(&mut self, program: &'p Program)
+    pub fn reset(&mut self, program: &'p PlannedProgram)
         ensures { self.new ≡ begun program.now }
     {
         machines_go_on_with_more_input(); // law
@@ -166,7 +167,7 @@ impl<'p> Run<'p> {
     pub fn program(&self) -> &'p Program
         ensures { result.now ≡ self.now.program }
     {
-        self.program
+        self.program.program()
     }
 
     /// All bytes that came.

@@ -6,6 +6,7 @@
 mod ahead;
 mod blocks;
 mod contents;
+mod finding;
 mod flow;
 mod laws;
 mod machine;

@@ -14,10 +14,11 @@ ghost use Rattle.machine_rules.specs.Ending.{refused, told};
 ghost use Rattle.machine_stepper.specs.Contract.{OnlyAppends, Takes};
 ghost use Rattle.machine_stepper.specs.Running.{end_of};
 
+use crate::finding::Foresight;
 use crate::step::Step;
 use avro_bytes::{Fault, Meter, put_long};
 use isa::{End, Program, Trap};
-use machine_lookahead::{Found, is_tight};
+use machine_lookahead::is_tight;
 use machine_rules::{Content, Ending, RowCount, TextCheck, Verdict};
 use machine_store::Store;
 use outcome::Outcome;
@@ -37,9 +38,7 @@ pub struct Machine {
     pub(crate) end: Option<End>,
     pub(crate) scratch: Vec<u8>,
     /// What was found ahead.
-    pub(crate) found: Found,
-    /// Up to this offset looking ahead went before, and took nothing.
-    pub(crate) looked: usize,
+    pub(crate) foresight: Foresight,
     pub(crate) alloc: Global,
 }
 
@@ -68,8 +67,7 @@ impl Machine {
             count: RowCount { rows: 0 },
             end: None,
             scratch: Vec::new(alloc),
-            found: Found::new(alloc),
-            looked: 0,
+            foresight: Foresight::new(alloc),
             alloc,
         }
     }
@@ -86,14 +84,14 @@ impl Machine {
         self.check = TextCheck::Unasked;
         self.count = RowCount { rows: 0 };
         self.end = None;
-        self.looked = 0;
+        self.foresight.looked = 0;
     }
 
     /// Lets go of what looking ahead keeps of one program: a run of another may follow.
     pub fn forget(&mut self)
         ensures { self.new ≡ self.old }
     {
-        self.found.forget();
+        self.foresight.found.forget();
     }
 
     /// Lets go of memory above what is held, and above that for so many bytes and a 64th of so many slots, frames and
@@ -104,7 +102,7 @@ impl Machine {
         self.calls.shrink_to(bytes / 64);
         self.store.shrink_to(bytes);
         self.scratch.shrink_to(bytes);
-        self.found.shrink_to(bytes);
+        self.foresight.shrink_to(bytes);
     }
 
     /// The address of the next instruction.

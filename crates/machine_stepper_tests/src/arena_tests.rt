@@ -7,6 +7,7 @@ use crate::programs::push_hex;
 use crate::rows::{assert_questions, assert_rows};
 use debugger::show_machine;
 use isa::Program;
+use machine_plan::PlannedProgram;
 use machine_stepper::{BufferAt, Machine, Step};
 use std::alloc::{AllocError, Global};
 use std::fmt::Write;
@@ -38,7 +39,7 @@ pub(crate) fn push_carry(
     alloc: Global,
     output: &mut String,
     machine: &mut Machine,
-    program: &Program,
+    program: &PlannedProgram,
     input: &[u8],
     limit: u64,
 ) -> Result<(), AllocError>
@@ -80,7 +81,7 @@ pub(crate) fn push_after(
     alloc: Global,
     output: &mut String,
     machine: &mut Machine,
-    program: &Program,
+    program: &PlannedProgram,
     input: &[u8],
     limit: u64,
     at: Option<BufferAt>,

@@ -8,7 +8,7 @@ use crate::arena_tests::{push_after, push_carry, push_steps};
 use crate::programs::{push_words, run};
 use crate::show_tests::{push_listing, push_shown, push_shown_after};
 use crate::slice_tests::{TURNS, WAITING, push_messages, push_turns};
-use isa::Program;
+use machine_plan::PlannedProgram;
 use machine_stepper::{BufferAt, Machine};
 use std::alloc::{AllocError, Global};
 
@@ -23,7 +23,7 @@ fn push_answer(
     alloc: Global,
     output: &mut String,
     machine: &mut Machine,
-    program: &Program,
+    program: &PlannedProgram,
     input: &[u8],
     question: &str,
 ) -> Result<(), AllocError>
@@ -51,9 +51,9 @@ fn push_answer(
         "messages" => push_messages(output, machine, program, input),
         "shown" => push_shown_after(alloc, output, machine, program, input, k),
         "no-memory" => push_shown(alloc, output, machine, true),
-        "listing" => push_listing(alloc, output, program),
-        "ahead" => push_found(alloc, output, machine, program, input, k),
-        "steps" => push_steps(alloc, output, machine, program, input, k),
+        "listing" => push_listing(alloc, output, program.program()),
+        "ahead" => push_found(alloc, output, machine, program.program(), input, k),
+        "steps" => push_steps(alloc, output, machine, program.program(), input, k),
         "carry" => push_carry(alloc, output, machine, program, input, k),
         "arena" => push_after(alloc, output, machine, program, input, k, None),
         _ => push_after(alloc, output, machine, program, input, k, Some(at)),
@@ -64,7 +64,7 @@ fn push_answer(
 pub(crate) fn push_new(
     alloc: Global,
     output: &mut String,
-    program: &Program,
+    program: &PlannedProgram,
     input: &[u8],
     question: &str,
 ) -> Result<(), AllocError> {

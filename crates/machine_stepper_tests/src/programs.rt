@@ -8,6 +8,7 @@ use crate::texts::push_text;
 use assembler::{AsmError, assemble};
 use hex::FromHexError;
 use isa::{End, Program, Trap};
+use machine_plan::PlannedProgram;
 use machine_stepper::{Machine, Why};
 use outcome::Outcome;
 use std::alloc::{AllocError, Global};
@@ -25,7 +26,13 @@ pub(crate) fn program(alloc: Global, lines: &str) -> Result<Program, AsmError> {
 }
 
 /// A run on an input that comes in pieces, in slices of so many rows.
-pub(crate) fn run(machine: &mut Machine, program: &Program, input: &[u8], piece: usize, limit: u64)
+pub(crate) fn run(
+    machine: &mut Machine,
+    program: &PlannedProgram,
+    input: &[u8],
+    piece: usize,
+    limit: u64,
+)
     requires { machine.old ≡ start }
 {
     let mut end = 0;

@@ -3,7 +3,7 @@
 use crate::asked::push_new;
 use crate::programs::{input, program};
 use crate::texts::{holds, push_text};
-use isa::Program;
+use machine_plan::PlannedProgram;
 use std::alloc::Global;
 use std::process::Abort;
 use std::test::Fail;
@@ -25,7 +25,7 @@ fn push_on(
     alloc: Global,
     output: &mut String,
     question: &str,
-    program: &Program,
+    program: &PlannedProgram,
     hex: &str,
 ) -> Result<(), Fail> {
     let input = input(alloc, hex)?;
@@ -41,7 +41,10 @@ fn push_told(
     hex: &str,
 ) -> Result<(), Fail> {
     match program(alloc, lines) {
-        Ok(program) => push_on(alloc, output, question, &program, hex),
+        Ok(program) => {
+            let program = PlannedProgram::new(alloc, program);
+            push_on(alloc, output, question, &program, hex)
+        }
         Err(error) => Err(error.into()),
     }
 }

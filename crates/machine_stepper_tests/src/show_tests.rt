@@ -6,6 +6,7 @@ ghost use Rattle.machine_stepper.specs.Running.{start};
 use crate::rows::{assert_questions, assert_rows};
 use debugger::{list_program, show_machine};
 use isa::Program;
+use machine_plan::PlannedProgram;
 use machine_stepper::{Machine, Why};
 use std::alloc::{AllocError, Global};
 use std::test::Fail;
@@ -47,7 +48,7 @@ pub(crate) fn push_shown_after(
     alloc: Global,
     output: &mut String,
     machine: &mut Machine,
-    program: &Program,
+    program: &PlannedProgram,
     input: &[u8],
     limit: u64,
 ) -> Result<(), AllocError>

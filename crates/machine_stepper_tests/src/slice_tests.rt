@@ -4,7 +4,7 @@ ghost use Rattle.machine_stepper.specs.Running.{IsOn, IsUnder};
 
 use crate::programs::push_words;
 use crate::rows::assert_questions;
-use isa::Program;
+use machine_plan::PlannedProgram;
 use machine_stepper::{Machine, Why};
 use std::alloc::{AllocError, Global};
 use std::fmt::Write;
@@ -68,7 +68,7 @@ fn why_name(why: Why) -> &'static str {
 fn push_slice(
     output: &mut String,
     machine: &mut Machine,
-    program: &Program,
+    program: &PlannedProgram,
     input: &[u8],
     ended: bool,
     turn: &Turn,
@@ -88,7 +88,7 @@ pub(crate) fn push_turns(
     alloc: Global,
     output: &mut String,
     machine: &mut Machine,
-    program: &Program,
+    program: &PlannedProgram,
     input: &[u8],
     ended: bool,
     turns: &[Turn],
@@ -107,7 +107,7 @@ pub(crate) fn push_turns(
 pub(crate) fn push_messages(
     output: &mut String,
     machine: &mut Machine,
-    program: &Program,
+    program: &PlannedProgram,
     input: &[u8],
 ) -> Result<(), AllocError> {
     let turn = Turn {

@@ -2,11 +2,11 @@
 use denote.Param.Send.{IsSend, IsSync, sendable}
 use Rattle.std.proofs.Crossing.{crosses}
 use Rattle.avro_schema.proofs.Crossing.{schema-send, schema-sync}
-use Rattle.isa.proofs.Crossing.{program-send, program-sync}
+use Rattle.machine_plan.proofs.Crossing.{planned-send, planned-sync}
 use Rattle.pair_program.specs.contracts.pair.PairProgram as pair
 
 pub pair-send : IsSend pair.the_row
-pair-send = search (schema-send, program-send, crosses, sendable) depth 60 fits 20000
+pair-send = search (schema-send, planned-send, crosses, sendable) depth 60 fits 20000
 
 pub pair-sync : IsSync pair.the_row
-pair-sync = search (schema-sync, program-sync, crosses, sendable) depth 60 fits 20000
+pair-sync = search (schema-sync, planned-sync, crosses, sendable) depth 60 fits 20000

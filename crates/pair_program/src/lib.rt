@@ -1,4 +1,4 @@
-//! Programs; used by `session_core`, `program_cache` and others.
+//! Machine; used by `session_core`, `program_cache` and others.
 //!
 //! The program of a pair of schemas, beside the schemas that it is of.
 #![tactic(auto)]

@@ -6,7 +6,7 @@ ghost use Rattle.program_definition.specs.Code.{code_of};
 ghost use Rattle.program_lowering.specs.declared.error.CompileError.TheVariants.{ProgramTooLarge};
 
 use avro_schema::Schema;
-use isa::Program;
+use machine_plan::PlannedProgram;
 use program_compiler::{CompileError, compile};
 use std::alloc::Global;
 use std::marker::Model;
@@ -16,7 +16,7 @@ use std::marker::Model;
 pub struct PairProgram {
     writer: Schema,
     reader: Schema,
-    program: Program,
+    program: PlannedProgram,
 }
 
 impl Model for PairProgram {
@@ -43,7 +43,7 @@ impl PairProgram {
         ensures refused { IfErr result (λ e. e ≡ ProgramTooLarge
             → code_of writer.now.nodes reader.now.nodes ≡ None) }
     {
-        let program = compile(alloc, writer.nodes(), reader.nodes())?;
+        let program = PlannedProgram::new(alloc, compile(alloc, writer.nodes(), reader.nodes())?);
         Ok(PairProgram {
             writer: writer.copy()?,
             reader: reader.copy()?,
@@ -80,7 +80,7 @@ impl PairProgram {
     }
 
     /// The program, which is that of its own two schemas.
-    pub fn program(&self) -> &Program
+    pub fn program(&self) -> &PlannedProgram
         ensures program { result.now ≡ self.now.program }
         ensures pair { code_of self.now.writer.nodes self.now.reader.nodes ≡ Some result.now }
     {

@@ -12,7 +12,7 @@ use crate::cells::Cells;
 use crate::place::Place;
 use crate::refusal::PairRefusal;
 use avro_schema::Schema;
-use isa::Program;
+use machine::PlannedProgram;
 use once_cell::race::OnceBox;
 use pair_program::PairProgram;
 use program_compiler::CompileError;
@@ -150,7 +150,7 @@ impl<'r> ProgramCache<'r> {
         &self,
         writer: &mut Receipt,
         reader: &mut Receipt,
-    ) -> Result<&Program, PublishError>
+    ) -> Result<&PlannedProgram, PublishError>
         requires writer { IsReceiptOf self.now writer.old }
         requires reader { IsReceiptOf self.now reader.old }
         ensures same { (writer.new ≡ writer.old) × (reader.new ≡ reader.old) }
@@ -183,7 +183,7 @@ impl<'r> ProgramCache<'r> {
 
 impl<'r> Programs for ProgramCache<'r> {
     /// `Clash` also where the registry shows no schema of one of the two compact texts.
-    fn publish(&self, writer: &Schema, reader: &Schema) -> Result<&Program, PublishError>
+    fn publish(&self, writer: &Schema, reader: &Schema) -> Result<&PlannedProgram, PublishError>
         ensures { IsPublished writer.now.nodes reader.now.nodes result }
     {
         let Some(mut writer) = self.receipt_of(writer) else {

@@ -8,7 +8,7 @@ ghost use Rattle.session_core.specs.Publishing.{IsPublished};
 use crate::programs::Programs;
 use crate::publish_error::PublishError;
 use avro_schema::Schema;
-use isa::Program;
+use machine::PlannedProgram;
 use once_cell::race::OnceBox;
 use pair_program::PairProgram;
 use program_compiler::CompileError;
@@ -45,7 +45,7 @@ impl PairRow {
 }
 
 impl Programs for PairRow {
-    fn publish(&self, writer: &Schema, reader: &Schema) -> Result<&Program, PublishError>
+    fn publish(&self, writer: &Schema, reader: &Schema) -> Result<&PlannedProgram, PublishError>
         ensures { IsPublished writer.now.nodes reader.now.nodes result }
     {
         for cell in &self.cells {

@@ -4,11 +4,11 @@ ghost use Rattle.session_core.specs.Publishing.{IsPublished};
 
 use crate::publish_error::PublishError;
 use avro_schema::Schema;
-use isa::Program;
+use machine::PlannedProgram;
 
 /// A store of the programs of pairs of schemas.
 pub trait Programs {
     /// The program of a pair, which is made where the store has none.
-    fn publish(&self, writer: &Schema, reader: &Schema) -> Result<&Program, PublishError>
+    fn publish(&self, writer: &Schema, reader: &Schema) -> Result<&PlannedProgram, PublishError>
         ensures { IsPublished writer.now.nodes reader.now.nodes result };
 }

@@ -1,6 +1,6 @@
 //! A published pair.
 
-use isa::Program;
+use machine::PlannedProgram;
 use std::marker::Model;
 
 /// A published pair, by the ids of its schemas, and its program.
@@ -8,7 +8,7 @@ use std::marker::Model;
 pub(crate) struct Published<'p> {
     pub(crate) writer: u32,
     pub(crate) reader: u32,
-    pub(crate) program: &'p Program,
+    pub(crate) program: &'p PlannedProgram,
 }
 
 impl<'p> Model for Published<'p> {

@@ -21,7 +21,7 @@ use crate::refusal::EventRefusal;
 use crate::reply::EventReply;
 use avro_schema::SchemaError;
 use avro_types::MOST_TEXT;
-use isa::Program;
+use machine::PlannedProgram;
 use schema_registry::{Command, Level, Refusal, Registry, Reply, is_subject};
 use session_state::Session;
 use std::alloc::{AllocError, Global};
@@ -172,7 +172,7 @@ impl<'p> World<'p> {
     }
 
     /// The program of a published pair.
-    fn program_at(&self, writer: u32, reader: u32) -> Option<&'p Program>
+    fn program_at(&self, writer: u32, reader: u32) -> Option<&'p PlannedProgram>
         ensures { option_map (λ p. p.now) result ≡ program_at writer reader self.now }
     {
         let published = self
@@ -228,7 +228,12 @@ impl<'p> World<'p> {
     }
 
     /// Adds a pair and its program.
-    fn add_publication(&mut self, writer: u32, reader: u32, program: &'p Program) -> EventReply
+    fn add_publication(
+        &mut self,
+        writer: u32,
+        reader: u32,
+        program: &'p PlannedProgram,
+    ) -> EventReply
         requires { IsCodeOf self.old.commands writer reader program.now }
         ensures { Adds writer reader program.now result self.old self.new }
     {

@@ -1,7 +1,7 @@
 //! Calls that are made again where memory ran out the first time.
 
 use avro_schema::{Schema, SchemaError};
-use isa::Program;
+use machine::PlannedProgram;
 use session_core::{PairRow, Programs, PublishError};
 use std::alloc::{AllocError, Global};
 
@@ -26,7 +26,7 @@ pub(crate) fn published<'r>(
     row: &'r PairRow,
     writer: &Schema,
     reader: &Schema,
-) -> Result<&'r Program, PublishError> {
+) -> Result<&'r PlannedProgram, PublishError> {
     match row.publish(writer, reader) {
         Err(PublishError::NoMemory) => row.publish(writer, reader),
         answer => answer,

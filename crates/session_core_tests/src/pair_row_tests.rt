@@ -10,7 +10,7 @@ use std::test::Fail;
 
 /// How many instructions the program of a pair has.
 fn len_of(row: &PairRow, writer: &Schema, reader: &Schema) -> Result<usize, PublishError> {
-    Ok(published(row, writer, reader)?.len())
+    Ok(published(row, writer, reader)?.program().len())
 }
 
 #[test]

@@ -93,9 +93,7 @@ impl<'p> SessionPool<'p> {
         match self.slots.take_out(&mut seat.slots, slot) {
             Ok(taken) => {
                 let mut session = taken.session;
-                let program = session.program();
-                session.reset(program);
-                session.shrink();
+                let _end = session.take_end();
                 self.slots.free(&mut seat.slots, slot, session);
                 Ok(())
             }

@@ -4,7 +4,7 @@ ghost use Rattle.std.specs.Prelude.{◌≡◌, Some};
 ghost use Rattle.program_definition.specs.Code.{code_of};
 
 use avro_schema::Schema;
-use isa::Program;
+use machine::PlannedProgram;
 use program_correctness::program_ends_with_the_outcome;
 use std::marker::Model;
 use std::snapshot::Snapshot;
@@ -15,7 +15,7 @@ pub struct Pass {
     slot: u32,
     writer: Snapshot<Schema>,
     reader: Snapshot<Schema>,
-    program: Snapshot<Program>,
+    program: Snapshot<PlannedProgram>,
 }
 
 impl Model for Pass {
@@ -43,7 +43,7 @@ impl Pass {
     ghost use Rattle.session_pool.specs.Pass.{LeadsToOutcomes};
 
     /// A pass for a slot, with a session of a pair's program.
-    pub(crate) fn new(slot: u32, writer: &Schema, reader: &Schema, program: &Program) -> Pass
+    pub(crate) fn new(slot: u32, writer: &Schema, reader: &Schema, program: &PlannedProgram) -> Pass
         requires { code_of writer.now.nodes reader.now.nodes ≡ Some program.now }
         ensures { result ≡ record {
           slot = slot;

@@ -8,7 +8,7 @@ ghost use Rattle.session_pool_slots.specs.Account.{kept};
 
 use crate::kinds::Claim;
 use crate::slots::{SessionSlots, SlotSeat};
-use isa::Program;
+use machine::PlannedProgram;
 use session_pool_rule::{FREE, READY, SLOTS, WITH_CLIENT};
 use session_state::Session;
 
@@ -17,7 +17,7 @@ use session_state::Session;
 fn renewed<'p>(
     kept: Option<Session<'p>>,
     offer: Option<Session<'p>>,
-    program: &'p Program,
+    program: &'p PlannedProgram,
 ) -> Session<'p>
     requires { offer ≡ Some (begun program.now) }
     ensures { result ≡ begun program.now }
@@ -36,7 +36,7 @@ impl<'p> SessionSlots<'p> {
     ghost use Rattle.session_pool_slots.specs.Opening.{FindsNoneFree, HasBegun, HasClaimed, IsClaimed};
 
     /// Begins a session of a program in the first slot that is found free, and leaves it ready. `None` where none is.
-    pub fn begin(&self, seat: &mut SlotSeat<'p>, program: &'p Program) -> Option<u32>
+    pub fn begin(&self, seat: &mut SlotSeat<'p>, program: &'p PlannedProgram) -> Option<u32>
         requires { Rests self.now seat.old }
         ensures seat { Rests self.now seat.new }
         ensures begun { MatchOption result
@@ -74,7 +74,7 @@ impl<'p> SessionSlots<'p> {
         seat: &mut SlotSeat<'p>,
         slot: u32,
         offer: Option<Session<'p>>,
-        program: &'p Program,
+        program: &'p PlannedProgram,
     )
         requires seat { IsSeatOf self.now seat.old }
         requires offer { offer ≡ Some (begun program.now) }

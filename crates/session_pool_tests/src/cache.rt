@@ -43,7 +43,7 @@ fn len_of(cache: &ProgramCache<'_>, writer: u32, reader: u32) -> Result<usize, P
     ) else {
         return Err(PublishError::Clash);
     };
-    Ok(cache.program(&mut writer, &mut reader)?.len())
+    Ok(cache.program(&mut writer, &mut reader)?.program().len())
 }
 
 /// The listing of the program that a pair is compiled to.
@@ -70,7 +70,7 @@ fn has_own(
         return Ok(false);
     };
     let program = cache.program(&mut writer, &mut reader)?;
-    let found = disassemble(alloc, program)?;
+    let found = disassemble(alloc, program.program())?;
     Ok(found == compiled(alloc, first, second)?)
 }
 
@@ -108,8 +108,8 @@ fn is_kept(
     requires { IsReceiptOf cache.now receipt.old }
 {
     let mut again = receipt.again();
-    let first = disassemble(alloc, cache.program(receipt, &mut again)?)?;
-    let second = disassemble(alloc, cache.program(&mut again, receipt)?)?;
+    let first = disassemble(alloc, cache.program(receipt, &mut again)?.program())?;
+    let second = disassemble(alloc, cache.program(&mut again, receipt)?.program())?;
     Ok(first == second)
 }
 
@@ -132,7 +132,7 @@ pub(crate) fn published_len(
     writer: &Schema,
     reader: &Schema,
 ) -> Result<usize, PublishError> {
-    Ok(cache.publish(writer, reader)?.len())
+    Ok(cache.publish(writer, reader)?.program().len())
 }
 
 #[test]

@@ -18,7 +18,7 @@ use crate::slice::{Slice, Stopped};
 use crate::taking::take;
 use avro_types::Nodes;
 use isa::{End, Program};
-use machine::{Machine, Run, Why};
+use machine::{Machine, PlannedProgram, Run, Why};
 use outcome::MOST_PAYLOAD;
 use program_correctness::runs_alone_are_counted_and_stay;
 use std::alloc::Global;
@@ -113,7 +113,7 @@ impl<'p> Session<'p> {
     ghost use Rattle.session_state.specs.Session.{begun};
 
     /// A session before its first piece. It takes no memory.
-    pub fn begin(alloc: Global, program: &'p Program) -> Session<'p>
+    pub fn begin(alloc: Global, program: &'p PlannedProgram) -> Session<'p>
         ensures { result ≡ begun program.now }
     {
         let run = Run::new(alloc, program);
@@ -126,21 +126,13 @@ impl<'p> Session<'p> {
     }
 
     /// Goes back to what `begin` gives for a program, in the room that it has.
-    pub fn reset(&mut self, program: &'p Program)
+    pub fn reset(&mut self, program: &'p PlannedProgram)
         ensures { self.new ≡ begun program.now }
     {
         self.run.reset(program);
         self.run.is_alone(); // law
         self.breaks.clear();
         self.out_of_memory = false;
-    }
-
-    /// Lets go of memory above what is held, and above that for `MOST_ROOM` bytes and a 64th of so many slots, frames
-    /// and calls.
-    pub fn shrink(&mut self)
-        ensures { self.new ≡ self.old }
-    {
-        self.run.shrink_to(MOST_ROOM);
     }
 
     /// Appends bytes to the payload. `TooLarge` where all bytes would pass `MOST_PAYLOAD`, and then `Ended` where no
@@ -236,7 +228,8 @@ impl<'p> Session<'p> {
         Ok(())
     }
 
-    /// Ends it for want of memory, where it has not ended, and lets go of memory as `shrink` does.
+    /// Ends it for want of memory, where it has not ended, and lets go of memory above what is held, and above that for
+    /// `MOST_ROOM` bytes and a 64th of so many slots, frames and calls.
     pub fn refuse(&mut self)
         ensures { self.new ≡ refused self.old }
     {
@@ -386,7 +379,7 @@ impl<'p> Session<'p> {
     }
 
     /// How it ended, where it has, which is taken out: the session goes back to what `begin` gives for its program, in
-    /// the room that it has, as `shrink` leaves it.
+    /// the room that it has, of which it lets go as `refuse` does.
     pub fn take_end(&mut self) -> Option<SessionEnd>
         ensures end { option_map end_of result ≡ end_in self.old }
         ensures begun { self.new ≡ begun self.old.program }
