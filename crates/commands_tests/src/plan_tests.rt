@@ -76,6 +76,32 @@ const MAPS: &str = r#"{"type":"array","items":{"type":"map","values":"long"}}"#;
 const DEEP: &str = r#"{"type":"array","items":{"type":"array","items":
 {"type":"record","name":"T","fields":[{"name":"a","type":"long"}]}}}"#;
 
+/// A string.
+const STRING: &str = r#""string""#;
+
+/// A string, or null, the other way round.
+const TURNED: &str = r#"["string","null"]"#;
+
+/// Records of a long and a string, or nulls.
+const OPTIONAL_PAIRS: &str = r#"{"type":"array","items":["null",
+{"type":"record","name":"T","fields":[{"name":"a","type":"long"},{"name":"b","type":"string"}]}]}"#;
+
+/// The same with their fields the other way round.
+const EVOLVED_OPTIONAL_PAIRS: &str = r#"{"type":"array","items":["null",
+{"type":"record","name":"T","fields":[{"name":"b","type":"string"},{"name":"a","type":"long"}]}]}"#;
+
+/// Records of a long and of longs.
+const ROWS_OF_LONGS: &str = r#"{"type":"array","items":{"type":"record","name":"T","fields":[
+{"name":"a","type":"long"},{"name":"c","type":{"type":"array","items":"long"}}]}}"#;
+
+/// The same with their fields the other way round.
+const TURNED_ROWS_OF_LONGS: &str = r#"{"type":"array","items":{"type":"record","name":"T","fields":[
+{"name":"c","type":{"type":"array","items":"long"}},{"name":"a","type":"long"}]}}"#;
+
+/// A tree of longs.
+const TREE: &str = r#"{"type":"record","name":"N","fields":[{"name":"value","type":"long"},
+{"name":"left","type":["null","N"]},{"name":"right","type":["null","N"]}]}"#;
+
 /// A list of longs.
 const LIST: &str = r#"{"type":"record","name":"L","fields":[{"name":"value","type":"long"},
 {"name":"next","type":["null","L"]}]}"#;
@@ -178,6 +204,64 @@ const ROWS: &[Row] = &[
         writer: ONE_OF_THREE,
         reader: ONE_OF_THREE,
         payload: &[0x00],
+        planned: Planned::Output(&[0x00]),
+    },
+    Row {
+        writer: ONE_OF_THREE,
+        reader: ONE_OF_THREE,
+        payload: &[0x04, 0x02, 0x61],
+        planned: Planned::Output(&[0x04, 0x02, 0x61]),
+    },
+    Row {
+        writer: ONE_OF_THREE,
+        reader: ONE_OF_THREE,
+        payload: &[0x06],
+        planned: Planned::Nothing,
+    },
+    Row {
+        writer: OPTIONAL,
+        reader: TURNED,
+        payload: &[0x02, 0x02, 0x61],
+        planned: Planned::Output(&[0x00, 0x02, 0x61]),
+    },
+    // (null, which the reader has not)
+    Row {
+        writer: OPTIONAL,
+        reader: STRING,
+        payload: &[0x02, 0x02, 0x61],
+        planned: Planned::Output(&[0x02, 0x61]),
+    },
+    Row {
+        writer: OPTIONAL,
+        reader: STRING,
+        payload: &[0x00],
+        planned: Planned::Nothing,
+    },
+    Row {
+        writer: STRING,
+        reader: OPTIONAL,
+        payload: &[0x02, 0x61],
+        planned: Planned::Output(&[0x02, 0x02, 0x61]),
+    },
+    Row {
+        writer: OPTIONAL_PAIRS,
+        reader: EVOLVED_OPTIONAL_PAIRS,
+        payload: &[0x06, 0x02, 0x36, 0x02, 0x61, 0x00, 0x02, 0x02, 0x02, 0x62, 0x00],
+        planned: Planned::Output(&[
+            0x06, 0x02, 0x02, 0x61, 0x36, 0x00, 0x02, 0x02, 0x62, 0x02, 0x00,
+        ]),
+    },
+    // (a union in the second item that has no third branch)
+    Row {
+        writer: OPTIONAL_PAIRS,
+        reader: EVOLVED_OPTIONAL_PAIRS,
+        payload: &[0x04, 0x00, 0x04, 0x36, 0x02, 0x61, 0x00],
+        planned: Planned::Nothing,
+    },
+    Row {
+        writer: TREE,
+        reader: TREE,
+        payload: &[0x02, 0x00, 0x00],
         planned: Planned::NoPlan,
     },
     Row {
@@ -271,7 +355,25 @@ const ROWS: &[Row] = &[
         writer: DEEP,
         reader: DEEP,
         payload: &[0x00],
-        planned: Planned::NoPlan,
+        planned: Planned::Output(&[0x00]),
+    },
+    Row {
+        writer: DEEP,
+        reader: DEEP,
+        payload: &[0x04, 0x02, 0x06, 0x00, 0x00, 0x00],
+        planned: Planned::Output(&[0x04, 0x02, 0x06, 0x00, 0x00, 0x00]),
+    },
+    Row {
+        writer: DEEP,
+        reader: DEEP,
+        payload: &[0x04, 0x02, 0x06, 0x00, 0x00],
+        planned: Planned::Nothing,
+    },
+    Row {
+        writer: ROWS_OF_LONGS,
+        reader: TURNED_ROWS_OF_LONGS,
+        payload: &[0x04, 0x06, 0x04, 0x08, 0x0a, 0x00, 0x02, 0x00, 0x00],
+        planned: Planned::Output(&[0x04, 0x04, 0x08, 0x0a, 0x00, 0x06, 0x00, 0x02, 0x00]),
     },
     Row {
         writer: LIST,

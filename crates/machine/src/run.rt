@@ -65,7 +65,6 @@ impl<'p> Run<'p> {
         self.input.clear();
         self.ended = false;
         self.machine.reset();
-        self.machine.forget();
     }
 
     /// Lets go of memory above what is held, and above that for so many bytes and a 64th of so many slots, frames and

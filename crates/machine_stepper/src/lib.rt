@@ -18,7 +18,6 @@ mod slice;
 mod step;
 mod store_access;
 mod views;
-mod whole_output;
 
 pub use laws::machines_go_on_with_more_input;
 pub use machine::Machine;

@@ -84,14 +84,6 @@ impl Machine {
         self.check = TextCheck::Unasked;
         self.count = RowCount { rows: 0 };
         self.end = None;
-        self.foresight.looked = 0;
-    }
-
-    /// Lets go of what looking ahead keeps of one program: a run of another may follow.
-    pub fn forget(&mut self)
-        ensures { self.new ≡ self.old }
-    {
-        self.foresight.found.forget();
     }
 
     /// Lets go of memory above what is held, and above that for so many bytes and a 64th of so many slots, frames and
