@@ -18,7 +18,7 @@ use crate::finding::Foresight;
 use crate::step::Step;
 use avro_bytes::{Fault, Meter, put_long};
 use isa::{End, Program, Trap};
-use machine_lookahead::is_tight;
+use machine_rows::is_tight;
 use machine_rules::{Content, Ending, RowCount, TextCheck, Verdict};
 use machine_store::Store;
 use outcome::Outcome;

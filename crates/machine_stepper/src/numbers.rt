@@ -12,7 +12,7 @@ use crate::machine::Machine;
 use crate::step::Step;
 use avro_bytes::{read_boolean, read_int, read_long};
 use isa::{Program, Trap};
-use machine_lookahead::spelling;
+use machine_rows::spelling;
 
 impl Machine {
     /// A boolean moves.
