@@ -53,8 +53,11 @@ const ENUM: &str = r#"{"type":"enum","name":"E","symbols":["A","B","C"]}"#;
 /// The same symbols, the other way round.
 const RENUMBERED: &str = r#"{"type":"enum","name":"E","symbols":["C","B","A"]}"#;
 
-/// Two of them.
+/// The first two of them.
 const FEWER: &str = r#"{"type":"enum","name":"E","symbols":["A","B"]}"#;
+
+/// The last two of them, the other way round.
+const LAST_TURNED: &str = r#"{"type":"enum","name":"E","symbols":["C","B"]}"#;
 
 /// Records.
 const RECORDS: &str = r#"{"type":"array","items":
@@ -81,6 +84,13 @@ const STRING: &str = r#""string""#;
 
 /// A string, or null, the other way round.
 const TURNED: &str = r#"["string","null"]"#;
+
+/// A record of a long and a string with others around them.
+const WIDE: &str = r#"{"type":"record","name":"T","fields":[{"name":"u","type":["null","string"]},
+{"name":"a","type":"long"},{"name":"l","type":{"type":"array","items":
+{"type":"record","name":"I","fields":[{"name":"i","type":"long"}]}}},
+{"name":"r","type":{"type":"record","name":"R","fields":[{"name":"n","type":"int"},{"name":"s","type":"string"}]}},
+{"name":"b","type":"string"},{"name":"m","type":{"type":"map","values":"long"}}]}"#;
 
 /// Records of a long and a string, or nulls.
 const OPTIONAL_PAIRS: &str = r#"{"type":"array","items":["null",
@@ -246,7 +256,9 @@ const ROWS: &[Row] = &[
     Row {
         writer: OPTIONAL_PAIRS,
         reader: EVOLVED_OPTIONAL_PAIRS,
-        payload: &[0x06, 0x02, 0x36, 0x02, 0x61, 0x00, 0x02, 0x02, 0x02, 0x62, 0x00],
+        payload: &[
+            0x06, 0x02, 0x36, 0x02, 0x61, 0x00, 0x02, 0x02, 0x02, 0x62, 0x00,
+        ],
         planned: Planned::Output(&[
             0x06, 0x02, 0x02, 0x61, 0x36, 0x00, 0x02, 0x02, 0x62, 0x02, 0x00,
         ]),
@@ -256,6 +268,33 @@ const ROWS: &[Row] = &[
         writer: OPTIONAL_PAIRS,
         reader: EVOLVED_OPTIONAL_PAIRS,
         payload: &[0x04, 0x00, 0x04, 0x36, 0x02, 0x61, 0x00],
+        planned: Planned::Nothing,
+    },
+    // (a union, an array of records, a record and a map, which the reader has not, around a long and a string)
+    Row {
+        writer: WIDE,
+        reader: RECORD,
+        payload: &[
+            0x02, 0x02, 0x61, 0x36, 0x02, 0x08, 0x00, 0x0a, 0x02, 0x62, 0x06, 0x66, 0x6f, 0x6f,
+            0x02, 0x02, 0x6b, 0x0c, 0x00,
+        ],
+        planned: Planned::Output(&[0x36, 0x06, 0x66, 0x6f, 0x6f]),
+    },
+    Row {
+        writer: WIDE,
+        reader: RECORD,
+        payload: &[
+            0x00, 0x36, 0x00, 0x0a, 0x02, 0x62, 0x06, 0x66, 0x6f, 0x6f, 0x00,
+        ],
+        planned: Planned::Output(&[0x36, 0x06, 0x66, 0x6f, 0x6f]),
+    },
+    // (a text in the skipped record that is none)
+    Row {
+        writer: WIDE,
+        reader: RECORD,
+        payload: &[
+            0x00, 0x36, 0x00, 0x0a, 0x02, 0xff, 0x06, 0x66, 0x6f, 0x6f, 0x00,
+        ],
         planned: Planned::Nothing,
     },
     Row {
@@ -285,7 +324,20 @@ const ROWS: &[Row] = &[
     Row {
         writer: ENUM,
         reader: FEWER,
-        payload: &[0x00],
+        payload: &[0x02],
+        planned: Planned::Output(&[0x02]),
+    },
+    // (a symbol that the reader lacks)
+    Row {
+        writer: ENUM,
+        reader: FEWER,
+        payload: &[0x04],
+        planned: Planned::Nothing,
+    },
+    Row {
+        writer: ENUM,
+        reader: LAST_TURNED,
+        payload: &[0x02],
         planned: Planned::NoPlan,
     },
     Row {

@@ -52,7 +52,7 @@ fn push_answer(
         "shown" => push_shown_after(alloc, output, machine, program, input, k),
         "no-memory" => push_shown(alloc, output, machine, true),
         "listing" => push_listing(alloc, output, program.program()),
-        "ahead" => push_found(alloc, output, machine, program.program(), input, k),
+        "ahead" => push_found(alloc, output, program, input, k),
         "steps" => push_steps(alloc, output, machine, program.program(), input, k),
         "carry" => push_carry(alloc, output, machine, program, input, k),
         "arena" => push_after(alloc, output, machine, program, input, k, None),
