@@ -7,8 +7,8 @@ use machine_plan::{PlannedProgram, Scratch};
 use std::alloc::{AllocError, Global};
 use std::test::Fail;
 
-/// Slots are found in any order, where the first value is skipped, and one has a default. What is skipped may be an array,
-/// before the first slot too, or a record that a routine skips. Nothing is found of a payload that is cut.
+/// Slots are found in any order, where the first value is skipped, and one has a default. What is skipped may be an
+/// array, before the first slot too, or a record that a routine skips. Nothing is found of a payload that is cut.
 const ROWS: &str = "\
 ahead 1|record|3606666f6f|3606666f6f;
 ahead 1|record|3606666f|none;
