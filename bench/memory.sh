@@ -1,46 +1,133 @@
 #!/usr/bin/env bash
-# What an answer that is too large takes: a reader's default of 200,000 letters, copied 20,000 times by a payload of a few bytes, is
-# `output too large` in memory of at most 4 times the limit of an answer, and the payloads before it and after it are answered; the same where
-# the slot of the default is filled after another, so that slots are put in order.
-# Not part of the gate. Usage: bench/memory.sh PROGRAM
+# What a message may make the program hold: a reader's default of 200,000 letters, which a payload of a few bytes copies 335 times (an answer
+# just within its limit), 336, 2,000 and 524,288 times (as often as units allow), inside of 1, 20 and 60 arrays, and where the default's slot is filled after another,
+# through `transcode`, `run` in pieces, and `serve`. At no moment is more than 3 times the limit of an answer held, besides the text that
+# `transcode` and `run` write; each line is as it should be, and what passes the limit is told within a second of processor time.
+# Takes about two minutes. Usage: bench/memory.sh PROGRAM
 set -euo pipefail
 export PYTHONDONTWRITEBYTECODE=1 PYTHONPATH=$(dirname "$(realpath "$0")")
 exec python3 - "$(realpath "$1")" <<'PYTHON'
-import os, subprocess, sys, tempfile
+import http.client, json, os, re, subprocess, sys, tempfile, time
 from avro_encoding import number
 
-LETTERS, LIMIT = 200_000, 67_108_864
+PROGRAM = sys.argv[1]
+LETTERS, LIMIT, MOST = 200_000, 67_108_864, 3
+ITEMS, DEPTHS, UNITS = (335, 336, 2_000), (1, 20, 60), 1_048_576
+INT = '{"name":"n","type":"int"}'
+DEFAULT = '{"name":"s","type":"string","default":"%s"}' % ("a" * LETTERS)
+LARGE = "output too large"
+failed = []
 
-def record(fields):
-    return '{"type":"array","items":{"type":"record","name":"Q","fields":[%s]}}' % fields
+
+def schema(depth, fields):
+    return '{"type":"array","items":' * depth + '{"type":"record","name":"Q","fields":[%s]}' % fields + "}" * depth
 
 
-def payload(items, item):
-    return (number(items) + item * items + b"\0").hex() if items else "00"
+def inside(depth, items, item):
+    """An array of some items, inside of arrays of one item each."""
+    return number(1) * (depth - 1) + number(items) + item * items + b"\0" * depth
 
-def answer(items, item):
-    one = number(LETTERS) + b"a" * LETTERS + item
-    return "done " + ((number(items) + one * items if items else b"") + b"\0").hex()
 
-large = "output too large"
+class Case:
+    """A pair of schemas and a payload, and the answer: its bytes, or None where it is too large."""
 
-def peak(written, item):
-    """The peak memory of a run, where the default stands before such fields, each item of these bytes."""
-    rows = [(payload(n, item), large if n > 2 else answer(n, item)) for n in (0, 1, 20_000, 2, 20_000, 1)]
-    default = '{"name":"s","type":"string","default":"%s"}' % ("a" * LETTERS)
-    text = "\n".join([record(written), record(",".join(filter(None, [default, written])))] + [line for line, _ in rows]) + "\n"
+    def __init__(self, depth, items, written="", item=b""):
+        self.name = "%d items in %d %s%s" % (items, depth, "array" if depth == 1 else "arrays", ", a field before" if written else "")
+        self.writer, self.reader = schema(depth, written), schema(depth, ",".join(filter(None, [DEFAULT, written])))
+        self.payload = inside(depth, items, item)
+        one = number(LETTERS) + b"a" * LETTERS + item
+        self.answer = inside(depth, items, one) if items * len(one) < LIMIT else None
+
+    def line(self):
+        return LARGE if self.answer is None else "done " + self.answer.hex()
+
+
+def told(what, case, held, seconds):
+    print("%s: %s: %.2f times the limit of an answer, %.2f s" % (what, case.name, held / LIMIT, seconds), flush=True)
+    if held > MOST * LIMIT:
+        failed.append("%s: %s: memory" % (what, case.name))
+    if case.answer is None and seconds > 1:
+        failed.append("%s: %s: time" % (what, case.name))
+
+
+# Starts the program from a process of its own: what this one holds would count as the program's peak.
+STARTER = """import os, sys
+child = os.fork()
+if not child:
+    os.execv(sys.argv[1], sys.argv[1:])
+_, status, usage = os.wait4(child, 0)
+print(os.waitstatus_to_exitcode(status), usage.ru_maxrss, usage.ru_utime + usage.ru_stime, file=sys.stderr)"""
+
+
+def by_lines(what, words, text, case, line):
+    """Runs the program on lines, and looks at the last line of what it writes."""
     with tempfile.TemporaryFile() as given, tempfile.TemporaryFile() as taken:
         given.write(text.encode())
         given.seek(0)
-        child = subprocess.Popen([sys.argv[1], "transcode"], stdin=given, stdout=taken)
-        _, status, usage = os.wait4(child.pid, 0)
+        ran = subprocess.run([sys.executable, "-c", STARTER, PROGRAM, *words], stdin=given, stdout=taken, stderr=subprocess.PIPE)
+        status, held, seconds = ran.stderr.split()
+        size = taken.seek(0, 2)
         taken.seek(0)
-        lines = taken.read().decode().split("\n")[:-1]
-    assert status == 0, status
-    assert lines == [line for _, line in rows], [line[:40] for line in lines]
-    return usage.ru_maxrss * 1024 / LIMIT
+        last = taken.read().decode().split("\n")[-2]
+    if status != b"0" or not last.startswith(line):
+        failed.append("%s: %s: %s" % (what, case.name, last[:60]))
+    told(what, case, int(held) * 1024 - size, float(seconds))
 
-alone, first = peak("", b""), peak('{"name":"n","type":"int"}', b"\x0a")
-print("peak memory %.2f times the limit of an answer, and %.2f where the default's slot is filled after another (4 at most), all lines answered" % (alone, first))
-sys.exit(0 if max(alone, first) <= 4 else 1)
+
+def transcode(case):
+    by_lines("transcode", ["transcode"], "\n".join([case.writer, case.reader, case.payload.hex()]) + "\n", case, case.line())
+
+
+def run(case):
+    pair = (case.writer + "\n" + case.reader + "\n").encode()
+    listing = subprocess.run([PROGRAM, "compile"], input=pair, capture_output=True, check=True).stdout.decode()
+    cut = len(case.payload) // 2
+    pieces = case.payload[:cut].hex() + "|" + case.payload[cut:].hex()
+    by_lines("run", ["run", "--steps", "1000000000"], listing + "end\n" + pieces + "\n", case, case.line() + " count ")
+
+
+def posted(port, path, body):
+    connection = http.client.HTTPConnection("127.0.0.1", port, timeout=60)
+    connection.request("POST", path, body)
+    answer = connection.getresponse()
+    return answer.status, answer.read()
+
+
+def of_process(pid):
+    """The most memory that a process has held, in bytes, and its processor time in seconds."""
+    with open("/proc/%d/status" % pid) as it:
+        held = int(re.search(r"VmHWM:\s+(\d+)", it.read())[1]) * 1024
+    with open("/proc/%d/stat" % pid) as it:
+        parts = it.read().rpartition(")")[2].split()
+    return held, (int(parts[11]) + int(parts[12])) / os.sysconf("SC_CLK_TCK")
+
+
+def serve(case):
+    server = subprocess.Popen([PROGRAM, "serve", "--port", "0"], stdout=subprocess.PIPE)
+    try:
+        port = int(server.stdout.readline().split()[1])
+        for subject, text in (("w", case.writer), ("r", case.reader)):
+            assert posted(port, "/subjects/%s/versions" % subject, json.dumps({"schema": text}))[0] == 200
+        _, before = of_process(server.pid)
+        status, body = posted(port, "/transcode/2", b"\0\0\0\0\1" + case.payload)
+        held, after = of_process(server.pid)
+        wanted = (200, b"\0\0\0\0\2" + case.answer) if case.answer is not None else (422, b'{"error_code":42252,"message":"output too large"}')
+        if (status, body) != wanted:
+            failed.append("serve: %s: %d %r" % (case.name, status, body[:60]))
+        told("serve", case, held, after - before)
+    finally:
+        server.kill()
+        server.wait()
+
+
+# (an item that is a record is two units, and an array in an array one)
+cases = [Case(depth, items) for depth in DEPTHS for items in (*ITEMS, (UNITS - depth + 1) // 2)]
+cases += [Case(1, items, INT, b"\x0a") for items in ITEMS]
+for case in cases:
+    for ask in (transcode, run, serve):
+        ask(case)
+for line in failed:
+    print("FAILED " + line)
+print("%d failed" % len(failed))
+sys.exit(1 if failed else 0)
 PYTHON

@@ -1,8 +1,8 @@
 #!/usr/bin/env bash
 # Hostile use of `avrogate serve`, all at once: 64 clients, a third of which are slow, cut off or malformed, each of whose
-# answers has to be, byte for byte, the one that was computed for its request; connections that send nothing, which must
-# not stop a service that was started without words; and what the service takes of a processor while nobody asks. A line
-# for each check. It takes about a minute. Not part of the gate.
+# answers has to be, byte for byte, the one that was computed for its request, whatever was sent after that, and must not
+# end with a reset; connections that send nothing, fewer than there are clients, and as many; and what the service takes of
+# a processor while nobody asks. A line for each check. It takes about two minutes. Not part of the gate.
 # Usage: tests/hostile.sh [PROGRAM]   (crates/avrogate/out/avrogate if it is left out)
 set -euo pipefail
 here=$(dirname "$(realpath "$0")")

@@ -3,7 +3,8 @@ import json, os, random, socket, subprocess, sys, threading, time
 
 PROGRAM = sys.argv[1]
 CLIENTS, ROUNDS = 64, 12
-IDLE_CONNECTIONS, IDLE_SECONDS, MOST_IDLE_SHARE = 4, 10, 0.01
+IDLE_SECONDS, MOST_IDLE_SHARE = 10, 0.01
+SILENT_CONNECTIONS = 4  # as many as a default service has clients
 PATIENCE = 60  # seconds for one answer
 LONGS = 100_000  # items of a message that takes many turns
 
@@ -109,6 +110,12 @@ def long_messages(chance):
     return request("POST", "/transcode/4", envelope(3, payload)), answer(200, BYTES, envelope(4, payload))
 
 
+def long_messages_and_more(chance):
+    """Bytes after the body are no part of the request, and must not cost any of its answer."""
+    bytes_, want = long_messages(chance)
+    return bytes_ + chance.choice([b"\r\n", request("GET", "/config"), b"x" * 100_000]), want
+
+
 def truncated(chance):
     payload = number(chance.randrange(1 << 40)) + number(5) + b"abc"
     return request("POST", "/transcode/2", envelope(1, payload)), fault(422, 42250, "malformed Truncated at %d" % len(payload))
@@ -131,7 +138,7 @@ def no_head(chance):
     return b"\0\r\n\r\n", fault(400, 400, "bad request")
 
 
-ORDERLY = [messages, messages, messages, long_messages, truncated, no_envelope, no_schema]
+ORDERLY = [messages, messages, messages, long_messages, long_messages_and_more, truncated, no_envelope, no_schema]
 HOSTILE = ["slow", "cut", "malformed", "gone"]
 
 
@@ -173,6 +180,7 @@ def hostile(server, seed):
 
 
 def guarded(call, *words):
+    """A reset is an exception, and so it is told."""
     try:
         call(*words)
     except Exception as error:
@@ -216,12 +224,13 @@ def idle(server, name):
     check("%s an idle service takes under %.0f %% of a processor" % (name, MOST_IDLE_SHARE * 100), share < MOST_IDLE_SHARE, "%.2f %%" % (share * 100))
 
 
-def idle_connections():
-    server = Server()
+def answered_beside(silent, *words):
+    """How many of a few requests are answered rightly while so many connections send nothing, and in how many seconds."""
+    server = Server(*words)
     try:
         register(server)
         idle(server, "after a few requests")
-        idle_ones = [server.connect() for _ in range(IDLE_CONNECTIONS)]
+        idle_ones = [server.connect() for _ in range(silent)]
         time.sleep(0.5)
         start = time.monotonic()
         chance = random.Random(1)
@@ -230,15 +239,23 @@ def idle_connections():
             bytes_, want = messages(chance)
             answered += server.exchange(bytes_) == want
         took = time.monotonic() - start
-        check("%d connections that send nothing do not stop a default service" % IDLE_CONNECTIONS, answered == 20 and took < 5, "%d answers in %.1f s" % (answered, took))
         for connection in idle_ones:
             connection.close()
+        return answered, took
     finally:
         server.close()
+
+
+def silent_connections():
+    few, many = SILENT_CONNECTIONS, str(SILENT_CONNECTIONS + 1)
+    answered, took = answered_beside(few, "--clients", many)
+    check("%d connections that send nothing do not stop a service of %s clients" % (few, many), answered == 20 and took < 5, "%d answers in %.1f s" % (answered, took))
+    answered, took = answered_beside(few, "--request-timeout", "2")
+    check("%d connections that send nothing hold a default service for its timeout, and no longer" % few, answered == 20 and 1 < took < 4, "%d answers in %.1f s" % (answered, took))
 
 
 at_once("a default service")
 at_once("4 clients and 1 worker", "--clients", "4", "--workers", "1")
 at_once("1 client and 4 workers", "--clients", "1", "--workers", "4")
-idle_connections()
+silent_connections()
 print("all were tried")

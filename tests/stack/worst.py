@@ -9,17 +9,14 @@ PATIENCE = 60  # seconds for one answer
 
 
 def exchange(data, half_closed=False):
-    """All bytes that come back before the server closes."""
+    """All bytes that come back before the server closes. A reset is raised: no answer may end with one."""
     got = bytearray()
     with socket.create_connection(("127.0.0.1", port), timeout=PATIENCE) as connection:
-        try:
-            connection.sendall(data)
-            if half_closed:
-                connection.shutdown(socket.SHUT_WR)
-            while piece := connection.recv(1 << 20):
-                got += piece
-        except (BrokenPipeError, ConnectionResetError):
-            pass
+        connection.sendall(data)
+        if half_closed:
+            connection.shutdown(socket.SHUT_WR)
+        while piece := connection.recv(1 << 20):
+            got += piece
     return bytes(got)
 
 
@@ -292,7 +289,7 @@ def cut_heads():
                 try:
                     got = b"".join(iter(lambda: connection.recv(1 << 16), b""))
                 except ConnectionResetError:
-                    got = b""
+                    got = b"reset"
                 except socket.timeout:
                     got = b"still open"
                 connection.close()

@@ -1,12 +1,29 @@
 //! The line of an outcome.
 
 ghost use Rattle.std.specs.Prelude.{◌≡◌, ◌++◌, string_bytes, OnOk};
+ghost use Rattle.hex.specs.Hex.{encode_lower};
 ghost use Rattle.outcome.specs.Outcome.{outcome_of};
 ghost use Rattle.command_io.specs.OutcomeLine.{hex_of, line_of};
 
 use outcome::Outcome;
 use std::alloc::{AllocError, Global};
 use std::fmt::Write;
+
+/// How many bytes are brought into hexadecimal at a time: their digits are held twice.
+const PIECE: usize = 65_536;
+
+/// Appends bytes in hexadecimal.
+fn push_digits(alloc: Global, output: &mut String, bytes: &[u8]) -> Result<(), AllocError>
+    ensures { OnOk result (string_bytes output.new ≡ string_bytes output.old ++ encode_lower bytes.now) }
+{
+    let mut rest = bytes;
+    while !rest.is_empty() {
+        let (piece, later) = rest.split_at(rest.len().min(PIECE));
+        output.push_str(&hex::encode(alloc, piece)?)?;
+        rest = later;
+    }
+    Ok(())
+}
 
 /// Appends bytes in hexadecimal, or `-` where there are none.
 fn push_hex(alloc: Global, output: &mut String, bytes: &[u8]) -> Result<(), AllocError>
@@ -15,8 +32,7 @@ fn push_hex(alloc: Global, output: &mut String, bytes: &[u8]) -> Result<(), Allo
     if bytes.is_empty() {
         return output.push_str("-");
     }
-    let text = hex::encode(alloc, bytes)?;
-    output.push_str(&text)
+    push_digits(alloc, output, bytes)
 }
 
 /// Appends the line of an outcome, without its LF. What an `Err` leaves of the text is not said.

@@ -92,7 +92,7 @@ fn serve<'a>(alloc: Global) -> Result<Command<'a>, AllocError> {
         .about("Serves the schema registry's API over HTTP, and rewrites messages")
         .after_help(help::SERVE)
         .arg(numbered(alloc, "port", 0, MOST_PORT, "8081", port))?
-        .arg(numbered(alloc, "clients", 1, MOST_CLIENTS, "16", clients))?
+        .arg(numbered(alloc, "clients", 1, MOST_CLIENTS, "4", clients))?
         .arg(numbered(alloc, "workers", 1, MOST_WORKERS, "4", workers))?
         .arg(numbered(alloc, "each", 0, MOST_EACH, "0", each))?
         .arg(numbered(alloc, "request-timeout", 1, MOST_TIMEOUT, "10", timeout))

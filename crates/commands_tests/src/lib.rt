@@ -11,6 +11,8 @@ mod device_tests;
 #[cfg(test)]
 mod devices;
 #[cfg(test)]
+mod limit_tests;
+#[cfg(test)]
 mod pair_tests;
 #[cfg(test)]
 mod plan_tests;

@@ -4,12 +4,13 @@ use crate::again::{compiled, pair_of, pushed};
 use crate::run_tests::NOWHERE;
 use machine::Run;
 use machine_plan::{PlannedProgram, Scratch};
+use outcome::MOST_OUTPUT;
 use std::alloc::{AllocError, Global};
 use std::test::Fail;
 
 /// What comes of the plan of a program, on a payload.
 #[derive(Clone, Copy, Debug, PartialEq, Eq)]
-enum Planned {
+pub(crate) enum Planned {
     /// The program has none.
     NoPlan,
     /// The plan finds nothing.
@@ -19,19 +20,20 @@ enum Planned {
 }
 
 /// A writer's and a reader's schema, a payload, and what comes of the plan.
-struct Row {
-    writer: &'static str,
-    reader: &'static str,
-    payload: &'static [u8],
-    planned: Planned,
+pub(crate) struct Row {
+    pub(crate) writer: &'static str,
+    pub(crate) reader: &'static str,
+    pub(crate) payload: &'static [u8],
+    pub(crate) planned: Planned,
 }
 
 /// A record of a long and a string.
-const RECORD: &str =
+pub(crate) const RECORD: &str =
     r#"{"type":"record","name":"T","fields":[{"name":"a","type":"long"},{"name":"b","type":"string"}]}"#;
 
 /// The same with its fields the other way round, and an int by default between them.
-const EVOLVED: &str = r#"{"type":"record","name":"T","fields":[{"name":"b","type":"string"},
+pub(crate) const EVOLVED: &str =
+    r#"{"type":"record","name":"T","fields":[{"name":"b","type":"string"},
 {"name":"d","type":"int","default":7},{"name":"a","type":"long"}]}"#;
 
 /// Its string alone.
@@ -123,7 +125,7 @@ const LIST_OF_PAIRS: &str = r#"{"type":"record","name":"L","fields":[{"name":"a"
 /// Strings by keys.
 const MAP: &str = r#"{"type":"map","values":"string"}"#;
 
-const ROWS: &[Row] = &[
+pub(crate) const ROWS: &[Row] = &[
     Row {
         writer: RECORD,
         reader: RECORD,
@@ -454,7 +456,7 @@ const ROWS: &[Row] = &[
 ];
 
 /// The program of the schemas of two texts, with its plan.
-fn planned_program(
+pub(crate) fn planned_program(
     alloc: Global,
     writer: &str,
     reader: &str,
@@ -474,7 +476,7 @@ fn is_planned(alloc: Global, program: &PlannedProgram, payload: &[u8], planned: 
         return planned == Planned::NoPlan;
     }
     let (mut scratch, mut output) = (Scratch::new(alloc), Vec::new(alloc));
-    let found = program.finds_output(payload, &mut scratch, &mut output);
+    let found = program.finds_output(payload, &mut scratch, &mut output, MOST_OUTPUT);
     match planned {
         Planned::NoPlan => false,
         Planned::Nothing => !found,
@@ -505,7 +507,7 @@ fn is_found(alloc: Global, schema: &str, payload: &[u8]) -> Result<bool, AllocEr
         return Err(AllocError);
     }
     let (mut scratch, mut output) = (Scratch::new(alloc), Vec::new(alloc));
-    let found = program.finds_output(payload, &mut scratch, &mut output);
+    let found = program.finds_output(payload, &mut scratch, &mut output, MOST_OUTPUT);
     Ok(found && output.as_slice() == payload)
 }
 
@@ -584,7 +586,7 @@ fn arrays_right(alloc: Global) -> Result<usize, AllocError> {
 }
 
 /// A text of so many letters, behind its length. None where that takes more than two bytes.
-fn letters(alloc: Global, length: usize) -> Result<Option<Vec<u8>>, AllocError> {
+pub(crate) fn letters(alloc: Global, length: usize) -> Result<Option<Vec<u8>>, AllocError> {
     let mut text = Vec::new(alloc);
     let low = (length % 64) as u8 * 2;
     match u8::try_from(length / 64) {
@@ -609,7 +611,7 @@ fn is_put(alloc: Global, program: &PlannedProgram, text: &[u8]) -> Result<bool, 
     wanted.extend_from_slice(text)?;
     wanted.extend_from_slice(&[0x0e, 0x36])?;
     let (mut scratch, mut output) = (Scratch::new(alloc), Vec::new(alloc));
-    let found = program.finds_output(&payload, &mut scratch, &mut output);
+    let found = program.finds_output(&payload, &mut scratch, &mut output, MOST_OUTPUT);
     Ok(found && output == wanted)
 }
 
@@ -638,7 +640,11 @@ fn rows_right(alloc: Global) -> Result<usize, AllocError> {
 }
 
 /// How many rows a run takes on a payload, one by one, before the one that ends it.
-fn rows_alone(alloc: Global, program: &PlannedProgram, payload: &[u8]) -> Result<u64, AllocError> {
+pub(crate) fn rows_alone(
+    alloc: Global,
+    program: &PlannedProgram,
+    payload: &[u8],
+) -> Result<u64, AllocError> {
     let mut run = Run::new(alloc, program);
     pushed(&mut run, payload)?;
     run.close();
@@ -649,7 +655,7 @@ fn rows_alone(alloc: Global, program: &PlannedProgram, payload: &[u8]) -> Result
 fn is_counted(alloc: Global, program: &PlannedProgram, payload: &[u8]) -> Result<bool, AllocError> {
     let (mut scratch, mut output) = (Scratch::new(alloc), Vec::new(alloc));
     let rows = rows_alone(alloc, program, payload)?;
-    match program.rows_on(payload, &mut scratch, &mut output) {
+    match program.rows_on(payload, &mut scratch, &mut output, MOST_OUTPUT) {
         Some(last) => Ok(last.rows == rows),
         None => Ok(false),
     }

@@ -1,5 +1,5 @@
 -- What is answered and written, from what is asked and told.
-use Rattle.std.proofs.Common.{◌≡◌, ◌≢◌, ◌⊎◌, ℕ, List, take, Option, Result, Ok, Err, refl, sym, ap, subst, ◌∙◌, inl, inr}
+use Rattle.std.proofs.Common.{◌≡◌, ◌≢◌, ◌≤◌, ◌⊎◌, ℕ, List, length, take, Option, Result, Ok, Err, refl, sym, ap, subst, ◌∙◌, inl, inr}
 use Rattle.std.specs.Io.KnownBytes.{Appends}
 use Rattle.gateway_answers.specs.Answer.{Answer, Refused}
 use Rattle.gateway_answers.specs.declared.fault.Fault.{Fault}
@@ -74,12 +74,13 @@ module _ (cells : List ℕ) (input : Option (List ℕ)) (evidence : Evidence) (a
   }
 
   pub cut_short : (old new : Option (List ℕ)) (bytes : List ℕ) (status sent : ℕ) → IsAnswer cells input evidence answer → IsTextOf answer bytes status
-      → Appends old new (take sent bytes) → IsCutShort cells input old new sent
-  cut_short old new bytes status sent is text written = record {
+      → Appends old new (take sent bytes) → sent ≤ length bytes → IsCutShort cells input old new sent
+  cut_short old new bytes status sent is text written few = record {
     answer = text.0;
     evidence = evidence;
     is_answer = answer_shown text.0 text.1 is;
     written = let P : List ℕ → Type 0 = λ x. Appends old new (take sent x) in subst P text.2 written;
+    few = let P : List ℕ → Type 0 = λ x. sent ≤ length x in subst P text.2 few;
   }
 
 -- the receipts of a message, as they are behind the call

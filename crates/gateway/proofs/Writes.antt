@@ -1,7 +1,7 @@
 -- What is known of a writer's bytes after several writes.
-use Rattle.std.proofs.Common.{ℕ, ◌+◌, ◌-◌, List, length, take, drop, Option, Some, None}
+use Rattle.std.proofs.Common.{ℕ, ◌+◌, ◌-◌, List, ◌++◌, length, take, drop, Option, Some, None}
 use Rattle.std.proofs.lemmas.List.{take_rest}
-use Rattle.std.proofs.Math.Seq.{take-add}
+use Rattle.std.proofs.Math.Seq.{take-add, take-append-add}
 use Rattle.std.proofs.KnownBytes.{Appends-trans}
 use Rattle.std.specs.Io.KnownBytes.{Appends, Keeps}
 
@@ -17,3 +17,9 @@ pub sent_more : (a b c : Option (List ℕ)) (n k : ℕ) (all : List ℕ) → App
 sent_more a b c n k all before more =
     let piece = rw (take_rest all n) at more in
     rw (take-add n k all) (Appends-trans a b c (take n all) (take k (drop n all)) before piece)
+
+-- the first piece was written, and a beginning of the second
+pub second_begun : (a b c : Option (List ℕ)) (front rest : List ℕ) (k : ℕ) → Appends a b front → Appends b c (take k rest)
+    → Appends a c (take (length front + k) (front ++ rest))
+second_begun a b c front rest k first more =
+    rw (take-append-add front rest k) (Appends-trans a b c front (take k rest) first more)

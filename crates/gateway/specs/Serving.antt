@@ -1,5 +1,5 @@
 -- What is read of a request and written for it.
-use Rattle.std.specs.Prelude.{◌≡◌, ◌⊎◌, ℕ, List, [], take, Option, IfSome, Result}
+use Rattle.std.specs.Prelude.{◌≡◌, ◌≤◌, ◌⊎◌, ℕ, List, [], length, take, Option, IfSome, Result}
 use Rattle.std.specs.Io.KnownBytes.{Appends, Keeps}
 use Rattle.http_request.specs.declared.read_error.ReadError.{ReadError}
 use Rattle.http_request.specs.declared.read_error.ReadError.TheVariants as reading
@@ -59,12 +59,13 @@ pub record IsServed (cells : List ℕ) (input old new : Option (List ℕ)) (stat
   pub status_is : status ≡ number_of (status_of_answer answer)
   pub written : Appends old new (answer_text answer)
 
--- the first bytes of an answer were written, so many
+-- the first bytes of an answer were written, as many as it says, and not more than the answer has
 pub record IsCutShort (cells : List ℕ) (input old new : Option (List ℕ)) (sent : ℕ) : Type 0 where
   pub answer : Answer
   pub evidence : Evidence
   pub is_answer : IsAnswer cells input evidence answer
   pub written : Appends old new (take sent (answer_text answer))
+  pub few : sent ≤ length (answer_text answer)
 
 -- nothing was written, or the beginning of an answer
 abbrev pub IsFault : List ℕ → (input old new : Option (List ℕ)) → ServeError → Type 0

@@ -170,7 +170,7 @@ pub(crate) fn answer<R: Wait, T: Transcode, G: Gate>(
         Request::Registration { subject, text } => tell_id(rt, alloc, app.registry, subject, text),
         Request::Schema { id } => tell_text(alloc, app.registry, id),
         Request::Transcoding { reader, message } => {
-            tell_message(rt, alloc, app, seat, gate, reader, message)
+            Ok(tell_message(rt, app, seat, gate, reader, message))
         }
     }
 }

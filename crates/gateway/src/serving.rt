@@ -19,7 +19,7 @@ use crate::gate::Gate;
 use crate::serve_error::ServeError;
 use crate::transcode::Transcode;
 use crate::writing::write_all;
-use gateway_answers::{Answer, Fault};
+use gateway_answers::{Answer, AnswerBytes, Fault};
 use gateway_requests::{Request, Routes, choose, path_of, request_of};
 use http_request::{Front, MOST_FIELDS, MOST_HEAD, ReadError, read_body, read_head};
 use httparse::spans::{EMPTY_HEADER_SPAN, HeaderSpan, RequestSpans};
@@ -108,16 +108,17 @@ fn answer_request<R: Wait, T: Transcode, I: Read, G: Gate>(
     }
 }
 
-/// The bytes of an answer and its status, or those of the answer that memory ran out.
-fn text_of(alloc: Global, answer: &Answer) -> Result<(Vec<u8>, u16), AllocError>
-    ensures { IfOk result (λ text. IsTextOf (answer_of answer.now) text.0.items text.1) }
+/// Returns the bytes of an answer and its status, or those of the answer that memory ran out.
+fn bytes_of(alloc: Global, answer: Answer) -> Result<(AnswerBytes, u16), AllocError>
+    ensures { IfOk result (λ text. IsTextOf (answer_of answer) (text.0.front.items ++ text.0.rest.items) text.1) }
 {
-    match answer.bytes(alloc) {
-        Ok(bytes) => Ok((bytes, answer.status().number())),
+    let status = answer.status().number();
+    match answer.into_bytes(alloc) {
+        Ok(bytes) => Ok((bytes, status)),
         Err(AllocError) => {
             let refusal = Answer::Fault(Fault::NoMemory);
-            let bytes = refusal.bytes(alloc)?;
-            Ok((bytes, refusal.status().number()))
+            let status = refusal.status().number();
+            Ok((refusal.into_bytes(alloc)?, status))
         }
     }
 }
@@ -144,9 +145,10 @@ pub fn serve_and_tell<R: Wait, T: Transcode, I: Read, O: Write, G: Gate>(
         (O.contents writer.old) (O.contents writer.new)) }
 {
     let told = answer_request(rt, alloc, app, seat, reader, gate)?;
-    let (bytes, status) = text_of(alloc, &told.answer)?;
-    match write_all(writer, &bytes) {
-        Ok(()) => Ok((status, told.evidence)),
+    let Told { answer, evidence } = told;
+    let (bytes, status) = bytes_of(alloc, answer)?;
+    match write_all(writer, &bytes.front, &bytes.rest) {
+        Ok(()) => Ok((status, evidence)),
         Err(cut) => Err(ServeError::WriteFault { sent: cut.sent }),
     }
 }

@@ -1,6 +1,6 @@
 //! An answer's bytes, written to any writer.
 
-ghost use Rattle.std.specs.Prelude.{◌≡◌, ◌≤◌, IfErr, IfOk, OnOk, length, take};
+ghost use Rattle.std.specs.Prelude.{◌≡◌, ◌++◌, ◌≤◌, IfErr, IfOk, OnOk, length, take};
 ghost use Rattle.std.specs.Io.KnownBytes.{Appends, Keeps, WriteAppends};
 
 use http_request::MOST_TRIES;
@@ -42,11 +42,12 @@ fn flush<W: Write>(writer: &mut W) -> bool
     false
 }
 
-/// Writes all bytes and passes on what the writer holds back; or the first of them, where it fails or takes none.
-pub(crate) fn write_all<W: Write>(writer: &mut W, bytes: &[u8]) -> Result<(), CutShort>
+/// Writes all bytes; or the first of them, where the writer fails or takes none.
+fn write_piece<W: Write>(writer: &mut W, bytes: &[u8]) -> Result<(), CutShort>
     ensures ok { OnOk result (Appends (W.contents writer.old) (W.contents writer.new) bytes.now) }
     ensures err { IfErr result (λ cut.
         Appends (W.contents writer.old) (W.contents writer.new) (take cut.sent bytes.now)) }
+    ensures few { IfErr result (λ cut. cut.sent ≤ length bytes.now) }
 {
     let mut sent = 0;
     while sent < bytes.len() {
@@ -55,9 +56,39 @@ pub(crate) fn write_all<W: Write>(writer: &mut W, bytes: &[u8]) -> Result<(), Cu
             _ => return Err(CutShort { sent }),
         }
     }
+    Ok(())
+}
+
+/// Writes two pieces, one after the other; or the first bytes of both, where the writer fails or takes none.
+fn write_pieces<W: Write>(writer: &mut W, front: &[u8], rest: &[u8]) -> Result<(), CutShort>
+    ensures ok { OnOk result (Appends (W.contents writer.old) (W.contents writer.new) (front.now ++ rest.now)) }
+    ensures err { IfErr result (λ cut.
+        Appends (W.contents writer.old) (W.contents writer.new) (take cut.sent (front.now ++ rest.now))) }
+    ensures few { IfErr result (λ cut. cut.sent ≤ length (front.now ++ rest.now)) }
+{
+    write_piece(writer, front)?;
+    match write_piece(writer, rest) {
+        Ok(()) => Ok(()),
+        Err(cut) => Err(CutShort {
+            sent: front.len() + cut.sent,
+        }),
+    }
+}
+
+/// Writes two pieces and passes on what the writer holds back; or the first bytes of both, where it fails or takes
+/// none.
+pub(crate) fn write_all<W: Write>(writer: &mut W, front: &[u8], rest: &[u8]) -> Result<(), CutShort>
+    ensures ok { OnOk result (Appends (W.contents writer.old) (W.contents writer.new) (front.now ++ rest.now)) }
+    ensures err { IfErr result (λ cut.
+        Appends (W.contents writer.old) (W.contents writer.new) (take cut.sent (front.now ++ rest.now))) }
+    ensures few { IfErr result (λ cut. cut.sent ≤ length (front.now ++ rest.now)) }
+{
+    write_pieces(writer, front, rest)?;
     if flush(writer) {
         Ok(())
     } else {
-        Err(CutShort { sent })
+        Err(CutShort {
+            sent: front.len() + rest.len(),
+        })
     }
 }

@@ -2,6 +2,7 @@
 -- own).
 use Rattle.std.specs.Prelude.{ℕ, List, ◌++◌, length, codes, decimal, string_bytes}
 use Rattle.serde_json.specs.Written.{compact_text}
+use Rattle.wire_frames.specs.Envelope.{envelope}
 use Rattle.gateway_answers.specs.Fault.{status_of}
 use Rattle.gateway_answers.specs.Replies.{fault_data}
 use Rattle.gateway_answers.specs.Status.{number_of, reason_of}
@@ -21,7 +22,7 @@ pub data Answer : Type 0 where
 
 abbrev pub answer_of : rust.Answer → Answer
 answer_of (answers.Reply text) = Replied (string_bytes text)
-answer_of (answers.Message message) = Rewritten message.items
+answer_of (answers.Message id payload) = Rewritten (envelope id payload.items)
 answer_of (answers.Fault fault) = Refused fault
 
 abbrev pub status_of_answer : Answer → Status

@@ -10,7 +10,7 @@ mod laws;
 mod replies;
 mod status;
 
-pub use answer::Answer;
+pub use answer::{Answer, AnswerBytes};
 pub use fault::Fault;
 pub use laws::codes_begin_with_their_status;
 pub use replies::{

@@ -1,15 +1,16 @@
 //! What a body says: a JSON object with the text of a schema, or with the name of a level.
 
-ghost use Rattle.std.specs.Prelude.{◌≡◌, option_map, string_bytes};
+ghost use Rattle.std.specs.Prelude.{◌≡◌, ◌≢◌, Err, IfErr, IfOk, Ok, option_and_then, option_map, string_bytes};
 ghost use Rattle.std.specs.Option.{ok_or};
-ghost use Rattle.serde_json.specs.Read.{read};
-ghost use Rattle.serde_json.specs.View.{view};
-ghost use Rattle.gateway_requests.specs.Body.{as_members, as_text, has_no_references, is_avro, known_level, level_in, level_of, object_of, text_in, text_of, whole_body};
+ghost use Rattle.serde_json.specs.Data.{Data};
+ghost use Rattle.serde_json.specs.Find.{as_str};
+ghost use Rattle.gateway_bodies.specs.Members.{AreMembersOf, data_of};
+ghost use Rattle.gateway_requests.specs.Body.{as_text, has_no_references, is_avro, known_level, level_in, level_of, object_of, text_in, text_of, whole_body};
 ghost use Rattle.gateway_requests.specs.Steps.{Tells};
 
 use gateway_answers::Fault;
+use gateway_bodies::{BodyError, Kept, Members, read_members};
 use schema_registry::Level;
-use serde_json::Value;
 use std::alloc::Global;
 
 /// A body that is there in whole. `BadRequest` where it was cut short.
@@ -19,17 +20,6 @@ pub(crate) fn whole_body(body: Option<&[u8]>) -> Result<&[u8], Fault>
     match body {
         Some(body) => Ok(body),
         None => Err(Fault::BadRequest),
-    }
-}
-
-/// The JSON value of a text. `BadRequest` where it has none.
-fn read_json(alloc: Global, text: &str) -> Result<Value, Fault>
-    ensures { Tells view result (ok_or (read text.now) Fault.BadRequest) }
-{
-    match Value::from_str(alloc, text) {
-        Ok(value) => Ok(value),
-        Err(error) if error.is_memory() => Err(Fault::NoMemory),
-        Err(_) => Err(Fault::BadRequest),
     }
 }
 
@@ -44,64 +34,67 @@ fn text_in_bytes(body: &[u8]) -> Result<&str, Fault>
     }
 }
 
-/// The value, where it is an object.
-fn members_in(value: Value) -> Result<Value, Fault>
-    ensures { Tells view result (as_members (view value)) }
-{
-    if value.as_object().is_none() {
-        return Err(Fault::BadRequest);
-    }
-    Ok(value)
-}
-
-/// The JSON object that the bytes spell. `BadRequest` where they spell none.
-fn object_of(alloc: Global, body: &[u8]) -> Result<Value, Fault>
-    ensures { Tells view result (object_of body.now) }
+/// Returns what is kept of the members of the JSON object that the bytes spell. `BadRequest` where they spell none.
+fn members_of(alloc: Global, body: &[u8]) -> Result<Members, Fault>
+    ensures ok { IfOk result (λ members. (d : Data) × (object_of body.now ≡ Ok d) × AreMembersOf d members) }
+    ensures err { IfErr result (λ e. e ≢ Fault.NoMemory → object_of body.now ≡ Err e) }
 {
     let text = text_in_bytes(body)?;
-    let value = read_json(alloc, text)?;
-    members_in(value)
+    match read_members(alloc, text) {
+        Ok(members) => Ok(members),
+        Err(BodyError::NoMemory) => Err(Fault::NoMemory),
+        Err(BodyError::NoObject) => Err(Fault::BadRequest),
+    }
 }
 
-/// Whether the type of a schema, where it is told, is Avro.
-fn is_avro(schema_type: Option<&Value>) -> bool
-    ensures { result ≡ is_avro (option_map (λ v. view v.now) schema_type.entry) }
+/// Returns whether the type of a schema, where it is told, is Avro.
+fn is_avro(schema_type: &Option<Kept>) -> bool
+    ensures { result ≡ is_avro (option_map data_of schema_type.now) }
 {
     match schema_type {
-        None | Some(Value::Null) => true,
-        Some(Value::String(text)) => text.as_str() == "AVRO",
+        None | Some(Kept::Null) => true,
+        Some(Kept::Text(text)) => text.as_str() == "AVRO",
         Some(_) => false,
     }
 }
 
-/// Whether there are no references.
-#[tactic(auto, using(crate::proofs::Bodies::no_items_are_no_references))]
-fn has_no_references(references: Option<&Value>) -> bool
-    ensures { result ≡ has_no_references (option_map (λ v. view v.now) references.entry) }
+/// Returns whether there are no references.
+fn has_no_references(references: &Option<Kept>) -> bool
+    ensures { result ≡ has_no_references (option_map data_of references.now) }
 {
-    let Some(value) = references else {
-        return true;
-    };
-    if value.is_null() {
-        return true;
-    }
-    match value.as_array() {
-        Some(items) => items.is_empty(),
-        None => false,
+    match references {
+        None | Some(Kept::Null) | Some(Kept::NoItems) => true,
+        Some(_) => false,
     }
 }
 
-/// The text of a schema in an object.
-fn text_in(alloc: Global, object: &Value) -> Result<String, Fault>
-    ensures { Tells string_bytes result (text_in (view object.now)) }
+/// Returns the text that was kept of a value. `BadBody` where it is no text.
+fn text_kept(value: Option<Kept>) -> Result<String, Fault>
+    ensures { Tells string_bytes result (ok_or (option_and_then as_str (option_map data_of value)) Fault.BadBody) }
 {
-    if !is_avro(object.get("schemaType")) || !has_no_references(object.get("references")) {
+    let Some(value) = value else {
+        return Err(Fault::BadBody);
+    };
+    match value {
+        Kept::Text(text) => Ok(text),
+        Kept::Null | Kept::NoItems | Kept::Other => Err(Fault::BadBody),
+    }
+}
+
+/// Returns the text of a schema in an object, by what is kept of its members.
+fn text_in(members: Members) -> Result<String, Fault>
+    ensures { (d : Data) → AreMembersOf d members → Tells string_bytes result (text_in d) }
+{
+    let Members {
+        schema,
+        schema_type,
+        references,
+        compatibility: _,
+    } = members;
+    if !is_avro(&schema_type) || !has_no_references(&references) {
         return Err(Fault::BadBody);
     }
-    match object.get("schema").and_then(Value::as_str) {
-        Some(text) => Ok(String::from_str(alloc, text)?),
-        None => Err(Fault::BadBody),
-    }
+    text_kept(schema)
 }
 
 /// The text of a schema in a body, which is `None` where it was cut short. `BadRequest` where the body is no JSON
@@ -110,8 +103,8 @@ pub(crate) fn text_of(alloc: Global, body: Option<&[u8]>) -> Result<String, Faul
     ensures { Tells string_bytes result (text_of (option_map (λ b. b.now) body.entry)) }
 {
     let bytes = whole_body(body)?;
-    let object = object_of(alloc, bytes)?;
-    text_in(alloc, &object)
+    let members = members_of(alloc, bytes)?;
+    text_in(members)
 }
 
 /// The level of a name.
@@ -124,13 +117,13 @@ fn known_level(name: &str) -> Result<Level, Fault>
     }
 }
 
-/// The level in an object.
-fn level_in(object: &Value) -> Result<Level, Fault>
-    ensures { result ≡ level_in (view object.now) }
+/// Returns the level in an object, by what is kept of its members.
+fn level_in(members: &Members) -> Result<Level, Fault>
+    ensures { (d : Data) → AreMembersOf d members.now → result ≡ level_in d }
 {
-    match object.get("compatibility").and_then(Value::as_str) {
-        Some(name) => known_level(name),
-        None => Err(Fault::BadLevel),
+    match &members.compatibility {
+        Some(Kept::Text(name)) => known_level(name.as_str()),
+        _ => Err(Fault::BadLevel),
     }
 }
 
@@ -140,6 +133,6 @@ pub(crate) fn level_of(alloc: Global, body: Option<&[u8]>) -> Result<Level, Faul
     ensures { Tells (λ l. l) result (level_of (option_map (λ b. b.now) body.entry)) }
 {
     let bytes = whole_body(body)?;
-    let object = object_of(alloc, bytes)?;
-    level_in(&object)
+    let members = members_of(alloc, bytes)?;
+    level_in(&members)
 }

@@ -5,22 +5,23 @@ ghost use Rattle.std.specs.Prelude.{◌≡◌};
 use crate::deadline::{TimedReader, TimedWriter};
 use gateway::{App, Gate, Transcode, serve_one};
 use std::alloc::Global;
-use std::io::Read;
+use std::io::{ErrorKind, Read};
 use std::net::{Shutdown, TcpStream};
 use std::sync::Wait;
 use std::time::{Clock, Duration};
 
-/// How many milliseconds the rest of a request may take to come, once its answer was written.
+/// How many milliseconds what follows a request may take, once its answer was written.
 const LINGER: u64 = 2_000;
 
-/// How often the rest is read at most.
+/// How often what follows a request is read at most.
 const MOST_LINGERING_READS: u32 = 8_192;
 
-/// How many bytes of the rest are read at once.
+/// How many bytes of it are read at once.
 const CHUNK: usize = 4_096;
 
-/// Ends the answer, and takes what still comes of the request, within bounds: were the connection closed over unread
-/// bytes, a client that still sends would be reset, and might lose the answer.
+/// Ends the writing side of a connection whose answer was written, and takes what still comes, within bounds of time,
+/// of reads and of bytes. Were the connection closed over bytes that were not read, the client would be reset, and the
+/// rest of its answer lost.
 fn linger(clock: &impl Clock, stream: &TcpStream) {
     if stream.shutdown(Shutdown::Write).is_err() {
         return;
@@ -31,14 +32,16 @@ fn linger(clock: &impl Clock, stream: &TcpStream) {
     let mut rest = [0u8; CHUNK];
     for _ in 0..MOST_LINGERING_READS {
         match reader.read(&mut rest) {
-            Ok(0) | Err(_) => return,
+            Ok(0) => return,
             Ok(_) => {}
+            Err(error) if error.kind() == ErrorKind::Interrupted => {}
+            Err(_) => return,
         }
     }
 }
 
-/// Answers the request of a connection, within so much time for its reads and as much for its writes. Whether it was
-/// answered in whole.
+/// Answers the request of a connection, within a time for its reads and the same time for its writes. Returns whether
+/// it was answered in whole. Then what still comes is taken; after a fault of the connection nothing is waited for.
 pub(crate) fn serve_connection<R: Wait + Clock, T: Transcode, G: Gate>(
     rt: &R,
     alloc: Global,
@@ -56,9 +59,11 @@ pub(crate) fn serve_connection<R: Wait + Clock, T: Transcode, G: Gate>(
         return false;
     };
     let mut writer = TimedWriter::new(rt, stream, time);
-    let answered = serve_one(rt, alloc, app, seat, &mut reader, &mut writer, gate);
-    if answered != Ok(200) {
-        linger(rt, stream);
+    match serve_one(rt, alloc, app, seat, &mut reader, &mut writer, gate) {
+        Ok(_) => {
+            linger(rt, stream);
+            true
+        }
+        Err(_) => false,
     }
-    answered.is_ok()
 }

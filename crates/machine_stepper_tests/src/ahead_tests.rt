@@ -4,6 +4,7 @@
 use crate::programs::push_hex;
 use crate::rows::assert_questions;
 use machine_plan::{PlannedProgram, Scratch};
+use outcome::MOST_OUTPUT;
 use std::alloc::{AllocError, Global};
 use std::test::Fail;
 
@@ -30,7 +31,7 @@ pub(crate) fn push_found(
 ) -> Result<(), AllocError> {
     let (mut scratch, mut found) = (Scratch::new(alloc), Vec::new(alloc));
     'times: for _time in 0..times {
-        if program.finds_output(payload, &mut scratch, &mut found) {
+        if program.finds_output(payload, &mut scratch, &mut found, MOST_OUTPUT) {
             push_hex(alloc, output, found.as_slice())?;
         } else {
             output.push_str("none")?;

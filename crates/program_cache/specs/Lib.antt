@@ -1,2 +1,4 @@
+pub mod Compiled
+pub mod Known
 pub mod Pairs
 pub mod Numbers

@@ -6,22 +6,19 @@ use Rattle.pair_program.specs.Pair.{IsProgramOf, Pair}
 use Rattle.program_definition.specs.Code.{code_of}
 use Rattle.session_core.specs.declared.publish_error.PublishError.{PublishError}
 use Rattle.session_core.specs.declared.publish_error.PublishError.TheVariants as errors
+use Rattle.program_cache.specs.Compiled.{IsOther}
 use Rattle.program_cache.specs.declared.refusal.PairRefusal.{PairRefusal}
 use Rattle.program_cache.specs.declared.refusal.PairRefusal.TheVariants.{Clash, NoMemory, ProgramTooLarge}
-
--- a pair has not both of these texts
-abbrev pub IsOther : Declaration → Declaration → Pair → Type 0
-IsOther writer reader pair = ¬ ((pair.writer.text ≡ writer.text) × (pair.reader.text ≡ reader.text))
 
 -- The program of the two, or that they have none; or another pair, which has their cell; or memory ran out.
 abbrev pub IsPairAnswer : Declaration → Declaration → Result (Bor Pair) PairRefusal → Type 0
 IsPairAnswer writer reader (Ok pair) = IsProgramOf writer reader pair.now
 IsPairAnswer writer reader (Err ProgramTooLarge) = code_of writer.nodes reader.nodes ≡ None
-IsPairAnswer writer reader (Err (Clash pair)) = IsOther writer reader pair.now
+IsPairAnswer writer reader (Err (Clash other)) = IsOther writer reader other.now
 IsPairAnswer writer reader (Err NoMemory) = Unit {0}
 
 -- a refusal without the other pair
 abbrev pub publish_error : PairRefusal → PublishError
 publish_error ProgramTooLarge = errors.ProgramTooLarge
-publish_error (Clash pair) = errors.Clash
+publish_error (Clash other) = errors.Clash
 publish_error NoMemory = errors.NoMemory

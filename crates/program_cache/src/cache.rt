@@ -1,28 +1,27 @@
 //! The programs of pairs of a registry's schemas.
 
-ghost use Rattle.std.specs.Prelude.{◌≡◌, None, IfErr, IfOk, IfSome};
+ghost use Rattle.std.specs.Prelude.{◌≡◌, IfOk, IfSome};
 ghost use Rattle.program_cache.specs.Numbers.{number_of_place, pair_number};
 ghost use Rattle.program_cache.specs.Pairs.{IsPairAnswer};
-ghost use Rattle.program_definition.specs.Code.{code_of};
-ghost use Rattle.program_lowering.specs.declared.error.CompileError.TheVariants.{ProgramTooLarge};
 ghost use Rattle.schema_registry.specs.Receipt.{IsReceiptOf};
 ghost use Rattle.session_core.specs.Publishing.{IsPublished};
 
 use crate::cells::Cells;
+use crate::compiled::Compiled;
+use crate::known::KnownPairs;
 use crate::place::Place;
 use crate::refusal::PairRefusal;
 use avro_schema::Schema;
 use machine::PlannedProgram;
 use once_cell::race::OnceBox;
 use pair_program::PairProgram;
-use program_compiler::CompileError;
 use schema_registry::{MOST_SCHEMAS, Receipt, SharedRegistry};
 use session_core::{Programs, PublishError};
 use std::alloc::{AllocError, Global};
 use std::marker::Model;
 
 /// The cells of some readers' ids, for one writer's.
-type Block = Cells<PairProgram>;
+type Block = Cells<Compiled>;
 
 /// The blocks of one writer's id.
 type Row = Cells<Block>;
@@ -30,58 +29,26 @@ type Row = Cells<Block>;
 /// The rows of some writers' ids.
 type Rows = Cells<Row>;
 
-/// The programs of pairs of a registry's schemas, each in a cell by the ids of its writer and its reader. A cell that a
-/// pair has taken is that pair's for good, and cells are made when they are first needed. Callers see a cache as its
-/// registry.
+/// What pairs of a registry's schemas were compiled to, for good: in a table of those that are known by receipts, or
+/// where the slots of a pair there have others, in a cell by the ids of its writer and its reader. Cells are made when
+/// they are first needed. Callers see a cache as its registry.
 #[derive(Drop)]
 pub struct ProgramCache<'r> {
     alloc: Global,
     registry: &'r SharedRegistry,
+    known: KnownPairs,
     rows: Cells<Rows>,
 }
 
 impl<'r> Model for ProgramCache<'r> {
     ghost use Rattle.std.specs.Prelude.{ℕ, List};
+    ghost use Rattle.program_cache.specs.Known.{IsTableOf};
 
     ghost Value = { List ℕ };
 
     ghost view = { λ c. c.registry.now };
-}
 
-/// What a cell has, which is this pair's where it had none.
-fn held_in<'c>(
-    alloc: Global,
-    cell: &'c OnceBox<PairProgram>,
-    writer: &Schema,
-    reader: &Schema,
-) -> Result<&'c PairProgram, CompileError>
-    ensures { IfErr result (λ e. e ≡ ProgramTooLarge → code_of writer.now.nodes reader.now.nodes ≡ None) }
-{
-    if let Some(pair) = cell.get() {
-        return Ok(pair);
-    }
-    let made = Box::new(alloc, PairProgram::new(alloc, writer, reader)?)?;
-    Ok(cell.get_or_init(move || made))
-}
-
-/// What a cell has, where that is this pair's, as it is where it had none.
-fn pair_in<'c>(
-    alloc: Global,
-    cell: &'c OnceBox<PairProgram>,
-    writer: &Schema,
-    reader: &Schema,
-) -> Result<&'c PairProgram, PairRefusal<'c>>
-    ensures { IsPairAnswer writer.now reader.now result }
-{
-    let held = match held_in(alloc, cell, writer, reader) {
-        Ok(held) => held,
-        Err(CompileError::ProgramTooLarge) => return Err(PairRefusal::ProgramTooLarge),
-        Err(CompileError::NoMemory) => return Err(PairRefusal::NoMemory),
-    };
-    if !held.is_of(writer, reader) {
-        return Err(PairRefusal::Clash(held));
-    }
-    Ok(held)
+    ghost invariant = { λ c. IsTableOf c.registry.now c.known };
 }
 
 impl<'r> ProgramCache<'r> {
@@ -89,10 +56,12 @@ impl<'r> ProgramCache<'r> {
     pub fn new(alloc: Global, registry: &'r SharedRegistry) -> Result<ProgramCache<'r>, AllocError>
         ensures { IfOk result (λ cache. cache ≡ registry.now) }
     {
+        let known = KnownPairs::new(alloc, registry)?;
         let rows = Cells::new(alloc)?;
         Ok(ProgramCache {
             alloc,
             registry,
+            known,
             rows,
         })
     }
@@ -116,17 +85,40 @@ impl<'r> ProgramCache<'r> {
     }
 
     /// The cell at a place.
-    fn cell(&self, place: Place) -> Result<&OnceBox<PairProgram>, AllocError> {
+    fn cell(&self, place: Place) -> Result<&OnceBox<Compiled>, AllocError> {
         let rows = Rows::in_cell(self.alloc, self.rows.at(place.first))?;
         let row = Row::in_cell(self.alloc, rows.at(place.second))?;
         let block = Block::in_cell(self.alloc, row.at(place.third))?;
         Ok(block.at(place.fourth))
     }
 
-    /// The schemas of two receipts with their program, which is compiled where their cell has none. `ProgramTooLarge`
-    /// where the pair has no program; `Clash` where the cell has that of another pair, which is told; `NoMemory` where
-    /// memory ran out.
-    pub fn pair(
+    /// What the cell at a place has.
+    fn in_cell(&self, place: Place) -> Option<&Compiled> {
+        let rows = self.rows.at(place.first).get()?;
+        let row = rows.at(place.second).get()?;
+        let block = row.at(place.third).get()?;
+        block.at(place.fourth).get()
+    }
+
+    /// The program of a pair, by what its cell has, which is what was compiled where it had none.
+    fn keep_in_cell(
+        &self,
+        place: Place,
+        compiled: Box<Compiled>,
+        writer: &Schema,
+        reader: &Schema,
+    ) -> Result<&PairProgram, PairRefusal<'_>>
+        ensures { IsPairAnswer writer.now reader.now result }
+    {
+        let Ok(cell) = self.cell(place) else {
+            return Err(PairRefusal::NoMemory);
+        };
+        cell.get_or_init(move || compiled)
+            .program_of(writer, reader)
+    }
+
+    /// Compiles the pair of two receipts' schemas, and keeps what comes of it.
+    fn compile(
         &self,
         writer: &mut Receipt,
         reader: &mut Receipt,
@@ -137,12 +129,40 @@ impl<'r> ProgramCache<'r> {
         ensures pair { IfSome writer.old.schema (λ w. IfSome reader.old.schema (λ r. IsPairAnswer w r result)) }
     {
         let place = self.place_of(writer, reader);
-        let Ok(cell) = self.cell(place) else {
+        let from = self.registry.schema(writer);
+        let to = self.registry.schema(reader);
+        let Ok(compiled) = Compiled::new(self.alloc, from, to) else {
             return Err(PairRefusal::NoMemory);
         };
-        let writer = self.registry.schema(writer);
-        let reader = self.registry.schema(reader);
-        pair_in(self.alloc, cell, writer, reader)
+        match self.known.keep(self.registry, writer, reader, compiled) {
+            Ok(kept) => kept.program(),
+            Err(compiled) => self.keep_in_cell(place, compiled, from, to),
+        }
+    }
+
+    /// The schemas of two receipts with their program, which is compiled where it is asked for first. `ProgramTooLarge`
+    /// where the pair has no program; `Clash` where its cell has what another pair was compiled to, which is told;
+    /// `NoMemory` where memory ran out.
+    pub fn pair(
+        &self,
+        writer: &mut Receipt,
+        reader: &mut Receipt,
+    ) -> Result<&PairProgram, PairRefusal<'_>>
+        requires writer { IsReceiptOf self.now writer.old }
+        requires reader { IsReceiptOf self.now reader.old }
+        ensures same { (writer.new ≡ writer.old) × (reader.new ≡ reader.old) }
+        ensures pair { IfSome writer.old.schema (λ w. IfSome reader.old.schema (λ r. IsPairAnswer w r result)) }
+    {
+        if let Some(compiled) = self.known.find(self.registry, writer, reader) {
+            return compiled.program();
+        }
+        let place = self.place_of(writer, reader);
+        match self.in_cell(place) {
+            Some(compiled) => {
+                compiled.program_of(self.registry.schema(writer), self.registry.schema(reader))
+            }
+            None => self.compile(writer, reader),
+        }
     }
 
     /// The program of the schemas of two receipts, as `pair` has it. `Clash` tells nothing of the other pair.

@@ -5,11 +5,14 @@
 
 mod cache;
 mod cells;
+mod compiled;
+mod known;
 mod number;
 mod place;
 mod refusal;
 
 pub use cache::ProgramCache;
+pub use compiled::{Compiled, LargePair};
 pub use number::pairs_have_their_own_numbers;
 pub use refusal::PairRefusal;
 pub use session_core::{Programs, PublishError};

@@ -3,7 +3,7 @@
 ghost use Rattle.program_cache.specs.Pairs.{publish_error};
 ghost use Rattle.std.specs.Prelude.{◌≡◌};
 
-use pair_program::PairProgram;
+use crate::compiled::Compiled;
 use session_core::PublishError;
 
 /// Why there is no program of a pair of schemas.
@@ -11,8 +11,8 @@ use session_core::PublishError;
 pub enum PairRefusal<'c> {
     /// The program passes a limit.
     ProgramTooLarge,
-    /// The cell of the pair's ids has the program of another pair, which is this one.
-    Clash(&'c PairProgram),
+    /// The cell of the pair's ids has what another pair was compiled to, which is this.
+    Clash(&'c Compiled),
     /// Memory ran out.
     NoMemory,
 }

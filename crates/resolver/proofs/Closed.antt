@@ -1,12 +1,12 @@
 -- A closed list of good pairs with the root shows safety.
-use Rattle.std.proofs.Common.{◌≡◌, ℕ, zero, suc, ◌+◌, ◌<◌, ◌≤◌, true, false, List, [], ◌∷◌, ◌++◌, length, take, get_or, refl, sym, ap, subst, ◌∙◌, inl, inr, arith, append_assoc}
+use Rattle.std.proofs.Common.{◌≡◌, ℕ, zero, suc, ◌+◌, ◌<◌, ◌≤◌, Bool, true, false, Some, None, List, [], ◌∷◌, ◌++◌, length, take, get_or, refl, sym, ap, subst, ◌∙◌, inl, inr, arith, append_assoc}
 use Rattle.std.proofs.lemmas.List.{take-append-le, take_more, length-append}
 use Rattle.std.proofs.Math.Seq.{take-length}
 use Rattle.resolver.specs.Pairs.{Listed, Adds, AddsAll}
 use Rattle.std.specs.List.{AllByRecursion}
 use Rattle.avro_types.specs.Node.{Node}
 use Rattle.resolver.proofs.Leading.{among_leads, bad_told, leads_among}
-use Rattle.resolver.specs.NextPairs.{Among, next_pairs, is_bad}
+use Rattle.resolver.specs.NextPairs.{Among, next_pairs, is_bad, unless}
 use Rattle.resolver.specs.Safety.{Pair, Reached, root, step, IsSafe}
 
 -- good, and all that comes next is there
@@ -76,6 +76,15 @@ adds_more qs q old mid new a b = elim b.added as (λ _. AddsAll (qs ++ q ∷ [])
     only = all_after (λ y. Among y (qs ++ q ∷ [])) a.extra (q ∷ []) (all_among_more a.extra qs (q ∷ []) a.only) (among_last q qs, tt);
   }
 ]
+
+-- what is told of a pair that is good, and of one that is bad
+pub told_good : (b : Bool) (ps qs : List Pair) → Some qs ≡ unless b ps → (b ≡ false) × (qs ≡ ps)
+told_good true ps qs e = absurd (let no : ⊥ = cc in no)
+told_good false ps qs e = (refl, (let same : qs ≡ ps = cc in same))
+
+pub told_none : (b : Bool) (ps : List Pair) → None ≡ unless b ps → b ≡ true
+told_none true ps e = refl
+told_none false ps e = absurd (let no : ⊥ = cc in no)
 
 -- what the loop keeps
 pub record Kept (W R : List Node) (i : ℕ) (ps : List Pair) : Type 0 where

@@ -1,5 +1,5 @@
 -- The pairs and routes of nodes of two schemas are of nodes of the schemas.
-use Rattle.std.proofs.Common.{◌≡◌, ℕ, zero, suc, ◌<◌, List, [], ◌∷◌, length, map, slice_get, Option, Some, None, IfSome, option_map, Result, Ok, Err, IfOk, sym, subst, ◌∙◌, arith}
+use Rattle.std.proofs.Common.{◌≡◌, ℕ, zero, suc, ◌<◌, Bool, true, false, List, [], ◌∷◌, length, map, slice_get, Option, Some, None, IfSome, option_map, Result, Ok, Err, IfOk, sym, subst, ◌∙◌, arith}
 use Rattle.std.proofs.lemmas.List.{length-map}
 use Rattle.avro_types.specs.declared.kind.Field.{Field}
 use Rattle.std.specs.Global.{Vec}
@@ -9,7 +9,7 @@ use Rattle.avro_types.specs.Node.{Node, FieldNode, fields_of}
 use Rattle.avro_types.specs.WellFormed.{FieldsBelow, IsMember}
 use Rattle.resolver_matching.specs.declared.pairing.Partner.{Partner}
 use Rattle.resolver_matching.specs.declared.pairing.Route.{Route}
-use Rattle.resolver.specs.NextPairs.{partner_pairs}
+use Rattle.resolver.specs.NextPairs.{partner_pairs, unless}
 use Rattle.resolver_matching.specs.Options.{given}
 use Rattle.resolver.specs.Pairs.{AreWithin}
 use Rattle.resolver_matching.specs.Partners.{AreRoutes, partner_at, partners, routes, routes_to}
@@ -53,6 +53,14 @@ members_within W own readers r (m ∷ ms) all lt = ((all.0.below, lt), members_w
 pub result_within : (writers readers : ℕ) (ps : List Pair) (res : Result (Vec Pair) AllocError) → IfOk res (λ v. v.items ≡ ps) → AreWithin writers readers ps → IfOk res (λ v. AreWithin writers readers v.items)
 result_within writers readers ps (Ok v) e a = rw e a
 result_within writers readers ps (Err x) e a = tt
+
+-- where the pairs are told, and nothing in their place
+pub found_within : (writers readers : ℕ) (b : Bool) (ps : List Pair) (res : Result (Option (Vec Pair)) AllocError) → IfOk res (λ o. option_map (λ (v : Vec Pair). v.items) o ≡ unless b ps)
+    → AreWithin writers readers ps → IfOk res (λ o. IfSome o (λ v. AreWithin writers readers v.items))
+found_within writers readers b ps (Ok None) e a = tt
+found_within writers readers true ps (Ok (Some v)) e a = absurd (let no : ⊥ = cc in no)
+found_within writers readers false ps (Ok (Some v)) e a = (let same : v.items ≡ ps = cc in subst (AreWithin writers readers) (sym same) a)
+found_within writers readers b ps (Err x) e a = tt
 
 pub places_within : {X : Type 0} (writers readers : ℕ) (routes : List Route) (rs : List Field) (slots : List X) → length slots ≡ length rs → AreRoutes writers readers (length (fields_of rs)) routes → AreRoutes writers readers (length slots) routes
 places_within writers readers routes rs slots e a = subst (λ (n : ℕ). AreRoutes writers readers n routes) (length-map rs _ ∙ sym e) a

@@ -1,5 +1,5 @@
 -- What the steps of `can_read` answer: the pairs that a pair leads to as a list, and whether it is bad.
-use Rattle.std.specs.Prelude.{◌≡◌, ℕ, Bool, true, false, ◌||◌, List, [], ◌∷◌, ◌++◌, map, Option, Some, is_none, is_some, option_to_list, slice_get, ◌⊎◌}
+use Rattle.std.specs.Prelude.{◌≡◌, ℕ, Bool, true, false, ◌||◌, List, [], ◌∷◌, ◌++◌, map, Option, Some, None, if◌then◌else◌, is_none, is_some, option_to_list, slice_get, ◌⊎◌}
 use Rattle.avro_types.specs.Node.{Node, EnumNode, UnionNode}
 use Rattle.resolver_matching.specs.declared.place.Destination.{Destination}
 use Rattle.resolver_matching.specs.declared.place.Destination.TheVariants.{Straight, IntoMember, Nowhere, Unmatched}
@@ -63,6 +63,16 @@ placed_badly Unmatched wk rk = true
 abbrev pub bad_from : Destination → Option Node → Option Node → Bool
 bad_from place (Some (UnionNode members)) rk = false
 bad_from place wk rk = placed_badly place wk rk
+
+-- ---- both at once
+
+-- nothing where a pair is bad, and else the pairs that it leads to
+abbrev pub unless : Bool → List Pair → Option (List Pair)
+unless bad pairs = if bad then None else Some pairs
+
+-- the parts of two nodes that match
+abbrev pub part_steps : Option Node → Option Node → Option (List Pair)
+part_steps w r = unless (lacks_field w r || lacks_symbol w r) (part_pairs w r)
 
 module _ (W R : List Node) where
   unfoldable pub next_pairs : Pair → List Pair

@@ -1,97 +1,21 @@
 //! Whether a reader can read all that a writer writes.
 
-ghost use Rattle.std.specs.Prelude.{◌≡◌, ◌<◌, ◌↔◌, [], ◌∷◌, length, map, slice_get, IfOk, IsTrue, OnOk};
+ghost use Rattle.std.specs.Prelude.{◌≡◌, ◌<◌, ◌↔◌, [], ◌∷◌, is_some, length, map, option_map, slice_get, IfOk, IfSome, IsTrue, OnOk};
 ghost use Rattle.avro_types.specs.Node.{fields_of};
 ghost use Rattle.resolver.specs.Pairs.{AddsAll, AreWithin};
 ghost use Rattle.resolver_matching.specs.Partners.{routes};
-ghost use Rattle.resolver.specs.NextPairs.{is_bad, lacks_field, lacks_symbol, next_pairs, part_pairs, partner_pairs};
+ghost use Rattle.resolver.specs.NextPairs.{is_bad, next_pairs, part_steps, partner_pairs, unless};
+ghost use Rattle.resolver.specs.Resolution.{lacking};
 ghost use Rattle.resolver.specs.Safety.{IsSafe};
 
-use crate::fields::{field_lists, first_lacking};
+use crate::fields::first_lacking;
 use crate::pairs::PairList;
 use crate::symbols::some_missing;
 use avro_types::{Field, Kind, Nodes};
-use resolver_matching::{Destination, place_of, routes};
+use resolver_matching::{Destination, Route, place_of, routes};
 use std::alloc::{AllocError, Global};
 
-/// Whether the reader's record has a field with neither a partner nor a default.
-fn lacks_field(
-    alloc: Global,
-    w: &Nodes,
-    wn: usize,
-    r: &Nodes,
-    rn: usize,
-) -> Result<bool, AllocError>
-    requires writer { wn < length w.now }
-    requires reader { rn < length r.now }
-    ensures { IfOk result (λ yes. yes ≡ lacks_field (slice_get w.now wn) (slice_get r.now rn)) }
-{
-    let Some((ws, rs)) = field_lists(w, wn, r, rn) else {
-        return Ok(false);
-    };
-    let routes = routes(alloc, ws, rs)?;
-    let lacking = first_lacking(alloc, &routes, rs)?;
-    Ok(lacking.is_some())
-}
-
-/// Whether the reader's enum lacks a symbol, and has no default.
-fn lacks_symbol(w: &Nodes, wn: usize, r: &Nodes, rn: usize) -> bool
-    requires writer { wn < length w.now }
-    requires reader { rn < length r.now }
-    ensures { result ≡ lacks_symbol (slice_get w.now wn) (slice_get r.now rn) }
-{
-    match (w.kind(wn), r.kind(rn)) {
-        (
-            Kind::Enum { symbols, .. },
-            Kind::Enum {
-                symbols: theirs,
-                default,
-                ..
-            },
-        ) => some_missing(theirs, *default, symbols.as_slice()),
-        _ => false,
-    }
-}
-
-/// Whether a pair mismatches whatever the datum, or for some symbol.
-#[tactic(auto, unfolding(crate::specs::NextPairs::is_bad))]
-fn is_bad(alloc: Global, w: &Nodes, wn: usize, r: &Nodes, rn: usize) -> Result<bool, AllocError>
-    requires writer { wn < length w.now }
-    requires reader { rn < length r.now }
-    ensures { IfOk result (λ yes. yes ≡ is_bad w.now r.now (wn, rn)) }
-{
-    match w.kind(wn) {
-        Kind::Union(_) => Ok(false),
-        _ => match place_of(w, wn, r, rn) {
-            Destination::Straight => {
-                Ok(lacks_field(alloc, w, wn, r, rn)? || lacks_symbol(w, wn, r, rn))
-            }
-            Destination::IntoMember { .. } => Ok(false),
-            Destination::Nowhere => Ok(true),
-            Destination::Unmatched => Ok(true),
-        },
-    }
-}
-
-/// The nodes of the fields that have partners, and theirs.
-fn partner_pairs(
-    alloc: Global,
-    ws: &[Field],
-    rs: &[Field],
-) -> Result<Vec<(usize, usize)>, AllocError>
-    ensures { IfOk result (λ v. v.items ≡ partner_pairs (routes (fields_of ws.now) (fields_of rs.now))) }
-{
-    let routes = routes(alloc, ws, rs)?;
-    let mut pairs = Vec::new(alloc);
-    for route in &routes {
-        if let Some(partner) = route.partner {
-            pairs.push((route.node, partner.node))?;
-        }
-    }
-    Ok(pairs)
-}
-
-/// Each member with the reader's node.
+/// Returns each member with the reader's node.
 fn member_pairs(
     alloc: Global,
     members: &[usize],
@@ -102,7 +26,7 @@ fn member_pairs(
     members.iter().map(|member| (*member, rn)).collect(alloc)
 }
 
-/// One pair alone.
+/// Returns one pair alone.
 fn one_pair(alloc: Global, pair: (usize, usize)) -> Result<Vec<(usize, usize)>, AllocError>
     ensures { IfOk result (λ v. v.items ≡ pair ∷ []) }
 {
@@ -111,55 +35,97 @@ fn one_pair(alloc: Global, pair: (usize, usize)) -> Result<Vec<(usize, usize)>, 
     Ok(pairs)
 }
 
-/// The pairs of the items, values or fields of two nodes.
+/// Returns the nodes of the fields that have partners, and theirs.
+fn partner_pairs(alloc: Global, routes: &[Route]) -> Result<Vec<(usize, usize)>, AllocError>
+    ensures { IfOk result (λ v. v.items ≡ partner_pairs routes.now) }
+{
+    let mut pairs = Vec::new(alloc);
+    for route in routes {
+        if let Some(partner) = route.partner {
+            pairs.push((route.node, partner.node))?;
+        }
+    }
+    Ok(pairs)
+}
+
+/// Returns the nodes of the fields of two records that have partners, and theirs; None where a field of the reader has
+/// neither a partner nor a default. The fields are matched once.
+fn field_pairs(
+    alloc: Global,
+    ws: &[Field],
+    rs: &[Field],
+) -> Result<Option<Vec<(usize, usize)>>, AllocError>
+    ensures { IfOk result (λ o. option_map (λ v. v.items) o
+        ≡ unless (is_some (lacking (fields_of ws.now) (fields_of rs.now)))
+        (partner_pairs (routes (fields_of ws.now) (fields_of rs.now)))) }
+{
+    let routes = routes(alloc, ws, rs)?;
+    if first_lacking(alloc, &routes, rs)?.is_some() {
+        return Ok(None);
+    }
+    Ok(Some(partner_pairs(alloc, &routes)?))
+}
+
+/// Returns the pairs of the items, values or fields of two nodes that match; None where a field of the reader has
+/// neither a partner nor a default, or where its enum lacks a symbol and has no default.
 fn part_pairs(
     alloc: Global,
     w: &Nodes,
     wn: usize,
     r: &Nodes,
     rn: usize,
-) -> Result<Vec<(usize, usize)>, AllocError>
+) -> Result<Option<Vec<(usize, usize)>>, AllocError>
     requires writer { wn < length w.now }
     requires reader { rn < length r.now }
-    ensures pairs { IfOk result (λ v. v.items ≡ part_pairs (slice_get w.now wn) (slice_get r.now rn)) }
-    ensures within { IfOk result (λ v. AreWithin (length w.now) (length r.now) v.items) }
+    ensures pairs { IfOk result (λ o. option_map (λ v. v.items) o
+        ≡ part_steps (slice_get w.now wn) (slice_get r.now rn)) }
+    ensures within { IfOk result (λ o. IfSome o (λ v. AreWithin (length w.now) (length r.now) v.items)) }
 {
     match (w.kind(wn), r.kind(rn)) {
-        (Kind::Array(item), Kind::Array(other)) => one_pair(alloc, (*item, *other)),
-        (Kind::Map(value), Kind::Map(other)) => one_pair(alloc, (*value, *other)),
+        (Kind::Array(item), Kind::Array(other)) => Ok(Some(one_pair(alloc, (*item, *other))?)),
+        (Kind::Map(value), Kind::Map(other)) => Ok(Some(one_pair(alloc, (*value, *other))?)),
         (Kind::Record { fields: ws, .. }, Kind::Record { fields: rs, .. }) => {
-            partner_pairs(alloc, ws, rs)
+            field_pairs(alloc, ws, rs)
         }
-        _ => Ok(Vec::new(alloc)),
+        (
+            Kind::Enum { symbols, .. },
+            Kind::Enum {
+                symbols: theirs,
+                default,
+                ..
+            },
+        ) if some_missing(theirs, *default, symbols.as_slice()) => Ok(None),
+        _ => Ok(Some(Vec::new(alloc))),
     }
 }
 
-/// The pairs that a pair leads to.
-#[tactic(auto, unfolding(crate::specs::NextPairs::next_pairs))]
+/// Returns the pairs that a pair leads to; None where it mismatches whatever the datum, or for some symbol.
+#[tactic(auto, unfolding(crate::specs::NextPairs::is_bad, crate::specs::NextPairs::next_pairs))]
 fn next_pairs(
     alloc: Global,
     w: &Nodes,
     wn: usize,
     r: &Nodes,
     rn: usize,
-) -> Result<Vec<(usize, usize)>, AllocError>
+) -> Result<Option<Vec<(usize, usize)>>, AllocError>
     requires writer { wn < length w.now }
     requires reader { rn < length r.now }
-    ensures pairs { IfOk result (λ v. v.items ≡ next_pairs w.now r.now (wn, rn)) }
-    ensures within { IfOk result (λ v. AreWithin (length w.now) (length r.now) v.items) }
+    ensures pairs { IfOk result (λ o. option_map (λ v. v.items) o
+        ≡ unless (is_bad w.now r.now (wn, rn)) (next_pairs w.now r.now (wn, rn))) }
+    ensures within { IfOk result (λ o. IfSome o (λ v. AreWithin (length w.now) (length r.now) v.items)) }
 {
     match w.kind(wn) {
-        Kind::Union(members) => member_pairs(alloc, members, rn),
+        Kind::Union(members) => Ok(Some(member_pairs(alloc, members, rn)?)),
         _ => match place_of(w, wn, r, rn) {
             Destination::Straight => part_pairs(alloc, w, wn, r, rn),
-            Destination::IntoMember { node, .. } => one_pair(alloc, (wn, node)),
-            Destination::Nowhere => Ok(Vec::new(alloc)),
-            Destination::Unmatched => Ok(Vec::new(alloc)),
+            Destination::IntoMember { node, .. } => Ok(Some(one_pair(alloc, (wn, node))?)),
+            Destination::Nowhere => Ok(None),
+            Destination::Unmatched => Ok(None),
         },
     }
 }
 
-/// Adds the pairs that are not there.
+/// Adds the pairs that are not in the list yet.
 fn add_all(pairs: &mut PairList, more: &[(usize, usize)]) -> Result<(), AllocError>
     requires { AreWithin pairs.old.writers pairs.old.readers more.now }
     ensures { OnOk result (AddsAll more.now pairs.old pairs.new) }
@@ -170,8 +136,8 @@ fn add_all(pairs: &mut PairList, more: &[(usize, usize)]) -> Result<(), AllocErr
     Ok(())
 }
 
-/// Whether no bad pair of nodes is reached, so that each datum of the writer can be read, but for bytes that are no
-/// UTF-8.
+/// Returns whether no bad pair of nodes is reached, so that each datum of the writer can be read, but for bytes that
+/// are no UTF-8. Each pair of nodes is looked at once, and the fields of two records are matched once there.
 pub fn can_read(alloc: Global, writer: &Nodes, reader: &Nodes) -> Result<bool, AllocError>
     ensures { IfOk result (λ yes. IsTrue yes ↔ IsSafe writer.now reader.now) }
 {
@@ -182,11 +148,9 @@ pub fn can_read(alloc: Global, writer: &Nodes, reader: &Nodes) -> Result<bool, A
     let mut place = 0;
     while place < pairs.len() {
         let (wn, rn) = pairs.get(place);
-        let bad = is_bad(alloc, writer, wn, reader, rn)?;
-        if bad {
+        let Some(next) = next_pairs(alloc, writer, wn, reader, rn)? else {
             return Ok(false);
-        }
-        let next = next_pairs(alloc, writer, wn, reader, rn)?;
+        };
         add_all(&mut pairs, &next)?;
         place += 1;
     }

@@ -1,5 +1,6 @@
 pub mod Ids
 pub mod Safe
+pub mod Found
 pub mod Entries
 pub mod Named
 pub mod Kept

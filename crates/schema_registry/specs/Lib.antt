@@ -10,5 +10,7 @@ pub mod Accepting
 pub mod Answer
 pub mod Answers
 pub mod Tables
+pub mod Found
+pub mod Required
 pub mod Receipt
 pub mod Shared

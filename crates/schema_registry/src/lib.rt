@@ -3,9 +3,11 @@
 //! Schemas under ids, and the versions of subjects (Confluent Schema Registry API, "Subjects", "Compatibility").
 #![tactic(auto)]
 
+mod candidate;
 mod command;
 mod compatible;
 mod history;
+mod kept_receipt;
 mod known_version;
 mod laws;
 mod level;
@@ -13,12 +15,14 @@ mod limits;
 mod refusal;
 mod registry;
 mod reply;
+mod requirement;
 mod room;
 mod schemas;
 mod shared;
 mod subject;
 
 pub use command::{Command, Version};
+pub use kept_receipt::KeptReceipt;
 pub use laws::memory_is_no_bad_schema;
 pub use level::Level;
 pub use limits::{

@@ -8,9 +8,10 @@ ghost use Rattle.schema_registry.specs.Command.{IsQuestion, command_of};
 ghost use Rattle.schema_registry.specs.Lists.{numbered, versions_of};
 ghost use Rattle.schema_registry.specs.Tables.{numbers_from};
 
-mod asking;
+pub(crate) mod asking;
 mod levels;
 pub(crate) mod registering;
+mod requiring;
 
 use crate::command::Command;
 use crate::history::History;

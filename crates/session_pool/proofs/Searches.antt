@@ -25,12 +25,13 @@ looks_on u v w a b = record {
   same = same_on u v w a.same b.same;
 }
 
--- one word was found
-pub looks_once : (v w : Known) (slot word : ℕ) → w.found ≡ v.found ++ words_of slot (word ∷ []) → HasSame v w → Looks v w
-looks_once v w slot word found same = record { more = found_word slot word ∷ []; found = found; same = same }
+-- a word was found twice
+pub finds_twice : (v w : Known) (slot word : ℕ) → w.found ≡ v.found ++ words_of slot (word ∷ word ∷ []) → Finds v slot word w
+finds_twice v w slot word found = record { before = []; after = found_word slot word ∷ []; found = found }
 
-pub finds_once : (v w : Known) (slot word : ℕ) → w.found ≡ v.found ++ words_of slot (word ∷ []) → Finds v slot word w
-finds_once v w slot word found = record { before = []; after = []; found = found }
+-- some words were found
+pub looks_at : (v w : Known) (slot : ℕ) (words : List ℕ) → w.found ≡ v.found ++ words_of slot words → HasSame v w → Looks v w
+looks_at v w slot words found same = record { more = words_of slot words; found = found; same = same }
 
 pub finds_later : (u v w : Known) (slot word : ℕ) → Looks u v → Finds v slot word w → Finds u slot word w
 finds_later u v w slot word a f =

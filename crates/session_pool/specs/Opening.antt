@@ -20,14 +20,15 @@ pub record IsFor (writer reader : Option Declaration) (pass : Pass) : Type 0 whe
   pub of_writer : writer ≡ Some pass.pair.writer
   pub of_reader : reader ≡ Some pass.pair.reader
 
--- A session of the pass's program has begun, of which nothing was told, in the first slot that was found free: the
--- slots below were found taken, in order. The seat had no pass for it, and the slot is left ready.
+-- A session of the pass's program has begun, of which nothing was told, in the first slot that was found free, when it
+-- was looked at and when it was claimed: the slots below were found taken, in order. The seat had no pass for it, and
+-- the slot is left ready.
 pub record HasOpened (old : ClientSeat) (pass : Pass) (new : ClientSeat) : Type 0 where
   pub begun : told new pass ≡ new_account pass.pair.program
   pub left : left new pass ≡ ready
   pub fresh : IsGone old pass
   pub others : KeepsOthers old pass new
-  pub found : Searched IsOccupied (knows old.slots) pass.slot (free ∷ []) (knows new.slots)
+  pub found : Searched IsOccupied (knows old.slots) pass.slot (free ∷ free ∷ []) (knows new.slots)
 
 -- The two schemas have no program; or all slots were found taken, in order; or it is another refusal, and no slot was
 -- looked at.

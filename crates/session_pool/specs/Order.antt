@@ -7,7 +7,7 @@ use Rattle.std.specs.Prelude.{MatchOption}
 use Rattle.session_pool_jobs.specs.declared.seat.JobSeat.{JobSeat}
 use Rattle.session_pool_jobs.specs.Calls.{Puts, Stays, Steals, Takes}
 use Rattle.session_pool_jobs.specs.Seats.{kept_by, number_of, put_by, stolen_by, taken_by, workers_of}
-use Rattle.session_pool_rule.specs.Results.{HasNoted, HasSame, words_of}
+use Rattle.session_pool_rule.specs.Results.{HasNoted, HasSame, IsUnready, words_of}
 use Rattle.session_pool_rule.specs.Words.{ready, slots}
 use Rattle.session_pool_slots.specs.declared.slots.SlotSeat.{SlotSeat}
 use Rattle.session_pool_slots.specs.declared.working.RunSlice.{RunSlice}
@@ -21,17 +21,17 @@ use Rattle.session_pool.specs.declared.turning.Turn.TheVariants.{Idle, Ran}
 
 -- ---- a job
 
--- a job led to the session of its slot: the word of the slot was found, once, to be ready
+-- a job led to the session of its slot, which was ready when it was looked at and when it was taken
 pub record Leads (job : ℕ) (old new : SlotSeat) : Type 0 where
-  pub found : (knows new).found ≡ (knows old).found ++ words_of job (ready ∷ [])
+  pub found : (knows new).found ≡ (knows old).found ++ words_of job (ready ∷ ready ∷ [])
   pub same : HasSame (knows old) (knows new)
   pub noted : HasNoted has_ended new.seat.me job
 
--- a job led to none: the word of its slot was found, once, not to be ready
+-- a job led to none: the words that were found of its slot are those of one that is not ready
 pub record FindsUnready (job : ℕ) (old new : SlotSeat) : Type 0 where
-  pub word : ℕ
-  pub unready : word ≢ ready
-  pub found : (knows new).found ≡ (knows old).found ++ words_of job (word ∷ [])
+  pub words : List ℕ
+  pub unready : IsUnready words
+  pub found : (knows new).found ≡ (knows old).found ++ words_of job words
   pub same : HasSame (knows old) (knows new)
 
 -- What a deque answered led to no session: there was no job, or its number is no slot's, or its slot is not ready.

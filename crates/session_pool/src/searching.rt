@@ -94,7 +94,7 @@ impl<'p> SessionPool<'p> {
         if slot as usize >= SLOTS {
             return None;
         }
-        if self.slots.take_ready(seat, slot) != READY {
+        if self.slots.take_at(seat, slot) != READY {
             return None;
         }
         Some(slot)

@@ -31,11 +31,12 @@ pub record Searched {S A : Type 0} (IsUnfit : List ℕ → Type 0)
   pub unfit : All IsUnfit below
   pub found : w.found ≡ v.found ++ (found_of 0 below ++ words_of slot words)
 
--- one word was found, which is not free
+-- one word was found, which is not free; or free, and then another one
 abbrev pub IsOccupied : List ℕ → Type 0
 IsOccupied [] = ⊥
 IsOccupied (word ∷ []) = word ≢ free
-IsOccupied (word ∷ next ∷ more) = ⊥
+IsOccupied (word ∷ next ∷ []) = (word ≡ free) × (next ≢ free)
+IsOccupied (word ∷ next ∷ more ∷ others) = ⊥
 
 -- one word was found, which is not ready; or ready, and then another one
 abbrev pub IsUnready : List ℕ → Type 0

@@ -1,7 +1,7 @@
 -- A session that begins in the first slot that is free.
 use Rattle.std.proofs.Common.{◌≡◌, ◌<◌, ℕ, List, [], ◌∷◌, ◌++◌, Option, None, get_or, sym, ap, ◌∙◌}
 use Rattle.isa.specs.Program.{Program}
-use Rattle.session_state.specs.Session.{begun}
+use Rattle.session_state.specs.Session.{Session, begun}
 use Rattle.session_pool_rule.specs.Words.{free, ready, slots}
 use Rattle.session_pool_rule.specs.Steps.{new_pass}
 use Rattle.session_pool_rule.specs.Results.{GaveBack, HasSame, IsOccupied, Searched, words_of}
@@ -13,14 +13,27 @@ use Rattle.session_pool_slots.specs.Opening.{HasBegun, HasClaimed}
 use Rattle.session_pool_slots.specs.Seats.{knows}
 
 -- the seat when the search began, before the slot was claimed, after that, and after the session was given back
-pub has_begun : (first old mid new : SlotSeat) (i r : ℕ) (P : Program) → i < slots → HasSame (knows first) (knows old) → Searched IsOccupied (knows first) i [] (knows old)
-    → r ≡ free → (knows mid).found ≡ (knows old).found ++ words_of i (r ∷ []) → HasClaimed old i (begun P) mid → GaveBack kept (knows mid) i (begun P) ready (knows new)
+pub has_begun : (first old mid new : SlotSeat) (i : ℕ) (P : Program) → i < slots → HasSame (knows first) (knows old) → Searched IsOccupied (knows first) i [] (knows old)
+    → (knows mid).found ≡ (knows old).found ++ words_of i (free ∷ free ∷ []) → HasClaimed old i (begun P) mid → GaveBack kept (knows mid) i (begun P) ready (knows new)
     → HasBegun (knows first) i P (knows new)
-has_begun first old mid new i r P inside same passed hit found claim gave =
+has_begun first old mid new i P inside same passed found claim gave =
     let as_before : (k : ℕ) → pass_of k (knows old) ≡ pass_of k (knows first) = λ k. ap (λ (l : List (Option PassData)). get_or l k None) same.passes in record {
       inside = inside;
-      found = searched_then IsOccupied (knows first) (knows old) (knows new) i (free ∷ []) passed (gave.found ∙ (found ∙ ap (λ (z : ℕ). (knows old).found ++ words_of i (z ∷ [])) hit));
+      found = searched_then IsOccupied (knows first) (knows old) (knows new) i (free ∷ free ∷ []) passed (gave.found ∙ found);
       fresh = sym (as_before i) ∙ claim.claimed.fresh;
       now = gave.now (new_pass (opened (begun P)) (begun P)) claim.claimed.pass;
       others = λ k ne. gave.others k ne ∙ (claim.claimed.others k ne ∙ as_before k);
+    }
+
+-- the slot was looked at, and then claimed
+pub claimed_later : (old mid new : SlotSeat) (i : ℕ) (x : Session) → HasSame (knows old) (knows mid) → HasClaimed mid i x new → HasClaimed old i x new
+claimed_later old mid new i x same claim =
+    let as_before : (k : ℕ) → pass_of k (knows mid) ≡ pass_of k (knows old) = λ k. ap (λ (l : List (Option PassData)). get_or l k None) same.passes in record {
+      claimed = record {
+        fresh = sym (as_before i) ∙ claim.claimed.fresh;
+        pass = claim.claimed.pass;
+        others = λ k ne. claim.claimed.others k ne ∙ as_before k;
+      };
+      kept = claim.kept;
+      holds = claim.holds;
     }

@@ -1,4 +1,4 @@
--- A worker's search for a session that is ready.
+-- A search by looks, each of which is followed by an exchange where it found the word that is wanted.
 use Rattle.std.proofs.Common.{◌≡◌, ℕ, List, [], ◌∷◌, ◌++◌, ap, ◌∙◌, append_assoc}
 use Rattle.session_pool_rule.specs.Views.{FoundWord}
 use Rattle.session_pool_rule.specs.Results.{words_of}

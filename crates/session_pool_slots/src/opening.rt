@@ -33,7 +33,7 @@ fn renewed<'p>(
 
 impl<'p> SessionSlots<'p> {
     ghost use Rattle.session_pool_slots.specs.Seats.{HoldsNothing, IsSeatOf, Rests, knows};
-    ghost use Rattle.session_pool_slots.specs.Opening.{FindsNoneFree, HasBegun, HasClaimed, IsClaimed};
+    ghost use Rattle.session_pool_slots.specs.Opening.{FindsNoneFree, HasBegun, HasClaimed, IsClaimed, LooksTaken};
 
     /// Begins a session of a program in the first slot that is found free, and leaves it ready. `None` where none is.
     pub fn begin(&self, seat: &mut SlotSeat<'p>, program: &'p PlannedProgram) -> Option<u32>
@@ -45,12 +45,31 @@ impl<'p> SessionSlots<'p> {
     {
         let offer = Some(Session::begin(self.alloc, program));
         for slot in 0..SLOTS as u32 {
-            if self.claim(seat, slot, &offer) == FREE {
+            if self.claim_at(seat, slot, &offer) == FREE {
                 self.fill(seat, slot, offer, program);
                 return Some(slot);
             }
         }
         None
+    }
+
+    /// Looks at a slot, and claims it for the session that is offered where it is free. Answers the word that was found
+    /// last.
+    fn claim_at(&self, seat: &mut SlotSeat<'p>, slot: u32, offer: &Option<Session<'p>>) -> u64
+        requires seat { Rests self.now seat.old }
+        requires offer { (slot < slots) × ((session : Session) × (offer.now ≡ Some session)) }
+        ensures seat { IsSeatOf self.now seat.new }
+        ensures found { result ≡ free → (knows seat.new).found
+            ≡ (knows seat.old).found ++ words_of slot (free ∷ free ∷ []) }
+        ensures claimed { result ≡ free → (session : Session) → offer.now ≡ Some session
+            → HasClaimed seat.old slot session seat.new }
+        ensures not { result ≢ free → LooksTaken seat.old slot seat.new }
+    {
+        let found = self.look(seat, slot);
+        if found != FREE {
+            return found;
+        }
+        self.claim(seat, slot, offer)
     }
 
     /// Claims a slot for the session that is offered, where the slot is free. Answers the word that was found.

@@ -24,7 +24,7 @@ impl<'p> SessionSlots<'p> {
     ghost use Rattle.session_pool_slots.specs.Working.{FindsNoneReady, LooksUnready, Runs, TakesFirst};
 
     /// Takes the session of a slot, where it is ready. Answers the word that was found.
-    pub fn take_ready(&self, seat: &mut SlotSeat<'p>, slot: u32) -> u64
+    fn take_ready(&self, seat: &mut SlotSeat<'p>, slot: u32) -> u64
         requires seat { Rests self.now seat.old }
         requires slot { slot < slots }
         ensures seat { IsSeatOf self.now seat.new }
@@ -39,7 +39,7 @@ impl<'p> SessionSlots<'p> {
     }
 
     /// Reads the word of a slot.
-    fn look(&self, seat: &mut SlotSeat<'p>, slot: u32) -> u64
+    pub(crate) fn look(&self, seat: &mut SlotSeat<'p>, slot: u32) -> u64
         requires seat { Rests self.now seat.old }
         requires slot { slot < slots }
         ensures seat { Rests self.now seat.new }
@@ -52,7 +52,7 @@ impl<'p> SessionSlots<'p> {
     }
 
     /// Looks at a slot, and takes its session where it is ready. Answers the word that was found last.
-    fn take_at(&self, seat: &mut SlotSeat<'p>, slot: u32) -> u64
+    pub fn take_at(&self, seat: &mut SlotSeat<'p>, slot: u32) -> u64
         requires seat { Rests self.now seat.old }
         requires slot { slot < slots }
         ensures seat { IsSeatOf self.now seat.new }

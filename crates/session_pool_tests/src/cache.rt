@@ -191,7 +191,46 @@ fn a_pair_without_program_is_refused(rt: HostRuntime) -> Result<(), Fail> {
         len_of(&cache, 1, 2),
         Err(PublishError::ProgramTooLarge),
     );
+    same(
+        &rt,
+        len_of(&cache, 1, 2),
+        Err(PublishError::ProgramTooLarge),
+    );
     assert!(rt; len_of(&cache, 2, 2).is_ok());
+    Ok(())
+}
+
+/// The texts of fixeds, as many as are asked for, each of its own name.
+fn fixed_texts(alloc: Global, count: usize) -> Result<String, AllocError> {
+    let mut text = String::new(alloc);
+    for number in 0..count {
+        write!(
+            text,
+            "{{\"type\":\"fixed\",\"name\":\"F{number}\",\"size\":1}}\n"
+        )?;
+    }
+    Ok(text)
+}
+
+/// Whether each of nine pairs, which have the same eight slots of the cache's table, has its own program.
+fn nine_have_own(alloc: Global, cache: &ProgramCache<'_>) -> Result<bool, PublishError> {
+    for number in 0..9_u32 {
+        if !has_own(alloc, cache, 1 + number, 1 + 251 * (8 - number))? {
+            return Ok(false);
+        }
+    }
+    Ok(true)
+}
+
+#[test]
+fn pairs_with_the_same_slots_have_their_own_programs(rt: HostRuntime) -> Result<(), Fail> {
+    let alloc = rt.alloc();
+    let registry = SharedRegistry::new(alloc)?;
+    let texts = fixed_texts(alloc, 2_009)?;
+    register_lines(&rt, alloc, &registry, &texts)?;
+    let cache = ProgramCache::new(alloc, &registry)?;
+    same(&rt, nine_have_own(alloc, &cache), Ok(true));
+    same(&rt, nine_have_own(alloc, &cache), Ok(true));
     Ok(())
 }
 

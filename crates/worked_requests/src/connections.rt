@@ -52,7 +52,7 @@ fn send(stream: &TcpStream, request: &[u8]) {
     }
 }
 
-/// All that comes until the other side ends.
+/// All that comes until the other side ends. An error where the connection is reset: then bytes may be lost.
 fn receive(alloc: Global, stream: &TcpStream) -> io::Result<Vec<u8>> {
     let mut reader = stream;
     let mut answer = Vec::new(alloc);
@@ -62,7 +62,6 @@ fn receive(alloc: Global, stream: &TcpStream) -> io::Result<Vec<u8>> {
             Ok(0) => return Ok(answer),
             Ok(count) => answer.extend_from_slice(&piece[..count])?,
             Err(error) if error.kind() == ErrorKind::Interrupted => {}
-            Err(error) if error.kind() == ErrorKind::ConnectionReset => return Ok(answer),
             Err(error) => return Err(error),
         }
     }
@@ -89,7 +88,7 @@ fn stop(listener: &TcpListener) -> io::Result<()> {
 }
 
 /// Sends each request over a connection of its own, and makes as many connections more as are wanted, which end at
-/// once. Gives the answers, and none for a request whose answer did not come to its end.
+/// once. Gives the answers, and none for a request whose answer did not come to its end, or whose connection was reset.
 fn ask_all<R: Net<Stream = TcpStream>>(
     rt: &R,
     alloc: Global,

@@ -11,14 +11,15 @@
 //! with 1, 2 and 3 in place of `%`. A raw request ends, where one of the other form could go on and must be answered
 //! without a look at what follows; so must a raw one behind `open `.
 //!
-//! An answer is printed as its status and its body, a message in hexadecimal behind `=`. Behind `whole ` the request
-//! has its whole answer printed, in the notation of raw requests.
+//! An answer is printed as its status and its body, a message in hexadecimal behind `=`, where 1,000 and more equal
+//! bytes in a row are `1000*78` between backticks. Behind `whole ` the request has its whole answer printed, in the
+//! notation of raw requests.
 //!
 //! Each request is answered in many manners: whole, a byte at a time, by devices that are interrupted, and by devices
 //! that fail at their first call, at their second, and so on; behind `once `, for answers that take long, whole alone.
 //! What differs from the answer that was printed, or does not tell the failure, is printed on a line of `DIFFERS`. At
 //! the end of a part its requests are sent over connections, each in one, to a server of two clients and a new
-//! registry. How many it answered is printed, and each answer that differs.
+//! registry. How many it answered is printed, and each answer that differs or ends with a reset.
 #![tactic(auto)]
 
 mod calls;

@@ -5,6 +5,9 @@ use crate::text::push_escaped;
 use gateway_server::RunError;
 use std::alloc::Global;
 
+/// From how many equal bytes in a row on a message's byte is printed once, with their number.
+const LEAST_RUN: usize = 1_000;
+
 /// The head of an answer without the empty line that ends it, and the body. `None` where no empty line stands in it.
 fn head_and_body(answer: &[u8]) -> Option<(&[u8], &[u8])> {
     for at in 0..answer.len() {
@@ -23,6 +26,26 @@ fn is_of_message(head: &[u8]) -> bool {
     }
 }
 
+/// Appends equal bytes in hexadecimal: each, or where there are `LEAST_RUN` and more, `N*` and one, between backticks.
+fn push_run(alloc: Global, output: &mut Vec<u8>, run: &[u8]) -> Result<(), RunError> {
+    match run {
+        [first, ..] if run.len() >= LEAST_RUN => {
+            let count = run.len();
+            let text = format!(in alloc; "`{count}*{first:02x}`")?;
+            Ok(output.extend_from_slice(text.as_bytes())?)
+        }
+        _ => Ok(output.extend_from_slice(hex::encode(alloc, run)?.as_bytes())?),
+    }
+}
+
+/// Appends bytes in hexadecimal, the longest runs of equal ones shortened.
+fn push_hexadecimal(alloc: Global, output: &mut Vec<u8>, bytes: &[u8]) -> Result<(), RunError> {
+    for run in bytes.chunk_by(|first, second| first == second) {
+        push_run(alloc, output, run)?;
+    }
+    Ok(())
+}
+
 /// Appends the status and the body of an answer, or all its bytes where it has no head.
 fn push_short(alloc: Global, output: &mut Vec<u8>, answer: &[u8]) -> Result<(), RunError> {
     let Some((head, body)) = head_and_body(answer) else {
@@ -32,9 +55,8 @@ fn push_short(alloc: Global, output: &mut Vec<u8>, answer: &[u8]) -> Result<(), 
     output.extend_from_slice(status)?;
     output.push(b' ')?;
     if is_of_message(head) {
-        let digits = hex::encode(alloc, body)?;
         output.push(b'=')?;
-        Ok(output.extend_from_slice(digits.as_bytes())?)
+        push_hexadecimal(alloc, output, body)
     } else {
         Ok(output.extend_from_slice(body)?)
     }

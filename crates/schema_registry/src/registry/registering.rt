@@ -14,8 +14,8 @@ ghost use Rattle.schema_registry.specs.Subject.{is_subject};
 ghost use Rattle.schema_registry.specs.Tables.{AddsRegistration, AsksToRegister, entry_of};
 
 use super::Registry;
+use crate::candidate::Candidate;
 use crate::command::Command;
-use crate::compatible::goes_with_all;
 use crate::history::History;
 use crate::known_version::KnownVersion;
 use crate::limits::MOST_SUBJECTS;
@@ -24,7 +24,6 @@ use crate::reply::Reply;
 use crate::room::has_no_room;
 use crate::subject::is_subject;
 use avro_schema::{Schema, SchemaError};
-use schema_registry_maps::compared;
 use std::alloc::{AllocError, Global};
 
 /// The schema that a text declares.
@@ -67,18 +66,20 @@ impl Registry {
         Some(KnownVersion { number, id })
     }
 
-    /// Whether a schema goes together with those of a subject's versions that the level names.
-    fn is_compatible(&self, subject: &str, schema: &Schema) -> Result<bool, AllocError>
+    /// Returns whether a schema goes together with those of a subject's versions that the level names, as it was found
+    /// of them, or else by comparing it with them.
+    fn is_compatible(&self, subject: &str, schema: &Candidate<'_>) -> Result<bool, AllocError>
         ensures { IfOk result (λ b. IsTrue b ↔ AreSafe (pairs_of (registry_after self.now)
             (level_of (Some subject.now) (registry_after self.now).levels) schema.now
             (versions_of subject.now (registry_after self.now).entries))) }
     {
-        let Some(versions) = self.subjects.get(subject) else {
-            return Ok(true);
-        };
         let level = self.level_of(Some(subject));
-        let ids = compared(level.is_transitive(), versions.ids());
-        goes_with_all(self.alloc, level, schema, &self.schemas, ids)
+        schema.goes_with_all(
+            self.alloc,
+            level,
+            &self.schemas,
+            self.ids_compared(subject, level),
+        )
     }
 
     /// Whether there is no room for a schema, or for a subject.
@@ -89,7 +90,7 @@ impl Registry {
     }
 
     /// Whether a schema that a subject lacks may be a version of it, or else why it may not.
-    fn may_add(&self, subject: &str, schema: &Schema) -> Result<(), Refusal>
+    fn may_add(&self, subject: &str, schema: &Candidate<'_>) -> Result<(), Refusal>
         ensures ok { OnOk result (AreSafe (pairs_of (registry_after self.now)
             (level_of (Some subject.now) (registry_after self.now).levels) schema.now
             (versions_of subject.now (registry_after self.now).entries))
@@ -101,7 +102,7 @@ impl Registry {
         if !self.is_compatible(subject, schema)? {
             return Err(Refusal::Incompatible);
         }
-        if self.is_full(subject, schema) {
+        if self.is_full(subject, schema.schema()) {
             return Err(Refusal::Full);
         }
         Ok(())
@@ -132,27 +133,28 @@ impl Registry {
     pub(crate) fn register(
         &mut self,
         subject: String,
-        schema: Schema,
+        schema: &Candidate<'_>,
         history: History,
     ) -> Result<u32, Refusal>
-        requires { AddsRegistration self.old (string_bytes subject) schema history.commands }
-        ensures answer { GivesId (registry_after self.old) (string_bytes subject) schema result }
+        requires { AddsRegistration self.old (string_bytes subject) schema.now history.commands }
+        ensures answer { GivesId (registry_after self.old) (string_bytes subject) schema.now result }
         ensures ok { OnOk result (self.new ≡ history.commands) }
         ensures err { OnErr result (self.new ≡ self.old) }
     {
-        if let Some(known) = self.version_with(&subject, &schema) {
+        if let Some(known) = self.version_with(&subject, schema.schema()) {
             self.history = history;
             return Ok(known.id);
         }
-        self.may_add(&subject, &schema)?;
-        self.add(subject, schema, history)
+        self.may_add(&subject, schema)?;
+        let copy = schema.schema().copy()?;
+        self.add(subject, copy, history)
     }
 
     /// Does what a command asks that registers a schema, which was parsed from its text.
     pub(crate) fn register_parsed(
         &mut self,
         command: Command,
-        schema: &Schema,
+        schema: &Candidate<'_>,
     ) -> Result<u32, Refusal>
         requires { AsksToRegister (command_of command) (subject_in (command_of command)) schema.now }
         ensures answer { GivesId (registry_after self.old) (subject_in (command_of command)) schema.now result }
@@ -170,7 +172,7 @@ impl Registry {
     fn register_asked(
         &mut self,
         command: Command,
-        schema: &Schema,
+        schema: &Candidate<'_>,
         history: History,
     ) -> Result<u32, Refusal>
         requires asks { AsksToRegister (command_of command) (subject_in (command_of command)) schema.now }
@@ -183,10 +185,7 @@ impl Registry {
             Command::Register {
                 subject,
                 text: _text,
-            } => {
-                let copy = schema.copy()?;
-                self.register(subject, copy, history)
-            }
+            } => self.register(subject, schema, history),
             _other => unreachable!(),
         }
     }
@@ -206,7 +205,7 @@ impl Registry {
         ensures memory { IfErr result (λ e. e ≡ Refusal.NoMemory
             → Grows (registry_after self.old) (RegisterCommand (string_bytes subject) (string_bytes text))) }
     {
-        let schema = schema_for(self.alloc, &subject, &text)?;
-        Ok(Reply::Id(self.register(subject, schema, history)?))
+        let schema = Candidate::new(self.alloc, schema_for(self.alloc, &subject, &text)?);
+        Ok(Reply::Id(self.register(subject, &schema, history)?))
     }
 }

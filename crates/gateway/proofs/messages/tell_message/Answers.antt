@@ -7,8 +7,8 @@ use Rattle.gateway.proofs.messages.tell_message.Goals as goal
 
 pub returns-clause-told : goal.returns-clause-told
 returns-clause-told g c =
-    let P : ℕ → Type 0 = λ id. TellsOutcome c.in-Some-find.writer c.in-Some.reader id c.in-Ok.opened.1.items (answer_of c.in_ok-answer.answer) in
+    let P : ℕ → Type 0 = λ id. TellsOutcome c.in-Some-find.writer c.in-Some.reader id c.in-Ok.opened.1.items (answer_of c.rewritten-answer.result) in
     inr (inr (tells_message c.args.app.now.registry.now c.args.id c.in-Ok.opened.0 c.args.message.items c.in-Ok.opened.1.items
-    c.in-Some-find.writer c.in-Some.reader c.rewritten.new.writer c.rewritten.new.reader (answer_of c.in_ok-answer.answer)
+    c.in-Some-find.writer c.in-Some.reader c.rewritten-answer.new.writer c.rewritten-answer.new.reader (answer_of c.rewritten-answer.result)
     c.in-Ok.ensures c.in-Some-find.ensures.0 c.in-Some-find.ensures.1 c.in-Some.ensures.0 c.in-Some.ensures.1
-    c.in_ok-answer.ensures.writer c.in_ok-answer.ensures.reader (subst P c.in-Some.ensures.1 c.in_ok-answer.ensures.answer)))
+    c.rewritten-answer.ensures.writer c.rewritten-answer.ensures.reader (subst P c.in-Some.ensures.1 c.rewritten-answer.ensures.answer)))

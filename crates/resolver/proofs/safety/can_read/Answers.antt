@@ -1,10 +1,10 @@
 -- A bad pair that is reached is the answer, and a list that all that it leads to is in has all that is reached.
-use Rattle.std.proofs.Common.{rules, ◌≡◌, true, false, ◌<◌, length, arith, ap, ◌∙◌, sym}
+use Rattle.std.proofs.Common.{rules, ◌≡◌, true, false, ◌<◌, length, arith, ap, ◌∙◌}
 use Rattle.resolver.specs.Pairs.{Listed, AddsAll}
-use Rattle.resolver.specs.NextPairs.{next_pairs}
+use Rattle.resolver.specs.NextPairs.{is_bad, next_pairs}
 use Rattle.resolver.specs.Safety.{Reached}
 use Rattle.resolver.proofs.Leading.{told_bad}
-use Rattle.resolver.proofs.Closed.{all_at, kept_on, kept_end, kept_first}
+use Rattle.resolver.proofs.Closed.{all_at, kept_on, kept_end, kept_first, told_good, told_none}
 use Rattle.resolver.proofs.safety.can_read.Goals as goal
 
 pub loop-place-init : goal.loop-place-init
@@ -15,23 +15,30 @@ loop-place-init c = record {
 }
 
 pub add_all-requires : goal.add_all-requires
-add_all-requires c = rw (c.deref.ensures.value, c.loop-place.invariant.writers, c.loop-place.invariant.readers) c.in_ok-next.ensures.within
+add_all-requires c = rw (c.deref.ensures.value, c.loop-place.invariant.writers, c.loop-place.invariant.readers) (rw c.in-Some.is at c.in_ok-next.ensures.within)
 
 pub loop-place-preserved : goal.loop-place-preserved
 loop-place-preserved c =
+    let p = c.get-wn.result in
+    let W = c.args.writer.now in
+    let R = c.args.reader.now in
     let lt : c.loop-place.place < length c.loop-place.pairs.pairs = omega (arith, c.loop-place-test.true, c.len-in-loop-place.ensures.len) in
-    let added : AddsAll (next_pairs c.args.writer.now c.args.reader.now (c.get-wn.result.0, c.get-wn.result.1)) c.loop-place.pairs c.add_all.new.pairs = rw (c.deref.ensures.value, c.in_ok-next.ensures.pairs) at c.in_ok-add_all.ensures in
+    let good = told_good (is_bad W R p) (next_pairs W R p) c.in-Some.next.items (rw c.in-Some.is at c.in_ok-next.ensures.pairs) in
+    let added : AddsAll (next_pairs W R p) c.loop-place.pairs c.add_all.new.pairs = rw (← good.1) (rw c.deref.ensures.value at c.in_ok-add_all.ensures) in
     record {
       writers = c.in_ok-add_all.ensures.writers ∙ c.loop-place.invariant.writers;
       readers = c.in_ok-add_all.ensures.readers ∙ c.loop-place.invariant.readers;
-      kept = kept_on _ _ _ c.get-wn.result _ _ c.loop-place.invariant.kept lt c.get-wn.ensures.pair (sym c.in_ok-bad.ensures ∙ c.if-bad.false) added;
+      kept = kept_on _ _ _ p _ _ c.loop-place.invariant.kept lt c.get-wn.ensures.pair good.0 added;
     }
 
 pub returns : goal.returns
 returns c = (λ _. kept_end _ _ _ _ c.loop-place.invariant.kept (omega (arith, c.loop-place-test.false, c.len-in-loop-place.ensures.len)), λ _. search rules)
 
-pub returns-then-bad : goal.returns-then-bad
-returns-then-bad c =
+pub returns-in_default : goal.returns-in_default
+returns-in_default c =
     let p = c.get-wn.result in
-    let reached = all_at (Reached c.args.writer.now c.args.reader.now) c.loop-place.pairs.pairs c.loop-place.place p c.loop-place.invariant.kept.reached (omega (arith, c.loop-place-test.true, c.len-in-loop-place.ensures.len)) c.get-wn.ensures.pair in
-    (λ h. absurd (let no : false ≡ true = h in cc), λ safe. absurd (safe p reached (told_bad _ _ p (sym c.in_ok-bad.ensures ∙ c.if-bad.true))))
+    let W = c.args.writer.now in
+    let R = c.args.reader.now in
+    let reached = all_at (Reached W R) c.loop-place.pairs.pairs c.loop-place.place p c.loop-place.invariant.kept.reached (omega (arith, c.loop-place-test.true, c.len-in-loop-place.ensures.len)) c.get-wn.ensures.pair in
+    let bad = told_none (is_bad W R p) (next_pairs W R p) (rw c.in_default.is at c.in_ok-next.ensures.pairs) in
+    (λ h. absurd (let no : false ≡ true = h in cc), λ safe. absurd (safe p reached (told_bad _ _ p bad)))

@@ -1,17 +1,24 @@
-use Rattle.std.proofs.Common.{◌≡◌, ◌++◌, ◌∷◌, [], ℕ, subst}
-use Rattle.session_pool_rule.specs.Results.{words_of}
+use Rattle.std.proofs.Common.{refl, inr}
 use Rattle.session_pool_rule.specs.Words.{ready}
 use Rattle.session_pool_slots.specs.Seats.{knows}
-use Rattle.session_pool.proofs.Searches.{finds_once}
+use Rattle.session_pool.proofs.Searches.{finds_twice, looks_at}
 use Rattle.session_pool.proofs.pool.SessionPool.take_job.Goals as goal
 
+pub returns-then-take_at-ne-READY-clause-found : goal.returns-then-take_at-ne-READY-clause-found
+returns-then-take_at-ne-READY-clause-found c = let no = c.take_at.ensures.not c.if-take_at-ne-READY.true in
+    record { looks = looks_at (knows c.args.seat.now) (knows c.take_at.new.seat) c.args.slot no.words no.found c.take_at.ensures.same; holds = no.holds }
+
+pub returns-then-take_at-ne-READY-clause-once : goal.returns-then-take_at-ne-READY-clause-once
+returns-then-take_at-ne-READY-clause-once c = let no = c.take_at.ensures.not c.if-take_at-ne-READY.true in
+    inr (record { words = no.words; unready = no.unready; found = no.found; same = c.take_at.ensures.same })
+
 pub returns-clause-found : goal.returns-clause-found
-returns-clause-found c =
-    let is = c.if-take_ready-ne-READY.false in
-    let old = knows c.args.seat.now in
-    let new = knows c.take_ready.new.seat in
-    record {
-      found = finds_once old new c.args.slot ready (subst (λ (w : ℕ). new.found ≡ old.found ++ words_of c.args.slot (w ∷ [])) is c.take_ready.ensures.found);
-      same = c.take_ready.ensures.same;
-      noted = c.take_ready.ensures.taken is;
-    }
+returns-clause-found c = let taken = c.take_at.ensures.taken c.if-take_at-ne-READY.false in record {
+  found = finds_twice (knows c.args.seat.now) (knows c.take_at.new.seat) c.args.slot ready taken.1;
+  same = c.take_at.ensures.same;
+  noted = taken.0;
+}
+
+pub returns-clause-once : goal.returns-clause-once
+returns-clause-once c = let taken = c.take_at.ensures.taken c.if-take_at-ne-READY.false in
+    (refl, record { found = taken.1; same = c.take_at.ensures.same; noted = taken.0 })
