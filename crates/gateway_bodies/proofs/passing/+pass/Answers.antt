@@ -66,25 +66,25 @@ pass_rest-returns-then-depth-eq0-2-clause-err t c =
 pub pass_rest-returns-else-depth-eq0-clause-ok : goal.pass_rest-returns-else-depth-eq0-clause-ok
 pass_rest-returns-else-depth-eq0-clause-ok t c =
     let opened = at_token c.args.depth c.args.reader.now c.args.token tokens.BeginArray c.in-BeginArray.is
-        ∙ array_opened c.args.depth c.args.reader.now (omega arith) in
+    ∙ array_opened c.args.depth c.args.reader.now (omega arith) in
     on_ok_weaker c.pass_items.result (λ w. (array w.0, opened ∙ mapped_read array _ w.0 _ w.1)) c.pass_items.ensures.ok
 
 pub pass_rest-returns-else-depth-eq0-clause-err : goal.pass_rest-returns-else-depth-eq0-clause-err
 pass_rest-returns-else-depth-eq0-clause-err t c =
     let opened = at_token c.args.depth c.args.reader.now c.args.token tokens.BeginArray c.in-BeginArray.is
-        ∙ array_opened c.args.depth c.args.reader.now (omega arith) in
+    ∙ array_opened c.args.depth c.args.reader.now (omega arith) in
     on_err_weaker c.pass_items.result (λ e. opened ∙ mapped_refused array _ e) c.pass_items.ensures.err
 
 pub pass_rest-returns-else-depth-eq0-2-clause-ok : goal.pass_rest-returns-else-depth-eq0-2-clause-ok
 pass_rest-returns-else-depth-eq0-2-clause-ok t c =
     let opened = at_token c.args.depth c.args.reader.now c.args.token tokens.BeginObject c.in-BeginObject.is
-        ∙ object_opened c.args.depth c.args.reader.now (omega arith) in
+    ∙ object_opened c.args.depth c.args.reader.now (omega arith) in
     on_ok_weaker c.pass_members.result (λ w. (object w.0, opened ∙ mapped_read object _ w.0 _ w.1)) c.pass_members.ensures.ok
 
 pub pass_rest-returns-else-depth-eq0-2-clause-err : goal.pass_rest-returns-else-depth-eq0-2-clause-err
 pass_rest-returns-else-depth-eq0-2-clause-err t c =
     let opened = at_token c.args.depth c.args.reader.now c.args.token tokens.BeginObject c.in-BeginObject.is
-        ∙ object_opened c.args.depth c.args.reader.now (omega arith) in
+    ∙ object_opened c.args.depth c.args.reader.now (omega arith) in
     on_err_weaker c.pass_members.result (λ e. opened ∙ mapped_refused object _ e) c.pass_members.ensures.err
 
 pub pass_items-items-init : goal.pass_items-items-init
