@@ -1,3 +1,0 @@
-pub mod Asked
-pub mod Answered
-pub mod Writes

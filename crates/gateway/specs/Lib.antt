@@ -1,4 +1,2 @@
-pub mod Transcoding
-pub mod Replies
-pub mod Answering
-pub mod Serving
+pub mod Ending
+pub mod Opening

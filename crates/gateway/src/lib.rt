@@ -1,22 +1,16 @@
-//! Edge: HTTP; used by `gateway_sessions`, `gateway_server`.
+//! Edge: HTTP; used by `gateway_server`.
 //!
-//! One request, one answer, over any reader and any writer.
+//! How messages are transcoded for requests: by sessions of a pool, which its workers run, and clients while they wait.
 #![tactic(auto)]
 
-mod answering;
-mod app;
-mod evidence;
-mod gate;
-mod messages;
-mod replies;
-mod serve_error;
-mod serving;
-mod transcode;
-mod writing;
+mod ending;
+mod helping;
+mod pooled;
+mod seats;
+mod sending;
+mod working;
 
-pub use app::App;
-pub use evidence::Evidence;
-pub use gate::{Gate, Place};
-pub use serve_error::ServeError;
-pub use serving::{serve_and_tell, serve_one};
-pub use transcode::{Transcode, TranscodeFault};
+pub use helping::{Helping, SLICE};
+pub use pooled::Pooled;
+pub use seats::{pop_client, pop_worker};
+pub use working::work;

@@ -1,4 +1,4 @@
-//! Edge: HTTP; used by `gateway_requests`, `gateway`.
+//! Edge: HTTP; used by `gateway_requests`, `gateway_core`.
 //!
 //! The answers of the HTTP interface: faults with their codes, statuses and texts, the JSON of replies, and an answer's
 //! bytes.

@@ -1,4 +1,4 @@
-//! Edge: HTTP; used by `gateway`, `gateway_server`.
+//! Edge: HTTP; used by `gateway_core`, `gateway_server`.
 //!
 //! What a request asks of the service, read off its head and its body, or the first of its faults.
 #![tactic(auto)]

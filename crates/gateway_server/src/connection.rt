@@ -3,7 +3,7 @@
 ghost use Rattle.std.specs.Prelude.{◌≡◌};
 
 use crate::deadline::{TimedReader, TimedWriter};
-use gateway::{App, Gate, Transcode, serve_one};
+use gateway_core::{App, Gate, Transcode, serve_one};
 use std::alloc::Global;
 use std::io::{ErrorKind, Read};
 use std::net::{Shutdown, TcpStream};

@@ -6,7 +6,7 @@ ghost use Rattle.session_pool.specs.Seats.{IsNewClient, IsNewWorker};
 use crate::client::{Client, run_client};
 use crate::shared::Shared;
 use crate::worker::{Worker, run_worker};
-use gateway_sessions::{pop_client, pop_worker};
+use gateway::{pop_client, pop_worker};
 use session_pool::{ClientSeat, WorkerSeat};
 use std::alloc::AllocError;
 use std::sync::Wait;

@@ -4,7 +4,7 @@ ghost use Rattle.session_pool.specs.Seats.{RestsWorker};
 
 use crate::gate::WorkerGate;
 use crate::shared::Shared;
-use gateway_sessions::work;
+use gateway::work;
 use session_pool::WorkerSeat;
 use std::sync::Wait;
 

@@ -1,4 +1,4 @@
-//! Edge: HTTP; used by `gateway_requests`, `gateway`.
+//! Edge: HTTP; used by `gateway_requests`, `gateway_core`.
 //!
 //! Reading an HTTP/1.1 request from any reader: its head, how long its body is, and its body.
 #![tactic(auto)]

@@ -1,4 +1,4 @@
-//! Sessions; used by `gateway_sessions`.
+//! Sessions; used by `gateway`.
 //!
 //! A pool of sessions that threads share: clients feed them and ask for their outcomes, and whichever worker takes one
 //! runs it. No call of the pool waits for another thread.

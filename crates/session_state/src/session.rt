@@ -5,7 +5,7 @@ ghost use Rattle.machine.specs.Run.{IsCarry};
 ghost use Rattle.machine_stepper.specs.Running.{end_of as machine_end_of};
 ghost use Rattle.program_definition.specs.Code.{code_of};
 ghost use Rattle.session_state.specs.Changes.{IsPieceRefusal, Maybe, Surely, break_refusal, clear_refusal, cleared_at, finished, piece_refusal, refused, set_at, with_piece};
-ghost use Rattle.session_state.specs.Ending.{SessionLeadsToOutcome, end_of};
+ghost use Rattle.session_state.specs.Ending.{EndsInOneSlice, SessionLeadsToOutcome, end_of};
 ghost use Rattle.session_state.specs.Kept.{IsMade, IsSession};
 ghost use Rattle.session_state.specs.Rows.{TakesRows, go_rows, heeded, rows_under, slice_rows, walk_rows};
 ghost use Rattle.session_state.specs.Session.{OutOfMemory, end_in, has_break, session_end, state_of, without_break};
@@ -266,12 +266,14 @@ impl<'p> Session<'p> {
     }
 
     /// Takes rows: at most `limit`, and none at a breakpoint at which no content is begun. Answers how many, and why no
-    /// more.
+    /// more. With no breakpoint, a session that has an end within `limit` rows has ended then.
     pub fn slice(&mut self, limit: u64) -> Slice
         ensures rows { TakesRows (slice_rows limit self.old) self.old result.rows self.new }
         ensures most { result.rows ≤ limit }
         ensures stopped { IsStopped self.old.breaks limit result.rows result.stopped self.new }
+        ensures ends { EndsInOneSlice limit self.old self.new }
     {
+        runs_alone_are_counted_and_stay(); // law
         self.take_rows(true, limit)
     }
 
@@ -412,8 +414,8 @@ impl<'p> Session<'p> {
     }
 
     /// The law that where its program is that of a pair of schemas, its machine is in a state that leads to the outcome
-    /// of the bytes that came: it ends with that, within the row bound where they are all, and there in one slice with
-    /// no breakpoint of as many rows as that bound, unless memory runs out.
+    /// of the bytes that came: it ends with that, and where they are all, within as many rows as the row bound allows.
+    /// One `slice` of that many rows without breakpoints ends it then, as `slice` says.
     pub fn ends_with_the_outcome(&self, writer: &Nodes, reader: &Nodes)
         requires { code_of writer.now reader.now ≡ Some self.now.program }
         ensures { SessionLeadsToOutcome writer.now reader.now self.now }

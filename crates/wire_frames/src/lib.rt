@@ -1,4 +1,4 @@
-//! Edge: HTTP; used by `gateway_answers`, `gateway`.
+//! Edge: HTTP; used by `gateway_answers`, `gateway_core`.
 //!
 //! Messages in the wire format of the registry: a magic byte, the id of the schema that wrote the payload, the payload.
 #![tactic(auto)]

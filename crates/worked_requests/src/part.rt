@@ -8,7 +8,7 @@ use crate::manners::{push_closed, push_row};
 use crate::row::{Row, row_of};
 use crate::service::Service;
 use gateway_server::RunError;
-use gateway_sessions::{Helping, Pooled, pop_client, pop_worker};
+use gateway::{Helping, Pooled, pop_client, pop_worker};
 use program_cache::ProgramCache;
 use schema_registry::SharedRegistry;
 use session_pool::{ClientSeat, SessionPool, WorkerSeat};

@@ -1,0 +1,14 @@
+-- What was refused changed nothing.
+use Rattle.std.proofs.Common.{◌≡◌}
+use Rattle.session_pool.specs.Seats.{IsPassOf, Rests, told}
+use Rattle.gateway.proofs.ending.finish.Given as goal
+
+abbrev pub invariant-loop : goal.invariant-loop
+invariant-loop g l = record {
+  goes_on : (goal.iterator-loop g).can_next l.iterator';
+  ends : (goal.iterator-loop g).is_finite l.iterator';
+  rests : Rests l.pool l.seat;
+  pass : IsPassOf l.seat l.held;
+  held : l.held ≡ l.fn.pass;
+  same : told l.seat l.held ≡ told l.fn.seat l.fn.pass;
+}

@@ -1,9 +1,0 @@
--- Where the text finds no memory, that is told.
-use Rattle.std.proofs.Common.{inr, refl, ap, ◌∙◌}
-use Rattle.gateway_answers.specs.Answer.{Refused}
-use Rattle.gateway_answers.specs.Status.{number_of}
-use Rattle.gateway_answers.specs.declared.fault.Fault.TheVariants.{NoMemory}
-use Rattle.gateway.proofs.serving.bytes_of.Goals as goal
-
-pub returns-in_ok-into_bytes-in-Err : goal.returns-in_ok-into_bytes-in-Err
-returns-in_ok-into_bytes-in-Err c = (Refused NoMemory, inr refl, c.in_ok-into_bytes-in-Err.ensures, c.number-status-in-Err.ensures ∙ ap number_of c.status-in-Err.ensures)

@@ -1,0 +1,68 @@
+//! The end of a session: its outcome, or giving it up.
+
+ghost use Rattle.std.specs.Prelude.{◌≡◌, ◌≢◌, IfErr, IfOk};
+ghost use Rattle.session_pool.specs.Seats.{IsPassOf, Rests, told};
+ghost use Rattle.gateway.specs.Ending.{IsOutcomeOf};
+
+use gateway_core::{Gate, Place, TranscodeFault};
+use outcome::Outcome;
+use session_pool::{ClientSeat, Finished, Pass, SessionEnd, SessionPool};
+use std::sync::Wait;
+
+/// How often a session is tried to be given up at most.
+const MOST_ABANDONS: u32 = 1_000;
+
+/// Gives a session up. While a worker has it, it asks the gate and tries again, whatever the gate says; a session that
+/// a worker still has at the last try leaves its slot taken for good.
+pub(crate) fn abandon<'p, G: Gate>(
+    pool: &SessionPool<'p>,
+    seat: &mut ClientSeat<'p>,
+    gate: &mut G,
+    pass: Pass,
+)
+    requires seat { Rests pool.now seat.old }
+    requires pass { IsPassOf seat.old pass }
+    ensures { Rests pool.now seat.new }
+{
+    let mut held = pass;
+    for _ in 0..MOST_ABANDONS {
+        match pool.abandon(seat, held) {
+            Ok(()) => return,
+            Err(back) => held = back.pass,
+        }
+        gate.at(Place::Waiting);
+    }
+}
+
+/// The outcome that a session comes to, of all that it was sent. Until it is there it asks the gate and tries again:
+/// `NotFinished` where the gate says no, and then the session is given up; `NoMemory` where memory ended it.
+pub(crate) fn finish<'p, R: Wait, G: Gate>(
+    rt: &R,
+    pool: &SessionPool<'p>,
+    seat: &mut ClientSeat<'p>,
+    gate: &mut G,
+    pass: Pass,
+) -> Result<Outcome, TranscodeFault>
+    requires seat { Rests pool.now seat.old }
+    requires pass { IsPassOf seat.old pass }
+    ensures seat { Rests pool.now seat.new }
+    ensures outcome { IfOk result (IsOutcomeOf pass (told seat.old pass).sent) }
+    ensures fault { IfErr result (λ e. e ≢ TranscodeFault.ProgramTooLarge) }
+{
+    let mut held = pass;
+    for _ in rt.forever() {
+        match pool.result(seat, held) {
+            Ok(Finished { end, .. }) => match end {
+                SessionEnd::Out(outcome) => return Ok(outcome),
+                SessionEnd::NoMemory => return Err(TranscodeFault::NoMemory),
+                SessionEnd::Trap(_) => unreachable!(),
+            },
+            Err(back) => held = back.pass,
+        }
+        if !gate.at(Place::Waiting) {
+            abandon(pool, seat, gate, held);
+            return Err(TranscodeFault::NotFinished);
+        }
+    }
+    unreachable!()
+}

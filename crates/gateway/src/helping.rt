@@ -1,0 +1,39 @@
+//! A gate of whoever waits for a session, by which he runs sessions himself.
+
+ghost use Rattle.session_pool.specs.Seats.{RestsWorker};
+
+use gateway_core::{Gate, Place};
+use session_pool::{SessionPool, Turn, WorkerSeat};
+
+/// How many rows a client's turn takes at most. Ours: those that are found ahead take some milliseconds, and those that
+/// are taken one by one up to a tenth of a second.
+pub const SLICE: u64 = 1_000_000;
+
+/// A gate that takes a turn each time it is asked. It always says yes.
+#[derive(Drop)]
+pub struct Helping<'a, 'p> {
+    pool: &'a SessionPool<'p>,
+    seat: WorkerSeat<'p>,
+    ghost rests: { RestsWorker pool.now seat },
+}
+
+impl<'a, 'p> Helping<'a, 'p> {
+    /// A gate that takes turns by a worker's seat of the pool.
+    pub fn new(pool: &'a SessionPool<'p>, seat: WorkerSeat<'p>) -> Helping<'a, 'p>
+        requires { RestsWorker pool.now seat }
+    {
+        Helping { pool, seat }
+    }
+
+    /// Takes a turn of at most `SLICE` rows.
+    pub fn turn(&mut self) -> Turn {
+        self.pool.turn(&mut self.seat, SLICE)
+    }
+}
+
+impl<'a, 'p> Gate for Helping<'a, 'p> {
+    fn at(&mut self, _place: Place) -> bool {
+        self.turn();
+        true
+    }
+}

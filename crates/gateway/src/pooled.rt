@@ -1,0 +1,82 @@
+//! Transcoding by sessions of a pool.
+
+ghost use Rattle.std.specs.Prelude.{◌≡◌, ◌≢◌, ◌≤◌, IfErr, IfOk, vec_len};
+ghost use Rattle.outcome.specs.declared.limits.TheConstants.{MOST_PAYLOAD};
+ghost use Rattle.session_pool_slots.specs.Account.{new_account};
+ghost use Rattle.session_pool.specs.Seats.{IsPassOf, Rests, told};
+ghost use Rattle.gateway.specs.Ending.{IsOutcomeOf};
+ghost use Rattle.gateway.specs.Opening.{fault_of};
+
+use crate::ending::{abandon, finish};
+use crate::sending::feed;
+use gateway_core::{Gate, Transcode, TranscodeFault};
+use outcome::Outcome;
+use schema_registry::Receipt;
+use session_pool::{ClientSeat, OpenError, Pass, SessionPool};
+use std::sync::Wait;
+
+/// Transcoding by sessions of a pool: one for each payload, which whoever takes it runs.
+#[derive(Drop)]
+pub struct Pooled<'a, 'p> {
+    pub pool: &'a SessionPool<'p>,
+}
+
+/// The fault that tells why no session was opened.
+fn fault_of(error: OpenError) -> TranscodeFault
+    ensures { result ≡ fault_of error }
+{
+    match error {
+        OpenError::ProgramTooLarge => TranscodeFault::ProgramTooLarge,
+        OpenError::Clash => TranscodeFault::Clash,
+        OpenError::Full => TranscodeFault::Full,
+        OpenError::NoMemory => TranscodeFault::NoMemory,
+    }
+}
+
+/// The outcome of a payload by a session that has just begun. Where it is not fed in whole it is given up.
+fn outcome_by<'p, R: Wait, G: Gate>(
+    rt: &R,
+    transcoder: &Pooled<'_, 'p>,
+    seat: &mut ClientSeat<'p>,
+    gate: &mut G,
+    pass: Pass,
+    payload: Vec<u8>,
+) -> Result<Outcome, TranscodeFault>
+    requires seat { Rests transcoder.now.pool.now seat.old }
+    requires pass { IsPassOf seat.old pass }
+    requires begun { told seat.old pass ≡ new_account pass.pair.program }
+    requires size { vec_len payload ≤ MOST_PAYLOAD }
+    ensures seat { Rests transcoder.now.pool.now seat.new }
+    ensures outcome { IfOk result (IsOutcomeOf pass payload.items) }
+    ensures fault { IfErr result (λ e. e ≢ TranscodeFault.ProgramTooLarge) }
+{
+    let pool = transcoder.pool;
+    if let Err(fault) = feed(rt, pool, seat, gate, &pass, payload) {
+        abandon(pool, seat, gate, pass);
+        return Err(fault);
+    }
+    finish(rt, pool, seat, gate, pass)
+}
+
+impl<'a, 'p> Transcode for Pooled<'a, 'p> {
+    type Seat = ClientSeat<'p>;
+
+    ghost cells = { λ t. t.pool.now.cache.now };
+
+    ghost rests = { λ t seat. Rests t.pool.now seat };
+
+    fn transcode<R: Wait, G: Gate>(
+        &self,
+        rt: &R,
+        seat: &mut ClientSeat<'p>,
+        gate: &mut G,
+        writer: &mut Receipt,
+        reader: &mut Receipt,
+        payload: Vec<u8>,
+    ) -> Result<Outcome, TranscodeFault> {
+        match self.pool.open(seat, writer, reader) {
+            Ok(pass) => outcome_by(rt, self, seat, gate, pass, payload),
+            Err(error) => Err(fault_of(error)),
+        }
+    }
+}

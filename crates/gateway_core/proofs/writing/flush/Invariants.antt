@@ -1,0 +1,6 @@
+-- The writer's bytes stay so far.
+use Rattle.std.specs.Io.KnownBytes.{Keeps}
+use Rattle.gateway_core.proofs.writing.flush.Given as goal
+
+abbrev pub invariant-loop-try : goal.invariant-loop-try
+invariant-loop-try g l = Keeps (g.W.Write.contents l.fn.writer) (g.W.Write.contents l.writer)

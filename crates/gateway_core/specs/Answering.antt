@@ -1,0 +1,159 @@
+-- What the service may answer to what is asked, and the receipts that its answer stands on.
+use Rattle.std.specs.Prelude.{◌≡◌, ◌⊎◌, ℕ, List, IfSome, Result, Ok, Err}
+use Rattle.serde_json.specs.Written.{compact_text}
+use Rattle.outcome.specs.Outcome.{Outcome, Done, Mismatched, Malformed, OutputTooLarge}
+use Rattle.resolver.specs.Outcome.{IsOutcome}
+use Rattle.schema_registry.specs.Accepting.{compacted}
+use Rattle.schema_registry.specs.Command.{Command}
+use Rattle.schema_registry.specs.Reply.{Reply, EntryReply, IdReply, CompatibleReply, NumbersReply, NamesReply, TextReply, LevelReply}
+use Rattle.schema_registry.specs.Shared.{Shown, IsReceiptOf, IsSomeAnswer, IsSomeId, ShowsText}
+use Rattle.schema_registry.specs.declared.refusal.Refusal.{Refusal}
+use Rattle.wire_frames.specs.Envelope.{envelope, Opens}
+use Rattle.wire_frames.specs.declared.envelope.EnvelopeError.{EnvelopeError}
+use Rattle.gateway_answers.specs.Answer.{Answer, Replied, Rewritten, Refused}
+use Rattle.gateway_answers.specs.Replies.{id_data, schema_data}
+use Rattle.gateway_answers.specs.declared.fault.Fault.{Fault}
+use Rattle.gateway_answers.specs.declared.fault.Fault.TheVariants as faults
+use Rattle.gateway_requests.specs.Request as requests
+use Rattle.gateway_core.specs.declared.evidence.Evidence.{Evidence}
+use Rattle.gateway_core.specs.declared.evidence.Evidence.TheVariants as evidences
+use Rattle.gateway_core.specs.declared.transcode.TranscodeFault.{TranscodeFault}
+use Rattle.gateway_core.specs.declared.transcode.TranscodeFault.TheVariants as transcoding
+use Rattle.gateway_core.specs.Replies.{answer_to, fault_of}
+use Rattle.gateway_core.specs.Transcoding.{HasNoCode}
+
+-- the schema of a receipt has this text
+abbrev pub HasText : Shown → List ℕ → Type 0
+HasText receipt text = IfSome receipt.schema (λ s. s.text ≡ text)
+
+-- ---- replies of the registry
+
+-- a schema's text beside an id is that of a receipt of the id
+abbrev pub IsEvident : List ℕ → Result Reply Refusal → Evidence → Type 0
+IsEvident cells (Ok (EntryReply subject version id text)) evidence =
+    (receipt : Shown) × (evidence ≡ evidences.Shown receipt) × IsReceiptOf cells receipt × (receipt.id ≡ id)
+    × HasText receipt text
+IsEvident cells (Ok (IdReply id)) evidence = Unit {0}
+IsEvident cells (Ok (CompatibleReply is_compatible)) evidence = Unit {0}
+IsEvident cells (Ok (NumbersReply numbers)) evidence = Unit {0}
+IsEvident cells (Ok (NamesReply names)) evidence = Unit {0}
+IsEvident cells (Ok (TextReply text)) evidence = Unit {0}
+IsEvident cells (Ok (LevelReply level)) evidence = Unit {0}
+IsEvident cells (Err refusal) evidence = Unit {0}
+
+-- what some state of the registry replies to the command
+pub record TellsReply (cells : List ℕ) (c : Command) (evidence : Evidence) (answer : Answer) : Type 0 where
+  pub result : Result Reply Refusal
+  pub replied : IsSomeAnswer c result
+  pub answer_is : answer ≡ answer_to c result
+  pub evident : IsEvident cells result evidence
+
+-- some state of the registry replies an entry, and no receipt of its id with its text was found
+pub record TellsClash (c : Command) (answer : Answer) : Type 0 where
+  pub subject : List ℕ
+  pub version : ℕ
+  pub id : ℕ
+  pub text : List ℕ
+  pub replied : IsSomeAnswer c (Ok (EntryReply subject version id text))
+  pub answer_is : answer ≡ Refused faults.Clash
+
+-- for a private clause: whether a reply shows a text beside an id
+abbrev pub IsEntry : Reply → Type 0
+IsEntry (EntryReply subject version id text) = Unit {0}
+IsEntry (IdReply id) = ⊥
+IsEntry (CompatibleReply is_compatible) = ⊥
+IsEntry (NumbersReply numbers) = ⊥
+IsEntry (NamesReply names) = ⊥
+IsEntry (TextReply text) = ⊥
+IsEntry (LevelReply level) = ⊥
+
+-- for a private clause: a reply is told, or it is an entry without a receipt
+abbrev pub IsTold : List ℕ → Command → Reply → Evidence → Answer → Type 0
+IsTold cells c reply evidence answer =
+    ((answer ≡ answer_to c (Ok reply)) × IsEvident cells (Ok reply) evidence)
+    ⊎ (IsEntry reply × (answer ≡ Refused faults.Clash))
+
+-- ---- registrations
+
+-- the id of a receipt whose schema has the compact text of the text
+abbrev pub TellsIdOf : List ℕ → List ℕ → Result Shown Refusal → Evidence → Answer → Type 0
+TellsIdOf cells text (Ok receipt) evidence answer =
+    (evidence ≡ evidences.Shown receipt) × ShowsText cells (compacted text) receipt
+    × (answer ≡ Replied (compact_text (id_data receipt.id)))
+TellsIdOf cells text (Err refusal) evidence answer = answer ≡ Refused (fault_of refusal)
+
+-- what some state of the registry replies to the registration
+pub record TellsId (cells : List ℕ) (subject text : List ℕ) (evidence : Evidence) (answer : Answer) : Type 0 where
+  pub result : Result Shown Refusal
+  pub replied : IsSomeId subject text result
+  pub tells : TellsIdOf cells text result evidence answer
+
+-- ---- schemas of ids
+
+-- the text of the schema of a receipt of the id
+pub record TellsText (cells : List ℕ) (id : ℕ) (evidence : Evidence) (answer : Answer) : Type 0 where
+  pub receipt : Shown
+  pub evidence_is : evidence ≡ evidences.Shown receipt
+  pub is_receipt : IsReceiptOf cells receipt
+  pub id_is : receipt.id ≡ id
+  pub answer_is : IfSome receipt.schema (λ s. answer ≡ Replied (compact_text (schema_data s.text)))
+
+-- ---- messages
+
+-- the message or the fault that tells an outcome
+abbrev pub answer_of_outcome : ℕ → Outcome → Answer
+answer_of_outcome id (Done bytes) = Rewritten (envelope id bytes)
+answer_of_outcome id (Mismatched mismatch) = Refused (faults.Mismatch mismatch)
+answer_of_outcome id (Malformed kind at) = Refused (faults.Malformed kind at)
+answer_of_outcome id OutputTooLarge = Refused faults.OutputTooLarge
+
+abbrev pub fault_of_transcoding : TranscodeFault → Fault
+fault_of_transcoding transcoding.ProgramTooLarge = faults.ProgramTooLarge
+fault_of_transcoding transcoding.Clash = faults.Clash
+fault_of_transcoding transcoding.Full = faults.Full
+fault_of_transcoding transcoding.NotFinished = faults.NotFinished
+fault_of_transcoding transcoding.NoMemory = faults.NoMemory
+
+-- the outcome of a payload between the schemas of two receipts, or why there is none
+abbrev pub TellsOutcome : Shown → Shown → ℕ → List ℕ → Answer → Type 0
+TellsOutcome writer reader id payload answer =
+    (IfSome writer.schema (λ w. IfSome reader.schema (λ r.
+    (outcome : Outcome) × IsOutcome w.nodes r.nodes payload outcome × (answer ≡ answer_of_outcome id outcome))))
+    ⊎ (HasNoCode writer reader × (answer ≡ Refused faults.ProgramTooLarge))
+    ⊎ (answer ≡ Refused faults.Clash) ⊎ (answer ≡ Refused faults.Full)
+    ⊎ (answer ≡ Refused faults.NotFinished) ⊎ (answer ≡ Refused faults.NoMemory)
+
+-- the message of the path's reader, from that of the envelope's writer
+pub record TellsMessage (cells : List ℕ) (id : ℕ) (message : List ℕ) (evidence : Evidence) (answer : Answer)
+    : Type 0 where
+  pub writer : Shown
+  pub reader : Shown
+  pub payload : List ℕ
+  pub message_is : message ≡ envelope writer.id payload
+  pub evidence_is : evidence ≡ evidences.Pair writer reader
+  pub is_writer : IsReceiptOf cells writer
+  pub is_reader : IsReceiptOf cells reader
+  pub reader_id : reader.id ≡ id
+  pub tells : TellsOutcome writer reader id payload answer
+
+-- the bytes are no message
+abbrev pub TellsEnvelope : List ℕ → Answer → Type 0
+TellsEnvelope message answer =
+    (e : EnvelopeError) × Opens {A = List ℕ} message (λ payload. payload) (Err e)
+    × (answer ≡ Refused (faults.BadEnvelope e))
+
+-- ---- all that may be asked
+
+abbrev pub Fulfils : List ℕ → requests.Request → Evidence → Answer → Type 0
+Fulfils cells (requests.Asks c) evidence answer = TellsReply cells c evidence answer ⊎ TellsClash c answer
+Fulfils cells (requests.Registers subject text) evidence answer = TellsId cells subject text evidence answer
+Fulfils cells (requests.AsksSchema id) evidence answer =
+    (answer ≡ Refused faults.NoSchema) ⊎ TellsText cells id evidence answer
+Fulfils cells (requests.Transcodes id message) evidence answer =
+    (answer ≡ Refused faults.NoSchema) ⊎ TellsEnvelope message answer
+    ⊎ TellsMessage cells id message evidence answer
+
+-- the answer to what is asked, or the fault of the request
+abbrev pub Answers : List ℕ → Result requests.Request Fault → Evidence → Answer → Type 0
+Answers cells (Ok request) evidence answer = Fulfils cells request evidence answer
+Answers cells (Err fault) evidence answer = answer ≡ Refused fault

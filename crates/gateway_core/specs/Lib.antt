@@ -1,0 +1,4 @@
+pub mod Transcoding
+pub mod Replies
+pub mod Answering
+pub mod Serving

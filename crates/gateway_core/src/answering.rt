@@ -1,0 +1,176 @@
+//! What is asked, answered.
+
+ghost use Rattle.std.specs.Prelude.{◌≡◌, ◌⊎◌, IfNone, IfOk, IfSome, Ok, string_bytes};
+ghost use Rattle.schema_registry.specs.Command.{Command as AnyCommand, command_of};
+ghost use Rattle.schema_registry.specs.Reply.{reply_of};
+ghost use Rattle.schema_registry.specs.Shared.{IsReceiptOf};
+ghost use Rattle.gateway_answers.specs.Answer.{Refused, answer_of};
+ghost use Rattle.gateway_requests.specs.Request.{request_of};
+ghost use Rattle.gateway_requests.specs.Sizes.{IsWithin};
+ghost use Rattle.gateway_requests.specs.declared.limits.TheConstants.{MOST_BODY};
+ghost use Rattle.gateway_core.specs.Answering.{Fulfils, HasText, IsEntry, IsEvident, IsTold, TellsClash, TellsId, TellsReply, TellsText};
+ghost use Rattle.gateway_core.specs.Replies.{SetsLevel};
+
+use crate::app::App;
+use crate::evidence::Evidence;
+use crate::gate::Gate;
+use crate::messages::tell_message;
+use crate::replies::{fault_of, reply_text};
+use crate::transcode::Transcode;
+use gateway_answers::{Answer, Fault, id_text, schema_text};
+use gateway_requests::Request;
+use schema_registry::{Command, Receipt, Reply, SharedRegistry};
+use std::alloc::{AllocError, Global};
+use std::sync::Wait;
+
+/// An answer, and the receipts that it stands on.
+#[derive(Drop)]
+pub(crate) struct Told {
+    pub(crate) answer: Answer,
+    pub(crate) evidence: Evidence,
+}
+
+/// A fault, which stands on nothing.
+pub(crate) fn refused(fault: Fault) -> Told
+    ensures { answer_of result.answer ≡ Refused fault }
+{
+    Told {
+        answer: Answer::Fault(fault),
+        evidence: Evidence::Nothing,
+    }
+}
+
+/// The receipt of an id whose schema has a text. `None` where this thread sees no such schema.
+fn receipt_of(registry: &SharedRegistry, id: u32, text: &str) -> Option<Receipt>
+    ensures { IfSome result (λ receipt. IsReceiptOf registry.now receipt × (receipt.id ≡ id)
+        × HasText receipt text.now) }
+{
+    let (schema, receipt) = registry.find(id)?;
+    if schema.text() == text {
+        Some(receipt)
+    } else {
+        None
+    }
+}
+
+/// The receipt that a reply stands on, where it shows a text beside an id. `None` where there is none.
+fn evidence_of(registry: &SharedRegistry, reply: &Reply) -> Option<Evidence>
+    ensures found { IfSome result (λ evidence. IsEvident registry.now (Ok (reply_of reply.now)) evidence) }
+    ensures missing { IfNone result (IsEntry (reply_of reply.now)) }
+{
+    match reply {
+        Reply::Entry { id, text, .. } => match receipt_of(registry, *id, text.as_str()) {
+            Some(receipt) => Some(Evidence::Shown(receipt)),
+            None => None,
+        },
+        _ => Some(Evidence::Nothing),
+    }
+}
+
+/// A reply of the registry as an answer. `is_set` says that a level was set, and not asked for.
+fn tell(
+    alloc: Global,
+    registry: &SharedRegistry,
+    is_set: bool,
+    reply: &Reply,
+) -> Result<Told, AllocError>
+    ensures { (c : AnyCommand) → SetsLevel c is_set
+        → IfOk result (λ told. IsTold registry.now c (reply_of reply.now) told.evidence (answer_of told.answer)) }
+{
+    match evidence_of(registry, reply) {
+        Some(evidence) => {
+            let answer = Answer::Reply(reply_text(alloc, is_set, reply)?);
+            Ok(Told { answer, evidence })
+        }
+        None => Ok(refused(Fault::Clash)),
+    }
+}
+
+/// Whether a command sets a level.
+fn sets_level(command: &Command) -> bool
+    ensures { SetsLevel (command_of command.now) result }
+{
+    match command {
+        Command::SetLevel { .. } => true,
+        _ => false,
+    }
+}
+
+/// What the registry replies to a command that is no registration.
+fn tell_reply<R: Wait>(
+    rt: &R,
+    alloc: Global,
+    registry: &SharedRegistry,
+    command: Command,
+) -> Result<Told, AllocError>
+    ensures { IfOk result (λ told. TellsReply registry.now (command_of command) told.evidence (answer_of told.answer)
+        ⊎ TellsClash (command_of command) (answer_of told.answer)) }
+{
+    let is_set = sets_level(&command);
+    match registry.apply(rt, command) {
+        Ok(reply) => tell(alloc, registry, is_set, &reply),
+        Err(refusal) => Ok(refused(fault_of(refusal))),
+    }
+}
+
+/// Registers the schema of a text for a subject, and tells its id.
+fn tell_id<R: Wait>(
+    rt: &R,
+    alloc: Global,
+    registry: &SharedRegistry,
+    subject: String,
+    text: String,
+) -> Result<Told, AllocError>
+    ensures { IfOk result (λ told. TellsId registry.now (string_bytes subject) (string_bytes text) told.evidence
+        (answer_of told.answer)) }
+{
+    match registry.register(rt, subject, text) {
+        Ok(receipt) => {
+            let answer = Answer::Reply(id_text(alloc, receipt.id())?);
+            let evidence = Evidence::Shown(receipt);
+            Ok(Told { answer, evidence })
+        }
+        Err(refusal) => Ok(refused(fault_of(refusal))),
+    }
+}
+
+/// The text of the schema of an id.
+fn tell_text(alloc: Global, registry: &SharedRegistry, id: u32) -> Result<Told, AllocError>
+    ensures { IfOk result (λ told. (answer_of told.answer ≡ Refused Fault.NoSchema)
+        ⊎ TellsText registry.now id told.evidence (answer_of told.answer)) }
+{
+    match registry.find(id) {
+        Some((schema, receipt)) => {
+            let answer = Answer::Reply(schema_text(alloc, schema.text())?);
+            let evidence = Evidence::Shown(receipt);
+            Ok(Told { answer, evidence })
+        }
+        None => Ok(refused(Fault::NoSchema)),
+    }
+}
+
+/// Answers what is asked.
+pub(crate) fn answer<R: Wait, T: Transcode, G: Gate>(
+    rt: &R,
+    alloc: Global,
+    app: &App<'_, T>,
+    seat: &mut T::Seat,
+    gate: &mut G,
+    request: Request,
+) -> Result<Told, AllocError>
+    requires cells { T.cells app.now.transcoder.now ≡ app.now.registry.now }
+    requires seat { T.rests app.now.transcoder.now seat.old }
+    requires size { IsWithin MOST_BODY (request_of request) }
+    ensures seat { T.rests app.now.transcoder.now seat.new }
+    ensures fulfils { IfOk result (λ told. Fulfils app.now.registry.now (request_of request) told.evidence
+        (answer_of told.answer)) }
+{
+    match request {
+        Request::Command(command) => tell_reply(rt, alloc, app.registry, command),
+        Request::Registration { subject, text } => tell_id(rt, alloc, app.registry, subject, text),
+        Request::Schema { id } => tell_text(alloc, app.registry, id),
+        Request::Transcoding { reader, message } => {
+            Ok(tell_message(rt, app, seat, gate, reader, message))
+        }
+    }
+}

@@ -1,0 +1,22 @@
+//! Edge: HTTP; used by `gateway`, `gateway_server`.
+//!
+//! One request, one answer, over any reader and any writer.
+#![tactic(auto)]
+
+mod answering;
+mod app;
+mod evidence;
+mod gate;
+mod messages;
+mod replies;
+mod serve_error;
+mod serving;
+mod transcode;
+mod writing;
+
+pub use app::App;
+pub use evidence::Evidence;
+pub use gate::{Gate, Place};
+pub use serve_error::ServeError;
+pub use serving::{serve_and_tell, serve_one};
+pub use transcode::{Transcode, TranscodeFault};

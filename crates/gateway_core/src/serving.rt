@@ -1,0 +1,177 @@
+//! One request read, one answer written.
+
+ghost use Rattle.std.specs.Prelude.{◌≡◌, ◌⊎◌, ◌++◌, [], Err, IfErr, IfOk, IfSome, Result, drop};
+ghost use Rattle.httparse.specs.Grammar.{RequestHead};
+ghost use Rattle.httparse.specs.Spans.{IsRequestAt, IsRequestWithin};
+ghost use Rattle.http_request.specs.declared.read_error.ReadError.TheVariants as reading;
+ghost use Rattle.gateway_answers.specs.Answer.{answer_of};
+ghost use Rattle.gateway_requests.specs.Asking.{asked};
+ghost use Rattle.gateway_requests.specs.Request.{request_of};
+ghost use Rattle.gateway_requests.specs.Sizes.{IsWithin};
+ghost use Rattle.gateway_requests.specs.declared.limits.TheConstants.{MOST_BODY};
+ghost use Rattle.gateway_core.specs.declared.evidence.Evidence.{Evidence};
+ghost use Rattle.gateway_core.specs.Serving.{IsAnswer, IsFault, IsServed, IsTextOf, TellsAsked, TellsRequest};
+
+use crate::answering::{Told, answer, refused};
+use crate::app::App;
+use crate::evidence::Evidence;
+use crate::gate::Gate;
+use crate::serve_error::ServeError;
+use crate::transcode::Transcode;
+use crate::writing::write_all;
+use gateway_answers::{Answer, AnswerBytes, Fault};
+use gateway_requests::{Request, Routes, choose, path_of, request_of};
+use http_request::{Front, MOST_FIELDS, MOST_HEAD, ReadError, read_body, read_head};
+use httparse::spans::{EMPTY_HEADER_SPAN, HeaderSpan, RequestSpans};
+use std::alloc::{AllocError, Global};
+use std::io::{Read, Write};
+use std::sync::Wait;
+
+/// What a request asks whose head was received, and maybe bytes behind it.
+fn request_behind<R: Read>(
+    alloc: Global,
+    routes: &Routes,
+    reader: &mut R,
+    received: &[u8],
+    headers: &[HeaderSpan],
+    head: &RequestSpans,
+) -> Result<Result<Request, Fault>, ReadError>
+    requires head { (h : RequestHead) × IsRequestAt received.now headers.now head.now h }
+    requires within { IsRequestWithin received.now headers.now head.now }
+    ensures ok { (h : RequestHead) → IsRequestAt received.now headers.now head.now h
+        → IfOk result (TellsAsked (R.remaining reader.old)
+        (λ left. asked h (drop head.now.len received.now ++ left))) }
+    ensures size { IfOk result (λ r. IfOk r (λ request. IsWithin MOST_BODY (request_of request))) }
+    ensures fault { IfErr result (λ e. e ≡ reading.Failed) }
+{
+    let chosen = match choose(routes, received, headers, head) {
+        Ok(chosen) => chosen,
+        Err(fault) => return Ok(Err(fault)),
+    };
+    let path = path_of(head.path.of(received)).as_bytes();
+    match read_body(alloc, reader, &received[head.len..], chosen.body_length) {
+        Ok(body) => Ok(request_of(alloc, path, body, chosen.action)),
+        Err(ReadError::NoMemory) => Ok(Err(Fault::NoMemory)),
+        Err(_) => Err(ReadError::Failed),
+    }
+}
+
+/// What the bytes of the reader ask, or the first of their faults.
+fn read_request<R: Read>(
+    alloc: Global,
+    routes: &Routes,
+    reader: &mut R,
+) -> Result<Result<Request, Fault>, ReadError>
+    ensures ok { IfOk result (TellsRequest (R.remaining reader.old)) }
+    ensures size { IfOk result (λ r. IfOk r (λ request. IsWithin MOST_BODY (request_of request))) }
+    ensures closed { result ≡ Err reading.Closed → IfSome (R.remaining reader.old) (λ input. input ≡ []) }
+    ensures fault { IfErr result (λ e. (e ≡ reading.Closed) ⊎ (e ≡ reading.Failed)) }
+{
+    let mut buffer = [0u8; MOST_HEAD];
+    let mut headers: [HeaderSpan; MOST_FIELDS] = [EMPTY_HEADER_SPAN; MOST_FIELDS];
+    match read_head(reader, &mut buffer, &mut headers)? {
+        Front::NoHead => Ok(Err(Fault::BadRequest)),
+        Front::Head { spans, received } => request_behind(
+            alloc,
+            routes,
+            reader,
+            &buffer[..received],
+            &headers,
+            &spans,
+        ),
+    }
+}
+
+/// The answer to the request that the reader gives.
+fn answer_request<R: Wait, T: Transcode, I: Read, G: Gate>(
+    rt: &R,
+    alloc: Global,
+    app: &App<'_, T>,
+    seat: &mut T::Seat,
+    reader: &mut I,
+    gate: &mut G,
+) -> Result<Told, ReadError>
+    requires cells { T.cells app.now.transcoder.now ≡ app.now.registry.now }
+    requires seat { T.rests app.now.transcoder.now seat.old }
+    ensures seat { T.rests app.now.transcoder.now seat.new }
+    ensures ok { IfOk result (λ told. IsAnswer app.now.registry.now (I.remaining reader.old) told.evidence
+        (answer_of told.answer)) }
+    ensures closed { result ≡ Err reading.Closed → IfSome (I.remaining reader.old) (λ input. input ≡ []) }
+    ensures fault { IfErr result (λ e. (e ≡ reading.Closed) ⊎ (e ≡ reading.Failed)) }
+{
+    match read_request(alloc, &app.routes, reader)? {
+        Ok(request) => match answer(rt, alloc, app, seat, gate, request) {
+            Ok(told) => Ok(told),
+            Err(AllocError) => Ok(refused(Fault::NoMemory)),
+        },
+        Err(fault) => Ok(refused(fault)),
+    }
+}
+
+/// Returns the bytes of an answer and its status, or those of the answer that memory ran out.
+fn bytes_of(alloc: Global, answer: Answer) -> Result<(AnswerBytes, u16), AllocError>
+    ensures { IfOk result (λ text. IsTextOf (answer_of answer) (text.0.front.items ++ text.0.rest.items) text.1) }
+{
+    let status = answer.status().number();
+    match answer.into_bytes(alloc) {
+        Ok(bytes) => Ok((bytes, status)),
+        Err(AllocError) => {
+            let refusal = Answer::Fault(Fault::NoMemory);
+            let status = refusal.status().number();
+            Ok((refusal.into_bytes(alloc)?, status))
+        }
+    }
+}
+
+/// Reads one request and writes one answer: the status, and the receipts that the answer stands on.
+///
+/// `Closed` where no byte came, `ReadFault` where the reader failed, `NoMemory` where not even a fault's text found
+/// memory: then nothing is written. `WriteFault` where the writer failed, behind the first bytes of an answer.
+pub fn serve_and_tell<R: Wait, T: Transcode, I: Read, O: Write, G: Gate>(
+    rt: &R,
+    alloc: Global,
+    app: &App<'_, T>,
+    seat: &mut T::Seat,
+    reader: &mut I,
+    writer: &mut O,
+    gate: &mut G,
+) -> Result<(u16, Evidence), ServeError>
+    requires cells { T.cells app.now.transcoder.now ≡ app.now.registry.now }
+    requires seat { T.rests app.now.transcoder.now seat.old }
+    ensures seat { T.rests app.now.transcoder.now seat.new }
+    ensures served { IfOk result (λ told. IsServed app.now.registry.now (I.remaining reader.old)
+        (O.contents writer.old) (O.contents writer.new) told.0 told.1) }
+    ensures fault { IfErr result (IsFault app.now.registry.now (I.remaining reader.old)
+        (O.contents writer.old) (O.contents writer.new)) }
+{
+    let told = answer_request(rt, alloc, app, seat, reader, gate)?;
+    let Told { answer, evidence } = told;
+    let (bytes, status) = bytes_of(alloc, answer)?;
+    match write_all(writer, &bytes.front, &bytes.rest) {
+        Ok(()) => Ok((status, evidence)),
+        Err(cut) => Err(ServeError::WriteFault { sent: cut.sent }),
+    }
+}
+
+/// Reads one request and writes one answer, as `serve_and_tell` does: the status alone, and the receipts are let go.
+pub fn serve_one<R: Wait, T: Transcode, I: Read, O: Write, G: Gate>(
+    rt: &R,
+    alloc: Global,
+    app: &App<'_, T>,
+    seat: &mut T::Seat,
+    reader: &mut I,
+    writer: &mut O,
+    gate: &mut G,
+) -> Result<u16, ServeError>
+    requires cells { T.cells app.now.transcoder.now ≡ app.now.registry.now }
+    requires seat { T.rests app.now.transcoder.now seat.old }
+    ensures seat { T.rests app.now.transcoder.now seat.new }
+    ensures served { IfOk result (λ status. (evidence : Evidence) × IsServed app.now.registry.now
+        (I.remaining reader.old) (O.contents writer.old) (O.contents writer.new) status evidence) }
+    ensures fault { IfErr result (IsFault app.now.registry.now (I.remaining reader.old)
+        (O.contents writer.old) (O.contents writer.new)) }
+{
+    let (status, evidence) = serve_and_tell(rt, alloc, app, seat, reader, writer, gate)?;
+    drop(evidence);
+    Ok(status)
+}

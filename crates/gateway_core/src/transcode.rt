@@ -1,0 +1,59 @@
+//! The seam behind which messages are rewritten.
+
+use crate::gate::Gate;
+use outcome::Outcome;
+use schema_registry::Receipt;
+use std::sync::Wait;
+use thiserror::Error;
+
+/// Why a payload has no outcome.
+#[derive(Clone, Copy, Debug, PartialEq, Eq, Error)]
+pub enum TranscodeFault {
+    #[error("the program of the pair passes a limit")]
+    ProgramTooLarge,
+    #[error("a cell shows another value")]
+    Clash,
+    #[error("all sessions are taken")]
+    Full,
+    #[error("the session was abandoned")]
+    NotFinished,
+    #[error("out of memory")]
+    NoMemory,
+}
+
+/// What gives the outcome of payloads for pairs of receipts of one registry.
+pub trait Transcode {
+    ghost use Rattle.std.specs.Prelude.{◌≡◌, ◌≤◌, ℕ, List, IfOk, vec_len};
+    ghost use Rattle.outcome.specs.declared.limits.TheConstants.{MOST_PAYLOAD};
+    ghost use Rattle.schema_registry.specs.Shared.{IsReceiptOf};
+    ghost use Rattle.gateway_core.specs.Transcoding.{HasOutcome, HasNoProgram};
+
+    /// What a caller keeps between two calls.
+    type Seat;
+
+    // The names of the cells of the registry whose receipts it takes.
+    ghost cells: { Self → List ℕ };
+
+    // Whether a seat is one of its own, with nothing left to do.
+    ghost rests: { Self → Self.Seat → Type 0 };
+
+    /// The outcome of a payload of the writer's schema for the reader's. Where it has to wait it asks the gate.
+    fn transcode<R: Wait, G: Gate>(
+        &self,
+        rt: &R,
+        seat: &mut Self::Seat,
+        gate: &mut G,
+        writer: &mut Receipt,
+        reader: &mut Receipt,
+        payload: Vec<u8>,
+    ) -> Result<Outcome, TranscodeFault>
+        requires seat { rests self.now seat.old }
+        requires writer { IsReceiptOf (cells self.now) writer.old }
+        requires reader { IsReceiptOf (cells self.now) reader.old }
+        requires payload { vec_len payload ≤ MOST_PAYLOAD }
+        ensures seat { rests self.now seat.new }
+        ensures writer { writer.new ≡ writer.old }
+        ensures reader { reader.new ≡ reader.old }
+        ensures outcome { IfOk result (HasOutcome writer.old reader.old payload.items) }
+        ensures program { HasNoProgram writer.old reader.old result };
+}

@@ -1,7 +1,0 @@
-use Rattle.std.proofs.Common.{◌≡◌}
-use Rattle.schema_registry.specs.Receipt.{IsReceiptOf}
-use Rattle.session_pool.specs.Seats.{Rests}
-use Rattle.gateway_sessions_tests.proofs.refusals.takes_all.Given as goal
-
-abbrev pub invariant-loop : goal.invariant-loop
-invariant-loop l = Rests l.pool l.seat × (l.receipt ≡ l.fn.receipt) × IsReceiptOf l.pool.cache.now l.again

@@ -1,5 +1,0 @@
-use Rattle.session_pool.specs.Seats.{IsPassOf, Rests}
-use Rattle.gateway_sessions_tests.proofs.waiting.end_when_free.Given as goal
-
-abbrev pub invariant-loop : goal.invariant-loop
-invariant-loop l = Rests l.pool l.seat × IsPassOf l.seat l.pass

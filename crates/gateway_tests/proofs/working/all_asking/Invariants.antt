@@ -1,0 +1,7 @@
+use Rattle.std.proofs.Common.{All}
+use Rattle.schema_registry.specs.Receipt.{IsReceiptOf}
+use Rattle.session_pool.specs.Seats.{IsNewClient}
+use Rattle.gateway_tests.proofs.working.all_asking.Given as goal
+
+abbrev pub invariant-loop : goal.invariant-loop
+invariant-loop l = All (IsNewClient l.pool) l.seats.items × IsReceiptOf l.pool.cache.now l.receipt

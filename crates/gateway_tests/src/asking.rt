@@ -1,0 +1,47 @@
+//! A request that is answered in memory.
+
+ghost use Rattle.std.specs.Prelude.{◌≡◌};
+ghost use Rattle.session_pool.specs.Seats.{Rests};
+
+use gateway_core::{App, Gate, ServeError, serve_one};
+use gateway::Pooled;
+use session_pool::ClientSeat;
+use std::alloc::Global;
+use std::sync::Wait;
+
+/// The message of T's record of 27 and `foo` for its reader, as a request.
+pub(crate) const MESSAGE: &[u8] =
+    b"POST /transcode/2 HTTP/1.1\r\ncontent-length: 10\r\n\r\n\x00\x00\x00\x00\x01\x36\x06foo";
+
+/// The answer to it.
+pub(crate) const REWRITTEN: &[u8] = b"HTTP/1.1 200 OK\r\ncontent-type: application/octet-stream\r\n\
+content-length: 10\r\nconnection: close\r\n\r\n\x00\x00\x00\x00\x02\x06foo\x36";
+
+/// The answer where all slots are taken.
+pub(crate) const FULL: &[u8] = b"HTTP/1.1 503 Service Unavailable\r\n\
+content-type: application/vnd.schemaregistry.v1+json\r\ncontent-length: 37\r\nconnection: close\r\n\r\n\
+{\"error_code\":50302,\"message\":\"full\"}";
+
+/// The answer where a gate said no.
+pub(crate) const NOT_FINISHED: &[u8] = b"HTTP/1.1 503 Service Unavailable\r\n\
+content-type: application/vnd.schemaregistry.v1+json\r\ncontent-length: 45\r\nconnection: close\r\n\r\n\
+{\"error_code\":50303,\"message\":\"not finished\"}";
+
+/// The bytes of the answer to a request.
+pub(crate) fn ask<'p, R: Wait, G: Gate>(
+    rt: &R,
+    alloc: Global,
+    app: &App<'_, Pooled<'_, 'p>>,
+    seat: &mut ClientSeat<'p>,
+    gate: &mut G,
+    request: &[u8],
+) -> Result<Vec<u8>, ServeError>
+    requires cells { app.now.transcoder.now.pool.now.cache.now ≡ app.now.registry.now }
+    requires seat { Rests app.now.transcoder.now.pool.now seat.old }
+    ensures { Rests app.now.transcoder.now.pool.now seat.new }
+{
+    let mut reader = request;
+    let mut answer = Vec::new(alloc);
+    serve_one(rt, alloc, app, seat, &mut reader, &mut answer, gate)?;
+    Ok(answer)
+}
