@@ -33,7 +33,7 @@ fn register_all<R: Wait>(
     let mut last = 0;
     for number in 0..count {
         let subject = subject_of(alloc, subjects, number)?;
-        last = shared.register(rt, subject, text_of(alloc, number)?)?.id();
+        (last, _) = shared.register(rt, subject, text_of(alloc, number)?)?;
     }
     Ok(last)
 }

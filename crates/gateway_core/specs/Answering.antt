@@ -76,15 +76,15 @@ IsTold cells c reply evidence answer =
 -- ---- registrations
 
 -- the id of a receipt whose schema has the compact text of the text
-abbrev pub TellsIdOf : List ℕ → List ℕ → Result Shown Refusal → Evidence → Answer → Type 0
-TellsIdOf cells text (Ok receipt) evidence answer =
-    (evidence ≡ evidences.Shown receipt) × ShowsText cells (compacted text) receipt
-    × (answer ≡ Replied (compact_text (id_data receipt.id)))
+abbrev pub TellsIdOf : List ℕ → List ℕ → Result (ℕ × Shown) Refusal → Evidence → Answer → Type 0
+TellsIdOf cells text (Ok (id, receipt)) evidence answer =
+    (evidence ≡ evidences.Shown receipt) × ShowsText cells (compacted text) receipt × (receipt.id ≡ id)
+    × (answer ≡ Replied (compact_text (id_data id)))
 TellsIdOf cells text (Err refusal) evidence answer = answer ≡ Refused (fault_of refusal)
 
 -- what some state of the registry replies to the registration
 pub record TellsId (cells : List ℕ) (subject text : List ℕ) (evidence : Evidence) (answer : Answer) : Type 0 where
-  pub result : Result Shown Refusal
+  pub result : Result (ℕ × Shown) Refusal
   pub replied : IsSomeId subject text result
   pub tells : TellsIdOf cells text result evidence answer
 

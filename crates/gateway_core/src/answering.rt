@@ -125,8 +125,8 @@ fn tell_id<R: Wait>(
         (answer_of told.answer)) }
 {
     match registry.register(rt, subject, text) {
-        Ok(receipt) => {
-            let answer = Answer::Reply(id_text(alloc, receipt.id())?);
+        Ok((id, receipt)) => {
+            let answer = Answer::Reply(id_text(alloc, id)?);
             let evidence = Evidence::Shown(receipt);
             Ok(Told { answer, evidence })
         }

@@ -34,5 +34,6 @@ pub(crate) fn registered<R: Wait>(
 {
     let subject = String::from_str(alloc, subject)?;
     let text = String::from_str(alloc, text)?;
-    cache.registry().register(rt, subject, text)
+    let (_id, receipt) = cache.registry().register(rt, subject, text)?;
+    Ok(receipt)
 }

@@ -29,7 +29,7 @@ fn register_lines<R: Wait>(
 ) -> Result<(), Refusal> {
     for (number, text) in texts.lines().enumerate() {
         let subject = format!(in alloc; "s{number}")?;
-        let _receipt = registry.register(rt, subject, String::from_str(alloc, text)?)?;
+        let _registered = registry.register(rt, subject, String::from_str(alloc, text)?)?;
     }
     Ok(())
 }

@@ -20,7 +20,8 @@ pub(crate) fn register<R: Wait>(
     ensures { IfOk result (IsReceiptOf shared.now) }
 {
     let subject = String::from_str(alloc, "s")?;
-    shared.register(rt, subject, String::from_str(alloc, text)?)
+    let (_id, receipt) = shared.register(rt, subject, String::from_str(alloc, text)?)?;
+    Ok(receipt)
 }
 
 /// The text that is shown under an id, or `none`.
