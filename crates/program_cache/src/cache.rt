@@ -6,14 +6,13 @@ ghost use Rattle.program_cache.specs.Pairs.{IsPairAnswer};
 ghost use Rattle.schema_registry.specs.Receipt.{IsReceiptOf};
 ghost use Rattle.session_core.specs.Publishing.{IsPublished};
 
-use crate::cells::Cells;
+use crate::cells::{Cells, NumberedCell};
 use crate::compiled::Compiled;
 use crate::known::KnownPairs;
 use crate::place::Place;
 use crate::refusal::PairRefusal;
 use avro_schema::Schema;
 use machine::PlannedProgram;
-use once_cell::race::OnceBox;
 use pair_program::PairProgram;
 use schema_registry::{MOST_SCHEMAS, Receipt, SharedRegistry};
 use session_core::{Programs, PublishError};
@@ -41,14 +40,14 @@ pub struct ProgramCache<'r> {
 }
 
 impl<'r> Model for ProgramCache<'r> {
-    ghost use Rattle.std.specs.Prelude.{ℕ, List};
+    ghost use Rattle.std.specs.Prelude.{◌≡◌, ℕ, List};
     ghost use Rattle.program_cache.specs.Known.{IsTableOf};
 
     ghost Value = { List ℕ };
 
     ghost view = { λ c. c.registry.now };
 
-    ghost invariant = { λ c. IsTableOf c.registry.now c.known };
+    ghost invariant = { λ c. IsTableOf c.registry.now c.known × (c.rows.number ≡ 0) };
 }
 
 impl<'r> ProgramCache<'r> {
@@ -57,7 +56,7 @@ impl<'r> ProgramCache<'r> {
         ensures { IfOk result (λ cache. cache ≡ registry.now) }
     {
         let known = KnownPairs::new(alloc, registry)?;
-        let rows = Cells::new(alloc)?;
+        let rows = Cells::new(alloc, 0)?;
         Ok(ProgramCache {
             alloc,
             registry,
@@ -84,20 +83,24 @@ impl<'r> ProgramCache<'r> {
         Place::of(writer.id(), reader.id())
     }
 
-    /// The cell at a place.
-    fn cell(&self, place: Place) -> Result<&OnceBox<Compiled>, AllocError> {
+    /// Returns the cell at a place. Rows on the way to it that are not there are made: an `Err` where they cannot be.
+    fn cell(&self, place: Place) -> Result<NumberedCell<'_, Compiled>, AllocError>
+        ensures { IfOk result (λ cell. cell.number ≡ number_of_place place) }
+    {
         let rows = Rows::in_cell(self.alloc, self.rows.at(place.first))?;
         let row = Row::in_cell(self.alloc, rows.at(place.second))?;
         let block = Block::in_cell(self.alloc, row.at(place.third))?;
         Ok(block.at(place.fourth))
     }
 
-    /// What the cell at a place has.
-    fn in_cell(&self, place: Place) -> Option<&Compiled> {
-        let rows = self.rows.at(place.first).get()?;
-        let row = rows.at(place.second).get()?;
-        let block = row.at(place.third).get()?;
-        block.at(place.fourth).get()
+    /// Returns the cell at a place, where the rows on the way to it are there.
+    fn shown_cell(&self, place: Place) -> Option<NumberedCell<'_, Compiled>>
+        ensures { IfSome result (λ cell. cell.number ≡ number_of_place place) }
+    {
+        let rows = Rows::shown(self.rows.at(place.first))?;
+        let row = Row::shown(rows.at(place.second))?;
+        let block = Block::shown(row.at(place.third))?;
+        Some(block.at(place.fourth))
     }
 
     /// The program of a pair, by what its cell has, which is what was compiled where it had none.
@@ -110,10 +113,12 @@ impl<'r> ProgramCache<'r> {
     ) -> Result<&PairProgram, PairRefusal<'_>>
         ensures { IsPairAnswer writer.now reader.now result }
     {
-        let Ok(cell) = self.cell(place) else {
+        let Ok(found) = self.cell(place) else {
             return Err(PairRefusal::NoMemory);
         };
-        cell.get_or_init(move || compiled)
+        found
+            .cell
+            .get_or_init(move || compiled)
             .program_of(writer, reader)
     }
 
@@ -157,12 +162,13 @@ impl<'r> ProgramCache<'r> {
             return compiled.program();
         }
         let place = self.place_of(writer, reader);
-        match self.in_cell(place) {
-            Some(compiled) => {
-                compiled.program_of(self.registry.schema(writer), self.registry.schema(reader))
+        if let Some(found) = self.shown_cell(place) {
+            if let Some(compiled) = found.cell.get() {
+                return compiled
+                    .program_of(self.registry.schema(writer), self.registry.schema(reader));
             }
-            None => self.compile(writer, reader),
         }
+        self.compile(writer, reader)
     }
 
     /// The program of the schemas of two receipts, as `pair` has it. `Clash` tells nothing of the other pair.

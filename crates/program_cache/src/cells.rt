@@ -1,22 +1,31 @@
 //! Rows of cells, each of which is set once, by whichever thread comes first.
 
-ghost use Rattle.std.specs.Prelude.{◌≡◌, ◌<◌, IfOk, length};
+ghost use Rattle.std.specs.Prelude.{◌≡◌, ◌<◌, ◌+◌, ◌*◌, ◌^◌, IfOk, IfSome, length};
 ghost use Rattle.program_cache.specs.declared.cells.TheConstants.{CELLS};
 
 use once_cell::race::OnceBox;
 use std::alloc::{AllocError, Global};
 
-/// How many cells stand in a row.
+/// How many cells a row has.
 pub(crate) const CELLS: usize = 64;
 
-/// A row of `CELLS` cells.
+/// A row of `CELLS` cells, and its number among the rows of its level, from 0.
 #[derive(Drop)]
 pub(crate) struct Cells<T> {
+    number: usize,
     cells: Vec<OnceBox<T>>,
     ghost whole: { length cells.items ≡ CELLS },
+    ghost numbered: { number < CELLS ^ 3 },
 }
 
-/// So many cells with nothing in them.
+/// A cell, and its number among the cells of its level, from 0.
+#[derive(Drop)]
+pub(crate) struct NumberedCell<'a, T> {
+    pub(crate) number: usize,
+    pub(crate) cell: &'a OnceBox<T>,
+}
+
+/// Returns as many empty cells as `count` says.
 fn empty_cells<T: Drop>(alloc: Global, count: usize) -> Result<Vec<OnceBox<T>>, AllocError>
     ensures { IfOk result (λ cells. length cells.items ≡ count) }
 {
@@ -28,28 +37,56 @@ fn empty_cells<T: Drop>(alloc: Global, count: usize) -> Result<Vec<OnceBox<T>>, 
 }
 
 impl<T: Drop> Cells<T> {
-    /// A row of cells with nothing in them.
-    pub(crate) fn new(alloc: Global) -> Result<Cells<T>, AllocError> {
-        let cells = empty_cells(alloc, CELLS)?;
-        Ok(Cells { cells })
-    }
-
-    /// A cell of the row.
-    pub(crate) fn at(&self, index: usize) -> &OnceBox<T>
-        requires { index < CELLS }
+    /// Returns the row of that number, with nothing in its cells.
+    pub(crate) fn new(alloc: Global, number: usize) -> Result<Cells<T>, AllocError>
+        requires { number < CELLS ^ 3 }
+        ensures { IfOk result (λ row. row.number ≡ number) }
     {
-        &self.cells[index]
+        let cells = empty_cells(alloc, CELLS)?;
+        Ok(Cells { number, cells })
     }
 
-    /// The row that a cell has, which is a new one where it had none.
-    pub(crate) fn in_cell(
-        alloc: Global,
-        cell: &OnceBox<Cells<T>>,
-    ) -> Result<&Cells<T>, AllocError> {
-        if let Some(cells) = cell.get() {
-            return Ok(cells);
+    /// Returns a cell of the row, by its index in it.
+    pub(crate) fn at(&self, index: usize) -> NumberedCell<'_, T>
+        requires { index < CELLS }
+        ensures { result.number ≡ self.now.number * CELLS + index }
+    {
+        NumberedCell {
+            number: self.number * CELLS + index,
+            cell: &self.cells[index],
         }
-        let made = Box::new(alloc, Cells::new(alloc)?)?;
-        Ok(cell.get_or_init(move || made))
+    }
+
+    /// Returns the row that a cell shows, which has the cell's number. `None` where it shows no such row.
+    pub(crate) fn shown<'a>(cell: NumberedCell<'a, Cells<T>>) -> Option<&'a Cells<T>>
+        ensures { IfSome result (λ row. row.now.number ≡ cell.entry.number) }
+    {
+        let row = cell.cell.get()?;
+        if row.number != cell.number {
+            return None;
+        }
+        Some(row)
+    }
+
+    /// Returns the row that a cell shows, which is a new one where it showed none, and has the cell's number. An `Err`
+    /// where memory ran out, or another row is there, which nobody puts there.
+    pub(crate) fn in_cell<'a>(
+        alloc: Global,
+        cell: NumberedCell<'a, Cells<T>>,
+    ) -> Result<&'a Cells<T>, AllocError>
+        requires { cell.number < CELLS ^ 3 }
+        ensures { IfOk result (λ row. row.now.number ≡ cell.entry.number) }
+    {
+        let row = match cell.cell.get() {
+            Some(row) => row,
+            None => {
+                let made = Box::new(alloc, Cells::new(alloc, cell.number)?)?;
+                cell.cell.get_or_init(move || made)
+            }
+        };
+        if row.number != cell.number {
+            return Err(AllocError);
+        }
+        Ok(row)
     }
 }

@@ -24,5 +24,5 @@ pub use programs::Programs;
 pub use publish_error::PublishError;
 pub use refusal::EventRefusal;
 pub use reply::EventReply;
-pub use running::run_events;
+pub use session_state::{Session, SessionEnd};
 pub use world::World;

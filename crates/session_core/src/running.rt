@@ -33,23 +33,26 @@ fn take_events<'p, P: Programs>(
     Ok(())
 }
 
-/// The world after events, one after another, with a reply to each. A session's machine is its pair's program, run
-/// alone on its own bytes for as many rows as it counts, and ends with their outcome; and each session is what its own
-/// accepted acts make of it since it began.
-pub fn run_events<'p, P: Programs>(
-    alloc: Global,
-    programs: &'p P,
-    events: &[Event],
-) -> Result<(World<'p>, Vec<EventReply>), AllocError>
-    ensures many { IfOk result (λ r. length r.1.items ≡ length events.now) }
-    ensures happened { IfOk result (λ r. Happened (steps_of (map event_of events.now) r.1.items) no_world r.0) }
-    ensures ends { IfOk result (λ r. (session : ℕ) → SessionEndsWithOutcome r.0 session) }
-    ensures own { IfOk result (λ r. AreTheirOwn (steps_of (map event_of events.now) r.1.items) r.0) }
-{
-    sessions_are_their_own(); // law
-    let mut world = World::new(alloc);
-    let mut replies = Vec::new(alloc);
-    take_events(programs, events, &mut world, &mut replies)?;
-    world.sessions_end_with_their_outcomes(); // law
-    Ok((world, replies))
+impl<'p> World<'p> {
+    /// Returns the world after events, one after another, with a reply to each. A session's machine is its pair's
+    /// program, run alone on its own bytes for as many rows as it counts, and ends with their outcome; and each session
+    /// is what its own accepted acts make of it since it began. An `Err` where a reply found no memory.
+    pub fn run_events<P: Programs>(
+        alloc: Global,
+        programs: &'p P,
+        events: &[Event],
+    ) -> Result<(World<'p>, Vec<EventReply>), AllocError>
+        ensures many { IfOk result (λ r. length r.1.items ≡ length events.now) }
+        ensures happened { IfOk result (λ r.
+            Happened (steps_of (map event_of events.now) r.1.items) no_world r.0) }
+        ensures ends { IfOk result (λ r. (session : ℕ) → SessionEndsWithOutcome r.0 session) }
+        ensures own { IfOk result (λ r. AreTheirOwn (steps_of (map event_of events.now) r.1.items) r.0) }
+    {
+        sessions_are_their_own(); // law
+        let mut world = World::new(alloc);
+        let mut replies = Vec::new(alloc);
+        take_events(programs, events, &mut world, &mut replies)?;
+        world.sessions_end_with_their_outcomes(); // law
+        Ok((world, replies))
+    }
 }

@@ -4,7 +4,7 @@ use crate::again::row_for;
 use crate::same::same;
 use isa::End;
 use outcome::Outcome;
-use session_core::{Act, Event, EventRefusal, EventReply, PublishError, World, run_events};
+use session_core::{Act, Event, EventRefusal, EventReply, PublishError, World};
 use std::alloc::{AllocError, Global};
 use std::test::Fail;
 
@@ -61,7 +61,7 @@ fn is_done(world: &World, bytes: &[u8]) -> bool {
 fn events_go_in_one_call(rt: HostRuntime) -> Result<(), Fail> {
     let programs = row_for(rt.alloc(), 1)?;
     let events = events(rt.alloc())?;
-    let (world, replies) = run_events(rt.alloc(), &programs, &events)?;
+    let (world, replies) = World::run_events(rt.alloc(), &programs, &events)?;
     same(&rt, replies.as_slice(), REPLIES.as_slice());
     same(&rt, is_done(&world, &[2]), true);
     Ok(())

@@ -26,7 +26,7 @@ pub record EndsWithin (k : ℕ) (s : Session) : Type 0 where
   pub few : rows ≤ s.count + k
   pub countable : rows < 2 ^ 64
 
--- What a slice of at most k rows that leaves a session ends, where no breakpoint is set and it has an end within k rows.
+-- A slice of at most k rows ends a session that has an end within k rows, where no breakpoint is set.
 abbrev pub EndsInOneSlice : ℕ → Session → Session → Type 0
 EndsInOneSlice k old new = EndsWithin k old → old.breaks ≡ [] → is_some (end_in new) ≡ true
 

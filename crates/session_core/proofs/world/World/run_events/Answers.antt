@@ -2,7 +2,7 @@ use Rattle.std.proofs.Common.{map, subst}
 use Rattle.session_core.specs.Event.{event_of}
 use Rattle.session_core.specs.Happening.{Happened, steps_of}
 use Rattle.session_core.specs.World.{World}
-use Rattle.session_core.proofs.running.run_events.Goals as goal
+use Rattle.session_core.proofs.world.World.run_events.Goals as goal
 
 pub returns-clause-own : goal.returns-clause-own
 returns-clause-own g c =
