@@ -110,7 +110,7 @@ def of_process(pid):
 
 
 def serve(case):
-    server = subprocess.Popen([PROGRAM, "serve", "--port", "0"], stdout=subprocess.PIPE)
+    server = subprocess.Popen([PROGRAM, "serve", "--port", "0", "--request-timeout", str(PATIENCE)], stdout=subprocess.PIPE)
     try:
         port = int(server.stdout.readline().split()[1])
         for subject, text in (("w", case.writer), ("r", case.reader)):

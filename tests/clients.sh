@@ -17,7 +17,7 @@ lines=$folder/lines
 : >"$lines"
 
 : >"$folder/told"
-"$program" serve --port 0 >"$folder/told" 2>"$folder/err" & server=$!
+"$program" serve --port 0 --request-timeout 300 >"$folder/told" 2>"$folder/err" & server=$!
 port=
 for _ in $(seq 600); do
   port=$(sed -n 's/^listening //p' "$folder/told")

@@ -15,7 +15,7 @@ folder=$(mktemp -d)
 server=
 trap '[ -z "$server" ] || kill "$server" 2>/dev/null || true; rm -rf "$folder"' EXIT
 : >"$folder/told"
-(ulimit -s "${STACK:-$(ulimit -s)}"; exec "$program" serve --port 0 --clients 2 --request-timeout 2 >"$folder/told" 2>"$folder/err") & server=$!
+(ulimit -s "${STACK:-$(ulimit -s)}"; exec "$program" serve --port 0 --clients 2 --request-timeout 10 >"$folder/told" 2>"$folder/err") & server=$!
 port=
 for _ in $(seq 600); do
   port=$(sed -n 's/^listening //p' "$folder/told")
@@ -25,7 +25,7 @@ done
 [ -n "$port" ] || { echo "the server did not say where it listens: $(cat "$folder/told" "$folder/err")"; exit 1; }
 lines=$folder/lines
 echo "a thread has a stack of ${STACK:-$(ulimit -s)} KiB"
-PYTHONDONTWRITEBYTECODE=1 timeout 3600 python3 "$here/stack/worst.py" "$port" 2 "${@:2}" | tee "$lines" || true
+PYTHONDONTWRITEBYTECODE=1 timeout 3600 python3 "$here/stack/worst.py" "$port" 10 "${@:2}" | tee "$lines" || true
 grep -qx 'all were tried' "$lines" || echo 'FAILED the checks: they did not come to their end' | tee -a "$lines"
 if kill -0 "$server" 2>/dev/null; then
   echo 'ok the server still runs' | tee -a "$lines"

@@ -199,7 +199,7 @@ def check(name, is_right, why=""):
 
 
 def at_once(name, *words):
-    server = Server(*words)
+    server = Server("--request-timeout", str(10 * PATIENCE), *words)
     try:
         register(server)
         wrong.clear()
@@ -251,11 +251,11 @@ def silent_connections():
     few, many = SILENT_CONNECTIONS, str(SILENT_CONNECTIONS + 1)
     answered, took = answered_beside(few, "--clients", many, "--request-timeout", str(10 * PATIENCE))
     check("%d connections that send nothing do not stop a service of %s clients: %.1f s" % (few, many, took), answered == 20, "%d answers" % answered)
-    answered, took = answered_beside(few, "--request-timeout", "2")
-    check("%d connections that send nothing hold a default service for its 2 s, and it answers then: %.1f s" % (few, took), answered == 20 and took > 1.9, "%d answers" % answered)
+    answered, took = answered_beside(few, "--request-timeout", "5")
+    check("%d connections that send nothing hold a default service for its 5 s, and it answers then: %.1f s" % (few, took), answered == 20 and took > 4.9, "%d answers" % answered)
 
 
-at_once("a default service")
+at_once("4 clients and 4 workers", "--clients", "4", "--workers", "4")
 at_once("4 clients and 1 worker", "--clients", "4", "--workers", "1")
 at_once("1 client and 4 workers", "--clients", "1", "--workers", "4")
 silent_connections()

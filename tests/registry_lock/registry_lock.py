@@ -14,7 +14,7 @@ IDLE_ROUNDS = 50
 
 class Server:
     def __init__(self):
-        self.process = subprocess.Popen([PROGRAM, "serve", "--port", "0"], stdout=subprocess.PIPE)
+        self.process = subprocess.Popen([PROGRAM, "serve", "--port", "0", "--request-timeout", str(PATIENCE)], stdout=subprocess.PIPE)
         told = self.process.stdout.readline().split()
         assert told[:1] == [b"listening"], told
         self.port = int(told[1])
