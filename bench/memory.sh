@@ -3,9 +3,9 @@
 # times (an answer just within its limit), 336, 2,000 and 524,288 times (as often as units allow), inside of 1, 20 and 60
 # arrays, and where the default's slot is filled after another, through `transcode`, `run` in pieces, and `serve`. At no
 # moment is more than 3 times the limit of an answer held, besides the text that `transcode` and `run` write; each line is as
-# it should be, and what passes the limit is told within five seconds of processor time (one of some hundred as slow as
-# making the whole answer; in 0.3 s on a machine with nothing else to do). Takes about two minutes; with SHORT=1 in the
-# environment 335, 336 and 524,288 times, inside of 1 and 60 arrays, are tried.
+# it should be, and what passes the limit is told within five seconds of processor time (0.3 where nothing else runs; the
+# whole answer would take minutes). Takes about two minutes; with SHORT=1 in the environment 335, 336 and 524,288 times,
+# inside of 1 and 60 arrays, are tried.
 # Usage: bench/memory.sh PROGRAM
 set -euo pipefail
 here=$(dirname "$(realpath "$0")")
