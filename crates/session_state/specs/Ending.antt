@@ -16,7 +16,7 @@ end_of (ends.Out outcome) = Out (outcome_of outcome)
 end_of (ends.Trap trap) = Trapped trap
 end_of ends.NoMemory = OutOfMemory
 
--- Its program run alone on the bytes that came has an end, within so many rows more than it counts, all of which can be
+-- Its program run alone on the bytes that came has an end, within k rows more than were taken, all of which can be
 -- counted.
 pub record EndsWithin (k : ℕ) (s : Session) : Type 0 where
   pub rows : ℕ
