@@ -77,7 +77,7 @@ some_of_map : (o : Option state.End) → is_some o ≡ true → is_some (option_
 some_of_map None t = absurd (false≢true t)
 some_of_map (Some end) t = refl
 
-counted : ℕ → Session → Session
+abbrev counted : ℕ → Session → Session
 counted rows s = record s { count = s.count + rows }
 
 -- a session with an end in its machine has ended
@@ -101,17 +101,19 @@ pub slice_ends : (all k rows : ℕ) (stopped : Stopped) (old new : Session) → 
 slice_ends all k rows stopped old new go_on counts ends (inl (e, same)) stops =
     subst (EndsInOneSlice k old) (sym same)
     (ends_by old.out_of_memory k rows stopped old go_on counts ends refl (subst (IsStopped old.breaks k rows stopped) same stops))
-slice_ends all k rows stopped old new go_on counts ends (inr (lt, same, wants)) stops within none = ap (λ (s : Session). is_some (end_in s)) same
+slice_ends all k rows stopped old new go_on counts ends (inr (lt, same, wants)) stops = λ within none. ap (λ (s : Session). is_some (end_in s)) same
 
 -- a session that has all its bytes has an end within the row bound
-pub ends_within : (W R : List Node) (s : Session) (state : State) → length s.bytes ≤ MOST_PAYLOAD → LeadsToOutcome W R s.program s.bytes s.closed state → s.closed ≡ true → (whole : EndsWithOutcome W R s.program s.bytes) × EndsWithin whole.rows s
-ends_within W R s state few leads closed =
-    let whole = (leads.bound closed few).0 in
-    (whole, record {
-      rows = whole.rows;
-      last = whole.last;
-      runs = subst (λ (b : Bool). run_alone s.program s.bytes b whole.rows ≡ Some whole.last) (sym closed) whole.runs;
-      ends = ap (λ (e : Option state.End). is_some e) whole.ends;
-      few = omega arith;
-      countable = whole.few;
-    })
+pub ends_within : (W R : List Node) (s : Session) (at : State) → length s.bytes ≤ MOST_PAYLOAD → LeadsToOutcome W R s.program s.bytes s.closed at → s.closed ≡ true → (whole : EndsWithOutcome W R s.program s.bytes) × EndsWithin whole.rows s
+ends_within W R s at few leads closed =
+    let whole = (leads.bound closed few).0 in (
+      whole,
+      record {
+        rows = whole.rows;
+        last = whole.last;
+        runs = subst (λ (b : Bool). run_alone s.program s.bytes b whole.rows ≡ Some whole.last) (sym closed) whole.runs;
+        ends = ap (λ (e : Option state.End). is_some e) whole.ends;
+        few = omega arith;
+        countable = whole.few;
+      },
+    )

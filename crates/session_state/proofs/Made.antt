@@ -1,20 +1,18 @@
 -- What makes a session.
-use Rattle.std.proofs.Common.{◌≡◌, ◌≤◌, ◌<◌, ◌+◌, ◌-◌, ◌^◌, ℕ, zero, suc, Bool, true, false, List, [], ◌∷◌, ◌++◌, length, Option, Some, None, refl, sym, ap, ◌∙◌, subst, arith}
+use Rattle.std.proofs.Common.{◌≡◌, ◌≤◌, ◌<◌, ◌+◌, ◌-◌, ◌^◌, ℕ, zero, suc, Bool, true, false, List, [], length, Option, Some, None, refl, sym, ap, ◌∙◌, subst, arith}
 use Rattle.std.specs.Prelude.{◌&&◌, if◌then◌else◌, is_some, nat_lt, not, option_map}
 use Rattle.std.specs.Option.{option_and_then, option_map_or}
 use Rattle.resolver_matching.specs.Options.{given}
 use Rattle.isa.specs.Program.{Program}
 use Rattle.isa.specs.Row.{row_of}
-use Rattle.isa.specs.State as state
 use Rattle.isa.specs.State.{State, start}
 use Rattle.machine.specs.Laws.Rows.{one_row}
-use Rattle.machine_stepper.specs.Slice.{stops_at}
 use Rattle.outcome.specs.declared.limits.TheConstants.{MOST_PAYLOAD}
 use Rattle.program_correctness.specs.Alone.{RowsAreCounted, RunsGoOn, rows_from, run_alone}
-use Rattle.session_state.specs.Changes.{finished, piece_refusal, refused, with_piece}
+use Rattle.session_state.specs.Changes.{refused, with_piece}
 use Rattle.session_state.specs.Kept.{AreSet, IsMade, IsSession, fed, finished_if, remade, walked, with_breaks}
-use Rattle.session_state.specs.Rows.{is_counted_out, rows_of, slice_from, walk_rows}
-use Rattle.session_state.specs.Session.{Session, begun, end_in, session_end, state_of}
+use Rattle.session_state.specs.Rows.{slice_from, walk_rows}
+use Rattle.session_state.specs.Session.{Session, begun, end_in, session_end}
 use Rattle.session_state.proofs.Breaks.{all_set}
 use Rattle.session_state.proofs.Slices.{not_counted_out, one_on}
 

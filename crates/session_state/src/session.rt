@@ -420,6 +420,7 @@ impl<'p> Session<'p> {
         requires { code_of writer.now reader.now ≡ Some self.now.program }
         ensures { SessionLeadsToOutcome writer.now reader.now self.now }
     {
+        self.is_kept(); // law
         self.run.is_alone(); // law
         self.run.ends_with_the_outcome(writer, reader); // law
     }
