@@ -1,6 +1,7 @@
 #!/usr/bin/env bash
-# Refuses each allocation in turn, which no proof can see; with SHORT=1 in the environment the first 30 of each run and
-# then every 11th. It needs a C compiler, which is installed with apt-get where there is none. Not part of the gate.
+# Refuses each allocation in turn, which no proof can see; with SHORT=1 in the environment some 40 of each run, the first
+# ones and then at distances that grow. It needs a C compiler, which is installed with apt-get where there is none. Not
+# part of the gate.
 # The program, on inputs to each of its words but `replay`: status 4 and nothing written, or the whole answer where a
 # buffer could stay as it was, or, of `debug`, an answer that tells want of memory. The tests that ask again for what was
 # refused: they pass, or end because what they build themselves was refused (an output that is a vector refuses a write
@@ -57,7 +58,7 @@ refused() {
 
 program=${program:-crates/avrogate/out/avrogate}
 # next N: the number of the allocation that is refused after the Nth
-next() { if [ -n "${SHORT:-}" ] && [ "$1" -ge 30 ]; then echo $(($1 + 11)); else echo $(($1 + 1)); fi; }
+next() { if [ -n "${SHORT:-}" ]; then echo $(($1 + 1 + $1 / 5)); else echo $(($1 + 1)); fi; }
 # each INPUT WORD ..: the program on an input, to these words
 each() {
   local input=$1 runs=0 n
@@ -74,6 +75,7 @@ each() {
       count bad "avrogate $*, allocation $n: status $status"
     fi
   done
+  [ $runs -gt 0 ] || count bad "avrogate $*: no allocation was refused"
   echo "avrogate $*: $runs allocations refused in turn"
 }
 each crates/avrogate/stdin transcode
