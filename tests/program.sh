@@ -66,9 +66,11 @@ for words in '--port 65536' '--port -1' '--clients 0' '--clients 65' '--each -1'
   "$program" serve $words </dev/null >"$out" 2>"$err"; want "serve $words" 2 none some
 done
 "$program" serve --help </dev/null >"$out" 2>"$err"; want 'help of serve' 0 some none
-"$program" serve --port 0 --clients 2 --each 1 </dev/null >"$out" 2>"$err" & server=$!
-for _ in $(seq 600); do grep -q listening "$out" && break; sleep 0.1; done
+: >"$out"  # the help of serve has the word that is waited for
+timeout 900 "$program" serve --port 0 --clients 2 --each 1 </dev/null >"$out" 2>"$err" & server=$!
+for _ in $(seq 600); do grep -q '^listening ' "$out" && break; sleep 0.1; done
 port=$(sed -n 's/^listening //p' "$out")
+[ -n "$port" ] || { echo "serve does not say where it listens: $(head -c 300 "$out" "$err")"; kill "$server"; }
 "$program" serve --port "$port" </dev/null >"$folder/second" 2>"$folder/second_err"; status=$?
 [ "$status" = 3 ] && [ ! -s "$folder/second" ] && [ ! -s "$folder/second_err" ] && passed=$((passed + 1)) \
   || { echo "a port that is taken: $status"; failed=$((failed + 1)); }
