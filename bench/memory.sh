@@ -1,18 +1,25 @@
 #!/usr/bin/env bash
-# What a message may make the program hold: a reader's default of 200,000 letters, which a payload of a few bytes copies 335 times (an answer
-# just within its limit), 336, 2,000 and 524,288 times (as often as units allow), inside of 1, 20 and 60 arrays, and where the default's slot is filled after another,
-# through `transcode`, `run` in pieces, and `serve`. At no moment is more than 3 times the limit of an answer held, besides the text that
-# `transcode` and `run` write; each line is as it should be, and what passes the limit is told within a second of processor time.
-# Takes about two minutes. Usage: bench/memory.sh PROGRAM
+# What a message may make the program hold: a reader's default of 200,000 letters, which a payload of a few bytes copies 335
+# times (an answer just within its limit), 336, 2,000 and 524,288 times (as often as units allow), inside of 1, 20 and 60
+# arrays, and where the default's slot is filled after another, through `transcode`, `run` in pieces, and `serve`. At no
+# moment is more than 3 times the limit of an answer held, besides the text that `transcode` and `run` write; each line is as
+# it should be, and what passes the limit is told within five seconds of processor time (0.3 where nothing else runs; the
+# whole answer would take minutes). Takes about two minutes; with SHORT=1 in the environment 335, 336 and 524,288 times,
+# inside of 1 and 60 arrays, are tried.
+# Usage: bench/memory.sh PROGRAM
 set -euo pipefail
-export PYTHONDONTWRITEBYTECODE=1 PYTHONPATH=$(dirname "$(realpath "$0")")
+here=$(dirname "$(realpath "$0")")
+. "$here/../tests/packages.sh"
+command_of python3 python3
+export PYTHONDONTWRITEBYTECODE=1 PYTHONPATH=$here
 exec python3 - "$(realpath "$1")" <<'PYTHON'
 import http.client, json, os, re, subprocess, sys, tempfile, time
 from avro_encoding import number
 
 PROGRAM = sys.argv[1]
 LETTERS, LIMIT, MOST = 200_000, 67_108_864, 3
-ITEMS, DEPTHS, UNITS = (335, 336, 2_000), (1, 20, 60), 1_048_576
+ITEMS, DEPTHS = ((335, 336), (1, 60)) if os.environ.get("SHORT") else ((335, 336, 2_000), (1, 20, 60))
+UNITS, MOST_SECONDS, PATIENCE = 1_048_576, 5, 1800
 INT = '{"name":"n","type":"int"}'
 DEFAULT = '{"name":"s","type":"string","default":"%s"}' % ("a" * LETTERS)
 LARGE = "output too large"
@@ -46,7 +53,7 @@ def told(what, case, held, seconds):
     print("%s: %s: %.2f times the limit of an answer, %.2f s" % (what, case.name, held / LIMIT, seconds), flush=True)
     if held > MOST * LIMIT:
         failed.append("%s: %s: memory" % (what, case.name))
-    if case.answer is None and seconds > 1:
+    if case.answer is None and seconds > MOST_SECONDS:
         failed.append("%s: %s: time" % (what, case.name))
 
 
@@ -87,7 +94,7 @@ def run(case):
 
 
 def posted(port, path, body):
-    connection = http.client.HTTPConnection("127.0.0.1", port, timeout=60)
+    connection = http.client.HTTPConnection("127.0.0.1", port, timeout=PATIENCE)
     connection.request("POST", path, body)
     answer = connection.getresponse()
     return answer.status, answer.read()
@@ -103,7 +110,7 @@ def of_process(pid):
 
 
 def serve(case):
-    server = subprocess.Popen([PROGRAM, "serve", "--port", "0"], stdout=subprocess.PIPE)
+    server = subprocess.Popen([PROGRAM, "serve", "--port", "0", "--request-timeout", str(PATIENCE)], stdout=subprocess.PIPE)
     try:
         port = int(server.stdout.readline().split()[1])
         for subject, text in (("w", case.writer), ("r", case.reader)):

@@ -1,12 +1,18 @@
 #!/usr/bin/env bash
-# Refuses each allocation in turn, which no proof can see. It is not part of the gate; it needs a C compiler.
+# Refuses each allocation in turn, which no proof can see; with SHORT=1 in the environment some 40 of each run, the first
+# ones and then at distances that grow. It needs a C compiler, which is installed with apt-get where there is none. Not
+# part of the gate.
 # The program, on inputs to each of its words but `replay`: status 4 and nothing written, or the whole answer where a
 # buffer could stay as it was, or, of `debug`, an answer that tells want of memory. The tests that ask again for what was
 # refused: they pass, or end because what they build themselves was refused (an output that is a vector refuses a write
 # then), or because a call that they compare tells want of memory; an answer that changed fails its assertion.
-# Usage, after `rt run` in crates/avrogate and `rt test` in each crate of tests: tests/allocations.sh
+# Usage, after `rt ci`, or `rt run` in crates/avrogate and `rt test` in each crate of tests: tests/allocations.sh [PROGRAM]
+# (crates/avrogate/out/avrogate if it is left out)
 set -uo pipefail
+[ $# = 0 ] || program=$(realpath "$1")
 cd "$(dirname "$0")/.."
+. tests/packages.sh
+command_of cc gcc libc6-dev
 folder=$(mktemp -d)
 trap 'rm -rf "$folder"' EXIT
 cat >"$folder/refuse.c" <<'C'
@@ -50,14 +56,17 @@ refused() {
   [ -e "$folder/refused" ]
 }
 
-program=crates/avrogate/out/avrogate
+program=${program:-crates/avrogate/out/avrogate}
+# next N: the number of the allocation that is refused after the Nth
+next() { if [ -n "${SHORT:-}" ]; then echo $(($1 + 1 + $1 / 5)); else echo $(($1 + 1)); fi; }
 # each INPUT WORD ..: the program on an input, to these words
 each() {
-  local input=$1 n
+  local input=$1 runs=0 n
   shift
   "$program" "$@" <"$input" >"$folder/whole" 2>"$folder/err" || { count bad "avrogate $*: status $?"; return; }
-  for ((n = 1; ; n++)); do
+  for ((n = 1; ; n = $(next $n))); do
     refused $n "$program" "$@" <"$input" || break
+    runs=$((runs + 1))
     if [ $status = 4 ] && [ ! -s "$folder/out" ] && [ ! -s "$folder/err" ]; then
       count ok
     elif [ $status = 0 ] && { cmp -s "$folder/out" "$folder/whole" || grep -qE ' state memory$|^refused NoMemory$' "$folder/out"; }; then
@@ -66,7 +75,8 @@ each() {
       count bad "avrogate $*, allocation $n: status $status"
     fi
   done
-  echo "avrogate $*: $((n - 1)) allocations refused in turn"
+  [ $runs -gt 0 ] || count bad "avrogate $*: no allocation was refused"
+  echo "avrogate $*: $runs allocations refused in turn"
 }
 each crates/avrogate/stdin transcode
 record='{"type":"record","name":"T","fields":[{"name":"a","type":["null","long"]},{"name":"b","type":"string"},{"name":"g","type":"bytes"}]}'
@@ -86,7 +96,7 @@ ask_again() {
   [ -x "$tests" ] || { count bad "$tests is missing: run \`rt test\` there"; return; }
   for test in "$@"; do
     "$tests" "$test" >"$folder/out" 2>&1 && grep -q 'result: ok' "$folder/out" || { count bad "$tests has no test $test, or it fails"; continue; }
-    for ((n = 1; ; n++)); do
+    for ((n = 1; ; n = $(next $n))); do
       refused $n "$tests" "$test" || break
       runs=$((runs + 1))
       if [ $status = 0 ] || grep -qE '[Ee]rror: .*(AllocError|AllocFailed|NoMemory|OutOfMemory)|no memory: (AllocError|AllocFailed|NoMemory)|left: Err\((Write|NoMemory)\)' "$folder/out" "$folder/err"; then

@@ -2,14 +2,17 @@
 # Hostile use of `avrogate serve`, all at once: 64 clients, a third of which are slow, cut off or malformed, each of whose
 # answers has to be, byte for byte, the one that was computed for its request, whatever was sent after that, and must not
 # end with a reset; connections that send nothing, fewer than there are clients, and as many; and what the service takes of
-# a processor while nobody asks. A line for each check. It takes about two minutes. Not part of the gate.
+# a processor while nobody asks. A line for each check. It takes about two minutes; with SHORT=1 in the environment each
+# client sends a third of the requests. Not part of the gate.
 # Usage: tests/hostile.sh [PROGRAM]   (crates/avrogate/out/avrogate if it is left out)
 set -euo pipefail
 here=$(dirname "$(realpath "$0")")
 program=$(realpath "${1:-$here/../crates/avrogate/out/avrogate}")
+. "$here/packages.sh"
+command_of python3 python3
 lines=$(mktemp)
 trap 'rm -f "$lines"' EXIT
-PYTHONDONTWRITEBYTECODE=1 timeout 600 python3 "$here/hostile/hostile.py" "$program" | tee "$lines" || true
+PYTHONDONTWRITEBYTECODE=1 timeout 3600 python3 "$here/hostile/hostile.py" "$program" | tee "$lines" || true
 grep -qx 'all were tried' "$lines" || echo 'FAILED the checks: they did not come to their end' | tee -a "$lines"
 failed=$(grep -c '^FAILED ' "$lines" || true)
 echo "$(grep -c '^ok ' "$lines" || true) passed, $failed failed"

@@ -5,6 +5,8 @@
 # Usage: tests/map.sh
 set -euo pipefail
 cd "$(dirname "$0")/.."
+. tests/packages.sh
+command_of python3 python3
 exec python3 - README.md docs/*.md tests/peers/README.md <<'PYTHON'
 import glob, os, re, sys
 

@@ -66,14 +66,16 @@ for words in '--port 65536' '--port -1' '--clients 0' '--clients 65' '--each -1'
   "$program" serve $words </dev/null >"$out" 2>"$err"; want "serve $words" 2 none some
 done
 "$program" serve --help </dev/null >"$out" 2>"$err"; want 'help of serve' 0 some none
-"$program" serve --port 0 --clients 2 --each 1 </dev/null >"$out" 2>"$err" & server=$!
-for _ in $(seq 100); do grep -q listening "$out" && break; sleep 0.1; done
+: >"$out"  # the help of serve has the word that is waited for
+timeout 900 "$program" serve --port 0 --clients 2 --each 1 </dev/null >"$out" 2>"$err" & server=$!
+for _ in $(seq 600); do grep -q '^listening ' "$out" && break; sleep 0.1; done
 port=$(sed -n 's/^listening //p' "$out")
+[ -n "$port" ] || { echo "serve does not say where it listens: $(head -c 300 "$out" "$err")"; kill "$server"; }
 "$program" serve --port "$port" </dev/null >"$folder/second" 2>"$folder/second_err"; status=$?
 [ "$status" = 3 ] && [ ! -s "$folder/second" ] && [ ! -s "$folder/second_err" ] && passed=$((passed + 1)) \
   || { echo "a port that is taken: $status"; failed=$((failed + 1)); }
 for path in config nowhere; do
-  exec 3<>"/dev/tcp/127.0.0.1/$port"; printf 'GET /%s HTTP/1.1\r\n\r\n' "$path" >&3; timeout 10 cat <&3 >/dev/null; exec 3>&-
+  exec 3<>"/dev/tcp/127.0.0.1/$port"; printf 'GET /%s HTTP/1.1\r\n\r\n' "$path" >&3; timeout 300 cat <&3 >/dev/null; exec 3>&-
 done
 wait "$server"; want 'serve of two connections' 0 some none
 [ "$(tail -1 "$out")" = 'served 2' ] && passed=$((passed + 1)) || { echo "serve told $(tail -1 "$out")"; failed=$((failed + 1)); }

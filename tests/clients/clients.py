@@ -53,16 +53,16 @@ def told(call):
 
 def check(name, want, call):
     got = told(call)
-    print("ok " + name if got == want else "FAILED %s: %.300r, wanted %.300r" % (name, got, want))
+    print("works " + name if got == want else "FAILED %s: %.300r, wanted %.300r" % (name, got, want))
 
 
 def left_out(name, want, call):
     """A call that the profile leaves out, and the refusal that names it."""
     got = told(call)
     if got == want:
-        print("not in the profile: %s: %s" % (name, "%d %s (%d)" % (got[0], got[2], got[1]) if isinstance(got, tuple) else got))
+        print("left out %s: %s" % (name, "%d %s (%d)" % (got[0], got[2], got[1]) if isinstance(got, tuple) else got))
     else:
-        print("FAILED not in the profile: %s: %.300r, wanted %.300r" % (name, got, want))
+        print("FAILED to refuse what is left out: %s: %.300r, wanted %.300r" % (name, got, want))
 
 
 def record(name, *fields, **more):
@@ -111,7 +111,7 @@ def new_client():
 
     s, first, worse, better, other = "py.new-value", *map(schema, (FIRST, WORSE, BETTER, OTHER))
     one = client().register_schema(s, first)
-    print("ok register_schema")
+    print("works register_schema")
     check("register_schema again", one, lambda: client().register_schema(s, first))
     check("register_schema in another spelling", one, lambda: client().register_schema(s, Schema(json.dumps(FIRST, indent=3), "AVRO")))
     check("register_schema under another subject", one, lambda: client().register_schema("py.new-key", first))
@@ -169,7 +169,7 @@ def old_client():
 
     s, first, worse, better = "py.old-value", *(loads(json.dumps(each)) for each in (FIRST, WORSE, BETTER))
     one = client().register(s, first)
-    print("ok register")
+    print("works register")
     check("register, incompatible", "Incompatible Avro schema:409 message:{'error_code': 409, 'message': 'incompatible schema'}",
           lambda: client().register(s, worse))
     two = client().register(s, better)
@@ -191,7 +191,7 @@ def old_client():
 def asked(method, path, body=None, **more):
     """The status, the code of a fault if it is one, and the body or the fault's message."""
     data = body if body is None or isinstance(body, bytes) else json.dumps(body)
-    answer = requests.request(method, "%s/%s" % (url, path), data=data, timeout=20, **more)
+    answer = requests.request(method, "%s/%s" % (url, path), data=data, timeout=300, **more)
     assert answer.headers["connection"] == "close" and int(answer.headers["content-length"]) == len(answer.content), answer.headers
     if answer.status_code == 200 and path.startswith("transcode"):
         assert answer.headers["content-type"] == "application/octet-stream", answer.headers
@@ -207,7 +207,7 @@ def told_by_post(path, schema):
 def by_requests():
     s = "py.requests"
     one = told_by_post("subjects/%s/versions" % s, FIRST)["id"]
-    print("ok POST /subjects/{s}/versions by requests")
+    print("works POST /subjects/{s}/versions by requests")
     found = {"id": one, "schema": compact(FIRST), "subject": s, "version": 1}
     check("POST /subjects/{s} by requests", found, lambda: told_by_post("subjects/" + s, FIRST))
     check("GET /subjects by requests", True, lambda: s in asked("GET", "subjects"))
@@ -259,11 +259,11 @@ def by_requests():
 
 def many(path):
     with requests.Session() as session:
-        return [session.get("%s/%s" % (url, path), timeout=20).json() for _ in range(20)]
+        return [session.get("%s/%s" % (url, path), timeout=300).json() for _ in range(20)]
 
 
 def chunked(path):
-    answer = requests.post("%s/%s" % (url, path), data=iter([b'{"schema":', b'"\\"int\\""}']), timeout=20)
+    answer = requests.post("%s/%s" % (url, path), data=iter([b'{"schema":', b'"\\"int\\""}']), timeout=300)
     return answer.status_code, answer.json()["error_code"], answer.json()["message"]
 
 

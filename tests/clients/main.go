@@ -50,7 +50,7 @@ func told(answer interface{}, err error) interface{} {
 
 func check(name string, want, got interface{}) {
 	if reflect.DeepEqual(got, want) {
-		fmt.Println("ok Go: " + name)
+		fmt.Println("works Go: " + name)
 	} else {
 		fmt.Printf("FAILED Go: %s: %.300v, wanted %.300v\n", name, got, want)
 	}
@@ -212,9 +212,9 @@ func main() {
 	}
 	_, err = client.RegisterNewSchema("go.chunks", first)
 	if want := "bad request (400)"; err == nil || err.Error() != want {
-		fmt.Printf("FAILED not in the profile: Go: bodies in chunks: %v, wanted %s\n", err, want)
+		fmt.Printf("FAILED to refuse what is left out: Go: bodies in chunks: %v, wanted %s\n", err, want)
 	} else {
-		fmt.Printf("not in the profile: bodies in chunks, as the Go client sends them unless its transport measures them: %s\n", want)
+		fmt.Printf("left out bodies in chunks, as the Go client sends them unless its transport measures them: %s\n", want)
 	}
 	http.DefaultClient.Transport = measured{}
 	registry(client)

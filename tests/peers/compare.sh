@@ -1,21 +1,23 @@
 #!/usr/bin/env bash
 # Compares the built program with Apache Avro's own libraries for Python and for Java on random pairs of schemas and payloads.
-# Each difference has to be one of the rules in rules.py, and docs/DECISIONS.md says of each why our answer is the specification's:
-# a model of the specification answers as the program does, and with a difference's rules on as the library does. Not part of the gate.
-# Needs Debian's packages python3-avro, libavro-java and a JDK (default-jdk-headless). Payloads over which a library would not end are not drawn.
-# Usage: tests/peers/compare.sh PROGRAM [PAIRS] [SEED]
-# Status: 0 nothing is left over, 1 something is, 2 a package is missing or a step failed.
+# Each difference has to be one of the rules in rules.py, and tests/peers/README.md says of each why our answer is the
+# specification's: a model of the specification answers as the program does, and with a difference's rules on as the
+# library does. Payloads over which a library would not end are not drawn. What is missing of Debian's packages python3-avro,
+# libavro-java and default-jdk-headless is installed with apt-get, which needs root. Not part of the gate.
+# Usage: tests/peers/compare.sh PROGRAM [PAIRS] [SEED]   (20,000 pairs, or 1,000 with SHORT=1 in the environment, and seed 1)
+# Status: 0 nothing is left over, 1 something is, 2 a package cannot be had or a step failed.
 set -uo pipefail
 if [ $# -lt 1 ]; then echo "usage: $0 PROGRAM [PAIRS] [SEED]" >&2; exit 2; fi
-program=$(realpath "$1") pairs=${2:-20000} seed=${3:-1}
+default=20000
+[ -z "${SHORT:-}" ] || default=1000
+program=$(realpath "$1") pairs=${2:-$default} seed=${3:-1}
 here=$(cd "$(dirname "$0")" && pwd)
+. "$here/../packages.sh"
+packages python3-avro libavro-java default-jdk-headless
 python=/usr/bin/python3
 jars=/usr/share/java
 classpath=$jars/avro.jar:$jars/jackson-core-asl.jar:$jars/jackson-mapper-asl.jar:$jars/slf4j-api.jar:$jars/slf4j-nop.jar
-missing() { echo "$0 needs Debian's package $1" >&2; exit 2; }
-"$python" -c 'import avro.io, avro.schema' 2>/dev/null || missing python3-avro
-for jar in ${classpath//:/ }; do [ -e "$jar" ] || missing "libavro-java ($jar)"; done
-command -v javac >/dev/null && command -v java >/dev/null || missing default-jdk-headless
+for jar in ${classpath//:/ }; do [ -e "$jar" ] || { echo "$0: libavro-java has no $jar" >&2; exit 2; }; done
 folder=$(mktemp -d)
 trap 'rm -rf "$folder"' EXIT
 cd "$folder" || exit 2

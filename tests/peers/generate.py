@@ -42,12 +42,18 @@ def chain(depth):
 
 
 def rare():
-    """Pairs that show what is seldom drawn: records in themselves."""
+    """Pairs that show what is seldom drawn: records in themselves, and blocks whose count is -2^63."""
     endless = '{"type":"array","items":{"type":"record","name":"A","fields":[{"name":"a","type":"A"}]}}'
     yield endless, endless, [b"\0", b"\2"]
     kind = '{"type":"record","name":"Kind","fields":[{"name":"right","type":["null","Item"]}]}'
     item = '{"type":"record","name":"Item","fields":[{"name":"note","type":{"type":"array","items":"Item"}},{"name":"tags","type":%s}]}' % kind
     yield item, '{"type":"record","name":"Item","fields":[]}', [b"\0\0", b"\2\0\0\0\0"]
+    least = spelled((1 << 64) - 1) + b"\0"
+    longs = '{"type":"array","items":"long"}'
+    yield longs, longs, [least, b"\2\6" + least]
+    for kind in ("long", "string"):
+        holder = '{"type":"record","name":"R","fields":[{"name":"a","type":%s},{"name":"b","type":"%s"}]}' % (longs, kind)
+        yield holder, holder, [least + b"\2\6"]
 
 
 def at_limits():

@@ -44,6 +44,7 @@ RULES = [
     Rule("length-is-int", JAVA, "The length of a string or of bytes, and the count of a dropped block, is an int of at most 5 bytes."),
     Rule("position-from-end", PYTHON, "A negative position counts from the end of the symbols or members."),
     Rule("text-unchecked", JAVA, "A string may be no UTF-8; as a key it is mended, with U+FFFD, when it is written."),
+    Rule("least-count-ends", JAVA, "A block's count of -2^63 ends its array or map, since it is below 0 when it is negated too; what comes after it is read as a further item."),
     Rule("block-size-unseen", BOTH, "The size of a block that is read is not compared with its items."),
     Rule("dropped-block-jumped", BOTH, "A block that is dropped is jumped by its size, and its items are not looked at."),
     Rule("dropped-unseen", PYTHON, "What is dropped is jumped, even beyond the end or back; positions of dropped enums are not looked at."),
