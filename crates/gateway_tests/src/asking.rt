@@ -3,8 +3,8 @@
 ghost use Rattle.std.specs.Prelude.{◌≡◌};
 ghost use Rattle.session_pool.specs.Seats.{Rests};
 
-use gateway_core::{App, Gate, ServeError, serve_one};
 use gateway::Pooled;
+use gateway_core::{App, Gate, ServeError, serve_one};
 use session_pool::ClientSeat;
 use std::alloc::Global;
 use std::sync::Wait;

@@ -5,9 +5,9 @@ ghost use Rattle.session_pool.specs.Seats.{Rests};
 
 use crate::asking::{MESSAGE, REWRITTEN, ask};
 use crate::seats::{Seated, last_client, last_worker, new_pool};
+use gateway::{Helping, Pooled};
 use gateway_core::{App, Gate, ServeError};
 use gateway_requests::Routes;
-use gateway::{Helping, Pooled};
 use program_cache::ProgramCache;
 use schema_registry::SharedRegistry;
 use session_pool::ClientSeat;

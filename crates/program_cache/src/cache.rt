@@ -164,8 +164,10 @@ impl<'r> ProgramCache<'r> {
         let place = self.place_of(writer, reader);
         if let Some(found) = self.shown_cell(place) {
             if let Some(compiled) = found.cell.get() {
-                return compiled
-                    .program_of(self.registry.schema(writer), self.registry.schema(reader));
+                return compiled.program_of(
+                    self.registry.schema(writer),
+                    self.registry.schema(reader),
+                );
             }
         }
         self.compile(writer, reader)
