@@ -1,0 +1,64 @@
+#!/usr/bin/env bash
+# How often the plan of a program reads a payload: once, whether it finds the output or the rows are taken then. Counted by
+# valgrind's callgrind, as calls from elsewhere into the code that reads what a nest of a plan holds, of payloads that are
+# one such nest: three records that a reader reorders. Not part of the gate. It installs Debian's valgrind where that is
+# missing.
+# Usage: tests/plans.sh [PROGRAM]   (crates/avrogate/out/avrogate if it is left out)
+set -uo pipefail
+here=$(dirname "$(realpath "$0")")
+. "$here/packages.sh"
+command_of valgrind valgrind
+program=$(realpath "${1:-$here/../crates/avrogate/out/avrogate}")
+PYTHONDONTWRITEBYTECODE=1 exec python3 - "$program" <<'PYTHON'
+import json, re, subprocess, sys, tempfile
+
+program, passed, failed = sys.argv[1], 0, 0
+
+
+def items(*fields):
+    record = {"type": "record", "name": "R", "fields": [{"name": name, "type": kind} for name, kind in fields]}
+    return json.dumps({"type": "array", "items": record})
+
+
+writer = items(("a", "string"), ("b", ["null", "string"]))
+reader = items(("b", ["null", "string"]), ("a", "string"))
+whole = "06" "0278" "020279" "027a" "00" "0277" "00" "00"
+CASES = [("a payload whose output the plan finds", [whole]), ("one with a byte left over", [whole + "00"]),
+         ("one that is cut", [whole[:-2]]), ("three, of which the second is cut", [whole, whole[:-2], whole])]
+
+
+def entries(payloads, folder):
+    """Returns how often the code of nests was called from elsewhere, and what the program wrote."""
+    text = "\n".join([writer, reader, *payloads]) + "\n"
+    out = f"{folder}/calls"
+    words = ["valgrind", "--tool=callgrind", f"--callgrind-out-file={out}", program, "transcode"]
+    ran = subprocess.run(words, input=text, stdout=subprocess.PIPE, stderr=subprocess.PIPE, text=True, timeout=600)
+    names, caller, callee, count = {}, "", "", 0
+    for line in open(out, encoding="utf-8", errors="replace"):
+        found = re.match(r"(c?fn)=\((\d+)\)(?: (.*))?$", line.rstrip("\n"))
+        if found:
+            name = names.setdefault(found[2], found[3])
+            if found[1] == "fn":
+                caller = name
+            else:
+                callee = name
+        elif line.startswith("calls=") and is_nest(callee) and not is_nest(caller):
+            count += int(line[6:].split()[0])
+    return count, ran.stdout.split("\n")[:-1]
+
+
+def is_nest(name):
+    return bool(re.search(r"machine_plan::reading::", name or ""))
+
+
+with tempfile.TemporaryDirectory() as folder:
+    for what, payloads in CASES:
+        count, answers = entries(payloads, folder)
+        if count == len(payloads) == len(answers):
+            passed += 1
+        else:
+            failed += 1
+            print(f"{what}: {count} readings by the plan and {len(answers)} answers, wanted {len(payloads)} of each")
+print(f"{passed} passed, {failed} failed")
+sys.exit(failed > 0)
+PYTHON
