@@ -5,4 +5,5 @@ pub mod Orders
 pub mod Outcomes
 pub mod Pairs
 pub mod Passes
+pub mod Refused
 pub mod Searches

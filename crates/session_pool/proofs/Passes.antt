@@ -1,12 +1,13 @@
 -- A pass after a call.
-use Rattle.std.proofs.Common.{◌≡◌, ◌<◌, ℕ, ◌+◌, Some, refl, sym, ap, ◌∙◌, inl, subst, ⊎_elim, arith}
+use Rattle.std.proofs.Common.{◌≡◌, ◌<◌, ℕ, ◌+◌, List, [], ◌∷◌, ◌++◌, Some, refl, sym, ap, ◌∙◌, inl, subst, ⊎_elim, arith}
 use Rattle.isa.specs.Program.{Program}
 use Rattle.session_state.specs.Rows.{TakesRows}
 use Rattle.session_state.specs.Session.{Session}
 use Rattle.session_pool_rule.specs.Results.{Finds, GaveBack, HasIn, HasOut, Others, TookOut}
-use Rattle.session_pool_rule.specs.Steps.{pass_in, pass_out}
+use Rattle.session_pool_rule.specs.Steps.{handing, pass_in, pass_out}
+use Rattle.session_pool_rule.specs.Views.{Handed}
 use Rattle.session_pool_rule.specs.Words.{ready, slots}
-use Rattle.session_pool_slots.specs.Account.{Account, At, RowsOn, has_ended, kept, new_account, told_all, with_seen}
+use Rattle.session_pool_slots.specs.Account.{Account, At, RowsOn, has_ended, kept, new_account, told_all, with_breaks, with_seen}
 use Rattle.session_pool_slots.specs.Known.{Known, PassData, pass_of}
 use Rattle.session_pool_slots.proofs.Accounts.{rows_keep}
 use Rattle.session_pool_slots.specs.declared.slots.SlotSeat.{SlotSeat}
@@ -16,7 +17,7 @@ use Rattle.session_pool_slots.specs.Seats.{knows}
 use Rattle.session_pool_slots.specs.Taking.{TakesOut}
 use Rattle.session_pool.specs.declared.pool.ClientSeat.{ClientSeat}
 use Rattle.session_pool.specs.Pass.{Pass}
-use Rattle.session_pool.specs.Seats.{IsPassOf, account_or, left_or, told}
+use Rattle.session_pool.specs.Seats.{HandsBack, IsPassOf, account_or, left_or, told}
 
 module _ (P : Program) (old mid new : Known) (i slot word : ℕ) (y x : Session) (same : i ≡ slot) (has : HasIn old slot) (its : (account_or P (pass_of slot old)).program ≡ P) (took : (p : PassData) → pass_of i old ≡ Some p → TookOut At has_ended old i p word y mid) where
   there : pass_of i old ≡ Some has.pass
@@ -65,6 +66,13 @@ module _ (P : Program) (old mid new : Known) (i slot word : ℕ) (y x : Session)
     pub others_now : Others old slot new
     others_now other not = gave.others other (λ e. not (e ∙ same)) ∙ out.others other (λ e. not (e ∙ same))
 
+    -- what it gave back, beside what it had taken, and nothing else
+    pub handed_now : new.handed ≡ old.handed ++ handing slot y x (left_or (pass_of slot new)) ∷ []
+    handed_now = gave.handed (pass_out has.pass y) y out.now refl
+        ∙ (ap (λ (l : List (Handed Session)). l ++ handing i y x left_word ∷ []) out.handed
+        ∙ (ap (λ (k : ℕ). old.handed ++ handing k y x left_word ∷ []) same
+        ∙ ap (λ (w : ℕ). old.handed ++ handing slot y x w ∷ []) (sym left_now)))
+
     pub found_now : Finds old slot word new
     found_now = record { before = found.before; after = found.after; found = gave.found ∙ found.found }
 
@@ -73,17 +81,23 @@ module _ (P : Program) (old mid new : Known) (i slot word : ℕ) (y x : Session)
 
 -- ---- rows that are told
 
-pub told_rows : (a : Account) (y x : Session) (all rows : ℕ) → At a y → TakesRows all y rows x → told_all a x ≡ with_seen (y.count + rows) a
-told_rows a y x all rows f t =
-    let r = rows_keep y x (all, rows, t) in
-    let c : x.count ≡ y.count + rows = ⊎_elim (λ b. ap (λ (s : Session). s.count) b.1) (λ b. ap (λ (s : Session). s.count) b.1) t in
-    λ j. record { program = (r.program ∙ f.program) j; sent = (r.bytes ∙ f.bytes) j; closed = (r.closed ∙ f.closed) j; breaks = (r.breaks ∙ f.breaks) j; seen = c j }
+pub told_rows : (a : Account) (y x : Session) → At a y → RowsOn y x → told_all a x ≡ with_seen x.count a
+told_rows a y x f on = let r = rows_keep y x on in
+    λ j. record { program = (r.program ∙ f.program) j; sent = (r.bytes ∙ f.bytes) j; closed = (r.closed ∙ f.closed) j; breaks = (r.breaks ∙ f.breaks) j; seen = x.count }
 
 pub rows_run : (y x : Session) → RowsOn y x → x.program ≡ y.program
 rows_run y x on = (rows_keep y x on).program
 
 pub no_rows_on : (y : Session) → RowsOn y y
 no_rows_on y = let e : y.count ≡ y.count + 0 = omega arith in (0, 0, inl (refl, λ j. record y { count = e j }))
+
+-- ---- no rows, and breakpoints
+
+pub kept_same : (a : Account) (y x : Session) → At a y → x ≡ y → kept a x ≡ a
+kept_same a y x f e = λ j. record { program = (ap (λ (s : Session). s.program) e ∙ f.program) j; sent = (ap (λ (s : Session). s.bytes) e ∙ f.bytes) j; closed = (ap (λ (s : Session). s.closed) e ∙ f.closed) j; breaks = (ap (λ (s : Session). s.breaks) e ∙ f.breaks) j; seen = a.seen }
+
+pub kept_breaks : (a : Account) (y x : Session) (make : List ℕ → List ℕ) → At a y → x ≡ record y { breaks = make y.breaks } → kept a x ≡ with_breaks (make a.breaks) a
+kept_breaks a y x make f e = λ j. record { program = (ap (λ (s : Session). s.program) e ∙ f.program) j; sent = (ap (λ (s : Session). s.bytes) e ∙ f.bytes) j; closed = (ap (λ (s : Session). s.closed) e ∙ f.closed) j; breaks = (ap (λ (s : Session). s.breaks) e ∙ ap make f.breaks) j; seen = a.seen }
 
 -- ---- a seat and its pass
 
@@ -106,6 +120,12 @@ module _ (pass : Pass) (old : ClientSeat) (mid new : SlotSeat) (i word : ℕ) (y
       program = program_now P (knows old.slots) (knows mid) (knows new) i pass.slot word y x same is.slot is.program took.took back left_word gave (runs is.slot.pass.account);
     }
 
+    pub hands_back : HandsBack old pass y x (record { slots = new })
+    hands_back = record {
+      fits = fits_pass;
+      handed = handed_now P (knows old.slots) (knows mid) (knows new) i pass.slot word y x same is.slot is.program took.took back left_word gave;
+    }
+
     pub told_then : told (record { slots = new }) pass ≡ back (told old pass) x
     told_then = told_now P (knows old.slots) (knows mid) (knows new) i pass.slot word y x same is.slot is.program took.took back left_word gave
 
@@ -115,8 +135,14 @@ module _ (pass : Pass) (old : ClientSeat) (mid new : SlotSeat) (i word : ℕ) (y
   pub still_told : (left_word : ℕ) → GaveBack told_all (knows mid) i x left_word (knows new) → RowsOn y x → IsPassOf (record { slots = new }) pass
   still_told left_word gave on = still told_all left_word gave (λ a. rows_run y x on)
 
-  pub tells_rows : (left_word all rows : ℕ) → GaveBack told_all (knows mid) i x left_word (knows new) → TakesRows all y rows x → told (record { slots = new }) pass ≡ with_seen (y.count + rows) (told old pass)
-  tells_rows left_word all rows gave t = told_then told_all left_word gave ∙ told_rows (told old pass) y x all rows fits_pass t
+  pub tells_rows : (left_word : ℕ) → GaveBack told_all (knows mid) i x left_word (knows new) → RowsOn y x → told (record { slots = new }) pass ≡ with_seen x.count (told old pass)
+  tells_rows left_word gave on = told_then told_all left_word gave ∙ told_rows (told old pass) y x fits_pass on
+
+  pub keeps_told : (left_word : ℕ) → GaveBack kept (knows mid) i x left_word (knows new) → x ≡ y → told (record { slots = new }) pass ≡ told old pass
+  keeps_told left_word gave e = told_then kept left_word gave ∙ kept_same (told old pass) y x fits_pass e
+
+  pub tells_breaks : (left_word : ℕ) → GaveBack kept (knows mid) i x left_word (knows new) → (make : List ℕ → List ℕ) → x ≡ record y { breaks = make y.breaks } → told (record { slots = new }) pass ≡ with_breaks (make (told old pass).breaks) (told old pass)
+  tells_breaks left_word gave make e = told_then kept left_word gave ∙ kept_breaks (told old pass) y x make fits_pass e
 
 -- a pass for a session that has begun
 pub has_begun : (old : Known) (new : ClientSeat) (slot : ℕ) (pair : Pair) (pass : Pass) → pass ≡ record { slot = slot; pair = pair } → HasBegun old slot pair.program (knows new.slots) → IsPassOf new pass

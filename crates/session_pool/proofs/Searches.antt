@@ -8,8 +8,8 @@ use Rattle.session_pool_slots.specs.declared.slots.SlotSeat.{SlotSeat}
 use Rattle.session_pool_slots.specs.declared.working.RunSlice.{RunSlice}
 use Rattle.session_pool_slots.specs.Known.{Known}
 use Rattle.session_pool_slots.specs.Seats.{knows}
-use Rattle.session_pool_slots.specs.Working.{FindsNoneReady, Runs, TakesFirst}
-use Rattle.session_pool.specs.Searching.{FindsByJobs, FindsNone, FindsReady, Looks, LooksByJobs, TakesByJob}
+use Rattle.session_pool_slots.specs.Working.{FindsNoneReady, Runs, Sees, TakesFirst}
+use Rattle.session_pool.specs.Searching.{FindsByJobs, FindsNone, FindsReady, Looks, LooksByJobs, LooksOn, TakesByJob}
 use Rattle.session_pool.specs.Turning.{HasRun}
 
 pub same_on : (u v w : Known) → HasSame u v → HasSame v w → HasSame u w
@@ -43,6 +43,18 @@ finds_later u v w slot word a f =
           f.found ∙ (ap (λ (xs : List FoundWord). xs ++ rest) a.found
           ∙ (append_assoc u.found a.more rest ∙ ap (λ (xs : List FoundWord). u.found ++ xs) (sym (append_assoc a.more f.before (found_word slot word ∷ f.after)))));
     }
+
+-- ---- while a session is out
+
+pub looks_not : (s : SlotSeat) → LooksOn s s
+looks_not s = record { looks = no_looks (knows s); notes = refl; holds = refl }
+
+pub sees_on : (l m n : SlotSeat) (slot word : ℕ) → LooksOn l m → Sees slot word m n → LooksOn l n
+sees_on l m n slot word a s = record {
+  looks = looks_on (knows l) (knows m) (knows n) a.looks (looks_at (knows m) (knows n) slot (word ∷ []) s.found s.same);
+  notes = s.notes ∙ a.notes;
+  holds = s.holds ∙ a.holds;
+}
 
 -- ---- by jobs
 
@@ -84,6 +96,7 @@ ready_later l m n (Some slot) a f = takes_later l m n slot a.looks f
 
 pub has_run : (l m n : SlotSeat) (slot limit : ℕ) (slice : RunSlice) → TakesByJob l slot m → Runs (knows m) slot limit slice (knows n) → HasRun (knows l) slot limit slice.rows (knows n)
 has_run l m n slot limit slice t r = record {
+  inside = t.noted.inside;
   found = record { before = t.found.before; after = t.found.after; found = r.found ∙ t.found.found };
   before = r.before;
   after = r.after;
@@ -91,6 +104,7 @@ has_run l m n slot limit slice t r = record {
   takes = r.takes;
   most = r.most;
   why = r.why;
+  ends = r.ends;
   handed = r.handed ∙ (ap (λ xs. xs ++ handing slot r.before r.after slice.word ∷ []) t.same.handed ∙ ap (λ (w : ℕ). (knows l).handed ++ handing slot r.before r.after w ∷ []) r.word);
   passes = r.passes ∙ t.same.passes;
 }

@@ -5,15 +5,15 @@
 use Rattle.std.specs.Prelude.{◌≡◌, ◌≢◌, ◌<◌, ◌≤◌, ◌⊎◌, ℕ, ◌+◌, List, [], ◌∷◌, ◌++◌, All, length, Option, Some, None}
 use Rattle.std.specs.Prelude.{MatchOption}
 use Rattle.session_pool_jobs.specs.declared.seat.JobSeat.{JobSeat}
-use Rattle.session_pool_jobs.specs.Calls.{Puts, Stays, Steals, Takes}
-use Rattle.session_pool_jobs.specs.Seats.{kept_by, number_of, put_by, stolen_by, taken_by, workers_of}
+use Rattle.session_pool_jobs.specs.Calls.{HasNoRoom, Puts, Stays, Steals, Takes}
+use Rattle.session_pool_jobs.specs.Seats.{number_of, workers_of}
 use Rattle.session_pool_rule.specs.Results.{HasNoted, HasSame, IsUnready, words_of}
 use Rattle.session_pool_rule.specs.Words.{ready, slots}
 use Rattle.session_pool_slots.specs.declared.slots.SlotSeat.{SlotSeat}
 use Rattle.session_pool_slots.specs.declared.working.RunSlice.{RunSlice}
 use Rattle.session_pool_slots.specs.Account.{has_ended}
 use Rattle.session_pool_slots.specs.Seats.{knows}
-use Rattle.session_pool_slots.specs.Working.{FindsNoneReady, Runs, TakesFirst}
+use Rattle.session_pool_slots.specs.Working.{FindsNoneReady, Runs, Sees, TakesFirst}
 use Rattle.session_pool.specs.declared.pool.SessionPool.{SessionPool}
 use Rattle.session_pool.specs.declared.pool.WorkerSeat.{WorkerSeat}
 use Rattle.session_pool.specs.declared.turning.Turn.{Turn}
@@ -80,24 +80,41 @@ pub record StealsLead (workers slot : ℕ) (old new : WorkerSeat) : Type 0 where
   pub steals : Steals from (Some slot) mid.jobs new.jobs
   pub leads : Leads slot mid.slots new.slots
 
+-- ---- what is put
+
+-- A slot whose word is ready was put into its own deque, unless there was no room for it; with another word it was not.
+pub record PutsReady (word slot : ℕ) (old new : JobSeat) : Type 0 where
+  pub puts : word ≡ ready → Puts slot old new ⊎ (HasNoRoom old × Stays old new)
+  pub stays : word ≢ ready → Stays old new
+
 -- ---- a scan of all slots
 
--- numbers of slots from this one on were put into its own deque, and none was taken from any
-pub record PutsFrom (from : ℕ) (old new : JobSeat) : Type 0 where
-  pub more : List ℕ
-  pub further : All (λ slot. (from ≤ slot) × (slot < slots)) more
-  pub number : number_of new ≡ number_of old
-  pub kept : kept_by new ≡ kept_by old + length more
-  pub put : put_by new ≡ put_by old ++ more
-  pub taken : taken_by new ≡ taken_by old
-  pub stolen : (worker : ℕ) → stolen_by new worker ≡ stolen_by old worker
+-- the word of the slot was found, once, and the slot was put as that word says
+pub record KeepsOne (slot : ℕ) (old new : WorkerSeat) : Type 0 where
+  pub word : ℕ
+  pub sees : Sees slot word old.slots new.slots
+  pub jobs : PutsReady word slot old.jobs new.jobs
 
--- The slots were looked at in order, up to the first that was ready, or all of them where none was; further ones may
--- have been put into its own deque.
+-- Each slot from one on, and below another, was looked at once, in order, and put as the word that was found says.
+pub data KeepsFurther (from : ℕ) : ℕ → WorkerSeat → WorkerSeat → Type 0 where
+  none : (seat : WorkerSeat) → KeepsFurther from from seat seat
+  more : (slot : ℕ) (old mid new : WorkerSeat) → KeepsFurther from slot old mid → KeepsOne slot mid new
+      → KeepsFurther from (slot + 1) old new
+
+-- The slots were looked at in order, up to the first that was ready, whose session was taken; and then all further
+-- ones, of which those that were ready were put.
+pub record ScansOn (slot : ℕ) (old new : WorkerSeat) : Type 0 where
+  pub mid : WorkerSeat
+  pub first : TakesFirst old.slots slot mid.slots
+  pub jobs : mid.jobs ≡ old.jobs
+  pub further : KeepsFurther (slot + 1) slots mid new
+
+-- The slots were looked at, all of them where none was ready.
 pub record Scans (result : Option ℕ) (old new : WorkerSeat) : Type 0 where
-  pub found : MatchOption result (FindsNoneReady old.slots new.slots) (λ slot. TakesFirst old.slots slot new.slots)
+  pub found : MatchOption result
+      (FindsNoneReady old.slots new.slots × (new.jobs ≡ old.jobs))
+      (λ slot. ScansOn slot old new)
   pub same : HasSame (knows old.slots) (knows new.slots)
-  pub jobs : MatchOption result (new.jobs ≡ old.jobs) (λ slot. PutsFrom (slot + 1) old.jobs new.jobs)
 
 -- ---- a turn
 
@@ -119,14 +136,14 @@ pub data Comes (pool : SessionPool) (old : WorkerSeat) : Option ℕ → WorkerSe
       → Comes pool old result new
 
 -- The worker came to the session so, and ran it. After that it found no word, and took no job; it put the slot into its
--- own deque, or nothing.
+-- own deque where the slice left it ready, and else nothing.
 pub record ComesAndRuns (pool : SessionPool) (old : WorkerSeat) (slot limit rows : ℕ) (new : WorkerSeat) : Type 0 where
   pub mid : WorkerSeat
   pub comes : Comes pool old (Some slot) mid
   pub slice : RunSlice
   pub count : slice.rows ≡ rows
   pub runs : Runs (knows mid.slots) slot limit slice (knows new.slots)
-  pub jobs : Puts slot mid.jobs new.jobs ⊎ Stays mid.jobs new.jobs
+  pub jobs : PutsReady slice.word slot mid.jobs new.jobs
 
 -- in which order a turn looked
 abbrev pub TurnsInOrder : SessionPool → WorkerSeat → ℕ → Turn → WorkerSeat → Type 0

@@ -14,6 +14,12 @@ pub record Looks (v w : Known) : Type 0 where
   pub found : w.found ≡ v.found ++ more
   pub same : HasSame v w
 
+-- Some words were found, and nothing else has changed: not even what is out with the seat.
+pub record LooksOn (old new : SlotSeat) : Type 0 where
+  pub looks : Looks (knows old) (knows new)
+  pub notes : (knows new).notes ≡ (knows old).notes
+  pub holds : new.seat.me.1 ≡ old.seat.me.1
+
 -- jobs were looked into, and no session was taken
 pub record LooksByJobs (old new : SlotSeat) : Type 0 where
   pub looks : Looks (knows old) (knows new)

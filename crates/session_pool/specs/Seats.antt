@@ -1,11 +1,13 @@
 -- What contracts say of a pool's seats and passes. All of this is this project's own.
-use Rattle.std.specs.Prelude.{◌≡◌, ◌⊎◌, ℕ, Option, Some, None}
+use Rattle.std.specs.Prelude.{◌≡◌, ◌⊎◌, ℕ, [], ◌∷◌, ◌++◌, Option, Some, None}
 use Rattle.isa.specs.Program.{Program}
+use Rattle.session_state.specs.Session.{Session}
 use Rattle.session_pool_jobs.specs.Calls.{IsEmpty}
 use Rattle.session_pool_jobs.specs.Seats as jobs
 use Rattle.session_pool_rule.specs.Results as results
+use Rattle.session_pool_rule.specs.Steps.{handing}
 use Rattle.session_pool_rule.specs.Words.{ended, free, ready}
-use Rattle.session_pool_slots.specs.Account.{Account, new_account}
+use Rattle.session_pool_slots.specs.Account.{Account, At, new_account}
 use Rattle.session_pool_slots.specs.Known.{PassData, blank, pass_of}
 use Rattle.session_pool_slots.specs.Seats as slots
 use Rattle.session_pool_slots.specs.Seats.{knows}
@@ -74,6 +76,26 @@ KeepsAll old new = (slot : ℕ) → pass_of slot (knows new.slots) ≡ pass_of s
 -- the call found the word of the pass's slot to be this
 abbrev pub Finds : ClientSeat → Pass → ℕ → ClientSeat → Type 0
 Finds old pass word new = results.Finds (knows old.slots) pass.slot word (knows new.slots)
+
+-- The call took the session of the pass's slot as `before`, which fits its account, and gave it back as `after`, with
+-- the word that is left; it gave back nothing else.
+pub record HandsBack (old : ClientSeat) (pass : Pass) (before after : Session) (new : ClientSeat) : Type 0 where
+  pub fits : At (told old pass) before
+  pub handed : (knows new.slots).handed ≡ (knows old.slots).handed
+      ++ handing pass.slot before after (left new pass) ∷ []
+
+-- a call took one session and gave one back: its seat lists both
+abbrev pub HandsBackOne : Type 0
+HandsBackOne = (old : ClientSeat) (pass : Pass) (before other after next : Session) (new : ClientSeat)
+    → HandsBack old pass before after new → HandsBack old pass other next new → (before ≡ other) × (after ≡ next)
+
+-- the call gave back what `make` makes of the session that it took
+abbrev pub HandsBackAs : (Session → Session) → ClientSeat → Pass → ClientSeat → Type 0
+HandsBackAs make old pass new = (before : Session) × HandsBack old pass before (make before) new
+
+-- the call gave nothing back
+abbrev pub HandsNothing : ClientSeat → ClientSeat → Type 0
+HandsNothing old new = (knows new.slots).handed ≡ (knows old.slots).handed
 
 -- the call let the session go on, and left its slot ready, or ended where the session has ended
 abbrev pub LetsGoOn : ClientSeat → Pass → Type 0

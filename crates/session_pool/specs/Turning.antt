@@ -1,12 +1,13 @@
 -- What a worker's turn tells. All of this is this project's own.
-use Rattle.std.specs.Prelude.{◌≡◌, ◌≤◌, ℕ, [], ◌∷◌, ◌++◌}
+use Rattle.std.specs.Prelude.{◌≡◌, ◌<◌, ◌≤◌, ℕ, [], ◌∷◌, ◌++◌}
 use Rattle.session_state.specs.declared.slice.Stopped.{Stopped}
+use Rattle.session_state.specs.Ending.{EndsInOneSlice}
 use Rattle.session_state.specs.Rows.{TakesRows, slice_rows}
 use Rattle.session_state.specs.Session.{Session}
 use Rattle.session_state.specs.Stopping.{IsStopped}
 use Rattle.session_pool_rule.specs.Results.{Finds}
 use Rattle.session_pool_rule.specs.Steps.{handing}
-use Rattle.session_pool_rule.specs.Words.{ready}
+use Rattle.session_pool_rule.specs.Words.{ready, slots}
 use Rattle.session_pool_slots.specs.Known.{Known}
 use Rattle.session_pool_slots.specs.Leaving.{word_after_slice}
 use Rattle.session_pool_slots.specs.Seats.{knows}
@@ -15,9 +16,11 @@ use Rattle.session_pool.specs.declared.turning.Turn.{Turn}
 use Rattle.session_pool.specs.declared.turning.Turn.TheVariants.{Idle, Ran}
 use Rattle.session_pool.specs.Searching.{FindsNone}
 
--- The worker took the session of this slot, which the call found ready, ran it for a slice of at most so many rows, and
--- gave it back with the word that goes by why it stopped.
+-- The worker took the session of this slot, which the call found ready, ran it for a slice of at most `limit` rows, and
+-- gave it back with the word that goes by why it stopped. With no breakpoint, a session that has an end within these
+-- rows has ended.
 pub record HasRun (v : Known) (slot limit rows : ℕ) (w : Known) : Type 0 where
+  pub inside : slot < slots
   pub found : Finds v slot ready w
   pub before : Session
   pub after : Session
@@ -25,6 +28,7 @@ pub record HasRun (v : Known) (slot limit rows : ℕ) (w : Known) : Type 0 where
   pub takes : TakesRows (slice_rows limit before) before rows after
   pub most : rows ≤ limit
   pub why : IsStopped before.breaks limit rows stopped after
+  pub ends : EndsInOneSlice limit before after
   pub handed : w.handed ≡ v.handed ++ handing slot before after (word_after_slice stopped) ∷ []
   pub passes : w.passes ≡ v.passes
 

@@ -1,7 +1,7 @@
 //! What a debugger asks of a session.
 
 ghost use Rattle.std.specs.Prelude.{◌≡◌};
-ghost use Rattle.session_pool_rule.specs.Words.{with_worker};
+ghost use Rattle.session_pool.specs.Seats.{HandsBackOne};
 
 use crate::debug_error::DebugError;
 use crate::pass::Pass;
@@ -14,12 +14,13 @@ use session_pool_slots::word_after;
 #[derive(Clone, Copy, Debug, PartialEq, Eq)]
 pub enum DebugCommand {
     /// To set a breakpoint at an address.
-    Break(u32),
+    Set(u32),
     /// To clear the breakpoint at an address.
     Clear(u32),
-    /// To take rows, at most so many, whatever breakpoints are set.
-    Walk(u64),
-    /// To take rows, at most so many, of which the first alone may be at a breakpoint at which no content is begun.
+    /// To take rows, at most as many as this, whatever breakpoints are set.
+    Step(u64),
+    /// To take rows, at most as many as this, of which the first alone may be at a breakpoint at which no content is
+    /// begun.
     Go(u64),
     /// For the text of its state.
     Show,
@@ -32,7 +33,7 @@ pub enum DebugCommand {
 pub enum DebugReply {
     /// It is done.
     Done,
-    /// So many rows were taken.
+    /// As many rows as this were taken.
     Rows(u64),
     /// The text.
     Text(String),
@@ -47,23 +48,28 @@ impl DebugCommand {
         ensures { result ≡ command_of (act_of act.now) }
     {
         match act {
-            Act::Break(address) => Some(DebugCommand::Break(*address)),
+            Act::Break(address) => Some(DebugCommand::Set(*address)),
             Act::Clear(address) => Some(DebugCommand::Clear(*address)),
-            Act::Walk(limit) => Some(DebugCommand::Walk(*limit)),
+            Act::Walk(limit) => Some(DebugCommand::Step(*limit)),
             Act::Go(limit) => Some(DebugCommand::Go(*limit)),
             _ => None,
         }
     }
 }
 
+/// The law that a call takes one session and gives one back, which its seat lists: `HandsBack` holds of no other two.
+pub fn one_session_is_handed_back()
+    ensures { HandsBackOne }
+{}
+
 impl<'p> SessionPool<'p> {
-    ghost use Rattle.session_pool.specs.Seats.{Finds, IsPassOf, KeepsOthers, LetsGoOn, Rests, told};
+    ghost use Rattle.session_pool.specs.Seats.{IsPassOf, KeepsOthers, Rests};
     ghost use Rattle.session_pool.specs.Debugging.{Debugs, Leaves};
     ghost use Rattle.session_pool.specs.declared.debugging.DebugCommand.{DebugCommand};
 
-    /// Does what a debugger asks. `Busy` where a worker has the session, `BadAddress` where an address is none of the
-    /// program's, then `TooManyBreaks` where a further breakpoint would be one too many; `NoMemory` for a breakpoint
-    /// that is not set yet and for a text, and then nothing has changed.
+    /// Does what a debugger asks, and returns what it is answered. `Busy` where a worker has the session, `BadAddress`
+    /// where an address is none of the program's, then `TooManyBreaks` where a breakpoint would be one too many;
+    /// `NoMemory` for a breakpoint that is not set yet and for a text. Refused, nothing has changed.
     pub fn debug(
         &self,
         seat: &mut ClientSeat<'p>,
@@ -75,22 +81,21 @@ impl<'p> SessionPool<'p> {
         ensures seat { Rests self.now seat.new }
         ensures pass { IsPassOf seat.new pass.now }
         ensures others { KeepsOthers seat.old pass.now seat.new }
-        ensures debugs { Debugs command (told seat.old pass.now) result (told seat.new pass.now)
-            (Finds seat.old pass.now with_worker seat.new) }
+        ensures debugs { Debugs command seat.old pass.now result seat.new }
         ensures left { Leaves command result seat.old pass.now seat.new }
     {
         match command {
-            DebugCommand::Break(address) => self.set_break(seat, pass, address),
-            DebugCommand::Clear(address) => self.clear_break(seat, pass, address),
-            DebugCommand::Walk(limit) => self.walk(seat, pass, limit),
+            DebugCommand::Set(address) => self.set(seat, pass, address),
+            DebugCommand::Clear(address) => self.clear(seat, pass, address),
+            DebugCommand::Step(limit) => self.step(seat, pass, limit),
             DebugCommand::Go(limit) => self.go(seat, pass, limit),
             DebugCommand::Show => self.show(seat, pass),
             DebugCommand::List => self.list(seat, pass),
         }
     }
 
-    /// Sets a breakpoint.
-    fn set_break(
+    /// Sets the breakpoint at an address.
+    fn set(
         &self,
         seat: &mut ClientSeat<'p>,
         pass: &Pass,
@@ -101,9 +106,8 @@ impl<'p> SessionPool<'p> {
         ensures seat { Rests self.now seat.new }
         ensures pass { IsPassOf seat.new pass.now }
         ensures others { KeepsOthers seat.old pass.now seat.new }
-        ensures debugs { Debugs (DebugCommand.Break address) (told seat.old pass.now) result (told seat.new pass.now)
-            (Finds seat.old pass.now with_worker seat.new) }
-        ensures left { Leaves (DebugCommand.Break address) result seat.old pass.now seat.new }
+        ensures debugs { Debugs (DebugCommand.Set address) seat.old pass.now result seat.new }
+        ensures left { Leaves (DebugCommand.Set address) result seat.old pass.now seat.new }
     {
         let slot = pass.slot();
         let Ok(taken) = self.slots.take_out(&mut seat.slots, slot) else {
@@ -119,8 +123,8 @@ impl<'p> SessionPool<'p> {
         Ok(DebugReply::Done)
     }
 
-    /// Clears a breakpoint.
-    fn clear_break(
+    /// Clears the breakpoint at an address, and lets the session go on.
+    fn clear(
         &self,
         seat: &mut ClientSeat<'p>,
         pass: &Pass,
@@ -131,8 +135,7 @@ impl<'p> SessionPool<'p> {
         ensures seat { Rests self.now seat.new }
         ensures pass { IsPassOf seat.new pass.now }
         ensures others { KeepsOthers seat.old pass.now seat.new }
-        ensures debugs { Debugs (DebugCommand.Clear address) (told seat.old pass.now) result (told seat.new pass.now)
-            (Finds seat.old pass.now with_worker seat.new) }
+        ensures debugs { Debugs (DebugCommand.Clear address) seat.old pass.now result seat.new }
         ensures left { Leaves (DebugCommand.Clear address) result seat.old pass.now seat.new }
     {
         let slot = pass.slot();
@@ -150,8 +153,8 @@ impl<'p> SessionPool<'p> {
         Ok(DebugReply::Done)
     }
 
-    /// Takes rows, whatever breakpoints are set.
-    fn walk(
+    /// Takes rows, at most `limit`, whatever breakpoints are set. Returns how many.
+    fn step(
         &self,
         seat: &mut ClientSeat<'p>,
         pass: &Pass,
@@ -162,9 +165,8 @@ impl<'p> SessionPool<'p> {
         ensures seat { Rests self.now seat.new }
         ensures pass { IsPassOf seat.new pass.now }
         ensures others { KeepsOthers seat.old pass.now seat.new }
-        ensures debugs { Debugs (DebugCommand.Walk limit) (told seat.old pass.now) result (told seat.new pass.now)
-            (Finds seat.old pass.now with_worker seat.new) }
-        ensures left { Leaves (DebugCommand.Walk limit) result seat.old pass.now seat.new }
+        ensures debugs { Debugs (DebugCommand.Step limit) seat.old pass.now result seat.new }
+        ensures left { Leaves (DebugCommand.Step limit) result seat.old pass.now seat.new }
     {
         let slot = pass.slot();
         let Ok(taken) = self.slots.take_out(&mut seat.slots, slot) else {
@@ -177,7 +179,7 @@ impl<'p> SessionPool<'p> {
         Ok(DebugReply::Rows(rows))
     }
 
-    /// Takes rows, of which the first alone may be at a breakpoint.
+    /// Takes rows, at most `limit`, of which the first alone may be at a breakpoint. Returns how many.
     fn go(
         &self,
         seat: &mut ClientSeat<'p>,
@@ -189,8 +191,7 @@ impl<'p> SessionPool<'p> {
         ensures seat { Rests self.now seat.new }
         ensures pass { IsPassOf seat.new pass.now }
         ensures others { KeepsOthers seat.old pass.now seat.new }
-        ensures debugs { Debugs (DebugCommand.Go limit) (told seat.old pass.now) result (told seat.new pass.now)
-            (Finds seat.old pass.now with_worker seat.new) }
+        ensures debugs { Debugs (DebugCommand.Go limit) seat.old pass.now result seat.new }
         ensures left { Leaves (DebugCommand.Go limit) result seat.old pass.now seat.new }
     {
         let slot = pass.slot();
@@ -204,15 +205,14 @@ impl<'p> SessionPool<'p> {
         Ok(DebugReply::Rows(rows))
     }
 
-    /// The text of its state.
+    /// Returns the text of the session's state.
     fn show(&self, seat: &mut ClientSeat<'p>, pass: &Pass) -> Result<DebugReply, DebugError>
         requires seat { Rests self.now seat.old }
         requires pass { IsPassOf seat.old pass.now }
         ensures seat { Rests self.now seat.new }
         ensures pass { IsPassOf seat.new pass.now }
         ensures others { KeepsOthers seat.old pass.now seat.new }
-        ensures debugs { Debugs DebugCommand.Show (told seat.old pass.now) result (told seat.new pass.now)
-            (Finds seat.old pass.now with_worker seat.new) }
+        ensures debugs { Debugs DebugCommand.Show seat.old pass.now result seat.new }
         ensures left { Leaves DebugCommand.Show result seat.old pass.now seat.new }
     {
         let slot = pass.slot();
@@ -229,15 +229,14 @@ impl<'p> SessionPool<'p> {
         Ok(DebugReply::Text(text))
     }
 
-    /// The listing of its program.
+    /// Returns the listing of the session's program.
     fn list(&self, seat: &mut ClientSeat<'p>, pass: &Pass) -> Result<DebugReply, DebugError>
         requires seat { Rests self.now seat.old }
         requires pass { IsPassOf seat.old pass.now }
         ensures seat { Rests self.now seat.new }
         ensures pass { IsPassOf seat.new pass.now }
         ensures others { KeepsOthers seat.old pass.now seat.new }
-        ensures debugs { Debugs DebugCommand.List (told seat.old pass.now) result (told seat.new pass.now)
-            (Finds seat.old pass.now with_worker seat.new) }
+        ensures debugs { Debugs DebugCommand.List seat.old pass.now result seat.new }
         ensures left { Leaves DebugCommand.List result seat.old pass.now seat.new }
     {
         let slot = pass.slot();

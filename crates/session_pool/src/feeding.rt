@@ -1,6 +1,7 @@
 //! Feeding a session.
 
 ghost use Rattle.std.specs.Prelude.{◌≡◌, IfErr, OnErr, OnOk};
+ghost use Rattle.session_state.specs.Changes.{finished, with_piece};
 ghost use Rattle.session_pool_rule.specs.Words.{with_worker};
 ghost use Rattle.session_pool_slots.specs.Account.{with_close, with_sent};
 
@@ -10,8 +11,8 @@ use crate::refusals::{PieceError, ReturnedPiece};
 use session_pool_slots::{Busy, word_after};
 
 impl<'p> SessionPool<'p> {
-    ghost use Rattle.session_pool.specs.Seats.{Finds, IsPassOf, KeepsOthers, LetsGoOn, Rests, told};
-    ghost use Rattle.session_pool.specs.Feeding.{IsWhyNoPiece};
+    ghost use Rattle.session_pool.specs.Seats.{Finds, HandsBackAs, IsPassOf, KeepsOthers, LetsGoOn, Rests, told};
+    ghost use Rattle.session_pool.specs.Feeding.{IsWhyNoPiece, LeavesRefused};
 
     /// Appends a piece to a session's payload, and leaves the session ready, or ended where it has ended. `Busy` where
     /// a worker has it, `TooLarge` where all bytes would pass the limit of a payload, then `Ended` after `end`,
@@ -28,11 +29,13 @@ impl<'p> SessionPool<'p> {
         ensures pass { IsPassOf seat.new pass.now }
         ensures others { KeepsOthers seat.old pass.now seat.new }
         ensures told { OnOk result (told seat.new pass.now ≡ with_sent piece.items (told seat.old pass.now)) }
+        ensures hands { OnOk result (HandsBackAs (with_piece piece.items) seat.old pass.now seat.new) }
         ensures left { OnOk result (LetsGoOn seat.new pass.now) }
         ensures back { IfErr result (λ back. back.piece.items ≡ piece.items) }
         ensures same { OnErr result (told seat.new pass.now ≡ told seat.old pass.now) }
         ensures why { IfErr result (λ back. IsWhyNoPiece back.why (told seat.old pass.now) piece.items
             (Finds seat.old pass.now with_worker seat.new)) }
+        ensures word { IfErr result (λ back. LeavesRefused back.why seat.old pass.now seat.new) }
     {
         let slot = pass.slot();
         let Ok(taken) = self.slots.take_out(&mut seat.slots, slot) else {
@@ -64,6 +67,7 @@ impl<'p> SessionPool<'p> {
         ensures pass { IsPassOf seat.new pass.now }
         ensures others { KeepsOthers seat.old pass.now seat.new }
         ensures told { OnOk result (told seat.new pass.now ≡ with_close (told seat.old pass.now)) }
+        ensures hands { OnOk result (HandsBackAs finished seat.old pass.now seat.new) }
         ensures left { OnOk result (LetsGoOn seat.new pass.now) }
         ensures same { OnErr result (told seat.new pass.now ≡ told seat.old pass.now) }
         ensures busy { OnErr result (Finds seat.old pass.now with_worker seat.new) }

@@ -17,13 +17,13 @@ mod searching;
 mod turning;
 
 pub use debug_error::DebugError;
-pub use debugging::{DebugCommand, DebugReply};
+pub use debugging::{DebugCommand, DebugReply, one_session_is_handed_back};
 pub use finishing::Finished;
 pub use limits::{MOST_CLIENTS, limits_are_these};
 pub use pass::Pass;
 pub use pool::{ClientSeat, SessionPool, WorkerSeat};
 pub use refusals::{NotYet, OpenError, PieceError, ReturnedPass, ReturnedPiece};
-pub use session_pool_jobs::{JobSeat, Jobs, MOST_KEPT, MOST_WORKERS, NewJobs, PutRefusal};
+pub use session_pool_jobs::{JobSeat, Jobs, MOST_KEPT, MOST_WORKERS};
 pub use session_pool_slots::{Busy, SLOTS};
 pub use session_state::SessionEnd;
 pub use turning::Turn;

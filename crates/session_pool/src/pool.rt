@@ -52,16 +52,16 @@ impl<'p> SessionPool<'p> {
         ensures clients { IfOk result (λ new. All (IsNewClient new.0) new.1.items) }
         ensures workers { IfOk result (λ new. All (IsNewWorker new.0) new.2.items) }
     {
-        let new_jobs = Jobs::new(alloc, workers)?;
+        let (jobs, job_seats) = Jobs::new(alloc, workers)?;
         let (slots, mut first) = SessionSlots::new(alloc)?;
         let pool = SessionPool {
             alloc,
             cache,
             slots,
-            jobs: new_jobs.jobs,
+            jobs,
         };
         let clients = pool.client_seats(&mut first, clients)?;
-        let workers = pool.worker_seats(&mut first, new_jobs.seats)?;
+        let workers = pool.worker_seats(&mut first, job_seats)?;
         Ok((pool, clients, workers))
     }
 

@@ -1,19 +1,19 @@
 //! How a worker comes to a session that is ready.
 
-ghost use Rattle.std.specs.Prelude.{◌≡◌, MatchOption, Some};
+ghost use Rattle.std.specs.Prelude.{◌≡◌, ◌<◌, ◌≤◌, MatchOption, Some};
+ghost use Rattle.session_pool_rule.specs.Words.{slots};
 ghost use Rattle.session_pool_slots.specs.Seats.{IsSeatOf as IsSlotSeatOf, Rests as IsAtRest};
 ghost use Rattle.session_pool_jobs.specs.Seats.{IsSeatOf, workers_of};
 
 use crate::pool::{SessionPool, WorkerSeat};
-use session_pool_jobs::JobSeat;
 use session_pool_rule::READY;
 use session_pool_slots::{SLOTS, SlotSeat};
 
 impl<'p> SessionPool<'p> {
     ghost use Rattle.session_pool.specs.Seats.{RestsWorker};
     ghost use Rattle.session_pool.specs.Order.{Comes, JobsMiss, Leads, Misses, OwnLeads, OwnMisses};
-    ghost use Rattle.session_pool.specs.Order.{PutsFrom, Scans, StealsLead, StealsMiss};
-    ghost use Rattle.session_pool.specs.Searching.{FindsByJobs, FindsReady};
+    ghost use Rattle.session_pool.specs.Order.{KeepsFurther, KeepsOne, Scans, StealsLead, StealsMiss};
+    ghost use Rattle.session_pool.specs.Searching.{FindsByJobs, FindsReady, LooksOn};
 
     /// Takes a session that is ready: by one of the worker's own jobs, else by one that it steals from each other
     /// worker in turn, else the first that a scan of all slots finds.
@@ -100,7 +100,8 @@ impl<'p> SessionPool<'p> {
         Some(slot)
     }
 
-    /// Takes the session of the first slot that is ready, and keeps the further ones that are as jobs.
+    /// Takes the session of the first slot that is ready, and puts each further one that is ready as a job. `None`
+    /// where no slot was found ready.
     fn scan(&self, seat: &mut WorkerSeat<'p>) -> Option<u32>
         requires { RestsWorker self.now seat.old }
         ensures jobs { IsSeatOf self.now.jobs seat.new.jobs }
@@ -109,20 +110,36 @@ impl<'p> SessionPool<'p> {
         ensures order { Scans result seat.old seat.new }
     {
         let slot = self.slots.scan(&mut seat.slots)?;
-        self.keep_further(&mut seat.jobs, slot + 1);
+        self.keep_further(seat, slot + 1);
         Some(slot)
     }
 
-    /// Keeps the slots from one on that are ready as jobs, as far as they are taken.
-    fn keep_further(&self, jobs: &mut JobSeat, from: u32)
-        requires { IsSeatOf self.now.jobs jobs.old }
-        ensures seat { IsSeatOf self.now.jobs jobs.new }
-        ensures puts { PutsFrom from jobs.old jobs.new }
+    /// Looks at each slot from one on, in order, and puts those that are ready as jobs, as far as there is room.
+    fn keep_further(&self, seat: &mut WorkerSeat<'p>, from: u32)
+        requires jobs { IsSeatOf self.now.jobs seat.old.jobs }
+        requires seat { IsSlotSeatOf self.now.slots seat.old.slots }
+        requires from { from ≤ slots }
+        ensures jobs { IsSeatOf self.now.jobs seat.new.jobs }
+        ensures seat { IsSlotSeatOf self.now.slots seat.new.slots }
+        ensures looks { LooksOn seat.old.slots seat.new.slots }
+        ensures keeps { KeepsFurther from slots seat.old seat.new }
     {
         for slot in from..SLOTS as u32 {
-            if self.slots.is_ready(slot) {
-                let _hint = self.jobs.put(jobs, slot);
-            }
+            self.keep_one(seat, slot);
+        }
+    }
+
+    /// Looks at a slot, and puts it as a job if it is ready and there is room.
+    fn keep_one(&self, seat: &mut WorkerSeat<'p>, slot: u32)
+        requires jobs { IsSeatOf self.now.jobs seat.old.jobs }
+        requires seat { IsSlotSeatOf self.now.slots seat.old.slots }
+        requires slot { slot < slots }
+        ensures jobs { IsSeatOf self.now.jobs seat.new.jobs }
+        ensures seat { IsSlotSeatOf self.now.slots seat.new.slots }
+        ensures keeps { KeepsOne slot seat.old seat.new }
+    {
+        if self.slots.look(&mut seat.slots, slot) == READY {
+            let _put = self.jobs.put(&mut seat.jobs, slot);
         }
     }
 }

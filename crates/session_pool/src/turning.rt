@@ -1,7 +1,8 @@
 //! A worker's turn.
 
-ghost use Rattle.std.specs.Prelude.{◌≡◌, ◌<◌, ◌⊎◌, ℕ};
+ghost use Rattle.std.specs.Prelude.{◌≡◌, ◌<◌, ℕ};
 ghost use Rattle.session_pool_rule.specs.Results.{HasNoted};
+ghost use Rattle.session_pool_rule.specs.Words.{slots};
 ghost use Rattle.session_pool_slots.specs.Account.{has_ended};
 ghost use Rattle.session_pool_slots.specs.Seats.{IsSeatOf as IsSlotSeatOf};
 ghost use Rattle.session_pool_slots.specs.Working.{Runs};
@@ -17,20 +18,19 @@ use session_pool_slots::RunSlice;
 pub enum Turn {
     /// No slot was found ready.
     Idle,
-    /// The session of a slot ran, so many rows.
+    /// The session of a slot ran, for as many rows as this.
     Ran { slot: u32, rows: u64 },
 }
 
 impl<'p> SessionPool<'p> {
     ghost use Rattle.session_pool.specs.Seats.{RestsWorker};
-    ghost use Rattle.session_pool.specs.Order.{TurnsInOrder};
-    ghost use Rattle.session_pool_jobs.specs.Calls.{Puts, Stays};
+    ghost use Rattle.session_pool.specs.Order.{PutsReady, TurnsInOrder};
     ghost use Rattle.session_pool.specs.Turning.{Turned};
     ghost use Rattle.session_pool_slots.specs.Seats.{knows};
 
     /// Runs one session that is ready for a slice of at most `limit` rows: by one of the worker's own jobs, else by one
-    /// that it steals from each other worker in turn, else the first slot that a scan finds ready. It waits for no
-    /// thread.
+    /// that it steals from each other worker in turn, else the first slot that a scan finds ready. With no breakpoint,
+    /// a session that has an end within these rows has ended then. It waits for no thread.
     pub fn turn(&self, seat: &mut WorkerSeat<'p>, limit: u64) -> Turn
         requires { RestsWorker self.now seat.old }
         ensures seat { RestsWorker self.now seat.new }
@@ -40,7 +40,8 @@ impl<'p> SessionPool<'p> {
         self.turn_at(seat, limit, &mut |_slot: u32| {})
     }
 
-    /// The same, and a closure is called with the slot once its session was taken, before its first row.
+    /// Runs one session that is ready, as `turn` does. The closure is called once, with its slot, after its session was
+    /// taken and before its first row; it is not called where no slot was found ready.
     pub fn turn_at<F: FnMut(u32)>(
         &self,
         seat: &mut WorkerSeat<'p>,
@@ -48,7 +49,7 @@ impl<'p> SessionPool<'p> {
         taken: &mut F,
     ) -> Turn
         requires seat { RestsWorker self.now seat.old }
-        requires callable { (closure : F) (slot : ℕ) → F.pre closure slot }
+        requires callable { (slot : ℕ) → slot < slots → F.pre taken.old slot }
         ensures seat { RestsWorker self.now seat.new }
         ensures turned { Turned seat.old limit result seat.new }
         ensures order { TurnsInOrder self.now seat.old limit result seat.new }
@@ -65,18 +66,18 @@ impl<'p> SessionPool<'p> {
         }
     }
 
-    /// Runs the session that the worker has taken, and gives it back. Where it is left ready its slot is a job.
+    /// Runs the session that the worker has taken, and gives it back. Where it is left ready its slot is put as a job.
     fn run(&self, seat: &mut WorkerSeat<'p>, slot: u32, limit: u64) -> RunSlice
         requires jobs { IsSeatOf self.now.jobs seat.old.jobs }
         requires seat { IsSlotSeatOf self.now.slots seat.old.slots }
         requires note { HasNoted has_ended seat.old.slots.seat.me slot }
         ensures seat { RestsWorker self.now seat.new }
         ensures ran { Runs (knows seat.old.slots) slot limit result (knows seat.new.slots) }
-        ensures puts { Puts slot seat.old.jobs seat.new.jobs ⊎ Stays seat.old.jobs seat.new.jobs }
+        ensures puts { PutsReady result.word slot seat.old.jobs seat.new.jobs }
     {
         let slice = self.slots.run(&mut seat.slots, slot, limit);
         if slice.word == READY {
-            let _hint = self.jobs.put(&mut seat.jobs, slot);
+            let _put = self.jobs.put(&mut seat.jobs, slot);
         }
         slice
     }

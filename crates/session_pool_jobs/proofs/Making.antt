@@ -3,7 +3,6 @@ use Rattle.std.proofs.Common.{◌≡◌, ◌≢◌, ◌<◌, ◌≤◌, ◌+◌,
 use Rattle.std.proofs.lemmas.Option.{slice_get_within}
 use Rattle.crossbeam_deque.specs.Handles.{stealer_deque, worker_deque}
 use Rattle.session_pool_jobs.specs.declared.jobs.Jobs.{Jobs}
-use Rattle.session_pool_jobs.specs.declared.jobs.NewJobs.{NewJobs}
 use Rattle.session_pool_jobs.specs.declared.seat.JobSeat.{JobSeat}
 use Rattle.session_pool_jobs.specs.Passes.{AreEmptyPasses, Thief}
 use Rattle.session_pool_jobs.specs.Seats.{AreAlone, IsAlone, IsSeatOf, kept_by, number_of, workers_of}
@@ -56,11 +55,10 @@ is_seat n jobs k seat below within h = record {
 is_empty : (n : ℕ) (jobs : Jobs) (k : ℕ) (seat : JobSeat) → k < n → IsUpTo n jobs k seat → IsEmpty seat
 is_empty n jobs k seat below h = record { kept = h.alone.kept; put = h.alone.put; taken = h.alone.taken; stolen = (h.passes below).empty }
 
-pub all_new : (many n : ℕ) (new : NewJobs) → many ≤ n → workers_of new.jobs ≡ many → vec_len new.seats ≡ many → length new.seats.items ≡ many → AreUpTo n new.jobs new.seats.items → AreNew many new
-all_new many n new enough workers count len h = record {
+pub all_new : (many n : ℕ) (jobs : Jobs) (seats : List JobSeat) → many ≤ n → workers_of jobs ≡ many → length seats ≡ many → AreUpTo n jobs seats → AreNew many jobs seats
+all_new many n jobs seats enough workers len h = record {
   workers = workers;
-  count = count;
-  seats = all_places (IsSeatOf new.jobs) new.seats.items (λ k seat at. let within : k < length new.seats.items = slice_get_within new.seats.items k seat at in is_seat n new.jobs k seat (omega (arith, within, len, enough)) (omega (arith, within, len, workers)) (h k seat at));
-  empty = all_places IsEmpty new.seats.items (λ k seat at. let within : k < length new.seats.items = slice_get_within new.seats.items k seat at in is_empty n new.jobs k seat (omega (arith, within, len, enough)) (h k seat at));
+  theirs = all_places (IsSeatOf jobs) seats (λ k seat at. let within : k < length seats = slice_get_within seats k seat at in is_seat n jobs k seat (omega (arith, within, len, enough)) (omega (arith, within, len, workers)) (h k seat at));
+  empty = all_places IsEmpty seats (λ k seat at. let within : k < length seats = slice_get_within seats k seat at in is_empty n jobs k seat (omega (arith, within, len, enough)) (h k seat at));
   numbers = λ k seat at. (h k seat at).alone.number;
 }

@@ -1,6 +1,8 @@
 -- What each call does to a seat. All of this is this project's own.
-use Rattle.std.specs.Prelude.{◌≡◌, ◌≢◌, ℕ, ◌+◌, ◌-◌, [], ◌∷◌, ◌++◌, All, Option, Some, None, slice_get, vec_len}
-use Rattle.session_pool_jobs.specs.declared.jobs.NewJobs.{NewJobs}
+use Rattle.std.specs.Prelude.{◌≡◌, ◌≢◌, ◌≤◌, ◌⊎◌, ℕ, ◌+◌, ◌-◌, List, [], ◌∷◌, ◌++◌, All, length, Option, Some, None}
+use Rattle.std.specs.Prelude.{slice_get}
+use Rattle.session_pool_jobs.specs.declared.jobs.Jobs.{Jobs}
+use Rattle.session_pool_jobs.specs.declared.limits.TheConstants.{MOST_KEPT}
 use Rattle.session_pool_jobs.specs.declared.seat.JobSeat.{JobSeat}
 use Rattle.session_pool_jobs.specs.Passes.{listed}
 use Rattle.session_pool_jobs.specs.Seats.{IsSeatOf, kept_by, number_of, put_by, stolen_by, taken_by, workers_of}
@@ -12,13 +14,12 @@ pub record IsEmpty (seat : JobSeat) : Type 0 where
   pub taken : taken_by seat ≡ []
   pub stolen : (from : ℕ) → stolen_by seat from ≡ []
 
--- so many workers, each with an empty seat whose number is its place
-pub record AreNew (many : ℕ) (new : NewJobs) : Type 0 where
-  pub workers : workers_of new.jobs ≡ many
-  pub count : vec_len new.seats ≡ many
-  pub seats : All (IsSeatOf new.jobs) new.seats.items
-  pub empty : All IsEmpty new.seats.items
-  pub numbers : (k : ℕ) (seat : JobSeat) → slice_get new.seats.items k ≡ Some seat → number_of seat ≡ k
+-- there are as many workers as this, each with an empty seat whose number is its place
+pub record AreNew (many : ℕ) (jobs : Jobs) (seats : List JobSeat) : Type 0 where
+  pub workers : workers_of jobs ≡ many
+  pub theirs : All (IsSeatOf jobs) seats
+  pub empty : All IsEmpty seats
+  pub numbers : (k : ℕ) (seat : JobSeat) → slice_get seats k ≡ Some seat → number_of seat ≡ k
 
 -- nothing was put and nothing taken
 pub record Stays (old new : JobSeat) : Type 0 where
@@ -27,6 +28,11 @@ pub record Stays (old new : JobSeat) : Type 0 where
   pub put : put_by new ≡ put_by old
   pub taken : taken_by new ≡ taken_by old
   pub stolen : (from : ℕ) → stolen_by new from ≡ stolen_by old from
+
+-- A seat has no room for one number more: it keeps as many as it may, or memory is wanting, which it is for none of the
+-- first ones.
+abbrev pub HasNoRoom : JobSeat → Type 0
+HasNoRoom seat = (kept_by seat ≡ MOST_KEPT) ⊎ (MOST_KEPT ≤ length (put_by seat))
 
 -- one number more was put, and nothing taken
 pub record Puts (slot : ℕ) (old new : JobSeat) : Type 0 where

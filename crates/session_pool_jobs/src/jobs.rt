@@ -1,16 +1,15 @@
 //! The deques of workers, each of which the others steal from.
 
-ghost use Rattle.std.specs.Prelude.{◌≡◌, ◌<◌, ◌≤◌, ◌++◌, ◌↔◌, Err, IfOk, MatchResult, length, vec_len};
+ghost use Rattle.std.specs.Prelude.{◌≡◌, ◌<◌, ◌≤◌, ◌++◌, IfOk, IfSome, true, false, length, vec_len};
 ghost use Rattle.crossbeam_deque.specs.Handles.{IsPassOf, stealer_deque, view};
 ghost use Rattle.session_pool_jobs.specs.declared.limits.TheConstants.{MOST_KEPT, MOST_WORKERS};
-ghost use Rattle.session_pool_jobs.specs.declared.refusal.PutRefusal.TheVariants.{Full, NoMemory};
 ghost use Rattle.session_pool_jobs.specs.Passes.{AreEmptyPasses, listed};
 ghost use Rattle.session_pool_jobs.specs.Seats.{AreAlone, AreOfSeats};
+ghost use Rattle.session_pool_jobs.specs.Tallies.{IsSubsequence};
 
 use crate::limits::{MOST_KEPT, MOST_WORKERS};
-use crate::refusal::PutRefusal;
 use crate::seat::JobSeat;
-use crate::tally::{JobPass, Put, Taken, Thief};
+use crate::tally::{JobPass, Put, Taken, TakenInOrder, Thief};
 use crossbeam_deque::Steal;
 use std::alloc::{AllocError, Global};
 
@@ -20,14 +19,7 @@ pub struct Jobs {
     stealers: Vec<Thief>,
 }
 
-/// Deques for some workers, and the seat of each.
-#[derive(Drop)]
-pub struct NewJobs {
-    pub jobs: Jobs,
-    pub seats: Vec<JobSeat>,
-}
-
-/// The seats of so many workers, with no passes yet.
+/// Returns the seats of some workers, with no passes yet.
 fn seats_alone(alloc: Global, workers: usize) -> Result<Vec<JobSeat>, AllocError>
     ensures length { IfOk result (λ seats. vec_len seats ≡ workers) }
     ensures alone { IfOk result (λ seats. AreAlone seats.items) }
@@ -39,7 +31,7 @@ fn seats_alone(alloc: Global, workers: usize) -> Result<Vec<JobSeat>, AllocError
     Ok(seats)
 }
 
-/// A stealer of each seat's deque.
+/// Returns a stealer of each seat's deque, in order.
 fn stealers_of(alloc: Global, seats: &[JobSeat]) -> Result<Vec<Thief>, AllocError>
     ensures length { IfOk result (λ stealers. vec_len stealers ≡ length seats.now) }
     ensures deques { IfOk result (λ stealers. AreOfSeats stealers.items seats.now) }
@@ -51,7 +43,7 @@ fn stealers_of(alloc: Global, seats: &[JobSeat]) -> Result<Vec<Thief>, AllocErro
     Ok(stealers)
 }
 
-/// A pass for each deque, which has taken nothing.
+/// Returns a pass for each deque, which has taken nothing.
 fn passes_of(alloc: Global, stealers: &[Thief]) -> Result<Vec<JobPass>, AllocError>
     ensures length { IfOk result (λ passes. vec_len passes ≡ length stealers.now) }
     ensures passes { IfOk result (λ passes. AreEmptyPasses stealers.now passes.items) }
@@ -63,7 +55,7 @@ fn passes_of(alloc: Global, stealers: &[Thief]) -> Result<Vec<JobPass>, AllocErr
     Ok(passes)
 }
 
-/// Takes the oldest number of a deque, as a thief.
+/// Takes the oldest number of a deque, as a thief. `None` where it was found empty, or another was faster.
 fn steal_one(stealer: &Thief, pass: &mut JobPass) -> Option<u32>
     requires { IsPassOf (stealer_deque stealer.now) pass.old }
     ensures pass { IsPassOf (stealer_deque stealer.now) pass.new }
@@ -76,13 +68,14 @@ fn steal_one(stealer: &Thief, pass: &mut JobPass) -> Option<u32>
 }
 
 impl Jobs {
-    ghost use Rattle.session_pool_jobs.specs.Seats.{IsSeatOf, kept_by, put_by, workers_of};
-    ghost use Rattle.session_pool_jobs.specs.Calls.{AreNew, Puts, Stays, Steals, Takes};
+    ghost use Rattle.session_pool_jobs.specs.Seats.{IsSeatOf, kept_by, put_by, taken_by, workers_of};
+    ghost use Rattle.session_pool_jobs.specs.Calls.{AreNew, HasNoRoom, Puts, Stays, Steals, Takes};
 
-    /// Empty deques for so many workers, 1 to `MOST_WORKERS`, and the seat of each.
-    pub fn new(alloc: Global, workers: usize) -> Result<NewJobs, AllocError>
+    /// Returns empty deques for some workers, 1 to `MOST_WORKERS`, and the seat of each, whose number is its place.
+    pub fn new(alloc: Global, workers: usize) -> Result<(Jobs, Vec<JobSeat>), AllocError>
         requires { (1 ≤ workers) × (workers ≤ MOST_WORKERS) }
-        ensures { IfOk result (AreNew workers) }
+        ensures count { IfOk result (λ made. vec_len made.1 ≡ workers) }
+        ensures new { IfOk result (λ made. AreNew workers made.0 made.1.items) }
     {
         let mut seats = seats_alone(alloc, workers)?;
         let stealers = stealers_of(alloc, &seats)?;
@@ -90,7 +83,7 @@ impl Jobs {
         for number in 0..workers {
             seats[number].passes = passes_of(alloc, &jobs.stealers)?;
         }
-        Ok(NewJobs { jobs, seats })
+        Ok((jobs, seats))
     }
 
     /// How many workers there are.
@@ -100,32 +93,36 @@ impl Jobs {
         self.stealers.len()
     }
 
-    /// Puts a number into the worker's own deque. `Full` exactly where it keeps `MOST_KEPT`; `NoMemory` where
-    /// memory ran out, but never at the first `MOST_KEPT` numbers that it puts.
-    pub fn put(&self, seat: &mut JobSeat, slot: u32) -> Result<(), PutRefusal>
+    /// Puts a number into the worker's own deque, and returns whether it was put. It is not where the worker keeps
+    /// `MOST_KEPT`, nor where memory ran out, which it does at none of the first `MOST_KEPT` numbers that are put: then
+    /// nothing has changed.
+    pub fn put(&self, seat: &mut JobSeat, slot: u32) -> bool
         requires seat { IsSeatOf self.now seat.old }
         ensures seat { IsSeatOf self.now seat.new }
-        ensures put { MatchResult result (λ _. Puts slot seat.old seat.new) (λ _. Stays seat.old seat.new) }
-        ensures full { (result ≡ Err Full) ↔ (kept_by seat.old ≡ MOST_KEPT) }
-        ensures memory { result ≡ Err NoMemory → MOST_KEPT ≤ length (put_by seat.old) }
+        ensures put { result ≡ true → Puts slot seat.old seat.new }
+        ensures stays { result ≡ false → Stays seat.old seat.new }
+        ensures room { result ≡ false → HasNoRoom seat.old }
+        ensures full { kept_by seat.old ≡ MOST_KEPT → result ≡ false }
     {
         if seat.kept >= MOST_KEPT {
-            return Err(PutRefusal::Full);
+            return false;
         }
         if seat.own.push_as::<Put>(slot).is_err() {
-            return Err(PutRefusal::NoMemory);
+            return false;
         }
         seat.kept += 1;
-        Ok(())
+        true
     }
 
-    /// Takes the oldest number of the worker's own deque; `None` where it was found empty.
+    /// Takes the oldest number of the worker's own deque: all that it takes comes in the order in which it was put.
+    /// `None` where the deque was found empty.
     pub fn take(&self, seat: &mut JobSeat) -> Option<u32>
         requires seat { IsSeatOf self.now seat.old }
         ensures seat { IsSeatOf self.now seat.new }
         ensures taken { Takes result seat.old seat.new }
+        ensures order { IfSome result (λ _. IsSubsequence (taken_by seat.new) (put_by seat.new)) }
     {
-        let taken = seat.own.pop_as::<Taken>();
+        let taken = seat.own.pop_as::<TakenInOrder>();
         seat.kept = match taken {
             Some(_) => seat.kept.saturating_sub(1),
             None => 0,

@@ -5,12 +5,10 @@
 
 mod jobs;
 mod limits;
-mod refusal;
 mod seat;
 mod tally;
 
-pub use jobs::{Jobs, NewJobs};
+pub use jobs::Jobs;
 pub use limits::{MOST_KEPT, MOST_WORKERS, limits_are_these};
-pub use refusal::PutRefusal;
 pub use seat::JobSeat;
 pub use tally::Tally;

@@ -1,7 +1,7 @@
 //! What a seat has put into a deque and taken from it, and the rule of a deque.
 
 ghost use Rattle.std.specs.Prelude.{◌≡◌, ◌++◌, []};
-ghost use Rattle.session_pool_jobs.specs.Tallies.{Balances, tally};
+ghost use Rattle.session_pool_jobs.specs.Tallies.{IsInOrder, IsSubsequence, tally};
 
 use crossbeam_deque::protocol::{Outcome, Protocol};
 use crossbeam_deque::{Pass, Stealer, Worker};
@@ -14,11 +14,12 @@ pub struct Tally {
     pub taken: LinkedList<u32>,
 }
 
-/// The rule of a deque: each number was put as often as it was taken and is there, and the owner alone puts.
+/// The rule of a deque: each number was put as often as it was taken and is there, the owner alone puts, and numbers
+/// leave in the order in which it puts them.
 pub struct Balanced;
 
 impl Protocol<u32, Tally> for Balanced {
-    ghost holds = { Balances };
+    ghost holds = { IsInOrder };
 
     ghost first = { tally [] [] };
 
@@ -37,6 +38,13 @@ pub(crate) struct Taken;
 
 impl Outcome<u32, Tally> for Taken {
     ghost then = { λ old slots new. new ≡ tally old.put (old.taken ++ slots) };
+}
+
+/// Numbers are taken by the owner, who knows in which order it put them.
+pub(crate) struct TakenInOrder;
+
+impl Outcome<u32, Tally> for TakenInOrder {
+    ghost then = { λ old slots new. (new ≡ tally old.put (old.taken ++ slots)) × IsSubsequence new.taken new.put };
 }
 
 /// A deque in the hands of its owner.

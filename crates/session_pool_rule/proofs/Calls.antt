@@ -108,6 +108,7 @@ module _ {S A : Type 0} (At : A → S → Type 0) (over : S → Bool) where
       now = ap (λ (z : Seat S A). pass_of i z.0) e ∙ pass_now m.0 i r p (Some (pass_out p x)) mine;
       others = λ k ne. ap (λ (z : Seat S A). pass_of k z.0) e ∙ others_now m.0 i r (Some (pass_out p x)) k ne;
       found = finds_one m.0 n.0 i r (ap (λ (z : Seat S A). z.0.found) e);
+      handed = ap (λ (z : Seat S A). z.0.handed) e;
     };
     holds = ap (λ (z : Seat S A). z.1) e;
   }
@@ -123,6 +124,7 @@ module _ {S A : Type 0} (At : A → S → Type 0) (over : S → Bool) where
       same = ap (λ (z : Seat S A). pass_of i z.0) e;
       others = λ k ne. ap (λ (z : Seat S A). pass_of k z.0) e;
       found = finds_one m.0 n.0 i with_worker (ap (λ (z : Seat S A). z.0.found) e ∙ ap (λ (k : ℕ). m.0.found ++ found_word i k ∷ []) is);
+      handed = ap (λ (z : Seat S A). z.0.handed) e;
     },
     ap (λ (z : Seat S A). z.1) e,
   )
@@ -157,6 +159,7 @@ module _ {S A : Type 0} (At : A → S → Type 0) (over : S → Bool) where
             after = f.after;
             found = f.found ∙ (ap (λ (y : Seat S A). y.0.found ++ (f.before ++ found_word i r ∷ f.after)) s.seat ∙ append_assoc m.0.found (found_word i r ∷ []) (f.before ++ found_word i r ∷ f.after));
           };
+          handed = k.handed ∙ ap (λ (y : Seat S A). y.0.handed) s.seat;
         };
         holds = z.holds ∙ ap (λ (y : Seat S A). (i, Some x) ∷ y.1) s.seat;
       })
@@ -187,6 +190,9 @@ module _ {S A : Type 0} where
         record {
           now = λ q there. ap (λ (z : Seat S A). pass_of i z.0) s ∙ (get_or-set_same m.0.passes i now None (has_room m.0 i p here)
               ∙ ap (λ (z : PassData S A). Some (pass_in (back z.account x) new)) (one_of (pass_of i v) p q mine there));
+          handed = λ q u there gone.
+              let was : y ≡ u = one_of p.out y u out (ap (λ (z : PassData S A). z.out) (one_of (pass_of i v) p q mine there) ∙ gone) in
+              ap (λ (z : Seat S A). z.0.handed) s ∙ (ap (λ (z : Seat S A). z.0.handed ++ handing i y x new ∷ []) e ∙ ap (λ (z : S). v.handed ++ handing i z x new ∷ []) was);
           others = λ k ne. ap (λ (z : Seat S A). pass_of k z.0) s ∙ (get_or-set_other m.0.passes i k now None ne ∙ ap (λ (z : Seat S A). pass_of k z.0) e);
           found = ap (λ (z : Seat S A). z.0.found) s ∙ ap (λ (z : Seat S A). z.0.found) e;
         },
@@ -205,6 +211,7 @@ module _ {S A : Type 0} where
       fresh = u.fresh;
       pass = ap (λ (z : Seat S A). pass_of i z.0) u.after ∙ get_or-set_same m.0.passes i now None u.inside;
       others = λ k ne. ap (λ (z : Seat S A). pass_of k z.0) u.after ∙ get_or-set_other m.0.passes i k now None ne;
+      handed = ap (λ (z : Seat S A). z.0.handed) u.after;
     };
     kept = u.kept;
     holds = ap (λ (z : Seat S A). z.1) u.after;
@@ -219,6 +226,7 @@ module _ {S A : Type 0} where
       gone = ap (λ (z : Seat S A). pass_of i z.0) s ∙ get_or-set_same m.0.passes i None None (has_room m.0 i p here);
       others = λ k ne. ap (λ (z : Seat S A). pass_of k z.0) s ∙ (get_or-set_other m.0.passes i k None None ne ∙ ap (λ (z : Seat S A). pass_of k z.0) e);
       found = ap (λ (z : Seat S A). z.0.found) s ∙ ap (λ (z : Seat S A). z.0.found) e;
+      handed = ap (λ (z : Seat S A). z.0.handed) s ∙ ap (λ (z : Seat S A). z.0.handed) e;
     },
     ap (λ (z : Seat S A). z.1) s ∙ ap (λ (z : Seat S A). rest z.1) e,
   )

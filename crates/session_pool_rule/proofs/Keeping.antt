@@ -279,7 +279,7 @@ module _ {S A : Type 0} (At : A → S → Type 0) (over : S → Bool) where
       → At (back p.account x) x → Made y x → IsWordOf (over x) new
       → Allows (IsInOrder At over) n id (v, (i, Some x) ∷ more) i (λ _. new) (λ _. given back Made (step n i new 0 none) (v, (i, Some x) ∷ more) new)
   gives_back back Made n id v i new p y x more inside mine out fits made is s k wide me _ =
-      let q : PassData S A = pass_in (back p.account x) new in let w : View S A = with_pass v i (Some q) in
+      let q : PassData S A = pass_in (back p.account x) new in let w : View S A = with_handed (with_pass v i (Some q)) (handing i y x new) in
       let P = passes_at s.views i in let T = notes_at s.views i in
       let had : Out (word_at s i) (get_elem? s.homes i) P T id p = out_case (word_at s i) (get_elem? s.homes i) P T id p y (k.each i inside) (pass_here s k i id v w inside me p mine) out in (
         w,
@@ -302,7 +302,7 @@ module _ {S A : Type 0} (At : A → S → Type 0) (over : S → Bool) where
             let e : p ≡ p' = one_pass i v p p' mine mine' in
             let f : x ≡ x' = one_session i x x' more more took in
             let g : y ≡ y' = one_out p p' y y' e out out' in
-            (subst (λ (z : S). Made z x') g (subst (λ (z : S). Made y z) f made), λ j. (with_pass v i (Some (pass_in (back (e j).account (f j)) new)), more)),
+            (subst (λ (z : S). Made z x') g (subst (λ (z : S). Made y z) f made), λ j. (with_handed (with_pass v i (Some (pass_in (back (e j).account (f j)) new))) (handing i (g j) (f j) new), more)),
       )
 
   pub gives_back_at : (back : A → S → A) (Made : S → S → Type 0) (n id : ℕ) (m : Seat S A) (v : View S A) (i new : ℕ) (p : PassData S A) (y x : S) (more : List (ℕ × Option S)) → m ≡ (v, (i, Some x) ∷ more) → i < slots → pass_of i v ≡ Some p → p.out ≡ Some y

@@ -2,7 +2,7 @@
 use Rattle.std.specs.Prelude.{◌≡◌, ◌≢◌, ◌<◌, ℕ, ◌+◌, Bool, false, List, [], ◌∷◌, ◌++◌, map, length, All, Some, None, ⊤}
 use Rattle.session_pool_rule.specs.Words.{IsWordOf, free, ready, slots, with_worker}
 use Rattle.session_pool_rule.specs.Views.{FoundWord, PassData, View, found_word, note_of, pass_of}
-use Rattle.session_pool_rule.specs.Steps.{Seat, new_pass, pass_in, pass_out}
+use Rattle.session_pool_rule.specs.Steps.{Seat, handing, new_pass, pass_in, pass_out}
 
 -- ---- what was found
 
@@ -85,6 +85,7 @@ pub record Claimed {S A : Type 0} (new : S → A) (v : View S A) (slot : ℕ) (s
   pub fresh : pass_of slot v ≡ None
   pub pass : pass_of slot w ≡ Some (new_pass (new session) session)
   pub others : Others v slot w
+  pub handed : w.handed ≡ v.handed
 
 -- the client took its session out of the slot, whose word was this
 pub record TookOut {S A : Type 0} (At : A → S → Type 0) (over : S → Bool)
@@ -94,18 +95,23 @@ pub record TookOut {S A : Type 0} (At : A → S → Type 0) (over : S → Bool)
   pub now : pass_of slot w ≡ Some (pass_out pass session)
   pub others : Others v slot w
   pub found : Finds v slot word w
+  pub handed : w.handed ≡ v.handed
 
 -- a worker had the session
 pub record Missed {S A : Type 0} (v : View S A) (slot : ℕ) (w : View S A) : Type 0 where
   pub same : pass_of slot w ≡ pass_of slot v
   pub others : Others v slot w
   pub found : Finds v slot with_worker w
+  pub handed : w.handed ≡ v.handed
 
--- the client gave this session back with this word, and its account is what `back` says
+-- The client gave this session back with this word, and its account is what `back` says; what it took and what it gave
+-- back comes last in its list.
 pub record GaveBack {S A : Type 0} (back : A → S → A)
     (v : View S A) (slot : ℕ) (session : S) (word : ℕ) (w : View S A) : Type 0 where
   pub now : (pass : PassData S A) → pass_of slot v ≡ Some pass
       → pass_of slot w ≡ Some (pass_in (back pass.account session) word)
+  pub handed : (pass : PassData S A) (before : S) → pass_of slot v ≡ Some pass → pass.out ≡ Some before
+      → w.handed ≡ v.handed ++ handing slot before session word ∷ []
   pub others : Others v slot w
   pub found : w.found ≡ v.found
 
@@ -114,6 +120,7 @@ pub record Freed {S A : Type 0} (v : View S A) (slot : ℕ) (w : View S A) : Typ
   pub gone : pass_of slot w ≡ None
   pub others : Others v slot w
   pub found : w.found ≡ v.found
+  pub handed : w.handed ≡ v.handed
 
 -- ---- workers' calls
 

@@ -13,7 +13,7 @@ Seat S A = Me (Option S) (View S A)
 abbrev pub Telling : Type 0 → Type 0 → Type 1
 Telling S A = Step (Option S) → Seat S A → ℕ → Seat S A → Type 0
 
--- what a worker gave back of this slot: it had taken `before`, which became `after`, and left the word
+-- what a seat gave back of this slot: it had taken `before`, which became `after`, and left the word
 abbrev pub handing : {S : Type 0} → ℕ → S → S → ℕ → Handed S
 handing slot before after word = record { slot = slot; before = before; after = after; word = word }
 
@@ -91,12 +91,16 @@ module _ {S A : Type 0} where
       × (word ≢ st.first → MissesOwn st.word st.first pass m word n)
 
   -- A client gives back: `Made` says what it made of the session, `back` its account from then on; the step has the
-  -- word.
+  -- word. What it took and what it gave back comes last in its list.
   abbrev pub given : (A → S → A) → (S → S → Type 0) → Telling S A
   given back Made st m word n = (pass : PassData S A) (before after : S)
       → pass_of st.word m.0 ≡ Some pass → pass.out ≡ Some before → m.1 ≡ (st.word, Some after) ∷ rest m.1
       → Made before after
-      × (n ≡ (with_pass m.0 st.word (Some (pass_in (back pass.account after) st.first)), rest m.1))
+      × (n ≡ (
+        with_handed (with_pass m.0 st.word (Some (pass_in (back pass.account after) st.first)))
+            (handing st.word before after st.first),
+        rest m.1,
+      ))
 
   -- A client frees: the slot of a session that is out with it keeps what the client puts there.
   abbrev pub freed : Telling S A

@@ -18,7 +18,7 @@ pub record PassData (S A : Type 0) : Type 0 where
   -- the word with which the client gave the session back last, or `free`
   pub left : ℕ
 
--- what a worker gave back: the slot, the session as it was taken, what it became, and the word that was left
+-- what a seat gave back: the slot, the session as it was taken, what it became, and the word that was left
 pub record Handed (S : Type 0) : Type 0 where
   pub slot : ℕ
   pub before : S
@@ -33,7 +33,7 @@ pub record View (S A : Type 0) : Type 0 where
   pub passes : List (Option (PassData S A))
   -- for each slot the worker's note, where the seat has one: the session as it was taken
   pub notes : List (Option S)
-  -- what the worker gave back, one after another
+  -- what the seat gave back, one after another
   pub handed : List (Handed S)
 
 -- for so many slots nothing

@@ -1,9 +1,10 @@
 -- A session that begins in the first slot that is free.
-use Rattle.std.proofs.Common.{◌≡◌, ◌<◌, ℕ, List, [], ◌∷◌, ◌++◌, Option, None, get_or, sym, ap, ◌∙◌}
+use Rattle.std.proofs.Common.{◌≡◌, ◌<◌, ℕ, List, [], ◌∷◌, ◌++◌, Option, None, get_or, refl, sym, ap, ◌∙◌}
 use Rattle.isa.specs.Program.{Program}
 use Rattle.session_state.specs.Session.{Session, begun}
 use Rattle.session_pool_rule.specs.Words.{free, ready, slots}
-use Rattle.session_pool_rule.specs.Steps.{new_pass}
+use Rattle.session_pool_rule.specs.Views.{Handed}
+use Rattle.session_pool_rule.specs.Steps.{handing, new_pass}
 use Rattle.session_pool_rule.specs.Results.{GaveBack, HasSame, IsOccupied, Searched, words_of}
 use Rattle.session_pool_rule.proofs.Calls.{searched_then}
 use Rattle.session_pool_slots.specs.declared.slots.SlotSeat.{SlotSeat}
@@ -22,6 +23,7 @@ has_begun first old mid new i P inside same passed found claim gave =
       found = searched_then IsOccupied (knows first) (knows old) (knows new) i (free ∷ free ∷ []) passed (gave.found ∙ found);
       fresh = sym (as_before i) ∙ claim.claimed.fresh;
       now = gave.now (new_pass (opened (begun P)) (begun P)) claim.claimed.pass;
+      handed = gave.handed (new_pass (opened (begun P)) (begun P)) (begun P) claim.claimed.pass refl ∙ ap (λ (l : List (Handed Session)). l ++ handing i (begun P) (begun P) ready ∷ []) (claim.claimed.handed ∙ same.handed);
       others = λ k ne. gave.others k ne ∙ (claim.claimed.others k ne ∙ as_before k);
     }
 
@@ -33,6 +35,7 @@ claimed_later old mid new i x same claim =
         fresh = sym (as_before i) ∙ claim.claimed.fresh;
         pass = claim.claimed.pass;
         others = λ k ne. claim.claimed.others k ne ∙ as_before k;
+        handed = claim.claimed.handed ∙ same.handed;
       };
       kept = claim.kept;
       holds = claim.holds;

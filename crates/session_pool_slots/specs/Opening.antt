@@ -1,9 +1,9 @@
 -- What the search for a free slot comes to.
 use Rattle.std.specs.Prelude.{◌≡◌, ◌<◌, ℕ, List, [], ◌∷◌, ◌++◌, Option, Some, None}
 use Rattle.isa.specs.Program.{Program}
-use Rattle.session_state.specs.Session.{Session}
+use Rattle.session_state.specs.Session.{Session, begun}
 use Rattle.session_pool_rule.specs.Words.{free, ready, slots}
-use Rattle.session_pool_rule.specs.Steps.{new_pass, pass_in}
+use Rattle.session_pool_rule.specs.Steps.{handing, new_pass, pass_in}
 use Rattle.session_pool_rule.specs.Results.{Claimed, HasSame, IsOccupied, Others, Searched, words_of}
 use Rattle.session_pool_slots.specs.declared.slots.SlotSeat.{SlotSeat}
 use Rattle.session_pool_slots.specs.Account.{new_account, opened}
@@ -32,13 +32,15 @@ pub record IsClaimed (slot : ℕ) (session : Session) (seat : SlotSeat) : Type 0
   pub holds : seat.seat.me.1 ≡ (slot, kept) ∷ []
 
 -- The slots below this one were found taken, in order, and this one free, when it was looked at and when it was
--- claimed; the client has a pass for it, and gave a session of the program that begins back there, ready.
+-- claimed; the client has a pass for it, and gave a session of the program that begins back there, ready: that is what
+-- it took there, and gave back.
 pub record HasBegun (v : Known) (slot : ℕ) (program : Program) (w : Known) : Type 0 where
   pub inside : slot < slots
   pub found : Searched IsOccupied v slot (free ∷ free ∷ []) w
   -- the client had no pass for it
   pub fresh : pass_of slot v ≡ None
   pub now : pass_of slot w ≡ Some (pass_in (new_account program) ready)
+  pub handed : w.handed ≡ v.handed ++ handing slot (begun program) (begun program) ready ∷ []
   pub others : Others v slot w
 
 -- all slots were found taken, in order, and nothing else has changed

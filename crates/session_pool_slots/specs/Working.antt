@@ -1,18 +1,26 @@
 -- What a worker's steps come to.
 use Rattle.std.specs.Prelude.{◌≡◌, ◌≤◌, ℕ, List, [], ◌∷◌, ◌++◌}
 use Rattle.session_state.specs.declared.slice.Stopped.{Stopped}
+use Rattle.session_state.specs.Ending.{EndsInOneSlice}
 use Rattle.session_state.specs.Rows.{TakesRows, slice_rows}
 use Rattle.session_state.specs.Session.{Session}
 use Rattle.session_state.specs.Stopping.{IsStopped}
 use Rattle.session_pool_rule.specs.Words.{ready, slots}
 use Rattle.session_pool_rule.specs.Steps.{handing}
-use Rattle.session_pool_rule.specs.Results.{HasNoted, IsUnready, Searched, words_of}
+use Rattle.session_pool_rule.specs.Results.{HasNoted, HasSame, IsUnready, Searched, words_of}
 use Rattle.session_pool_slots.specs.declared.slots.SlotSeat.{SlotSeat}
 use Rattle.session_pool_slots.specs.declared.working.RunSlice.{RunSlice}
 use Rattle.session_pool_slots.specs.Account.{has_ended}
 use Rattle.session_pool_slots.specs.Known.{Known}
 use Rattle.session_pool_slots.specs.Leaving.{word_after_slice}
 use Rattle.session_pool_slots.specs.Seats.{HoldsNothing, knows}
+
+-- The word of the slot was found to be this, and nothing else has changed: not even what is out with the seat.
+pub record Sees (slot word : ℕ) (old new : SlotSeat) : Type 0 where
+  pub found : (knows new).found ≡ (knows old).found ++ words_of slot (word ∷ [])
+  pub same : HasSame (knows old) (knows new)
+  pub notes : (knows new).notes ≡ (knows old).notes
+  pub holds : new.seat.me.1 ≡ old.seat.me.1
 
 -- the slot was passed: the words that were found of it are those of one that is not ready
 pub record LooksUnready (old : SlotSeat) (slot : ℕ) (new : SlotSeat) : Type 0 where
@@ -31,8 +39,8 @@ pub record FindsNoneReady (old new : SlotSeat) : Type 0 where
   pub found : Searched IsUnready (knows old) slots [] (knows new)
   pub holds : HoldsNothing new
 
--- The worker ran the session that it had taken of the slot, for a slice of at most so many rows, and gave it back with
--- the word that goes by why it stopped.
+-- The worker ran the session that it had taken of the slot, for a slice of at most `limit` rows, and gave it back with
+-- the word that goes by why it stopped. With no breakpoint, a session that has an end within these rows has ended.
 pub record Runs (v : Known) (slot limit : ℕ) (slice : RunSlice) (w : Known) : Type 0 where
   pub before : Session
   pub after : Session
@@ -41,6 +49,7 @@ pub record Runs (v : Known) (slot limit : ℕ) (slice : RunSlice) (w : Known) : 
   pub takes : TakesRows (slice_rows limit before) before slice.rows after
   pub most : slice.rows ≤ limit
   pub why : IsStopped before.breaks limit slice.rows stopped after
+  pub ends : EndsInOneSlice limit before after
   pub word : slice.word ≡ word_after_slice stopped
   pub found : w.found ≡ v.found
   pub passes : w.passes ≡ v.passes

@@ -7,7 +7,7 @@ ghost use Rattle.session_pool_slots.specs.Known.{blank};
 use crate::kinds::{Newcomer, Order};
 use crate::view::View;
 use atomic_table::{Seat, Table};
-use session_pool_rule::{FREE, READY, SLOTS};
+use session_pool_rule::{FREE, SLOTS};
 use session_state::Session;
 use std::alloc::{AllocError, Global};
 
@@ -47,12 +47,5 @@ impl<'p> SessionSlots<'p> {
         SlotSeat {
             seat: self.table.shared.split_seat::<Newcomer>(&mut seat.seat),
         }
-    }
-
-    /// Whether a slot is ready now, for whoever wants a hint: nothing is known of it by then.
-    pub fn is_ready(&self, slot: u32) -> bool
-        requires { slot < slots }
-    {
-        self.table.shared.peek(slot as usize) == READY
     }
 }

@@ -21,7 +21,7 @@ pub struct RunSlice {
 
 impl<'p> SessionSlots<'p> {
     ghost use Rattle.session_pool_slots.specs.Seats.{HoldsNothing, IsSeatOf, Rests, knows};
-    ghost use Rattle.session_pool_slots.specs.Working.{FindsNoneReady, LooksUnready, Runs, TakesFirst};
+    ghost use Rattle.session_pool_slots.specs.Working.{FindsNoneReady, LooksUnready, Runs, Sees, TakesFirst};
 
     /// Takes the session of a slot, where it is ready. Answers the word that was found.
     fn take_ready(&self, seat: &mut SlotSeat<'p>, slot: u32) -> u64
@@ -38,13 +38,12 @@ impl<'p> SessionSlots<'p> {
             .compare_exchange::<Steal>(&mut seat.seat, slot as usize, READY, WITH_WORKER)
     }
 
-    /// Reads the word of a slot.
-    pub(crate) fn look(&self, seat: &mut SlotSeat<'p>, slot: u32) -> u64
-        requires seat { Rests self.now seat.old }
+    /// Returns the word of a slot, which the seat finds. A session that is out with the seat stays out.
+    pub fn look(&self, seat: &mut SlotSeat<'p>, slot: u32) -> u64
+        requires seat { IsSeatOf self.now seat.old }
         requires slot { slot < slots }
-        ensures seat { Rests self.now seat.new }
-        ensures found { (knows seat.new).found ≡ (knows seat.old).found ++ words_of slot (result ∷ []) }
-        ensures same { HasSame (knows seat.old) (knows seat.new) }
+        ensures seat { IsSeatOf self.now seat.new }
+        ensures sees { Sees slot result seat.old seat.new }
     {
         self.table
             .shared

@@ -5,10 +5,10 @@ ghost use Rattle.std.specs.Prelude.{◌≡◌, IfOk};
 ghost use Rattle.schema_registry.specs.Receipt.{IsReceiptOf};
 ghost use Rattle.session_pool.specs.Seats.{IsPassOf, Rests, RestsWorker};
 
-use crate::cache::published_len;
+use crate::cache::published_listing;
 use crate::courses::finished;
 use crate::same::same;
-use crate::schemas::{RECORD, RECORD_BYTES, SWAPPED, SWAPPED_BYTES, registered};
+use crate::schemas::{RECORD, RECORD_BYTES, RECORD_LISTING, SWAPPED, SWAPPED_BYTES, registered};
 use crate::seats::{Seated, last_client, last_worker, new_pool};
 use avro_schema::{Schema, SchemaError};
 use outcome::Outcome;
@@ -47,10 +47,15 @@ fn registered_again<R: Wait>(
     }
 }
 
-/// How many instructions the program of a schema with itself has, asked once more where memory was refused.
-fn published_again(cache: &ProgramCache<'_>, schema: &Schema) -> Result<usize, PublishError> {
-    match published_len(cache, schema, schema) {
-        Err(PublishError::NoMemory) => published_len(cache, schema, schema),
+/// Returns the listing of the program that is published for a schema with itself, asked for once more where memory was
+/// refused.
+fn published_again(
+    alloc: Global,
+    cache: &ProgramCache<'_>,
+    schema: &Schema,
+) -> Result<String, PublishError> {
+    match published_listing(alloc, cache, schema, schema) {
+        Err(PublishError::NoMemory) => published_listing(alloc, cache, schema, schema),
         answer => answer,
     }
 }
@@ -147,7 +152,7 @@ struct Asked {
 /// What a debugger asks of the session from the record to itself that has the first two bytes of its payload.
 const ASKED: &[Asked] = &[
     Asked {
-        command: DebugCommand::Break(5),
+        command: DebugCommand::Set(5),
         wanted: Wanted::Done,
     },
     Asked {
@@ -163,12 +168,12 @@ const ASKED: &[Asked] = &[
         wanted: Wanted::Done,
     },
     Asked {
-        command: DebugCommand::Walk(1),
+        command: DebugCommand::Step(1),
         wanted: Wanted::Rows(1),
     },
     Asked {
         command: DebugCommand::List,
-        wanted: Wanted::Text(LISTED),
+        wanted: Wanted::Text(RECORD_LISTING),
     },
 ];
 
@@ -178,20 +183,6 @@ count 4 pc 5 pos 1 units 1 part - mark - over 0 state running
 out -
 call 1
 rec 0 36 -
-";
-
-/// The listing of its program.
-const LISTED: &str = "\
-avro program 1
-0 CALL 2
-1 HALT
-2 RECORD 2
-3 SLOT 0
-4 LONG
-5 SLOT 1
-6 TEXT
-7 ENDREC
-8 RET
 ";
 
 /// Whether a debugger's answer is the one that is wanted.
@@ -204,23 +195,44 @@ fn is_wanted(reply: &DebugReply, wanted: Wanted) -> bool {
     }
 }
 
-/// How many of a debugger's commands are answered as is wanted, each asked once more where memory was refused.
+/// What a debugger was answered to some commands.
+#[derive(Clone, Copy)]
+struct Answered {
+    /// How many of the answers are as is wanted.
+    as_wanted: usize,
+    /// How many rows were taken, by the answers.
+    rows: u64,
+}
+
+/// How many rows a reply tells.
+fn rows_of(reply: &DebugReply) -> u64 {
+    match reply {
+        DebugReply::Rows(rows) => *rows,
+        _ => 0,
+    }
+}
+
+/// Asks a debugger's commands, each once more where memory was refused.
 fn answered_again<'p>(
     pool: &SessionPool<'p>,
     seat: &mut ClientSeat<'p>,
     pass: &Pass,
     asked: &[Asked],
-) -> Result<usize, DebugError>
+) -> Result<Answered, DebugError>
     requires seat { Rests pool.now seat.old }
     requires pass { IsPassOf seat.old pass.now }
     ensures seat { Rests pool.now seat.new }
     ensures pass { IsPassOf seat.new pass.now }
 {
-    let mut answered = 0_usize;
+    let mut answered = Answered {
+        as_wanted: 0,
+        rows: 0,
+    };
     for one in asked {
         let reply = debugged_again(pool, seat, pass, one.command)?;
+        answered.rows = answered.rows.wrapping_add(rows_of(&reply));
         if is_wanted(&reply, one.wanted) {
-            answered = answered.wrapping_add(1);
+            answered.as_wanted = answered.as_wanted.wrapping_add(1);
         }
     }
     Ok(answered)
@@ -229,17 +241,46 @@ fn answered_again<'p>(
 /// More turns than both sessions need.
 const MOST_TURNS: u32 = 100;
 
-/// Takes turns of the worker until it finds no session ready. Whether it came to that.
-fn is_idle_at_last<'p>(pool: &SessionPool<'p>, worker: &mut WorkerSeat<'p>) -> bool
+/// How many rows a worker took of the session in the first slot, and of the one in the second.
+#[derive(Clone, Copy)]
+struct Taken {
+    first: u64,
+    second: u64,
+}
+
+/// Takes turns of the worker until it finds no session ready. Returns how many rows it took; `None` where sessions were
+/// ready to the last.
+fn taken_in_turns<'p>(pool: &SessionPool<'p>, worker: &mut WorkerSeat<'p>) -> Option<Taken>
     requires { RestsWorker pool.now worker.old }
     ensures { RestsWorker pool.now worker.new }
 {
+    let mut taken = Taken {
+        first: 0,
+        second: 0,
+    };
     for _ in 0..MOST_TURNS {
-        if pool.turn(worker, 3) == Turn::Idle {
-            return true;
+        match pool.turn(worker, 3) {
+            Turn::Idle => return Some(taken),
+            Turn::Ran { slot: 0, rows } => taken.first = taken.first.wrapping_add(rows),
+            Turn::Ran { rows, .. } => taken.second = taken.second.wrapping_add(rows),
         }
     }
-    false
+    None
+}
+
+/// Takes turns of the worker until it finds no session ready, which it comes to. Returns how many rows it took.
+fn taken_until_idle<'p>(
+    rt: &impl Abort,
+    pool: &SessionPool<'p>,
+    worker: &mut WorkerSeat<'p>,
+) -> Taken
+    requires { RestsWorker pool.now worker.old }
+    ensures { RestsWorker pool.now worker.new }
+{
+    match taken_in_turns(pool, worker) {
+        Some(taken) => taken,
+        None => panic!(rt; "sessions are ready to the last"),
+    }
 }
 
 /// What a session came to.
@@ -247,21 +288,31 @@ fn is_idle_at_last<'p>(pool: &SessionPool<'p>, worker: &mut WorkerSeat<'p>) -> b
 enum Ended {
     /// To the output that is wanted, after ten rows, with all that was asked of it answered as is wanted.
     AsWanted,
-    /// To no output for want of memory, after ten rows at most.
+    /// To no output for want of memory, after the rows that were taken of it before.
     NoMemory,
     /// To anything else.
     Otherwise,
 }
 
-/// What a session came to of which this output is wanted, and so many answers were as is wanted.
-fn came_to(finished: &Finished, output: &[u8], answered: usize) -> Ended {
+/// What a session came to of which this output is wanted, and of which as many rows as this were taken.
+fn came_to(finished: &Finished, output: &[u8], rows: u64) -> Ended {
+    if finished.rows != rows {
+        return Ended::Otherwise;
+    }
     match &finished.end {
-        SessionEnd::NoMemory if finished.rows <= 10 => Ended::NoMemory,
-        SessionEnd::Out(Outcome::Done(found))
-            if found.as_slice() == output && finished.rows == 10 && answered == ASKED.len() => {
+        SessionEnd::NoMemory => Ended::NoMemory,
+        SessionEnd::Out(Outcome::Done(found)) if found.as_slice() == output && rows == 10 => {
             Ended::AsWanted
         }
         _ => Ended::Otherwise,
+    }
+}
+
+/// What a session came to that a debugger has asked of too.
+fn came_to_as_asked(finished: &Finished, output: &[u8], rows: u64, answered: Answered) -> Ended {
+    match came_to(finished, output, rows.wrapping_add(answered.rows)) {
+        Ended::AsWanted if answered.as_wanted != ASKED.len() => Ended::Otherwise,
+        ended => ended,
     }
 }
 
@@ -312,15 +363,24 @@ fn both_ended<'p>(
     sent_again(alloc, pool, first, &one, begin).expect(rt, "a piece");
     sent_again(alloc, pool, second, &two, begin).expect(rt, "a piece");
     let answered = answered_again(pool, first, &one, ASKED).expect(rt, "answers");
-    same(rt, is_idle_at_last(pool, worker), true);
+    let taken = taken_until_idle(rt, pool, worker);
     fed_to_end(rt, alloc, pool, first, &one, rest);
     fed_to_end(rt, alloc, pool, second, &two, rest);
-    same(rt, is_idle_at_last(pool, worker), true);
+    let more = taken_until_idle(rt, pool, worker);
     let of_first = finished(pool, first, one).expect(rt, "the first end");
     let of_second = finished(pool, second, two).expect(rt, "the second end");
     (
-        came_to(&of_first, RECORD_BYTES, answered),
-        came_to(&of_second, SWAPPED_BYTES, ASKED.len()),
+        came_to_as_asked(
+            &of_first,
+            RECORD_BYTES,
+            taken.first.wrapping_add(more.first),
+            answered,
+        ),
+        came_to(
+            &of_second,
+            SWAPPED_BYTES,
+            taken.second.wrapping_add(more.second),
+        ),
     )
 }
 
@@ -342,16 +402,16 @@ fn assert_anew<'p>(
 {
     let pass = opened_again(pool, client, writer, reader).expect(rt, "a session anew");
     fed_to_end(rt, alloc, pool, client, &pass, RECORD_BYTES);
-    same(rt, is_idle_at_last(pool, worker), true);
+    let taken = taken_until_idle(rt, pool, worker);
     let finished = finished(pool, client, pass).expect(rt, "its end");
-    same(rt, came_to(&finished, output, ASKED.len()), Ended::AsWanted);
+    same(rt, came_to(&finished, output, taken.first), Ended::AsWanted);
 }
 
-/// The program of the record with itself is published by its text, and has nine instructions.
+/// The program that is published for the record with itself is the record's own.
 fn assert_published(rt: &impl Abort, alloc: Global, cache: &ProgramCache<'_>) {
     let schema = parsed_again(alloc).expect(rt, "a schema");
-    let instructions = published_again(cache, &schema).expect(rt, "a program");
-    same(rt, instructions, 9);
+    let listing = published_again(alloc, cache, &schema).expect(rt, "a program");
+    same(rt, listing.as_str(), RECORD_LISTING);
 }
 
 /// Of two sessions that are open at once one at most is ended by want of memory, and that one runs anew.

@@ -3,6 +3,7 @@
 ghost use Rattle.schema_registry.specs.Receipt.{IsReceiptOf};
 
 use crate::same::same;
+use crate::schemas::{RECORD, RECORD_LISTING};
 use assembler::disassemble;
 use avro_schema::Schema;
 use program_cache::{ProgramCache, Programs, PublishError};
@@ -126,13 +127,23 @@ fn one_receipt_gives_one_program(rt: HostRuntime) -> Result<(), Fail> {
     Ok(())
 }
 
-/// How many instructions the program of two schemas has, which are sought by their texts.
-pub(crate) fn published_len(
+/// Returns how many instructions the program has that is published for two schemas.
+fn published_len(
     cache: &ProgramCache<'_>,
     writer: &Schema,
     reader: &Schema,
 ) -> Result<usize, PublishError> {
     Ok(cache.publish(writer, reader)?.program().len())
+}
+
+/// Returns the listing of the program that is published for two schemas.
+pub(crate) fn published_listing(
+    alloc: Global,
+    cache: &ProgramCache<'_>,
+    writer: &Schema,
+    reader: &Schema,
+) -> Result<String, PublishError> {
+    Ok(disassemble(alloc, cache.publish(writer, reader)?.program())?)
 }
 
 #[test]
@@ -143,6 +154,9 @@ fn schemas_are_published_by_their_texts(rt: HostRuntime) -> Result<(), Fail> {
     let cache = ProgramCache::new(alloc, &registry)?;
     let int = Schema::parse(alloc, " \"int\" ")?;
     let long = Schema::parse(alloc, "\"long\"")?;
+    let record = Schema::parse(alloc, RECORD)?;
+    let listing = published_listing(alloc, &cache, &record, &record)?;
+    same(&rt, listing.as_str(), RECORD_LISTING);
     same(&rt, published_len(&cache, &int, &int), Ok(2));
     same(
         &rt,

@@ -4,6 +4,7 @@ ghost use Rattle.std.specs.Prelude.{◌≡◌, IfOk};
 ghost use Rattle.schema_registry.specs.Receipt.{IsReceiptOf};
 ghost use Rattle.session_pool.specs.Seats.{IsPassOf, Rests, RestsWorker};
 
+use crate::same::same;
 use outcome::Outcome;
 use schema_registry::Receipt;
 use session_pool::{
@@ -11,6 +12,7 @@ use session_pool::{
     WorkerSeat,
 };
 use std::alloc::Global;
+use std::process::Abort;
 use std::test::Fail;
 
 /// What a session came to, and in which slot.
@@ -51,8 +53,10 @@ pub(crate) fn output_of(end: SessionEnd) -> Result<Vec<u8>, SessionEnd> {
     }
 }
 
-/// The pass of a session that has not ended. What came of one that has is an error.
+/// Returns the pass of a session whose end is not there yet, which `result` hands back as pending. What came of a
+/// session that has ended is an error.
 pub(crate) fn pending<'p>(
+    rt: &impl Abort,
     pool: &SessionPool<'p>,
     seat: &mut ClientSeat<'p>,
     pass: Pass,
@@ -64,7 +68,10 @@ pub(crate) fn pending<'p>(
 {
     match pool.result(seat, pass) {
         Ok(finished) => Err(finished),
-        Err(ReturnedPass { pass, .. }) => Ok(pass),
+        Err(ReturnedPass { why, pass }) => {
+            same(rt, why, NotYet::Pending);
+            Ok(pass)
+        }
     }
 }
 

@@ -4,7 +4,7 @@ ghost use Rattle.session_pool_jobs.specs.Seats.{IsSeatOf, workers_of};
 ghost use Rattle.std.specs.Prelude.{◌<◌, All};
 
 use crate::same::same;
-use session_pool_jobs::{JobSeat, Jobs, MOST_KEPT, NewJobs, PutRefusal};
+use session_pool_jobs::{JobSeat, Jobs, MOST_KEPT};
 use std::alloc::{AllocError, Global};
 use std::process::Abort;
 use std::test::Fail;
@@ -24,7 +24,7 @@ fn last(rt: &impl Abort, jobs: &Jobs, seats: &mut Vec<JobSeat>) -> JobSeat
 
 #[test]
 fn a_number_is_stolen_or_taken(rt: HostRuntime) -> Result<(), Fail> {
-    let NewJobs { jobs, mut seats } = Jobs::new(rt.alloc(), 2)?;
+    let (jobs, mut seats) = Jobs::new(rt.alloc(), 2)?;
     let mut one = last(&rt, &jobs, &mut seats);
     let mut zero = last(&rt, &jobs, &mut seats);
     same(
@@ -32,9 +32,9 @@ fn a_number_is_stolen_or_taken(rt: HostRuntime) -> Result<(), Fail> {
         (zero.number(), one.number(), jobs.workers()),
         (0, 1, 2),
     );
-    same(&rt, jobs.put(&mut zero, 7), Ok(()));
+    same(&rt, jobs.put(&mut zero, 7), true);
     same(&rt, jobs.steal(&mut one, 0), Some(7));
-    same(&rt, jobs.put(&mut zero, 8), Ok(()));
+    same(&rt, jobs.put(&mut zero, 8), true);
     same(&rt, jobs.take(&mut zero), Some(8));
     same(&rt, jobs.take(&mut zero), None);
     same(&rt, jobs.steal(&mut one, 0), None);
@@ -42,13 +42,13 @@ fn a_number_is_stolen_or_taken(rt: HostRuntime) -> Result<(), Fail> {
     Ok(())
 }
 
-/// Puts so many numbers, 0 first, and answers how many were not refused.
+/// Puts as many numbers as are asked for, 0 first, until one is refused. Returns how many were put.
 fn put_many(jobs: &Jobs, seat: &mut JobSeat, many: u32) -> u32
     requires { IsSeatOf jobs.now seat.old }
     ensures { IsSeatOf jobs.now seat.new }
 {
     for slot in 0..many {
-        if jobs.put(seat, slot).is_err() {
+        if !jobs.put(seat, slot) {
             return slot;
         }
     }
@@ -57,14 +57,14 @@ fn put_many(jobs: &Jobs, seat: &mut JobSeat, many: u32) -> u32
 
 #[test]
 fn one_number_too_many_is_refused(rt: HostRuntime) -> Result<(), Fail> {
-    let NewJobs { jobs, mut seats } = Jobs::new(rt.alloc(), 1)?;
+    let (jobs, mut seats) = Jobs::new(rt.alloc(), 1)?;
     let mut zero = last(&rt, &jobs, &mut seats);
     let most = MOST_KEPT as u32;
     same(&rt, put_many(&jobs, &mut zero, most + 1), most);
-    same(&rt, jobs.put(&mut zero, most), Err(PutRefusal::Full));
+    same(&rt, jobs.put(&mut zero, most), false);
     same(&rt, jobs.take(&mut zero), Some(0));
-    same(&rt, jobs.put(&mut zero, most), Ok(()));
-    same(&rt, jobs.put(&mut zero, most), Err(PutRefusal::Full));
+    same(&rt, jobs.put(&mut zero, most), true);
+    same(&rt, jobs.put(&mut zero, most), false);
     Ok(())
 }
 
@@ -104,7 +104,7 @@ fn left(alloc: Global, jobs: &Jobs, seat: &mut JobSeat, most: u32) -> Result<Vec
 #[test]
 fn each_number_is_found_once_by_four_thieves(rt: HostRuntime) -> Result<(), Fail> {
     let alloc = rt.alloc();
-    let NewJobs { jobs, mut seats } = Jobs::new(alloc, 5)?;
+    let (jobs, mut seats) = Jobs::new(alloc, 5)?;
     let mut four = last(&rt, &jobs, &mut seats);
     let most = MOST_KEPT as u32;
     same(&rt, put_many(&jobs, &mut four, most), most);

@@ -38,6 +38,7 @@ const TURNS: [Turn; 4] = [
 
 /// Feeds a session piece by piece, with a turn of the worker after each.
 fn feed_by_pieces<'p>(
+    rt: &impl Abort,
     alloc: Global,
     pool: &SessionPool<'p>,
     client: &mut ClientSeat<'p>,
@@ -60,7 +61,7 @@ fn feed_by_pieces<'p>(
     turns.push(pool.turn(worker, 100))?;
     send(alloc, pool, client, &pass, &[0x06, 0x66, 0x6f, 0x6f])?;
     pool.end(client, &pass)?;
-    let pass = pending(pool, client, pass)?;
+    let pass = pending(rt, pool, client, pass)?;
     turns.push(pool.turn(worker, 100))?;
     let slot = pass.slot();
     let finished = finished(pool, client, pass)?;
@@ -79,7 +80,40 @@ fn assert_course(rt: &impl Abort, course: &Course, output: &[u8], rows: u64) {
     same(rt, course.rows, rows);
 }
 
-/// A session that is fed piece by piece comes to its output, and so does the next in its slot.
+/// A session in the first slot, which was used before, answers a debugger while more of its payload may come, and then
+/// comes to its output.
+fn assert_debugged<'p>(
+    rt: &impl Abort,
+    alloc: Global,
+    pool: &SessionPool<'p>,
+    client: &mut ClientSeat<'p>,
+    worker: &mut WorkerSeat<'p>,
+    receipt: &mut Receipt,
+) -> Result<(), Fail>
+    requires client { Rests pool.now client.old }
+    requires worker { RestsWorker pool.now worker.old }
+    requires receipt { IsReceiptOf pool.now.cache.now receipt.old }
+    ensures client { Rests pool.now client.new }
+    ensures worker { RestsWorker pool.now worker.new }
+    ensures receipt { receipt.new ≡ receipt.old }
+{
+    let mut again = receipt.again();
+    let pass = pool.open(client, receipt, &mut again)?;
+    let slot = pass.slot();
+    send(alloc, pool, client, &pass, RECORD_BYTES)?;
+    let answers = answers(alloc, pool, client, &pass, COMMANDS)?;
+    pool.end(client, &pass)?;
+    let turn = pool.turn(worker, 100);
+    let finished = finished(pool, client, pass)?;
+    let output = output_of(finished.end)?;
+    same(rt, slot, 0);
+    same(rt, answers.as_str(), ANSWERS);
+    same(rt, turn, Turn::Ran { slot: 0, rows: 4 });
+    same(rt, output.as_slice(), RECORD_BYTES);
+    Ok(())
+}
+
+/// A session that is fed piece by piece comes to its output, and so do the next two in its slot.
 fn assert_fed<'p, R: Wait + Abort>(
     rt: &R,
     alloc: Global,
@@ -92,7 +126,8 @@ fn assert_fed<'p, R: Wait + Abort>(
 {
     let mut receipt = registered(rt, alloc, pool, "s", RECORD)?;
     let mut swapped = registered(rt, alloc, pool, "t", SWAPPED)?;
-    let found = feed_by_pieces(alloc, pool, client, worker, &mut receipt)?;
+    let found = feed_by_pieces(rt, alloc, pool, client, worker, &mut receipt)?;
+    assert_debugged(rt, alloc, pool, client, worker, &mut receipt)?;
     let (writer, reader) = (&mut receipt, &mut swapped);
     let next = run_through(alloc, pool, client, worker, writer, reader, RECORD_BYTES)?;
     same(rt, found.turns.as_slice(), TURNS.as_slice());
@@ -118,13 +153,13 @@ fn a_session_is_fed_piece_by_piece(rt: HostRuntime) -> Result<(), Fail> {
 
 /// What a debugger asks.
 const COMMANDS: &[DebugCommand] = &[
-    DebugCommand::Break(9999),
+    DebugCommand::Set(9999),
     DebugCommand::Clear(9999),
-    DebugCommand::Break(5),
+    DebugCommand::Set(5),
     DebugCommand::Go(100),
     DebugCommand::Show,
     DebugCommand::Clear(5),
-    DebugCommand::Walk(2),
+    DebugCommand::Step(2),
     DebugCommand::Show,
     DebugCommand::List,
 ];
@@ -216,7 +251,7 @@ fn set_breaks<'p>(
     ensures pass { IsPassOf seat.new pass.now }
 {
     for address in 0..most {
-        if let Err(error) = pool.debug(seat, pass, DebugCommand::Break(address)) {
+        if let Err(error) = pool.debug(seat, pass, DebugCommand::Set(address)) {
             return BreaksSet {
                 set: address,
                 refusal: Some(error),
@@ -252,9 +287,9 @@ fn assert_breaks<'p, R: Wait + Abort>(
         refusal: Some(DebugError::TooManyBreaks),
     };
     same(rt, found, wanted);
-    assert!(rt; pool.debug(seat, &pass, DebugCommand::Break(63)) == Ok(DebugReply::Done));
+    assert!(rt; pool.debug(seat, &pass, DebugCommand::Set(63)) == Ok(DebugReply::Done));
     assert!(rt; pool.debug(seat, &pass, DebugCommand::Clear(63)) == Ok(DebugReply::Done));
-    assert!(rt; pool.debug(seat, &pass, DebugCommand::Break(64))? == DebugReply::Done);
+    assert!(rt; pool.debug(seat, &pass, DebugCommand::Set(64))? == DebugReply::Done);
     assert!(rt; pool.debug(seat, &pass, DebugCommand::Go(9)) == Ok(DebugReply::Rows(1)));
     Ok(())
 }

@@ -26,10 +26,24 @@ pub(crate) const RECORD_BYTES: &[u8] = &[0x36, 0x06, 0x66, 0x6f, 0x6f];
 /// What the second makes of that payload.
 pub(crate) const SWAPPED_BYTES: &[u8] = &[0x06, 0x66, 0x6f, 0x6f, 0x36];
 
+/// The listing of the program of the first with itself.
+pub(crate) const RECORD_LISTING: &str = "\
+avro program 1
+0 CALL 2
+1 HALT
+2 RECORD 2
+3 SLOT 0
+4 LONG
+5 SLOT 1
+6 TEXT
+7 ENDREC
+8 RET
+";
+
 /// A payload of the third, a list of 1 and 2.
 pub(crate) const LIST_BYTES: &[u8] = &[0x02, 0x02, 0x04, 0x00];
 
-/// The text of a record of so many longs.
+/// Returns the text of a record of as many longs as are asked for.
 pub(crate) fn longs(alloc: Global, count: usize) -> Result<String, AllocError> {
     let mut text = String::from_str(alloc, r#"{"type":"record","name":"Longs","fields":"#)?;
     for field in 0..count {

@@ -1,6 +1,8 @@
-use Rattle.std.proofs.Common.{ap}
+use Rattle.std.proofs.Common.{ap, subst}
 use Rattle.session_state.specs.Session.{Session}
-use Rattle.session_pool.proofs.Passes.{still_kept}
+use Rattle.session_pool_slots.specs.Account.{kept}
+use Rattle.session_pool.specs.Seats.{HandsBack}
+use Rattle.session_pool.proofs.Passes.{hands_back, still_kept}
 use Rattle.session_pool.proofs.pool.SessionPool.piece.Goals as goal
 
 pub returns-in-Err-clause-pass : goal.returns-in-Err-clause-pass
@@ -10,3 +12,9 @@ returns-in-Err-clause-pass c =
 pub returns-clause-pass : goal.returns-clause-pass
 returns-clause-pass c =
     still_kept c.args.pass.now c.args.seat.now c.take_out.new.seat c.give_back-2.new.seat _ _ c.in-Ok.taken.session c.piece_owned.new.self c.slot-slot.ensures c.requires.pass c.in-Ok.ensures.taken _ c.give_back-2.ensures.gave (ap (λ (s : Session). s.program) c.in_default-piece_owned.ensures.ok.1)
+
+pub returns-clause-hands : goal.returns-clause-hands
+returns-clause-hands c =
+    let y = c.in-Ok.taken.session in
+    let x = c.piece_owned.new.self in
+    (y, subst (λ (z : Session). HandsBack c.args.seat.now c.args.pass.now y z (record { slots = c.give_back-2.new.seat })) c.in_default-piece_owned.ensures.ok.1 (hands_back c.args.pass.now c.args.seat.now c.take_out.new.seat c.give_back-2.new.seat _ _ y x c.slot-slot.ensures c.requires.pass c.in-Ok.ensures.taken kept _ c.give_back-2.ensures.gave))

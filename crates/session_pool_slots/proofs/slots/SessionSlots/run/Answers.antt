@@ -1,5 +1,6 @@
 use Rattle.std.proofs.Common.{rules, ◌≡◌, ℕ, [], None, subst, sym, ap}
 use Rattle.session_state.specs.Session.{Session}
+use Rattle.session_state.specs.Ending.{EndsInOneSlice}
 use Rattle.session_state.specs.Rows.{TakesRows, slice_rows}
 use Rattle.session_state.specs.Stopping.{IsStopped}
 use Rattle.session_pool_rule.specs.Words.{IsWordOf}
@@ -39,6 +40,7 @@ returns-clause-ran c = let h = c.requires.note in let m = c.args.seat.now.seat.m
       takes = subst (λ (z : Session). TakesRows (slice_rows c.args.limit z) z s.result.rows x) same s.ensures.rows;
       most = s.ensures.most;
       why = subst (λ (z : Session). IsStopped z.breaks c.args.limit s.result.rows s.result.stopped x) same s.ensures.stopped;
+      ends = subst (λ (z : Session). EndsInOneSlice c.args.limit z x) same s.ensures.ends;
       word = c.word_after_slice-word.ensures;
       found = r.found;
       passes = r.passes;

@@ -1,5 +1,5 @@
 use Rattle.session_pool.specs.Seats.{RestsWorker}
-use Rattle.session_pool_tests.proofs.again.is_idle_at_last.Given as goal
+use Rattle.session_pool_tests.proofs.again.taken_in_turns.Given as goal
 
 abbrev pub invariant-loop : goal.invariant-loop
 invariant-loop l = RestsWorker l.pool l.worker
