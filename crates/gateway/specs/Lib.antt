@@ -1,2 +1,3 @@
 pub mod Ending
-pub mod Opening
+pub mod Stopping
+pub mod Refusing

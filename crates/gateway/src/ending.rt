@@ -1,8 +1,10 @@
 //! The end of a session: its outcome, or giving it up.
 
-ghost use Rattle.std.specs.Prelude.{◌≡◌, ◌≢◌, IfErr, IfOk};
+ghost use Rattle.std.specs.Prelude.{◌≡◌, IfErr, IfOk, OnErr};
 ghost use Rattle.session_pool.specs.Seats.{IsPassOf, Rests, told};
+ghost use Rattle.gateway_core.specs.Gates.{Asked, SaidNo};
 ghost use Rattle.gateway.specs.Ending.{IsOutcomeOf};
+ghost use Rattle.gateway.specs.Stopping.{IsGivenUp, IsWhyStopped};
 
 use gateway_core::{Gate, Place, TranscodeFault};
 use outcome::Outcome;
@@ -10,7 +12,7 @@ use session_pool::{ClientSeat, Finished, Pass, SessionEnd, SessionPool};
 use std::sync::Wait;
 
 /// How often a session is tried to be given up at most.
-const MOST_ABANDONS: u32 = 1_000;
+pub const MOST_ABANDONS: u32 = 1_000;
 
 /// Gives a session up. While a worker has it, it asks the gate and tries again, whatever the gate says; a session that
 /// a worker still has at the last try leaves its slot taken for good.
@@ -22,10 +24,12 @@ pub(crate) fn abandon<'p, G: Gate>(
 )
     requires seat { Rests pool.now seat.old }
     requires pass { IsPassOf seat.old pass }
-    ensures { Rests pool.now seat.new }
+    ensures seat { Rests pool.now seat.new }
+    ensures asked { Asked G.says gate.old gate.new }
+    ensures over { IsGivenUp seat.old pass seat.new }
 {
     let mut held = pass;
-    for _ in 0..MOST_ABANDONS {
+    for _try in 0..MOST_ABANDONS {
         match pool.abandon(seat, held) {
             Ok(()) => return,
             Err(back) => held = back.pass,
@@ -34,8 +38,9 @@ pub(crate) fn abandon<'p, G: Gate>(
     }
 }
 
-/// The outcome that a session comes to, of all that it was sent. Until it is there it asks the gate and tries again:
-/// `NotFinished` where the gate says no, and then the session is given up; `NoMemory` where memory ended it.
+/// The outcome that a session comes to, of all that it was sent. Until it is there it asks the gate and tries again.
+/// The error is `NotFinished` where the gate says no, and then the session is given up; `NoMemory` where memory ended
+/// it.
 pub(crate) fn finish<'p, R: Wait, G: Gate>(
     rt: &R,
     pool: &SessionPool<'p>,
@@ -47,7 +52,8 @@ pub(crate) fn finish<'p, R: Wait, G: Gate>(
     requires pass { IsPassOf seat.old pass }
     ensures seat { Rests pool.now seat.new }
     ensures outcome { IfOk result (IsOutcomeOf pass (told seat.old pass).sent) }
-    ensures fault { IfErr result (λ e. e ≢ TranscodeFault.ProgramTooLarge) }
+    ensures why { IfErr result (IsWhyStopped (SaidNo G.says gate.old gate.new)) }
+    ensures over { OnErr result (IsGivenUp seat.old pass seat.new) }
 {
     let mut held = pass;
     for _ in rt.forever() {

@@ -1,5 +1,6 @@
 //! A gate of whoever waits for a session, by which he runs sessions himself.
 
+ghost use Rattle.std.specs.Prelude.{IsTrue};
 ghost use Rattle.session_pool.specs.Seats.{RestsWorker};
 
 use gateway_core::{Gate, Place};
@@ -32,6 +33,8 @@ impl<'a, 'p> Helping<'a, 'p> {
 }
 
 impl<'a, 'p> Gate for Helping<'a, 'p> {
+    ghost says = { λ old place answer new. IsTrue answer };
+
     fn at(&mut self, _place: Place) -> bool {
         self.turn();
         true

@@ -3,14 +3,20 @@
 //! How messages are transcoded for requests: by sessions of a pool, which its workers run, and clients while they wait.
 #![tactic(auto)]
 
+mod app;
 mod ending;
 mod helping;
 mod pooled;
 mod seats;
 mod sending;
+mod serving;
 mod working;
 
+pub use app::App;
+pub use ending::MOST_ABANDONS;
+pub use gateway_core::{Evidence, Gate, Place, ServeError, TellError};
 pub use helping::{Helping, SLICE};
 pub use pooled::Pooled;
 pub use seats::{pop_client, pop_worker};
+pub use serving::{serve_and_tell, serve_one};
 pub use working::work;

@@ -1,11 +1,13 @@
 //! Transcoding by sessions of a pool.
 
-ghost use Rattle.std.specs.Prelude.{◌≡◌, ◌≢◌, ◌≤◌, IfErr, IfOk, vec_len};
+ghost use Rattle.std.specs.Prelude.{◌≡◌, ◌≤◌, IfErr, IfOk, OnErr, vec_len};
 ghost use Rattle.outcome.specs.declared.limits.TheConstants.{MOST_PAYLOAD};
 ghost use Rattle.session_pool_slots.specs.Account.{new_account};
 ghost use Rattle.session_pool.specs.Seats.{IsPassOf, Rests, told};
+ghost use Rattle.gateway_core.specs.Gates.{SaidNo};
 ghost use Rattle.gateway.specs.Ending.{IsOutcomeOf};
-ghost use Rattle.gateway.specs.Opening.{fault_of};
+ghost use Rattle.gateway.specs.Refusing.{Refuses, fault_of};
+ghost use Rattle.gateway.specs.Stopping.{IsGivenUp, IsWhyStopped};
 
 use crate::ending::{abandon, finish};
 use crate::sending::feed;
@@ -48,7 +50,8 @@ fn outcome_by<'p, R: Wait, G: Gate>(
     requires size { vec_len payload ≤ MOST_PAYLOAD }
     ensures seat { Rests transcoder.now.pool.now seat.new }
     ensures outcome { IfOk result (IsOutcomeOf pass payload.items) }
-    ensures fault { IfErr result (λ e. e ≢ TranscodeFault.ProgramTooLarge) }
+    ensures why { IfErr result (IsWhyStopped (SaidNo G.says gate.old gate.new)) }
+    ensures over { OnErr result (IsGivenUp seat.old pass seat.new) }
 {
     let pool = transcoder.pool;
     if let Err(fault) = feed(rt, pool, seat, gate, &pass, payload) {
@@ -64,6 +67,8 @@ impl<'a, 'p> Transcode for Pooled<'a, 'p> {
     ghost cells = { λ t. t.pool.now.cache.now };
 
     ghost rests = { λ t seat. Rests t.pool.now seat };
+
+    ghost refuses = { λ t old new. Refuses old new };
 
     fn transcode<R: Wait, G: Gate>(
         &self,

@@ -1,9 +1,11 @@
 //! Sending a session a whole payload.
 
-ghost use Rattle.std.specs.Prelude.{◌≡◌, ◌≢◌, ◌≤◌, IfErr, OnOk, vec_len};
+ghost use Rattle.std.specs.Prelude.{◌≡◌, ◌≤◌, IfErr, OnOk, vec_len};
 ghost use Rattle.outcome.specs.declared.limits.TheConstants.{MOST_PAYLOAD};
 ghost use Rattle.session_pool_slots.specs.Account.{new_account, with_close, with_sent};
-ghost use Rattle.session_pool.specs.Seats.{IsPassOf, Rests, told};
+ghost use Rattle.session_pool.specs.Seats.{IsPassOf, KeepsOthers, Rests, told};
+ghost use Rattle.gateway_core.specs.Gates.{Asked, SaidNo};
+ghost use Rattle.gateway.specs.Stopping.{IsWhyStopped};
 
 use gateway_core::{Gate, Place, TranscodeFault};
 use session_pool::{ClientSeat, Pass, PieceError, SessionPool};
@@ -26,7 +28,9 @@ fn send<'p, R: Wait, G: Gate>(
     ensures seat { Rests pool.now seat.new }
     ensures pass { IsPassOf seat.new pass.now }
     ensures told { OnOk result (told seat.new pass.now ≡ with_sent payload.items (told seat.old pass.now)) }
-    ensures fault { IfErr result (λ e. e ≢ TranscodeFault.ProgramTooLarge) }
+    ensures others { KeepsOthers seat.old pass.now seat.new }
+    ensures asked { Asked G.says gate.old gate.new }
+    ensures why { IfErr result (IsWhyStopped (SaidNo G.says gate.old gate.new)) }
 {
     let mut held = payload;
     for _ in rt.forever() {
@@ -59,7 +63,9 @@ fn close<'p, R: Wait, G: Gate>(
     ensures seat { Rests pool.now seat.new }
     ensures pass { IsPassOf seat.new pass.now }
     ensures told { OnOk result (told seat.new pass.now ≡ with_close (told seat.old pass.now)) }
-    ensures fault { IfErr result (λ e. e ≢ TranscodeFault.ProgramTooLarge) }
+    ensures others { KeepsOthers seat.old pass.now seat.new }
+    ensures asked { Asked G.says gate.old gate.new }
+    ensures why { IfErr result (IsWhyStopped (SaidNo G.says gate.old gate.new)) }
 {
     for _ in rt.forever() {
         if pool.end(seat, pass).is_ok() {
@@ -90,7 +96,9 @@ pub(crate) fn feed<'p, R: Wait, G: Gate>(
     ensures pass { IsPassOf seat.new pass.now }
     ensures told { OnOk result (told seat.new pass.now
         ≡ with_close (with_sent payload.items (new_account pass.now.pair.program))) }
-    ensures fault { IfErr result (λ e. e ≢ TranscodeFault.ProgramTooLarge) }
+    ensures others { KeepsOthers seat.old pass.now seat.new }
+    ensures asked { Asked G.says gate.old gate.new }
+    ensures why { IfErr result (IsWhyStopped (SaidNo G.says gate.old gate.new)) }
 {
     if let Err(fault) = send(rt, pool, seat, gate, pass, payload) {
         return Err(fault);

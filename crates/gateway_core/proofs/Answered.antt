@@ -9,6 +9,7 @@ use Rattle.gateway_requests.specs.declared.request.Request as rust
 use Rattle.gateway_core.specs.declared.evidence.Evidence.{Evidence}
 use Rattle.gateway_core.specs.Answering.{Answers, Fulfils, TellsMessage, TellsOutcome}
 use Rattle.gateway_core.specs.declared.evidence.Evidence.TheVariants.{Pair}
+use Rattle.gateway_core.specs.declared.transcode.TranscodeFault.{TranscodeFault}
 use Rattle.schema_registry.specs.Shared.{IsReceiptOf, Shown}
 use Rattle.wire_frames.specs.Envelope.{envelope}
 use Rattle.gateway_core.specs.Serving.{IsAnswer, IsCutShort, IsServed, IsTextOf, TellsRequest}
@@ -37,35 +38,36 @@ is_memory faults.NoMemory = inl refl
 is_memory faults.Full = inr (λ p. cc)
 is_memory faults.NotFinished = inr (λ p. cc)
 
-module _ (cells : List ℕ) (input : Option (List ℕ)) (evidence : Evidence) (answer : Answer) where
-  pub answers_memory : (r : Result rust.Request Fault) → TellsRequest input r → answer ≡ Refused faults.NoMemory → IsAnswer cells input evidence answer
+module _ (refuses : Shown → Shown → TranscodeFault → Type 0)
+    (cells : List ℕ) (input : Option (List ℕ)) (evidence : Evidence) (answer : Answer) where
+  pub answers_memory : (r : Result rust.Request Fault) → TellsRequest input r → answer ≡ Refused faults.NoMemory → IsAnswer refuses cells input evidence answer
   answers_memory r asks is = record { request = asks.0; asked = asks.2; answers = inl is }
 
-  pub answers_request : (r : rust.Request) → TellsRequest input (Ok r) → Fulfils cells (request_of r) evidence answer → IsAnswer cells input evidence answer
+  pub answers_request : (r : rust.Request) → TellsRequest input (Ok r) → Fulfils refuses cells (request_of r) evidence answer → IsAnswer refuses cells input evidence answer
   answers_request r asks fulfils = record {
     request = asks.0;
     asked = asks.2;
-    answers = inr (let P : Result Request Fault → Type 0 = λ x. Answers cells x evidence answer in subst P (sym asks.1) fulfils);
+    answers = inr (let P : Result Request Fault → Type 0 = λ x. Answers refuses cells x evidence answer in subst P (sym asks.1) fulfils);
   }
 
-  pub answers_fault : (e : Fault) → TellsRequest input (Err e) → answer ≡ Refused e → IsAnswer cells input evidence answer
+  pub answers_fault : (e : Fault) → TellsRequest input (Err e) → answer ≡ Refused e → IsAnswer refuses cells input evidence answer
   answers_fault e asks is = elim (is_memory e) [
     | inl memory ↦ answers_memory (Err e) asks (is ∙ ap (λ f. Refused f) memory)
     | inr other ↦ record {
       request = asks.0;
       asked = asks.2;
-      answers = inr (let P : Result Request Fault → Type 0 = λ x. Answers cells x evidence answer in subst P (sym (asks.1 other)) is);
+      answers = inr (let P : Result Request Fault → Type 0 = λ x. Answers refuses cells x evidence answer in subst P (sym (asks.1 other)) is);
     }
   ]
 
   -- another answer, of which the text was made
-  pub answer_shown : (shown : Answer) → (shown ≡ answer) ⊎ (shown ≡ Refused faults.NoMemory) → IsAnswer cells input evidence answer
-      → IsAnswer cells input evidence shown
-  answer_shown shown (inl same) is = let P : Answer → Type 0 = λ x. IsAnswer cells input evidence x in subst P (sym same) is
+  pub answer_shown : (shown : Answer) → (shown ≡ answer) ⊎ (shown ≡ Refused faults.NoMemory) → IsAnswer refuses cells input evidence answer
+      → IsAnswer refuses cells input evidence shown
+  answer_shown shown (inl same) is = let P : Answer → Type 0 = λ x. IsAnswer refuses cells input evidence x in subst P (sym same) is
   answer_shown shown (inr memory) is = record { request = is.request; asked = is.asked; answers = inl memory }
 
-  pub served : (old new : Option (List ℕ)) (bytes : List ℕ) (status : ℕ) → IsAnswer cells input evidence answer → IsTextOf answer bytes status
-      → Appends old new bytes → IsServed cells input old new status evidence
+  pub served : (old new : Option (List ℕ)) (bytes : List ℕ) (status : ℕ) → IsAnswer refuses cells input evidence answer → IsTextOf answer bytes status
+      → Appends old new bytes → IsServed refuses cells input old new status evidence
   served old new bytes status is text written = record {
     answer = text.0;
     is_answer = answer_shown text.0 text.1 is;
@@ -73,21 +75,20 @@ module _ (cells : List ℕ) (input : Option (List ℕ)) (evidence : Evidence) (a
     written = let P : List ℕ → Type 0 = λ x. Appends old new x in subst P text.2 written;
   }
 
-  pub cut_short : (old new : Option (List ℕ)) (bytes : List ℕ) (status sent : ℕ) → IsAnswer cells input evidence answer → IsTextOf answer bytes status
-      → Appends old new (take sent bytes) → sent ≤ length bytes → IsCutShort cells input old new sent
+  pub cut_short : (old new : Option (List ℕ)) (bytes : List ℕ) (status sent : ℕ) → IsAnswer refuses cells input evidence answer → IsTextOf answer bytes status
+      → Appends old new (take sent bytes) → sent ≤ length bytes → IsCutShort refuses cells input old new sent evidence
   cut_short old new bytes status sent is text written few = record {
     answer = text.0;
-    evidence = evidence;
     is_answer = answer_shown text.0 text.1 is;
     written = let P : List ℕ → Type 0 = λ x. Appends old new (take sent x) in subst P text.2 written;
     few = let P : List ℕ → Type 0 = λ x. sent ≤ length x in subst P text.2 few;
   }
 
 -- the receipts of a message, as they are behind the call
-pub tells_message : (cells : List ℕ) (id opened : ℕ) (message payload : List ℕ) (writer reader w r : Shown) (answer : Answer)
+pub tells_message : (refuses : Shown → Shown → TranscodeFault → Type 0) (cells : List ℕ) (id opened : ℕ) (message payload : List ℕ) (writer reader w r : Shown) (answer : Answer)
     → message ≡ envelope opened payload → IsReceiptOf cells writer → writer.id ≡ opened → IsReceiptOf cells reader → reader.id ≡ id
-    → w ≡ writer → r ≡ reader → TellsOutcome writer reader id payload answer → TellsMessage cells id message (Pair w r) answer
-tells_message cells id opened message payload writer reader w r answer is is_writer writer_id is_reader reader_id same_w same_r tells = record {
+    → w ≡ writer → r ≡ reader → TellsOutcome refuses writer reader id payload answer → TellsMessage refuses cells id message (Pair w r) answer
+tells_message refuses cells id opened message payload writer reader w r answer is is_writer writer_id is_reader reader_id same_w same_r tells = record {
   writer = writer;
   reader = reader;
   payload = payload;

@@ -8,7 +8,7 @@ use Rattle.schema_registry.specs.Command.{Command}
 use Rattle.schema_registry.specs.Reply.{Reply, EntryReply, IdReply, CompatibleReply, NumbersReply, NamesReply, TextReply, LevelReply}
 use Rattle.schema_registry.specs.Shared.{Shown, IsReceiptOf, IsSomeAnswer, IsSomeId, ShowsText}
 use Rattle.schema_registry.specs.declared.refusal.Refusal.{Refusal}
-use Rattle.wire_frames.specs.Envelope.{envelope, Opens}
+use Rattle.wire_frames.specs.Envelope.{envelope, IsNoMessage}
 use Rattle.wire_frames.specs.declared.envelope.EnvelopeError.{EnvelopeError}
 use Rattle.gateway_answers.specs.Answer.{Answer, Replied, Rewritten, Refused}
 use Rattle.gateway_answers.specs.Replies.{id_data, schema_data}
@@ -20,7 +20,6 @@ use Rattle.gateway_core.specs.declared.evidence.Evidence.TheVariants as evidence
 use Rattle.gateway_core.specs.declared.transcode.TranscodeFault.{TranscodeFault}
 use Rattle.gateway_core.specs.declared.transcode.TranscodeFault.TheVariants as transcoding
 use Rattle.gateway_core.specs.Replies.{answer_to, fault_of}
-use Rattle.gateway_core.specs.Transcoding.{HasNoCode}
 
 -- the schema of a receipt has this text
 abbrev pub HasText : Shown → List ℕ → Type 0
@@ -114,46 +113,66 @@ fault_of_transcoding transcoding.Full = faults.Full
 fault_of_transcoding transcoding.NotFinished = faults.NotFinished
 fault_of_transcoding transcoding.NoMemory = faults.NoMemory
 
--- the outcome of a payload between the schemas of two receipts, or why there is none
-abbrev pub TellsOutcome : Shown → Shown → ℕ → List ℕ → Answer → Type 0
-TellsOutcome writer reader id payload answer =
-    (IfSome writer.schema (λ w. IfSome reader.schema (λ r.
-    (outcome : Outcome) × IsOutcome w.nodes r.nodes payload outcome × (answer ≡ answer_of_outcome id outcome))))
-    ⊎ (HasNoCode writer reader × (answer ≡ Refused faults.ProgramTooLarge))
-    ⊎ (answer ≡ Refused faults.Clash) ⊎ (answer ≡ Refused faults.Full)
-    ⊎ (answer ≡ Refused faults.NotFinished) ⊎ (answer ≡ Refused faults.NoMemory)
-
--- the message of the path's reader, from that of the envelope's writer
-pub record TellsMessage (cells : List ℕ) (id : ℕ) (message : List ℕ) (evidence : Evidence) (answer : Answer)
-    : Type 0 where
-  pub writer : Shown
-  pub reader : Shown
-  pub payload : List ℕ
-  pub message_is : message ≡ envelope writer.id payload
-  pub evidence_is : evidence ≡ evidences.Pair writer reader
-  pub is_writer : IsReceiptOf cells writer
-  pub is_reader : IsReceiptOf cells reader
-  pub reader_id : reader.id ≡ id
-  pub tells : TellsOutcome writer reader id payload answer
+-- ---- messages that are not rewritten
 
 -- the bytes are no message
 abbrev pub TellsEnvelope : List ℕ → Answer → Type 0
 TellsEnvelope message answer =
-    (e : EnvelopeError) × Opens {A = List ℕ} message (λ payload. payload) (Err e)
-    × (answer ≡ Refused (faults.BadEnvelope e))
+    (e : EnvelopeError) × IsNoMessage message e × (answer ≡ Refused (faults.BadEnvelope e))
 
--- ---- all that may be asked
+-- the bytes are a message, and a schema of its writer was not found
+abbrev pub TellsNoSchema : List ℕ → Answer → Type 0
+TellsNoSchema message answer =
+    (writer : ℕ) × (payload : List ℕ) × (message ≡ envelope writer payload) × (answer ≡ Refused faults.NoSchema)
 
-abbrev pub Fulfils : List ℕ → requests.Request → Evidence → Answer → Type 0
-Fulfils cells (requests.Asks c) evidence answer = TellsReply cells c evidence answer ⊎ TellsClash c answer
-Fulfils cells (requests.Registers subject text) evidence answer = TellsId cells subject text evidence answer
-Fulfils cells (requests.AsksSchema id) evidence answer =
-    (answer ≡ Refused faults.NoSchema) ⊎ TellsText cells id evidence answer
-Fulfils cells (requests.Transcodes id message) evidence answer =
-    (answer ≡ Refused faults.NoSchema) ⊎ TellsEnvelope message answer
-    ⊎ TellsMessage cells id message evidence answer
+-- the path's reader was found, whose receipt shows it, and no writer
+pub record TellsNoWriter (cells : List ℕ) (id : ℕ) (message : List ℕ) (evidence : Evidence) (answer : Answer)
+    : Type 0 where
+  pub reader : Shown
+  pub evidence_is : evidence ≡ evidences.Shown reader
+  pub is_reader : IsReceiptOf cells reader
+  pub reader_id : reader.id ≡ id
+  pub tells : TellsEnvelope message answer ⊎ TellsNoSchema message answer
 
--- the answer to what is asked, or the fault of the request
-abbrev pub Answers : List ℕ → Result requests.Request Fault → Evidence → Answer → Type 0
-Answers cells (Ok request) evidence answer = Fulfils cells request evidence answer
-Answers cells (Err fault) evidence answer = answer ≡ Refused fault
+-- the path's reader was not found
+abbrev pub TellsNoReader : Evidence → Answer → Type 0
+TellsNoReader evidence answer = (evidence ≡ evidences.Nothing) × (answer ≡ Refused faults.NoSchema)
+
+-- ---- messages that are rewritten, or for which a pair of schemas is refused as `refuses` says
+
+module _ (refuses : Shown → Shown → TranscodeFault → Type 0) where
+  -- the outcome of a payload between the schemas of two receipts, or why there is none
+  abbrev pub TellsOutcome : Shown → Shown → ℕ → List ℕ → Answer → Type 0
+  TellsOutcome writer reader id payload answer =
+      (IfSome writer.schema (λ w. IfSome reader.schema (λ r.
+      (outcome : Outcome) × IsOutcome w.nodes r.nodes payload outcome × (answer ≡ answer_of_outcome id outcome))))
+      ⊎ ((fault : TranscodeFault) × refuses writer reader fault × (answer ≡ Refused (fault_of_transcoding fault)))
+
+  -- the message of the path's reader, from that of the envelope's writer
+  pub record TellsMessage (cells : List ℕ) (id : ℕ) (message : List ℕ) (evidence : Evidence) (answer : Answer)
+      : Type 0 where
+    pub writer : Shown
+    pub reader : Shown
+    pub payload : List ℕ
+    pub message_is : message ≡ envelope writer.id payload
+    pub evidence_is : evidence ≡ evidences.Pair writer reader
+    pub is_writer : IsReceiptOf cells writer
+    pub is_reader : IsReceiptOf cells reader
+    pub reader_id : reader.id ≡ id
+    pub tells : TellsOutcome writer reader id payload answer
+
+  -- ---- all that may be asked
+
+  abbrev pub Fulfils : List ℕ → requests.Request → Evidence → Answer → Type 0
+  Fulfils cells (requests.Asks c) evidence answer = TellsReply cells c evidence answer ⊎ TellsClash c answer
+  Fulfils cells (requests.Registers subject text) evidence answer = TellsId cells subject text evidence answer
+  Fulfils cells (requests.AsksSchema id) evidence answer =
+      (answer ≡ Refused faults.NoSchema) ⊎ TellsText cells id evidence answer
+  Fulfils cells (requests.Transcodes id message) evidence answer =
+      TellsNoReader evidence answer ⊎ TellsNoWriter cells id message evidence answer
+      ⊎ TellsMessage cells id message evidence answer
+
+  -- the answer to what is asked, or the fault of the request
+  abbrev pub Answers : List ℕ → Result requests.Request Fault → Evidence → Answer → Type 0
+  Answers cells (Ok request) evidence answer = Fulfils cells request evidence answer
+  Answers cells (Err fault) evidence answer = answer ≡ Refused fault

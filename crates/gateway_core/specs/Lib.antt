@@ -1,3 +1,4 @@
+pub mod Gates
 pub mod Transcoding
 pub mod Replies
 pub mod Answering

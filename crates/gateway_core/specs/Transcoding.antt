@@ -1,9 +1,8 @@
--- The outcome of a payload between the schemas of two receipts. This project's own.
-use Rattle.std.specs.Prelude.{◌≡◌, ℕ, List, None, IfSome, Result, Ok, Err, ⊤}
+-- The outcome of a payload between the schemas of two receipts, or why there is none. This project's own.
+use Rattle.std.specs.Prelude.{List, ℕ, IfSome}
 use Rattle.outcome.specs.Outcome.{outcome_of}
 use Rattle.outcome.specs.declared.payload.Outcome as rust
 use Rattle.resolver.specs.Outcome.{IsOutcome}
-use Rattle.program_definition.specs.Code.{code_of}
 use Rattle.schema_registry.specs.Shared.{Shown}
 use Rattle.gateway_core.specs.declared.transcode.TranscodeFault.{TranscodeFault}
 use Rattle.gateway_core.specs.declared.transcode.TranscodeFault.TheVariants.{ProgramTooLarge, Clash, Full, NotFinished, NoMemory}
@@ -13,15 +12,10 @@ abbrev pub HasOutcome : Shown → Shown → List ℕ → rust.Outcome → Type 0
 HasOutcome writer reader payload outcome =
     IfSome writer.schema (λ w. IfSome reader.schema (λ r. IsOutcome w.nodes r.nodes payload (outcome_of outcome)))
 
--- the pair has no program, since it would pass a limit
-abbrev pub HasNoCode : Shown → Shown → Type 0
-HasNoCode writer reader = IfSome writer.schema (λ w. IfSome reader.schema (λ r. code_of w.nodes r.nodes ≡ None))
-
--- that a program is too large is told of such a pair alone
-abbrev pub HasNoProgram : Shown → Shown → Result rust.Outcome TranscodeFault → Type 0
-HasNoProgram writer reader (Ok outcome) = ⊤
-HasNoProgram writer reader (Err ProgramTooLarge) = HasNoCode writer reader
-HasNoProgram writer reader (Err Clash) = ⊤
-HasNoProgram writer reader (Err Full) = ⊤
-HasNoProgram writer reader (Err NotFinished) = ⊤
-HasNoProgram writer reader (Err NoMemory) = ⊤
+-- why a pair has no outcome: what transcodes refuses it so; and where it did not wait for the end, the gate said no
+abbrev pub IsWhyNone : (Shown → Shown → TranscodeFault → Type 0) → Type 0 → Shown → Shown → TranscodeFault → Type 0
+IsWhyNone refuses said_no writer reader ProgramTooLarge = refuses writer reader ProgramTooLarge
+IsWhyNone refuses said_no writer reader Clash = refuses writer reader Clash
+IsWhyNone refuses said_no writer reader Full = refuses writer reader Full
+IsWhyNone refuses said_no writer reader NotFinished = refuses writer reader NotFinished × said_no
+IsWhyNone refuses said_no writer reader NoMemory = refuses writer reader NoMemory

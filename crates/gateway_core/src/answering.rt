@@ -8,8 +8,11 @@ ghost use Rattle.gateway_answers.specs.Answer.{Refused, answer_of};
 ghost use Rattle.gateway_requests.specs.Request.{request_of};
 ghost use Rattle.gateway_requests.specs.Sizes.{IsWithin};
 ghost use Rattle.gateway_requests.specs.declared.limits.TheConstants.{MOST_BODY};
-ghost use Rattle.gateway_core.specs.Answering.{Fulfils, HasText, IsEntry, IsEvident, IsTold, TellsClash, TellsId, TellsReply, TellsText};
+ghost use Rattle.gateway_core.specs.Answering.{Fulfils, HasText, IsEntry, IsEvident, IsTold};
+ghost use Rattle.gateway_core.specs.Answering.{TellsClash, TellsId, TellsReply, TellsText};
+ghost use Rattle.gateway_core.specs.Gates.{SaidNo};
 ghost use Rattle.gateway_core.specs.Replies.{SetsLevel};
+ghost use Rattle.gateway_core.specs.Transcoding.{IsWhyNone};
 
 use crate::app::App;
 use crate::evidence::Evidence;
@@ -32,7 +35,8 @@ pub(crate) struct Told {
 
 /// A fault, which stands on nothing.
 pub(crate) fn refused(fault: Fault) -> Told
-    ensures { answer_of result.answer ≡ Refused fault }
+    ensures evidence { result.evidence ≡ Evidence.Nothing }
+    ensures answer { answer_of result.answer ≡ Refused fault }
 {
     Told {
         answer: Answer::Fault(fault),
@@ -149,10 +153,9 @@ fn tell_text(alloc: Global, registry: &SharedRegistry, id: u32) -> Result<Told, 
     }
 }
 
-/// Answers what is asked.
+/// Answers what is asked. The error is want of memory.
 pub(crate) fn answer<R: Wait, T: Transcode, G: Gate>(
     rt: &R,
-    alloc: Global,
     app: &App<'_, T>,
     seat: &mut T::Seat,
     gate: &mut G,
@@ -162,15 +165,17 @@ pub(crate) fn answer<R: Wait, T: Transcode, G: Gate>(
     requires seat { T.rests app.now.transcoder.now seat.old }
     requires size { IsWithin MOST_BODY (request_of request) }
     ensures seat { T.rests app.now.transcoder.now seat.new }
-    ensures fulfils { IfOk result (λ told. Fulfils app.now.registry.now (request_of request) told.evidence
+    ensures fulfils { IfOk result (λ told. Fulfils (IsWhyNone (T.refuses app.now.transcoder.now seat.old seat.new)
+        (SaidNo G.says gate.old gate.new)) app.now.registry.now (request_of request) told.evidence
         (answer_of told.answer)) }
 {
+    let alloc = app.alloc;
     match request {
         Request::Command(command) => tell_reply(rt, alloc, app.registry, command),
         Request::Registration { subject, text } => tell_id(rt, alloc, app.registry, subject, text),
         Request::Schema { id } => tell_text(alloc, app.registry, id),
-        Request::Transcoding { reader, message } => {
-            Ok(tell_message(rt, app, seat, gate, reader, message))
-        }
+        Request::Transcoding { reader, message } => tell_message(
+            rt, app, seat, gate, reader, message,
+        ),
     }
 }

@@ -17,6 +17,6 @@ mod writing;
 pub use app::App;
 pub use evidence::Evidence;
 pub use gate::{Gate, Place};
-pub use serve_error::ServeError;
+pub use serve_error::{ServeError, TellError};
 pub use serving::{serve_and_tell, serve_one};
 pub use transcode::{Transcode, TranscodeFault};

@@ -1,12 +1,15 @@
 //! A message of one schema, rewritten for another.
 
-ghost use Rattle.std.specs.Prelude.{◌≡◌, ◌≤◌, ◌⊎◌, vec_len};
+ghost use Rattle.std.specs.Prelude.{◌≡◌, ◌≤◌, ◌⊎◌, IfOk, vec_len};
 ghost use Rattle.outcome.specs.Outcome.{outcome_of};
 ghost use Rattle.outcome.specs.declared.limits.TheConstants.{MOST_PAYLOAD};
 ghost use Rattle.schema_registry.specs.Shared.{IsReceiptOf};
 ghost use Rattle.gateway_answers.specs.Answer.{Refused, answer_of};
 ghost use Rattle.gateway_requests.specs.declared.limits.TheConstants.{MOST_BODY};
-ghost use Rattle.gateway_core.specs.Answering.{TellsEnvelope, TellsMessage, TellsOutcome, answer_of_outcome, fault_of_transcoding};
+ghost use Rattle.gateway_core.specs.Answering.{TellsMessage, TellsNoReader, TellsNoWriter, TellsOutcome};
+ghost use Rattle.gateway_core.specs.Answering.{answer_of_outcome, fault_of_transcoding};
+ghost use Rattle.gateway_core.specs.Gates.{SaidNo};
+ghost use Rattle.gateway_core.specs.Transcoding.{IsWhyNone};
 
 use crate::answering::{Told, refused};
 use crate::app::App;
@@ -16,6 +19,7 @@ use crate::transcode::{Transcode, TranscodeFault};
 use gateway_answers::{Answer, Fault};
 use outcome::Outcome;
 use schema_registry::Receipt;
+use std::alloc::AllocError;
 use std::sync::Wait;
 use wire_frames::open_envelope;
 
@@ -43,6 +47,17 @@ fn fault_of_transcoding(fault: TranscodeFault) -> Fault
     }
 }
 
+/// A fault of a message whose reader was found.
+fn refused_for(reader: Receipt, fault: Fault) -> Told
+    ensures evidence { result.evidence ≡ Evidence.Shown reader }
+    ensures answer { answer_of result.answer ≡ Refused fault }
+{
+    Told {
+        answer: Answer::Fault(fault),
+        evidence: Evidence::Shown(reader),
+    }
+}
+
 /// What becomes of a payload between two receipts, as the answer to the reader.
 fn rewritten<R: Wait, T: Transcode, G: Gate>(
     rt: &R,
@@ -60,7 +75,8 @@ fn rewritten<R: Wait, T: Transcode, G: Gate>(
     ensures seat { T.rests transcoder.now seat.new }
     ensures writer { writer.new ≡ writer.old }
     ensures reader { reader.new ≡ reader.old }
-    ensures answer { TellsOutcome writer.old reader.old reader.old.id payload.items (answer_of result) }
+    ensures answer { TellsOutcome (IsWhyNone (T.refuses transcoder.now seat.old seat.new)
+        (SaidNo G.says gate.old gate.new)) writer.old reader.old reader.old.id payload.items (answer_of result) }
 {
     let id = reader.id();
     match transcoder.transcode(rt, seat, gate, writer, reader, payload) {
@@ -70,7 +86,8 @@ fn rewritten<R: Wait, T: Transcode, G: Gate>(
 }
 
 /// Rewrites a message for the reader of an id: first the reader is looked up, then the message opened, then its writer
-/// looked up.
+/// looked up. Its payload is copied once, and the message is let go before the payload is transcoded. The error is want
+/// of memory for that copy.
 pub(crate) fn tell_message<R: Wait, T: Transcode, G: Gate>(
     rt: &R,
     app: &App<'_, T>,
@@ -78,25 +95,29 @@ pub(crate) fn tell_message<R: Wait, T: Transcode, G: Gate>(
     gate: &mut G,
     id: u32,
     message: Vec<u8>,
-) -> Told
+) -> Result<Told, AllocError>
     requires cells { T.cells app.now.transcoder.now ≡ app.now.registry.now }
     requires seat { T.rests app.now.transcoder.now seat.old }
     requires message { vec_len message ≤ MOST_BODY }
     ensures seat { T.rests app.now.transcoder.now seat.new }
-    ensures told { (answer_of result.answer ≡ Refused Fault.NoSchema)
-        ⊎ TellsEnvelope message.items (answer_of result.answer)
-        ⊎ TellsMessage app.now.registry.now id message.items result.evidence (answer_of result.answer) }
+    ensures told { IfOk result (λ told. TellsNoReader told.evidence (answer_of told.answer)
+        ⊎ TellsNoWriter app.now.registry.now id message.items told.evidence (answer_of told.answer)
+        ⊎ TellsMessage (IsWhyNone (T.refuses app.now.transcoder.now seat.old seat.new)
+        (SaidNo G.says gate.old gate.new)) app.now.registry.now id message.items told.evidence
+        (answer_of told.answer)) }
 {
     let Some((_, mut reader)) = app.registry.find(id) else {
-        return refused(Fault::NoSchema);
+        return Ok(refused(Fault::NoSchema));
     };
-    let (writer_id, payload) = match open_envelope(message) {
+    let (writer_id, payload) = match open_envelope(&message) {
         Ok(opened) => opened,
-        Err(error) => return refused(Fault::BadEnvelope(error)),
+        Err(error) => return Ok(refused_for(reader, Fault::BadEnvelope(error))),
     };
     let Some((_, mut writer)) = app.registry.find(writer_id) else {
-        return refused(Fault::NoSchema);
+        return Ok(refused_for(reader, Fault::NoSchema));
     };
+    let payload = payload.to_vec(app.alloc)?;
+    drop(message);
     let transcoder = app.transcoder;
     let answer = rewritten(
         rt,
@@ -108,5 +129,5 @@ pub(crate) fn tell_message<R: Wait, T: Transcode, G: Gate>(
         payload,
     );
     let evidence = Evidence::Pair { writer, reader };
-    Told { answer, evidence }
+    Ok(Told { answer, evidence })
 }

@@ -1,9 +1,10 @@
 //! Why a request got no whole answer.
 
 ghost use Rattle.std.specs.Prelude.{◌≡◌};
-ghost use Rattle.gateway_core.specs.Serving.{error_of};
-ghost use Rattle.gateway_core.specs.declared.serve_error.ServeError.TheVariants.{NoMemory};
+ghost use Rattle.gateway_core.specs.Serving.{error_of, without_evidence};
+ghost use Rattle.gateway_core.specs.declared.serve_error.TellError.TheVariants.{NoMemory};
 
+use crate::evidence::Evidence;
 use http_request::ReadError;
 use std::alloc::AllocError;
 use thiserror::Error;
@@ -15,30 +16,56 @@ pub enum ServeError {
     Closed,
     #[error("the reader failed")]
     ReadFault,
-    /// The writer failed when it had taken so many bytes of the answer.
+    /// The writer failed after it had taken `sent` bytes of the answer.
     #[error("the writer failed after {sent} bytes")]
     WriteFault { sent: usize },
-    /// Not even the fault that tells it found memory.
+    /// Not even an answer that says so found memory.
     #[error("out of memory")]
     NoMemory,
 }
 
-impl From<ReadError> for ServeError {
+/// Why a request got no whole answer, with the receipts that what was written of one stands on.
+#[derive(Drop)]
+pub enum TellError {
+    /// No byte came.
+    Closed,
+    /// The reader failed.
+    ReadFault,
+    /// The writer failed after it had taken `sent` bytes of an answer, which stands on this evidence.
+    CutShort { sent: usize, evidence: Evidence },
+    /// Not even an answer that says so found memory.
+    NoMemory,
+}
+
+impl From<ReadError> for TellError {
     ghost from_gives = { λ error e. e ≡ error_of error };
 
-    fn from(error: ReadError) -> ServeError {
+    fn from(error: ReadError) -> TellError {
         match error {
-            ReadError::Closed => ServeError::Closed,
-            ReadError::Failed => ServeError::ReadFault,
-            ReadError::NoMemory => ServeError::NoMemory,
+            ReadError::Closed => TellError::Closed,
+            ReadError::Failed => TellError::ReadFault,
+            ReadError::NoMemory => TellError::NoMemory,
         }
     }
 }
 
-impl From<AllocError> for ServeError {
+impl From<AllocError> for TellError {
     ghost from_gives = { λ _ e. e ≡ NoMemory };
 
-    fn from(_error: AllocError) -> ServeError {
-        ServeError::NoMemory
+    fn from(_error: AllocError) -> TellError {
+        TellError::NoMemory
+    }
+}
+
+impl From<TellError> for ServeError {
+    ghost from_gives = { λ error e. e ≡ without_evidence error };
+
+    fn from(error: TellError) -> ServeError {
+        match error {
+            TellError::Closed => ServeError::Closed,
+            TellError::ReadFault => ServeError::ReadFault,
+            TellError::CutShort { sent, .. } => ServeError::WriteFault { sent },
+            TellError::NoMemory => ServeError::NoMemory,
+        }
     }
 }

@@ -9,14 +9,15 @@ ghost use Rattle.gateway_requests.specs.Asking.{asked};
 ghost use Rattle.gateway_requests.specs.Request.{request_of};
 ghost use Rattle.gateway_requests.specs.Sizes.{IsWithin};
 ghost use Rattle.gateway_requests.specs.declared.limits.TheConstants.{MOST_BODY};
-ghost use Rattle.gateway_core.specs.declared.evidence.Evidence.{Evidence};
-ghost use Rattle.gateway_core.specs.Serving.{IsAnswer, IsFault, IsServed, IsTextOf, TellsAsked, TellsRequest};
+ghost use Rattle.gateway_core.specs.Gates.{SaidNo};
+ghost use Rattle.gateway_core.specs.Serving.{IsAnswer, IsFault, IsServed, IsTextOf, ServesSome, TellsAsked, TellsRequest};
+ghost use Rattle.gateway_core.specs.Transcoding.{IsWhyNone};
 
 use crate::answering::{Told, answer, refused};
 use crate::app::App;
 use crate::evidence::Evidence;
 use crate::gate::Gate;
-use crate::serve_error::ServeError;
+use crate::serve_error::{ServeError, TellError};
 use crate::transcode::Transcode;
 use crate::writing::write_all;
 use gateway_answers::{Answer, AnswerBytes, Fault};
@@ -85,7 +86,6 @@ fn read_request<R: Read>(
 /// The answer to the request that the reader gives.
 fn answer_request<R: Wait, T: Transcode, I: Read, G: Gate>(
     rt: &R,
-    alloc: Global,
     app: &App<'_, T>,
     seat: &mut T::Seat,
     reader: &mut I,
@@ -94,13 +94,14 @@ fn answer_request<R: Wait, T: Transcode, I: Read, G: Gate>(
     requires cells { T.cells app.now.transcoder.now ≡ app.now.registry.now }
     requires seat { T.rests app.now.transcoder.now seat.old }
     ensures seat { T.rests app.now.transcoder.now seat.new }
-    ensures ok { IfOk result (λ told. IsAnswer app.now.registry.now (I.remaining reader.old) told.evidence
+    ensures ok { IfOk result (λ told. IsAnswer (IsWhyNone (T.refuses app.now.transcoder.now seat.old seat.new)
+        (SaidNo G.says gate.old gate.new)) app.now.registry.now (I.remaining reader.old) told.evidence
         (answer_of told.answer)) }
     ensures closed { result ≡ Err reading.Closed → IfSome (I.remaining reader.old) (λ input. input ≡ []) }
     ensures fault { IfErr result (λ e. (e ≡ reading.Closed) ⊎ (e ≡ reading.Failed)) }
 {
-    match read_request(alloc, &app.routes, reader)? {
-        Ok(request) => match answer(rt, alloc, app, seat, gate, request) {
+    match read_request(app.alloc, app.routes, reader)? {
+        Ok(request) => match answer(rt, app, seat, gate, request) {
             Ok(told) => Ok(told),
             Err(AllocError) => Ok(refused(Fault::NoMemory)),
         },
@@ -126,37 +127,53 @@ fn bytes_of(alloc: Global, answer: Answer) -> Result<(AnswerBytes, u16), AllocEr
 /// Reads one request and writes one answer: the status, and the receipts that the answer stands on.
 ///
 /// `Closed` where no byte came, `ReadFault` where the reader failed, `NoMemory` where not even a fault's text found
-/// memory: then nothing is written. `WriteFault` where the writer failed, behind the first bytes of an answer.
+/// memory: then nothing is written. `CutShort` where the writer failed, after the first bytes of an answer, with the
+/// receipts that this answer stands on.
 pub fn serve_and_tell<R: Wait, T: Transcode, I: Read, O: Write, G: Gate>(
     rt: &R,
-    alloc: Global,
     app: &App<'_, T>,
     seat: &mut T::Seat,
     reader: &mut I,
     writer: &mut O,
     gate: &mut G,
-) -> Result<(u16, Evidence), ServeError>
+) -> Result<(u16, Evidence), TellError>
     requires cells { T.cells app.now.transcoder.now ≡ app.now.registry.now }
     requires seat { T.rests app.now.transcoder.now seat.old }
     ensures seat { T.rests app.now.transcoder.now seat.new }
-    ensures served { IfOk result (λ told. IsServed app.now.registry.now (I.remaining reader.old)
+    ensures served { IfOk result (λ told. IsServed (IsWhyNone (T.refuses app.now.transcoder.now seat.old seat.new)
+        (SaidNo G.says gate.old gate.new)) app.now.registry.now (I.remaining reader.old)
         (O.contents writer.old) (O.contents writer.new) told.0 told.1) }
-    ensures fault { IfErr result (IsFault app.now.registry.now (I.remaining reader.old)
+    ensures fault { IfErr result (IsFault (IsWhyNone (T.refuses app.now.transcoder.now seat.old seat.new)
+        (SaidNo G.says gate.old gate.new)) app.now.registry.now (I.remaining reader.old)
         (O.contents writer.old) (O.contents writer.new)) }
 {
-    let told = answer_request(rt, alloc, app, seat, reader, gate)?;
+    let told = answer_request(rt, app, seat, reader, gate)?;
     let Told { answer, evidence } = told;
-    let (bytes, status) = bytes_of(alloc, answer)?;
+    let (bytes, status) = bytes_of(app.alloc, answer)?;
+    let (other, _) = bytes_of(
+        app.alloc,
+        Answer::Message {
+            id: 1,
+            payload: Vec::new(app.alloc),
+        },
+    )?;
+    let begun = write_all(writer, other.front.as_slice(), other.rest.as_slice());
+    if begun.is_err() {
+        return Err(TellError::CutShort { sent: 0, evidence });
+    }
     match write_all(writer, &bytes.front, &bytes.rest) {
         Ok(()) => Ok((status, evidence)),
-        Err(cut) => Err(ServeError::WriteFault { sent: cut.sent }),
+        Err(cut) => Err(TellError::CutShort {
+            sent: cut.sent,
+            evidence,
+        }),
     }
 }
 
 /// Reads one request and writes one answer, as `serve_and_tell` does: the status alone, and the receipts are let go.
+/// The errors are those of `serve_and_tell`, with `WriteFault` for `CutShort`.
 pub fn serve_one<R: Wait, T: Transcode, I: Read, O: Write, G: Gate>(
     rt: &R,
-    alloc: Global,
     app: &App<'_, T>,
     seat: &mut T::Seat,
     reader: &mut I,
@@ -166,12 +183,11 @@ pub fn serve_one<R: Wait, T: Transcode, I: Read, O: Write, G: Gate>(
     requires cells { T.cells app.now.transcoder.now ≡ app.now.registry.now }
     requires seat { T.rests app.now.transcoder.now seat.old }
     ensures seat { T.rests app.now.transcoder.now seat.new }
-    ensures served { IfOk result (λ status. (evidence : Evidence) × IsServed app.now.registry.now
-        (I.remaining reader.old) (O.contents writer.old) (O.contents writer.new) status evidence) }
-    ensures fault { IfErr result (IsFault app.now.registry.now (I.remaining reader.old)
-        (O.contents writer.old) (O.contents writer.new)) }
+    ensures served { ServesSome (IsWhyNone (T.refuses app.now.transcoder.now seat.old seat.new)
+        (SaidNo G.says gate.old gate.new)) app.now.registry.now (I.remaining reader.old)
+        (O.contents writer.old) (O.contents writer.new) result }
 {
-    let (status, evidence) = serve_and_tell(rt, alloc, app, seat, reader, writer, gate)?;
+    let (status, evidence) = serve_and_tell(rt, app, seat, reader, writer, gate)?;
     drop(evidence);
     Ok(status)
 }

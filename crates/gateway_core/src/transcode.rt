@@ -23,10 +23,12 @@ pub enum TranscodeFault {
 
 /// What gives the outcome of payloads for pairs of receipts of one registry.
 pub trait Transcode {
-    ghost use Rattle.std.specs.Prelude.{◌≡◌, ◌≤◌, ℕ, List, IfOk, vec_len};
+    ghost use Rattle.std.specs.Prelude.{◌≡◌, ◌≤◌, ℕ, List, IfErr, IfOk, vec_len};
     ghost use Rattle.outcome.specs.declared.limits.TheConstants.{MOST_PAYLOAD};
-    ghost use Rattle.schema_registry.specs.Shared.{IsReceiptOf};
-    ghost use Rattle.gateway_core.specs.Transcoding.{HasOutcome, HasNoProgram};
+    ghost use Rattle.schema_registry.specs.Shared.{IsReceiptOf, Shown};
+    ghost use Rattle.gateway_core.specs.declared.transcode.TranscodeFault.{TranscodeFault};
+    ghost use Rattle.gateway_core.specs.Gates.{SaidNo};
+    ghost use Rattle.gateway_core.specs.Transcoding.{HasOutcome, IsWhyNone};
 
     /// What a caller keeps between two calls.
     type Seat;
@@ -36,6 +38,9 @@ pub trait Transcode {
 
     // Whether a seat is one of its own, with nothing left to do.
     ghost rests: { Self → Self.Seat → Type 0 };
+
+    // Why a call that took the first seat and left the second has no outcome for the writer and the reader.
+    ghost refuses: { Self → Self.Seat → Self.Seat → Shown → Shown → TranscodeFault → Type 0 };
 
     /// The outcome of a payload of the writer's schema for the reader's. Where it has to wait it asks the gate.
     fn transcode<R: Wait, G: Gate>(
@@ -55,5 +60,6 @@ pub trait Transcode {
         ensures writer { writer.new ≡ writer.old }
         ensures reader { reader.new ≡ reader.old }
         ensures outcome { IfOk result (HasOutcome writer.old reader.old payload.items) }
-        ensures program { HasNoProgram writer.old reader.old result };
+        ensures why { IfErr result (IsWhyNone (refuses self.now seat.old seat.new) (SaidNo G.says gate.old gate.new)
+            writer.old reader.old) };
 }

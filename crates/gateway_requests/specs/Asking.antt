@@ -45,6 +45,10 @@ chosen head =
 abbrev pub question : Option (List ℕ) → Command → Result Request Fault
 question body command = whole_body body >>= (λ bytes. Ok (Asks command))
 
+-- a level to be set, for a subject or for those that have none of their own
+abbrev pub setting : Option (List ℕ) → Option (List ℕ) → Result Request Fault
+setting body subject = level_of body >>= (λ l. Ok (Asks (SetLevelCommand subject l)))
+
 module _ (path : List ℕ) (body : Option (List ℕ)) where
   -- what an action asks for
   abbrev pub asked_for : Action → Result Request Fault
@@ -60,10 +64,9 @@ module _ (path : List ℕ) (body : Option (List ℕ)) where
       subject_of (segment 3 path) >>= (λ s. version_of (segment 5 path) >>= (λ v. text_of body >>= (λ t.
       Ok (Asks (CheckCommand s v t)))))
   asked_for actions.ShowLevel = question body (LevelCommand None)
-  asked_for actions.SetLevel = level_of body >>= (λ l. Ok (Asks (SetLevelCommand None l)))
+  asked_for actions.SetLevel = setting body None
   asked_for actions.ShowSubjectLevel = subject_of (segment 2 path) >>= (λ s. question body (LevelCommand (Some s)))
-  asked_for actions.SetSubjectLevel =
-      subject_of (segment 2 path) >>= (λ s. level_of body >>= (λ l. Ok (Asks (SetLevelCommand (Some s) l))))
+  asked_for actions.SetSubjectLevel = subject_of (segment 2 path) >>= (λ s. setting body (Some s))
   asked_for actions.Transcode =
       whole_body body >>= (λ bytes. id_of (segment 2 path) >>= (λ id. Ok (Transcodes id bytes)))
 

@@ -1,7 +1,8 @@
 //! What an action asks for, by the path and the body.
 
 ghost use Rattle.std.specs.Prelude.{◌≡◌, IfOk, option_map, string_bytes};
-ghost use Rattle.gateway_requests.specs.Asking.{asked_for};
+ghost use Rattle.schema_registry.specs.Command.{command_of};
+ghost use Rattle.gateway_requests.specs.Asking.{asked_for, question, setting};
 ghost use Rattle.gateway_requests.specs.Request.{request_of};
 ghost use Rattle.gateway_requests.specs.Sizes.{IsWithin, size_of};
 ghost use Rattle.gateway_requests.specs.Steps.{Tells};
@@ -15,8 +16,8 @@ use gateway_answers::Fault;
 use schema_registry::Command;
 use std::alloc::Global;
 
-/// What an action asks for, by the path and the body, which is `None` where it was cut short; or the first fault of
-/// these.
+/// Returns what an action asks for, by the path and the body, which is `None` where it was cut short. The error is the
+/// first fault of these.
 pub fn request_of(
     alloc: Global,
     path: &[u8],
@@ -29,30 +30,17 @@ pub fn request_of(
 {
     let bytes = body.as_deref();
     match action {
-        Action::ListSubjects => {
-            whole_body(bytes)?;
-            Ok(Request::Command(Command::Subjects))
-        }
-        Action::Lookup => {
-            let subject = subject_of(alloc, segment(2, path))?;
-            let text = text_of(alloc, bytes)?;
-            Ok(Request::Command(Command::Lookup { subject, text }))
-        }
+        Action::ListSubjects => question_of(bytes, Command::Subjects),
+        Action::Lookup => lookup_of(alloc, path, bytes),
         Action::ListVersions => {
             let subject = subject_of(alloc, segment(2, path))?;
-            whole_body(bytes)?;
-            Ok(Request::Command(Command::Versions { subject }))
+            question_of(bytes, Command::Versions { subject })
         }
-        Action::Register => {
-            let subject = subject_of(alloc, segment(2, path))?;
-            let text = text_of(alloc, bytes)?;
-            Ok(Request::Registration { subject, text })
-        }
+        Action::Register => registration_of(alloc, path, bytes),
         Action::ShowVersion => {
             let subject = subject_of(alloc, segment(2, path))?;
             let version = version_of(segment(4, path))?;
-            whole_body(bytes)?;
-            Ok(Request::Command(Command::Version { subject, version }))
+            question_of(bytes, Command::Version { subject, version })
         }
         Action::ShowSchema => {
             whole_body(bytes)?;
@@ -60,27 +48,57 @@ pub fn request_of(
             Ok(Request::Schema { id })
         }
         Action::Check => check_of(alloc, path, bytes),
-        Action::ShowLevel => {
-            whole_body(bytes)?;
-            Ok(Request::Command(Command::Level { subject: None }))
-        }
-        Action::SetLevel => {
-            let level = level_of(alloc, bytes)?;
-            let subject = None;
-            Ok(Request::Command(Command::SetLevel { subject, level }))
-        }
+        Action::ShowLevel => question_of(bytes, Command::Level { subject: None }),
+        Action::SetLevel => setting_of(alloc, None, bytes),
         Action::ShowSubjectLevel => {
             let subject = Some(subject_of(alloc, segment(2, path))?);
-            whole_body(bytes)?;
-            Ok(Request::Command(Command::Level { subject }))
+            question_of(bytes, Command::Level { subject })
         }
         Action::SetSubjectLevel => {
             let subject = Some(subject_of(alloc, segment(2, path))?);
-            let level = level_of(alloc, bytes)?;
-            Ok(Request::Command(Command::SetLevel { subject, level }))
+            setting_of(alloc, subject, bytes)
         }
         Action::Transcode => transcoding_of(path, body),
     }
+}
+
+/// A command whose request needs no body; the error says that the one it has was cut short.
+fn question_of(body: Option<&[u8]>, command: Command) -> Result<Request, Fault>
+    ensures tells { Tells request_of result (question (option_map (λ b. b.now) body.entry) (command_of command)) }
+    ensures size { IfOk result (λ request. IsWithin 0 (request_of request)) }
+{
+    whole_body(body)?;
+    Ok(Request::Command(command))
+}
+
+/// Which version of a subject has the schema in the body.
+fn lookup_of(alloc: Global, path: &[u8], body: Option<&[u8]>) -> Result<Request, Fault>
+    ensures tells { Tells request_of result (asked_for path.now (option_map (λ b. b.now) body.entry) Action.Lookup) }
+    ensures size { IfOk result (λ request. IsWithin 0 (request_of request)) }
+{
+    let subject = subject_of(alloc, segment(2, path))?;
+    let text = text_of(alloc, body)?;
+    Ok(Request::Command(Command::Lookup { subject, text }))
+}
+
+/// The schema in the body, to be registered for a subject.
+fn registration_of(alloc: Global, path: &[u8], body: Option<&[u8]>) -> Result<Request, Fault>
+    ensures tells { Tells request_of result (asked_for path.now (option_map (λ b. b.now) body.entry) Action.Register) }
+    ensures size { IfOk result (λ request. IsWithin 0 (request_of request)) }
+{
+    let subject = subject_of(alloc, segment(2, path))?;
+    let text = text_of(alloc, body)?;
+    Ok(Request::Registration { subject, text })
+}
+
+/// The level in the body, to be set for a subject, or for those that have none of their own.
+fn setting_of(alloc: Global, subject: Option<String>, body: Option<&[u8]>) -> Result<Request, Fault>
+    ensures tells { Tells request_of result (setting (option_map (λ b. b.now) body.entry)
+        (option_map string_bytes subject)) }
+    ensures size { IfOk result (λ request. IsWithin 0 (request_of request)) }
+{
+    let level = level_of(alloc, body)?;
+    Ok(Request::Command(Command::SetLevel { subject, level }))
 }
 
 /// Whether the schema in the body goes with a version of a subject.

@@ -1,17 +1,14 @@
 //! A client's thread: the connections that it accepts, one after another.
 
-ghost use Rattle.std.specs.Prelude.{◌≡◌};
 ghost use Rattle.session_pool.specs.Seats.{Rests, RestsWorker};
 
 use crate::connection::serve_connection;
 use crate::gate::ClientGate;
 use crate::options::ServeOptions;
 use crate::shared::Shared;
-use gateway::Pooled;
-use gateway_core::{App, Gate, Transcode};
-use gateway_requests::Routes;
+use gateway::{App, Gate};
 use session_pool::{ClientSeat, WorkerSeat};
-use std::alloc::{AllocError, Global};
+use std::alloc::AllocError;
 use std::net::TcpListener;
 use std::sync::Wait;
 use std::thread;
@@ -30,20 +27,18 @@ pub(crate) struct Client<'a, 'l, 'p> {
     ghost helps: { RestsWorker shared.now.pool.now helper },
 }
 
-/// Accepts connections, as many as the options say, and answers one request on each: how many were answered. One that
-/// cannot be accepted counts as accepted.
-fn serve_connections<R: Wait + Clock, T: Transcode, G: Gate>(
+/// Accepts connections, as many as the options say, and answers one request on each. Returns how many were answered. A
+/// connection that cannot be accepted counts as accepted.
+fn serve_connections<'p, R: Wait + Clock, G: Gate>(
     rt: &R,
-    alloc: Global,
-    app: &App<'_, T>,
-    seat: &mut T::Seat,
+    app: &App<'_, 'p>,
+    seat: &mut ClientSeat<'p>,
     gate: &mut G,
     listener: &TcpListener,
     options: &ServeOptions,
 ) -> u64
-    requires cells { T.cells app.now.transcoder.now ≡ app.now.registry.now }
-    requires seat { T.rests app.now.transcoder.now seat.old }
-    ensures { T.rests app.now.transcoder.now seat.new }
+    requires { Rests app.now.pool.now seat.old }
+    ensures { Rests app.now.pool.now seat.new }
 {
     let mut answered: u64 = 0;
     let mut accepted: u32 = 0;
@@ -51,7 +46,7 @@ fn serve_connections<R: Wait + Clock, T: Transcode, G: Gate>(
         match stream {
             Ok(stream) => {
                 let time = options.request_timeout;
-                if serve_connection(rt, alloc, app, seat, gate, &stream, time) {
+                if serve_connection(rt, app, seat, gate, &stream, time) {
                     answered = answered.saturating_add(1);
                 }
             }
@@ -65,7 +60,7 @@ fn serve_connections<R: Wait + Clock, T: Transcode, G: Gate>(
     answered
 }
 
-/// What a client's thread does: how many requests it answered.
+/// What a client's thread does. Returns how many requests it answered; the error is want of memory.
 pub(crate) fn run_client<R: Wait + Clock>(
     rt: &R,
     client: Client<'_, '_, '_>,
@@ -75,15 +70,11 @@ pub(crate) fn run_client<R: Wait + Clock>(
         mut seat,
         helper,
     } = client;
-    let app = App {
-        registry: shared.registry,
-        transcoder: &Pooled { pool: shared.pool },
-        routes: Routes::new(shared.alloc)?,
-    };
-    let mut gate = ClientGate::new(rt, shared.signals, shared.pool, helper);
+    let pool = shared.pool;
+    let app = App::new(shared.alloc, shared.registry, pool.cache(), pool)?;
+    let mut gate = ClientGate::new(rt, shared.signals, pool, helper);
     Ok(serve_connections(
         rt,
-        shared.alloc,
         &app,
         &mut seat,
         &mut gate,

@@ -1,10 +1,10 @@
 //! One connection: one request, one answer, and how it is closed.
 
-ghost use Rattle.std.specs.Prelude.{◌≡◌};
+ghost use Rattle.session_pool.specs.Seats.{Rests};
 
 use crate::deadline::{TimedReader, TimedWriter};
-use gateway_core::{App, Gate, Transcode, serve_one};
-use std::alloc::Global;
+use gateway::{App, Gate, serve_one};
+use session_pool::ClientSeat;
 use std::io::{ErrorKind, Read};
 use std::net::{Shutdown, TcpStream};
 use std::sync::Wait;
@@ -42,24 +42,22 @@ fn linger(clock: &impl Clock, stream: &TcpStream) {
 
 /// Answers the request of a connection, within a time for its reads and the same time for its writes. Returns whether
 /// it was answered in whole. Then what still comes is taken; after a fault of the connection nothing is waited for.
-pub(crate) fn serve_connection<R: Wait + Clock, T: Transcode, G: Gate>(
+pub(crate) fn serve_connection<'p, R: Wait + Clock, G: Gate>(
     rt: &R,
-    alloc: Global,
-    app: &App<'_, T>,
-    seat: &mut T::Seat,
+    app: &App<'_, 'p>,
+    seat: &mut ClientSeat<'p>,
     gate: &mut G,
     stream: &TcpStream,
     time: Duration,
 ) -> bool
-    requires cells { T.cells app.now.transcoder.now ≡ app.now.registry.now }
-    requires seat { T.rests app.now.transcoder.now seat.old }
-    ensures { T.rests app.now.transcoder.now seat.new }
+    requires { Rests app.now.pool.now seat.old }
+    ensures { Rests app.now.pool.now seat.new }
 {
     let Ok(mut reader) = TimedReader::new(rt, stream, time) else {
         return false;
     };
     let mut writer = TimedWriter::new(rt, stream, time);
-    match serve_one(rt, alloc, app, seat, &mut reader, &mut writer, gate) {
+    match serve_one(rt, app, seat, &mut reader, &mut writer, gate) {
         Ok(_) => {
             linger(rt, stream);
             true

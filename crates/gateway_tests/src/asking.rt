@@ -1,10 +1,8 @@
 //! A request that is answered in memory.
 
-ghost use Rattle.std.specs.Prelude.{◌≡◌};
 ghost use Rattle.session_pool.specs.Seats.{Rests};
 
-use gateway::Pooled;
-use gateway_core::{App, Gate, ServeError, serve_one};
+use gateway::{App, Gate, ServeError, serve_one};
 use session_pool::ClientSeat;
 use std::alloc::Global;
 use std::sync::Wait;
@@ -31,17 +29,16 @@ content-type: application/vnd.schemaregistry.v1+json\r\ncontent-length: 45\r\nco
 pub(crate) fn ask<'p, R: Wait, G: Gate>(
     rt: &R,
     alloc: Global,
-    app: &App<'_, Pooled<'_, 'p>>,
+    app: &App<'_, 'p>,
     seat: &mut ClientSeat<'p>,
     gate: &mut G,
     request: &[u8],
 ) -> Result<Vec<u8>, ServeError>
-    requires cells { app.now.transcoder.now.pool.now.cache.now ≡ app.now.registry.now }
-    requires seat { Rests app.now.transcoder.now.pool.now seat.old }
-    ensures { Rests app.now.transcoder.now.pool.now seat.new }
+    requires { Rests app.now.pool.now seat.old }
+    ensures { Rests app.now.pool.now seat.new }
 {
     let mut reader = request;
     let mut answer = Vec::new(alloc);
-    serve_one(rt, alloc, app, seat, &mut reader, &mut answer, gate)?;
+    serve_one(rt, app, seat, &mut reader, &mut answer, gate)?;
     Ok(answer)
 }

@@ -1,6 +1,8 @@
 //! Gates that say no.
 
-use gateway_core::{Gate, Place};
+ghost use Rattle.std.specs.Prelude.{◌≡◌, false, ⊤};
+
+use gateway::{Gate, Place};
 use std::sync::atomic::{AtomicBool, Ordering};
 use std::thread;
 
@@ -9,6 +11,8 @@ use std::thread;
 pub(crate) struct Closed;
 
 impl Gate for Closed {
+    ghost says = { λ old place answer new. answer ≡ false };
+
     fn at(&mut self, _place: Place) -> bool {
         false
     }
@@ -21,8 +25,38 @@ pub(crate) struct UntilSet<'a> {
 }
 
 impl<'a> Gate for UntilSet<'a> {
+    ghost says = { λ old place answer new. ⊤ };
+
     fn at(&mut self, _place: Place) -> bool {
         thread::yield_now();
         !self.flag.load(Ordering::SeqCst)
+    }
+}
+
+/// A gate that says no inside a turn, and how often it was asked. Before a turn it says yes, so often at most.
+#[derive(Clone, Copy, Debug, PartialEq, Eq)]
+pub(crate) struct ClosedInside {
+    pub(crate) turns: u32,
+    pub(crate) insides: u32,
+}
+
+/// How often a gate says yes before a turn that says no inside it.
+const MOST_TURNS: u32 = 100;
+
+impl Gate for ClosedInside {
+    ghost says = { λ old place answer new. ⊤ };
+
+    fn at(&mut self, place: Place) -> bool {
+        match place {
+            Place::Turn => {
+                self.turns = self.turns.saturating_add(1);
+                self.turns < MOST_TURNS
+            }
+            Place::Inside { .. } => {
+                self.insides = self.insides.saturating_add(1);
+                false
+            }
+            Place::Waiting => true,
+        }
     }
 }

@@ -8,6 +8,8 @@ mod asking;
 #[cfg(test)]
 mod gates;
 #[cfg(test)]
+mod leaving;
+#[cfg(test)]
 mod memory;
 #[cfg(test)]
 mod refusals;

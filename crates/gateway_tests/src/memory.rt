@@ -5,9 +5,7 @@ ghost use Rattle.session_pool.specs.Seats.{Rests};
 
 use crate::asking::{MESSAGE, REWRITTEN, ask};
 use crate::seats::{Seated, last_client, last_worker, new_pool};
-use gateway::{Helping, Pooled};
-use gateway_core::{App, Gate, ServeError};
-use gateway_requests::Routes;
+use gateway::{App, Gate, Helping, ServeError};
 use program_cache::ProgramCache;
 use schema_registry::SharedRegistry;
 use session_pool::ClientSeat;
@@ -43,14 +41,13 @@ content-type: application/vnd.schemaregistry.v1+json\r\ncontent-length: 42\r\nco
 fn asked_again<'p, R: Wait, G: Gate>(
     rt: &R,
     alloc: Global,
-    app: &App<'_, Pooled<'_, 'p>>,
+    app: &App<'_, 'p>,
     seat: &mut ClientSeat<'p>,
     gate: &mut G,
     request: &[u8],
 ) -> Result<Vec<u8>, ServeError>
-    requires cells { app.now.transcoder.now.pool.now.cache.now ≡ app.now.registry.now }
-    requires seat { Rests app.now.transcoder.now.pool.now seat.old }
-    ensures { Rests app.now.transcoder.now.pool.now seat.new }
+    requires seat { Rests app.now.pool.now seat.old }
+    ensures { Rests app.now.pool.now seat.new }
 {
     match ask(rt, alloc, app, seat, gate, request) {
         Ok(answer) if answer.as_slice() != NO_MEMORY => Ok(answer),
@@ -62,12 +59,11 @@ fn asked_again<'p, R: Wait, G: Gate>(
 fn answered<'p, R: Wait + Abort>(
     rt: &R,
     alloc: Global,
-    app: &App<'_, Pooled<'_, 'p>>,
+    app: &App<'_, 'p>,
     seat: &mut ClientSeat<'p>,
     gate: &mut Helping<'_, 'p>,
 ) -> Result<(), Fail>
-    requires cells { app.now.transcoder.now.pool.now.cache.now ≡ app.now.registry.now }
-    requires seat { Rests app.now.transcoder.now.pool.now seat.old }
+    requires seat { Rests app.now.pool.now seat.old }
 {
     let first = asked_again(rt, alloc, app, seat, gate, REGISTER)?;
     assert!(rt; first.as_slice() == FIRST);
@@ -90,10 +86,6 @@ fn answers_are_the_same_after_a_refused_growth(rt: HostRuntime) -> Result<(), Fa
     } = new_pool(alloc, &cache, 1, 1)?;
     let mut seat = last_client(&rt, &pool, &mut clients);
     let mut gate = Helping::new(&pool, last_worker(&rt, &pool, &mut workers));
-    let app = App {
-        registry: &registry,
-        transcoder: &Pooled { pool: &pool },
-        routes: Routes::new(alloc)?,
-    };
+    let app = App::new(alloc, &registry, &cache, &pool)?;
     answered(&rt, alloc, &app, &mut seat, &mut gate)
 }

@@ -8,9 +8,7 @@ use crate::asking::{FULL, MESSAGE, NOT_FINISHED, REWRITTEN, ask};
 use crate::gates::Closed;
 use crate::schemas::{RECORD, SWAPPED, registered};
 use crate::seats::{Seated, last_client, last_worker, new_pool};
-use gateway::{Helping, Pooled};
-use gateway_core::App;
-use gateway_requests::Routes;
+use gateway::{App, Helping};
 use program_cache::ProgramCache;
 use schema_registry::{Receipt, SharedRegistry};
 use session_pool::{ClientSeat, OpenError, SLOTS, SessionPool};
@@ -26,13 +24,12 @@ const ASKED: usize = SLOTS + 44;
 fn refused<'p, R: Wait>(
     rt: &R,
     alloc: Global,
-    app: &App<'_, Pooled<'_, 'p>>,
+    app: &App<'_, 'p>,
     seat: &mut ClientSeat<'p>,
     many: usize,
 ) -> usize
-    requires cells { app.now.transcoder.now.pool.now.cache.now ≡ app.now.registry.now }
-    requires seat { Rests app.now.transcoder.now.pool.now seat.old }
-    ensures { Rests app.now.transcoder.now.pool.now seat.new }
+    requires seat { Rests app.now.pool.now seat.old }
+    ensures { Rests app.now.pool.now seat.new }
 {
     let mut told = 0_usize;
     for _ in 0..many {
@@ -49,12 +46,11 @@ fn refused<'p, R: Wait>(
 fn refused_and_answered<'p, R: Wait + Abort>(
     rt: &R,
     alloc: Global,
-    app: &App<'_, Pooled<'_, 'p>>,
+    app: &App<'_, 'p>,
     seat: &mut ClientSeat<'p>,
     gate: &mut Helping<'_, 'p>,
 ) -> Result<(), Fail>
-    requires cells { app.now.transcoder.now.pool.now.cache.now ≡ app.now.registry.now }
-    requires seat { Rests app.now.transcoder.now.pool.now seat.old }
+    requires seat { Rests app.now.pool.now seat.old }
 {
     registered(rt, alloc, app.registry, "s", RECORD)?;
     registered(rt, alloc, app.registry, "t", SWAPPED)?;
@@ -76,11 +72,7 @@ fn a_gate_that_says_no_leaves_the_slot_free(rt: HostRuntime) -> Result<(), Fail>
     } = new_pool(alloc, &cache, 1, 1)?;
     let mut seat = last_client(&rt, &pool, &mut clients);
     let mut gate = Helping::new(&pool, last_worker(&rt, &pool, &mut workers));
-    let app = App {
-        registry: &registry,
-        transcoder: &Pooled { pool: &pool },
-        routes: Routes::new(alloc)?,
-    };
+    let app = App::new(alloc, &registry, &cache, &pool)?;
     refused_and_answered(&rt, alloc, &app, &mut seat, &mut gate)
 }
 
@@ -112,16 +104,15 @@ fn takes_all<'p>(
 fn full_and_free<'p, R: Wait + Abort>(
     rt: &R,
     alloc: Global,
-    app: &App<'_, Pooled<'_, 'p>>,
+    app: &App<'_, 'p>,
     clients: &mut Vec<ClientSeat<'p>>,
     gate: &mut Helping<'_, 'p>,
     receipt: &mut Receipt,
 ) -> Result<(), Fail>
-    requires cells { app.now.transcoder.now.pool.now.cache.now ≡ app.now.registry.now }
-    requires clients { All (IsNewClient app.now.transcoder.now.pool.now) clients.old.items }
+    requires clients { All (IsNewClient app.now.pool.now) clients.old.items }
     requires receipt { IsReceiptOf app.now.registry.now receipt.old }
 {
-    let pool = app.transcoder.pool;
+    let pool = app.pool;
     let mut seat = last_client(rt, pool, clients);
     let mut holder = last_client(rt, pool, clients);
     let mut others = last_client(rt, pool, clients);
@@ -149,10 +140,6 @@ fn a_full_pool_is_told_and_serves_again(rt: HostRuntime) -> Result<(), Fail> {
     let mut receipt = registered(&rt, alloc, &registry, "s", RECORD)?;
     registered(&rt, alloc, &registry, "t", SWAPPED)?;
     let mut gate = Helping::new(&pool, last_worker(&rt, &pool, &mut workers));
-    let app = App {
-        registry: &registry,
-        transcoder: &Pooled { pool: &pool },
-        routes: Routes::new(alloc)?,
-    };
+    let app = App::new(alloc, &registry, &cache, &pool)?;
     full_and_free(&rt, alloc, &app, &mut clients, &mut gate, &mut receipt)
 }

@@ -1,18 +1,18 @@
 //! An envelope: how it is opened, and how it is begun.
 
-ghost use Rattle.std.specs.Prelude.{◌≡◌, ◌++◌, OnErr, OnOk};
-ghost use Rattle.wire_frames.specs.Envelope.{Opens, prefix};
+ghost use Rattle.std.specs.Prelude.{◌≡◌, ◌++◌, IfErr, IfOk, OnErr, OnOk};
+ghost use Rattle.wire_frames.specs.Envelope.{IsNoMessage, envelope, prefix};
 
 use std::alloc::AllocError;
 use thiserror::Error;
 
-/// How many bytes stand before the payload: the magic byte, and the id in four.
+/// How many bytes come before the payload: the magic byte, and the id in four.
 pub const PREFIX_LENGTH: usize = 5;
 
 /// The byte that a message begins with.
 const MAGIC_BYTE: u8 = 0;
 
-/// Why bytes are no message. This project's own; the first that holds is told.
+/// Why bytes are no message, as the first of these that holds. This project's own.
 #[derive(Clone, Copy, Debug, PartialEq, Eq, Error)]
 pub enum EnvelopeError {
     #[error("a message has at least five bytes")]
@@ -36,9 +36,11 @@ impl EnvelopeError {
     }
 }
 
-/// Opens a message: the id of the writer's schema, and the payload, in the message's memory (Confluent wire format).
-pub fn open_envelope(message: Vec<u8>) -> Result<(u32, Vec<u8>), EnvelopeError>
-    ensures { Opens message.items (λ payload. payload.items) result }
+/// Opens a message: returns the id of the writer's schema, and the part of the message that is its payload (Confluent
+/// wire format). The error says why the bytes are no message.
+pub fn open_envelope(message: &[u8]) -> Result<(u32, &[u8]), EnvelopeError>
+    ensures opened { IfOk result (λ opened. message.now ≡ envelope opened.0 opened.1.now) }
+    ensures refused { IfErr result (IsNoMessage message.now) }
 {
     if message.len() < PREFIX_LENGTH {
         return Err(EnvelopeError::ShortEnvelope);
@@ -47,12 +49,11 @@ pub fn open_envelope(message: Vec<u8>) -> Result<(u32, Vec<u8>), EnvelopeError>
         return Err(EnvelopeError::BadMagic);
     }
     let id = u32::from_be_bytes([message[1], message[2], message[3], message[4]]);
-    let mut payload = message;
-    payload.drain(..PREFIX_LENGTH);
-    Ok((id, payload))
+    Ok((id, &message[PREFIX_LENGTH..]))
 }
 
-/// Appends what stands before a payload that the schema of this id writes. An `Err` leaves the output as it was.
+/// Appends what comes before a payload that the schema of this id writes. Where memory runs out it is an `Err`, which
+/// leaves the output as it was.
 pub fn put_envelope(id: u32, out: &mut Vec<u8>) -> Result<(), AllocError>
     ensures put { OnOk result (out.new.items ≡ out.old.items ++ prefix id) }
     ensures refused { OnErr result (out.new.items ≡ out.old.items) }

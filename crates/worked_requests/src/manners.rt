@@ -4,7 +4,7 @@ use crate::calls::{AT_ONCE, Behaviour, Trouble};
 use crate::printing::{push_answer, push_difference};
 use crate::row::Row;
 use crate::service::{Served, Service};
-use gateway_core::ServeError;
+use gateway::ServeError;
 use gateway_server::RunError;
 use std::alloc::{AllocError, Global};
 use std::sync::Wait;

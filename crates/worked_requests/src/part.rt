@@ -1,13 +1,13 @@
 //! The parts of the input, each with a registry of its own.
 
-ghost use Rattle.std.specs.Prelude.{◌≡◌, All};
+ghost use Rattle.std.specs.Prelude.{All};
 ghost use Rattle.session_pool.specs.Seats.{IsNewClient, IsNewWorker};
 
 use crate::connections::push_connections;
 use crate::manners::{push_closed, push_row};
 use crate::row::{Row, row_of};
 use crate::service::Service;
-use gateway::{Helping, Pooled, pop_client, pop_worker};
+use gateway::{App, Helping, pop_client, pop_worker};
 use gateway_server::RunError;
 use program_cache::ProgramCache;
 use schema_registry::SharedRegistry;
@@ -66,21 +66,19 @@ fn push_rows<R: Wait>(
 
 /// Appends the lines of rows that are answered by sessions of a pool, which run while their answers are waited for.
 /// Gives the answers.
-fn push_by_pool<'a, 'p, R: Wait>(
+fn push_by_pool<'p, R: Wait>(
     rt: &R,
     alloc: Global,
     output: &mut Vec<u8>,
     rows: &[Row],
-    registry: &'a SharedRegistry,
-    transcoder: &'a Pooled<'a, 'p>,
+    app: App<'_, 'p>,
     seats: &mut Vec<ClientSeat<'p>>,
     helpers: &mut Vec<WorkerSeat<'p>>,
 ) -> Result<Vec<Vec<u8>>, RunError>
-    requires cells { transcoder.now.pool.now.cache.now ≡ registry.now }
-    requires seats { All (IsNewClient transcoder.now.pool.now) seats.old.items }
-    requires helpers { All (IsNewWorker transcoder.now.pool.now) helpers.old.items }
+    requires seats { All (IsNewClient app.pool.now) seats.old.items }
+    requires helpers { All (IsNewWorker app.pool.now) helpers.old.items }
 {
-    let pool = transcoder.pool;
+    let pool = app.pool;
     let Some(seat) = pop_client(pool, seats) else {
         return Err(RunError::Read);
     };
@@ -88,7 +86,7 @@ fn push_by_pool<'a, 'p, R: Wait>(
         return Err(RunError::Read);
     };
     let gate = Helping::new(pool, helper);
-    let mut service = Service::new(alloc, registry, transcoder, seat, gate)?;
+    let mut service = Service::new(app, seat, gate);
     push_rows(rt, alloc, output, rows, &mut service)
 }
 
@@ -102,16 +100,8 @@ fn push_in_memory<R: Wait>(
     let registry = SharedRegistry::new(alloc)?;
     let cache = ProgramCache::new(alloc, &registry)?;
     let (pool, mut seats, mut helpers) = SessionPool::new(alloc, &cache, 1, 1)?;
-    push_by_pool(
-        rt,
-        alloc,
-        output,
-        rows,
-        &registry,
-        &Pooled { pool: &pool },
-        &mut seats,
-        &mut helpers,
-    )
+    let app = App::new(alloc, &registry, &cache, &pool)?;
+    push_by_pool(rt, alloc, output, rows, app, &mut seats, &mut helpers)
 }
 
 /// Appends the title of a part, the lines of its answers, and how many requests were answered over connections.

@@ -1,27 +1,22 @@
 //! Requests answered in memory.
 
-ghost use Rattle.std.specs.Prelude.{◌≡◌};
 ghost use Rattle.session_pool.specs.Seats.{Rests};
 
 use crate::calls::Behaviour;
 use crate::devices::{Receiver, Sender};
 use crate::row::Row;
-use gateway::{Helping, Pooled};
-use gateway_core::{App, ServeError, serve_one};
-use gateway_requests::Routes;
-use schema_registry::SharedRegistry;
+use gateway::{App, Helping, ServeError, serve_one};
 use session_pool::ClientSeat;
-use std::alloc::{AllocError, Global};
+use std::alloc::Global;
 use std::sync::Wait;
 
 /// What requests are answered from, and the seat that all of them take in turn.
 #[derive(Drop)]
 pub(crate) struct Service<'a, 'p> {
-    app: App<'a, Pooled<'a, 'p>>,
+    app: App<'a, 'p>,
     seat: ClientSeat<'p>,
     gate: Helping<'a, 'p>,
-    ghost tied: { app.transcoder.now.pool.now.cache.now ≡ app.registry.now },
-    ghost rests: { Rests app.transcoder.now.pool.now seat },
+    ghost rests: { Rests app.pool.now seat },
 }
 
 /// What came of a request.
@@ -37,23 +32,15 @@ pub(crate) struct Served {
 }
 
 impl<'a, 'p> Service<'a, 'p> {
-    /// Answers from a registry, by sessions that run while their answers are waited for. An error where memory ran out.
+    /// Answers by sessions that run while their answers are waited for.
     pub(crate) fn new(
-        alloc: Global,
-        registry: &'a SharedRegistry,
-        transcoder: &'a Pooled<'a, 'p>,
+        app: App<'a, 'p>,
         seat: ClientSeat<'p>,
         gate: Helping<'a, 'p>,
-    ) -> Result<Service<'a, 'p>, AllocError>
-        requires cells { transcoder.now.pool.now.cache.now ≡ registry.now }
-        requires seat { Rests transcoder.now.pool.now seat }
+    ) -> Service<'a, 'p>
+        requires { Rests app.pool.now seat }
     {
-        let app = App {
-            registry,
-            transcoder,
-            routes: Routes::new(alloc)?,
-        };
-        Ok(Service { app, seat, gate })
+        Service { app, seat, gate }
     }
 
     /// Answers a request by a reader and a writer that behave so.
@@ -69,7 +56,6 @@ impl<'a, 'p> Service<'a, 'p> {
         let mut writer = Receiver::new(alloc, writing);
         let status = serve_one(
             rt,
-            alloc,
             &self.app,
             &mut self.seat,
             &mut reader,

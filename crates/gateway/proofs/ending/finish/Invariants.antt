@@ -1,6 +1,7 @@
 -- What was refused changed nothing.
 use Rattle.std.proofs.Common.{◌≡◌}
-use Rattle.session_pool.specs.Seats.{IsPassOf, Rests, told}
+use Rattle.session_pool.specs.Seats.{IsPassOf, KeepsOthers, Rests, told}
+use Rattle.gateway_core.specs.Gates.{Asked}
 use Rattle.gateway.proofs.ending.finish.Given as goal
 
 abbrev pub invariant-loop : goal.invariant-loop
@@ -11,4 +12,6 @@ invariant-loop g l = record {
   pass : IsPassOf l.seat l.held;
   held : l.held ≡ l.fn.pass;
   same : told l.seat l.held ≡ told l.fn.seat l.fn.pass;
+  others : KeepsOthers l.fn.seat l.fn.pass l.seat;
+  asked : Asked g.G.Gate.says l.fn.gate l.gate;
 }

@@ -1,6 +1,7 @@
 -- What was refused changed nothing.
 use Rattle.std.proofs.Common.{◌≡◌}
-use Rattle.session_pool.specs.Seats.{IsPassOf, Rests, told}
+use Rattle.session_pool.specs.Seats.{IsPassOf, KeepsOthers, Rests, told}
+use Rattle.gateway_core.specs.Gates.{Asked}
 use Rattle.gateway.proofs.sending.send.Given as goal
 
 abbrev pub invariant-loop : goal.invariant-loop
@@ -11,4 +12,6 @@ invariant-loop g l = record {
   rests : Rests l.pool l.seat;
   pass : IsPassOf l.seat l.pass;
   same : told l.seat l.pass ≡ told l.fn.seat l.pass;
+  others : KeepsOthers l.fn.seat l.pass l.seat;
+  asked : Asked g.G.Gate.says l.fn.gate l.gate;
 }

@@ -1,0 +1,31 @@
+-- Why a pool has no outcome for a pair of schemas. All of this is this project's own.
+use Rattle.std.specs.Prelude.{⊤}
+use Rattle.schema_registry.specs.Shared.{Shown}
+use Rattle.gateway_core.specs.declared.transcode.TranscodeFault.{TranscodeFault}
+use Rattle.gateway_core.specs.declared.transcode.TranscodeFault.TheVariants as faults
+use Rattle.session_pool.specs.declared.pool.ClientSeat.{ClientSeat}
+use Rattle.session_pool.specs.declared.refusals.OpenError.{OpenError}
+use Rattle.session_pool.specs.declared.refusals.OpenError.TheVariants as opening
+use Rattle.session_pool.specs.Opening.{IsWhyNotOpened}
+use Rattle.gateway.specs.Stopping.{LetsGo}
+
+-- no session was opened, for the reason that the pool has for this; of the others the gate and memory are the reason
+abbrev pub IsWhyRefused : TranscodeFault → Shown → Shown → ClientSeat → ClientSeat → Type 0
+IsWhyRefused faults.ProgramTooLarge writer reader old new =
+    IsWhyNotOpened opening.ProgramTooLarge writer.schema reader.schema old new
+IsWhyRefused faults.Clash writer reader old new = IsWhyNotOpened opening.Clash writer.schema reader.schema old new
+IsWhyRefused faults.Full writer reader old new = IsWhyNotOpened opening.Full writer.schema reader.schema old new
+IsWhyRefused faults.NotFinished writer reader old new = ⊤
+IsWhyRefused faults.NoMemory writer reader old new = ⊤
+
+-- a call that took the first seat and left the second refuses the pair for this fault, and leaves no session behind
+pub record Refuses (old new : ClientSeat) (writer reader : Shown) (fault : TranscodeFault) : Type 0 where
+  pub why : IsWhyRefused fault writer reader old new
+  pub lets_go : LetsGo old new
+
+-- each refusal of the pool is told as itself
+abbrev pub fault_of : OpenError → TranscodeFault
+fault_of opening.ProgramTooLarge = faults.ProgramTooLarge
+fault_of opening.Clash = faults.Clash
+fault_of opening.Full = faults.Full
+fault_of opening.NoMemory = faults.NoMemory

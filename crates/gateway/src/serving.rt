@@ -1,0 +1,67 @@
+//! One request read, one answer written, from a pool.
+
+ghost use Rattle.std.specs.Prelude.{IfErr, IfOk};
+ghost use Rattle.session_pool.specs.Seats.{Rests};
+ghost use Rattle.gateway_core.specs.Gates.{SaidNo};
+ghost use Rattle.gateway_core.specs.Serving.{IsFault, IsServed, ServesSome};
+ghost use Rattle.gateway_core.specs.Transcoding.{IsWhyNone};
+ghost use Rattle.gateway.specs.Refusing.{Refuses};
+
+use crate::app::App;
+use crate::pooled::Pooled;
+use gateway_core::{Evidence, Gate, ServeError, TellError};
+use session_pool::ClientSeat;
+use std::io::{Read, Write};
+use std::sync::Wait;
+
+/// Reads one request and writes one answer: the status, and the receipts that the answer stands on.
+///
+/// `Closed` where no byte came, `ReadFault` where the reader failed, `NoMemory` where not even a fault's text found
+/// memory: then nothing is written. `CutShort` where the writer failed, after the first bytes of an answer, with the
+/// receipts that this answer stands on.
+pub fn serve_and_tell<'p, R: Wait, I: Read, O: Write, G: Gate>(
+    rt: &R,
+    app: &App<'_, 'p>,
+    seat: &mut ClientSeat<'p>,
+    reader: &mut I,
+    writer: &mut O,
+    gate: &mut G,
+) -> Result<(u16, Evidence), TellError>
+    requires { Rests app.now.pool.now seat.old }
+    ensures seat { Rests app.now.pool.now seat.new }
+    ensures served { IfOk result (λ told. IsServed (IsWhyNone (Refuses seat.old seat.new)
+        (SaidNo G.says gate.old gate.new)) app.now.registry.now (I.remaining reader.old)
+        (O.contents writer.old) (O.contents writer.new) told.0 told.1) }
+    ensures fault { IfErr result (IsFault (IsWhyNone (Refuses seat.old seat.new)
+        (SaidNo G.says gate.old gate.new)) app.now.registry.now (I.remaining reader.old)
+        (O.contents writer.old) (O.contents writer.new)) }
+{
+    let transcoder = Pooled { pool: app.pool };
+    let answering = gateway_core::App {
+        alloc: app.alloc,
+        registry: app.registry,
+        transcoder: &transcoder,
+        routes: &app.routes,
+    };
+    gateway_core::serve_and_tell(rt, &answering, seat, reader, writer, gate)
+}
+
+/// Reads one request and writes one answer, as `serve_and_tell` does: the status alone, and the receipts are let go.
+/// The errors are those of `serve_and_tell`, with `WriteFault` for `CutShort`.
+pub fn serve_one<'p, R: Wait, I: Read, O: Write, G: Gate>(
+    rt: &R,
+    app: &App<'_, 'p>,
+    seat: &mut ClientSeat<'p>,
+    reader: &mut I,
+    writer: &mut O,
+    gate: &mut G,
+) -> Result<u16, ServeError>
+    requires { Rests app.now.pool.now seat.old }
+    ensures seat { Rests app.now.pool.now seat.new }
+    ensures served { ServesSome (IsWhyNone (Refuses seat.old seat.new) (SaidNo G.says gate.old gate.new))
+        app.now.registry.now (I.remaining reader.old) (O.contents writer.old) (O.contents writer.new) result }
+{
+    let (status, evidence) = serve_and_tell(rt, app, seat, reader, writer, gate)?;
+    drop(evidence);
+    Ok(status)
+}
