@@ -30,6 +30,7 @@ mod schemas;
 mod seats;
 #[cfg(test)]
 mod slots;
+#[cfg(test)]
 mod stops;
 #[cfg(test)]
 mod threads;
