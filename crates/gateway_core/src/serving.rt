@@ -150,17 +150,6 @@ pub fn serve_and_tell<R: Wait, T: Transcode, I: Read, O: Write, G: Gate>(
     let told = answer_request(rt, app, seat, reader, gate)?;
     let Told { answer, evidence } = told;
     let (bytes, status) = bytes_of(app.alloc, answer)?;
-    let (other, _) = bytes_of(
-        app.alloc,
-        Answer::Message {
-            id: 1,
-            payload: Vec::new(app.alloc),
-        },
-    )?;
-    let begun = write_all(writer, other.front.as_slice(), other.rest.as_slice());
-    if begun.is_err() {
-        return Err(TellError::CutShort { sent: 0, evidence });
-    }
     match write_all(writer, &bytes.front, &bytes.rest) {
         Ok(()) => Ok((status, evidence)),
         Err(cut) => Err(TellError::CutShort {
