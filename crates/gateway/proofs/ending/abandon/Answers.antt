@@ -26,7 +26,7 @@ loop-try-preserved g c =
       rests = after.seat;
       pass = subst Rest (sym after.back) after.still;
       held = after.back ∙ before.held;
-      others = others_on _ _ _ _ before.others (subst Kept before.held after.others);
+      others = others_on c.args.seat.now c.loop-try.seat c.abandon.new.seat c.args.pass before.others (subst Kept before.held after.others);
       asked = once_more _ before.asked c.at.ensures;
       busy = one_more before.busy (subst Found before.held after.busy);
     }
