@@ -13,5 +13,5 @@ pub use machine_stepper::{
 };
 pub use resolver::{Outcome, TranscodeError};
 pub use run::Run;
-pub use transcoder::Transcoder;
+pub use transcoder::{Transcoder, TranscodingRoom};
 pub use transcoding::{PairError, transcode};
