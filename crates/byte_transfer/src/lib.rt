@@ -1,4 +1,4 @@
-//! Edge: HTTP; used by `wire_frames`, `gateway_reception`, `gateway_front`.
+//! Edge: HTTP; used by `wire_frames`, `gateway_exchange`, `gateway_front`.
 //!
 //! Bytes moved once: from a reader into memory, after those that came before, and from memory to a writer.
 #![tactic(auto)]

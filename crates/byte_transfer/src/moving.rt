@@ -1,7 +1,7 @@
 //! One read, and one write.
 
 ghost use Rattle.std.specs.Prelude.{◌≡◌, ◌≤◌, ◌<◌, ◌+◌, IfOk, OnErr, drop, length, vec_len};
-ghost use Rattle.std.specs.Io.KnownBytes.{WriteAppends};
+ghost use Rattle.std.specs.Io.KnownBytes.{Keeps, WriteAppends};
 ghost use Rattle.byte_transfer.specs.Moving.{Receives};
 
 use std::io;
@@ -22,6 +22,7 @@ pub fn read_more<R: Read>(reader: &mut R, bytes: &mut Vec<u8>, wanted: usize) ->
     ensures received { IfOk result
         (Receives (R.remaining reader.old) (R.remaining reader.new) bytes.old.items bytes.new.items) }
     ensures refused { OnErr result (bytes.new.items ≡ bytes.old.items) }
+    ensures kept { OnErr result (Keeps (R.remaining reader.old) (R.remaining reader.new)) }
     ensures bound { vec_len bytes.new ≤ wanted }
 {
     let had = bytes.len();

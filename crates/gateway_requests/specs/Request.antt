@@ -18,4 +18,4 @@ abbrev pub request_of : rust.Request → Request
 request_of (requests.Command command) = Asks (command_of command)
 request_of (requests.Registration subject text) = Registers (string_bytes subject) (string_bytes text)
 request_of (requests.Schema id) = AsksSchema id
-request_of (requests.Transcoding reader message) = Transcodes reader message.items
+request_of (requests.Transcoding reader message) = Transcodes reader message

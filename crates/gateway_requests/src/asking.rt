@@ -14,7 +14,8 @@ use crate::path::segment;
 use crate::request::Request;
 use gateway_answers::Fault;
 use schema_registry::Command;
-use std::alloc::Global;
+use std::alloc::{AllocError, Global};
+use wire_frames::Message;
 
 /// Returns what an action asks for, by the path and the body, which is `None` where it was cut short. The error is the
 /// first fault of these.
@@ -58,7 +59,7 @@ pub fn request_of(
             let subject = Some(subject_of(alloc, segment(2, path))?);
             setting_of(alloc, subject, bytes)
         }
-        Action::Transcode => transcoding_of(path, body),
+        Action::Transcode => transcoding_of(path, message_of(alloc, bytes)?),
     }
 }
 
@@ -116,12 +117,23 @@ fn check_of(alloc: Global, path: &[u8], body: Option<&[u8]>) -> Result<Request, 
     }))
 }
 
-/// The message in the body, for a reader.
-fn transcoding_of(path: &[u8], body: Option<Vec<u8>>) -> Result<Request, Fault>
-    ensures tells { Tells request_of result (asked_for path.now (option_map (λ b. b.items) body) Action.Transcode) }
-    ensures size { IfOk result (λ request. IsWithin (size_of (option_map (λ b. b.items) body)) (request_of request)) }
+/// Returns the body as a message. `None` where it was cut short; the error is want of memory.
+fn message_of(alloc: Global, body: Option<&[u8]>) -> Result<Option<Message>, AllocError>
+    ensures { IfOk result (λ message. message ≡ option_map (λ b. b.now) body.entry) }
 {
-    let Some(message) = body else {
+    match body {
+        Some(bytes) => Ok(Some(Message::of(alloc, bytes)?)),
+        None => Ok(None),
+    }
+}
+
+/// Returns what a path of a transcoding asks for, by the message that is the body, which is `None` where it was cut
+/// short. The error is the first fault of these.
+pub fn transcoding_of(path: &[u8], message: Option<Message>) -> Result<Request, Fault>
+    ensures tells { Tells request_of result (asked_for path.now message Action.Transcode) }
+    ensures size { IfOk result (λ request. IsWithin (size_of message) (request_of request)) }
+{
+    let Some(message) = message else {
         return Err(Fault::BadRequest);
     };
     let reader = id_of(segment(2, path))?;

@@ -14,7 +14,7 @@ mod request;
 mod route;
 
 pub use action::Action;
-pub use asking::request_of;
+pub use asking::{request_of, transcoding_of};
 pub use choosing::{Chosen, choose};
 pub use limits::{MOST_BODY, limits_are_these};
 pub use path::path_of;

@@ -1,6 +1,7 @@
 //! What is asked of the service.
 
 use schema_registry::Command;
+use wire_frames::Message;
 
 /// What is asked of the service.
 #[derive(Drop)]
@@ -12,5 +13,5 @@ pub enum Request {
     /// The text of the schema of an id.
     Schema { id: u32 },
     /// A message for the reader of an id, from the message in the body.
-    Transcoding { reader: u32, message: Vec<u8> },
+    Transcoding { reader: u32, message: Message },
 }

@@ -1,6 +1,7 @@
 //! A message that is received in parts.
 
 ghost use Rattle.std.specs.Prelude.{◌≡◌, ◌<◌, ◌≤◌, ◌++◌, List, ℕ, [], IfErr, IfOk, OnErr, OnOk, length, take};
+ghost use Rattle.std.specs.Io.KnownBytes.{Keeps};
 ghost use Rattle.byte_transfer.specs.Moving.{Receives};
 ghost use Rattle.wire_frames.specs.declared.envelope.TheConstants.{PREFIX_LENGTH};
 ghost use Rattle.wire_frames.specs.Envelope.{IsNoMessage, envelope};
@@ -66,6 +67,7 @@ impl Message {
         requires { length self.old < wanted }
         ensures received { IfOk result (Receives (R.remaining reader.old) (R.remaining reader.new) self.old self.new) }
         ensures refused { OnErr result (self.new ≡ self.old) }
+        ensures kept { OnErr result (Keeps (R.remaining reader.old) (R.remaining reader.new)) }
         ensures bound { length self.new ≤ wanted }
     {
         if self.envelope.len() < PREFIX_LENGTH {

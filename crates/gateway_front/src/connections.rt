@@ -1,0 +1,395 @@
+//! The connections of a thread.
+
+use crate::bounds::Bounds;
+use crate::connection::{Asked, Connection, Stage, Waiting};
+use crate::listening::{NEW, leave, watch};
+use crate::open::OpenConnections;
+use gateway_answers::{AnswerBytes, Fault};
+use gateway_exchange::{Progress, Reception, Sending, drain, receive, send};
+use gateway_requests::Routes;
+use mio::net::TcpListener;
+use mio::{Events, Poll, Token};
+use std::alloc::Global;
+use std::collections::VecDeque;
+use std::io::{ErrorKind, Read};
+use std::net::{Net, Shutdown};
+use std::sync::Wait;
+use std::time::{Clock, Duration, Instant};
+use std::{io, thread};
+
+/// The number of reports that are taken at once.
+const REPORTS: usize = 64;
+
+/// The number of bytes that are read at once of what is let go.
+const CHUNK: usize = 65_536;
+
+/// The number of bytes of the longest answer that is not lost where its connection is closed at once: the system has
+/// taken all of it.
+const SENT_AT_ONCE: usize = 16_384;
+
+/// The number of milliseconds that a thread waits where no connection can be accepted and none can be closed.
+const PAUSE: u64 = 10;
+
+/// The connections of a thread.
+#[derive(Drop)]
+pub struct Connections {
+    alloc: Global,
+    listener: TcpListener,
+    bounds: Bounds,
+    poll: Poll,
+    events: Events,
+    /// The keys of what was reported and has not been seen to.
+    ready: VecDeque<usize>,
+    /// The keys of whole requests that came while another one was served.
+    whole: VecDeque<usize>,
+    open: OpenConnections,
+    /// When it was found that some connections are late.
+    late: Option<Instant>,
+    accepted: u32,
+    is_accepting: bool,
+    answered: u64,
+    scrap: Vec<u8>,
+}
+
+/// A connection whose request is whole, or has ended, or finds no memory.
+#[derive(Drop)]
+enum Received {
+    Request(Connection, Reception),
+    NoMemory(Connection),
+}
+
+impl Received {
+    /// Returns the request, as it is to be served.
+    fn asked(self) -> Asked {
+        match self {
+            Received::Request(connection, reception) => Asked {
+                request: reception.into_request(),
+                connection,
+            },
+            Received::NoMemory(connection) => Asked {
+                request: Err(Fault::NoMemory),
+                connection,
+            },
+        }
+    }
+}
+
+impl Connections {
+    /// Returns the connections to a listener, which is made non-blocking; none is accepted yet. The errors are the
+    /// system's, and want of memory.
+    pub fn new(
+        net: &impl Net,
+        alloc: Global,
+        listener: &std::net::TcpListener,
+        bounds: Bounds,
+    ) -> io::Result<Connections> {
+        listener.set_nonblocking(true)?;
+        let listener = TcpListener::from_std(listener.try_clone()?);
+        let poll = Poll::new(net)?;
+        watch(&poll, &listener)?;
+        Ok(Connections {
+            alloc,
+            listener,
+            bounds,
+            poll,
+            events: Events::with_capacity(alloc, REPORTS)?,
+            ready: VecDeque::with_capacity(alloc, REPORTS + 1)?,
+            whole: VecDeque::new(alloc),
+            open: OpenConnections::new(alloc),
+            late: None,
+            accepted: 0,
+            is_accepting: true,
+            answered: 0,
+            scrap: vec![in alloc; 0; CHUNK]?,
+        })
+    }
+
+    /// Returns the number of answers that were sent whole.
+    pub fn answered(&self) -> u64 {
+        self.answered
+    }
+
+    /// Returns the next request to be served, for which it waits. `None` once no more connections are accepted and all
+    /// are closed.
+    pub fn next<R: Wait + Clock>(&mut self, rt: &R, routes: &Routes) -> Option<Asked> {
+        for _ in rt.forever() {
+            if let Some(asked) = self.next_whole() {
+                return Some(asked);
+            }
+            let received = match self.ready.pop_front() {
+                Some(NEW) => self.accept(rt, routes),
+                Some(key) => self.resume(rt, routes, key),
+                None if !self.is_accepting && self.open.is_empty() => return None,
+                None => {
+                    self.wait(rt);
+                    None
+                }
+            };
+            if let Some(received) = received {
+                return Some(received.asked());
+            }
+        }
+        None
+    }
+
+    /// Reads and writes what is ready of the connections, while a request of this thread is served. Whole requests wait
+    /// for `next`. It waits for nothing, and accepts no connection.
+    pub fn go_on<R: Clock>(&mut self, rt: &R, routes: &Routes) {
+        self.poll_for(Some(Duration::ZERO));
+        for _ in 0..self.ready.len() {
+            match self.ready.pop_front() {
+                Some(NEW) => self.put_ready(NEW),
+                Some(key) => {
+                    if let Some(received) = self.resume(rt, routes, key) {
+                        self.keep_whole(received);
+                    }
+                }
+                None => return,
+            }
+        }
+    }
+
+    /// Sends the answer to a request, now or as the client takes it.
+    pub fn answer<R: Clock>(&mut self, rt: &R, connection: Connection, bytes: AnswerBytes) {
+        let mut connection = connection;
+        if let Some(deadline) = deadline_after(rt, self.bounds.answer) {
+            connection.deadline = deadline;
+            self.send(rt, connection, Sending::new(bytes));
+        }
+    }
+
+    /// Returns the oldest of the whole requests that came while another one was served.
+    fn next_whole(&mut self) -> Option<Asked> {
+        for _ in 0..self.whole.len() {
+            let key = self.whole.pop_front()?;
+            if self.open.is_whole(key)
+                && let Some(
+                    Waiting {
+                        connection,
+                        stage: Stage::Whole(reception),
+                    },
+                ) = self.open.take(key)
+            {
+                return Some(Received::Request(connection, reception).asked());
+            }
+        }
+        None
+    }
+
+    /// Keeps a whole request until `next` hands it out. One that found no memory is closed.
+    fn keep_whole(&mut self, received: Received) {
+        if let Received::Request(connection, reception) = received {
+            let key = self.keep(connection, Stage::Whole(reception));
+            let _ = self.whole.push_back(key);
+        }
+    }
+
+    /// Accepts one connection, and reads what has come of its request. A connection that cannot be accepted counts as
+    /// accepted.
+    fn accept<R: Clock>(&mut self, rt: &R, routes: &Routes) -> Option<Received> {
+        if !self.is_accepting {
+            return None;
+        }
+        let stream = match self.listener.accept() {
+            Ok((stream, _)) => Some(stream),
+            Err(error) if error.kind() == ErrorKind::WouldBlock => return None,
+            Err(_) => {
+                self.make_way(rt);
+                None
+            }
+        };
+        self.accepted = self.accepted.wrapping_add(1);
+        if self.bounds.each != 0 && self.accepted == self.bounds.each {
+            self.is_accepting = false;
+            leave(&self.poll, &self.listener);
+        }
+        let begun = Instant::now(rt).ok()?;
+        let connection = Connection {
+            stream: stream?,
+            is_even: false,
+            begun,
+            deadline: begun.checked_add(self.bounds.head)?,
+            watched: None,
+        };
+        self.receive(routes, connection, Reception::new(self.alloc))
+    }
+
+    /// Sees to a connection of which something was reported. Returns its request, where that is to be served now.
+    fn resume<R: Clock>(&mut self, rt: &R, routes: &Routes, key: usize) -> Option<Received> {
+        let Waiting { connection, stage } = self.open.take(key)?;
+        match stage {
+            Stage::Receiving(reception) => return self.receive(routes, connection, reception),
+            Stage::Whole(reception) => {
+                let key = self.keep(connection, Stage::Whole(reception));
+                let _ = self.whole.push_back(key);
+            }
+            Stage::Sending(sending) => self.send(rt, connection, sending),
+            Stage::Draining => self.drain(connection),
+        }
+        None
+    }
+
+    /// Reads what has come of a request. Returns the request where it is whole, or nothing more will come of it.
+    fn receive(
+        &mut self,
+        routes: &Routes,
+        connection: Connection,
+        reception: Reception,
+    ) -> Option<Received> {
+        let (mut connection, mut reception) = (connection, reception);
+        let progress = receive(&mut reception, routes, &mut connection.stream);
+        if reception.has_head()
+            && let Some(deadline) = connection.begun.checked_add(self.bounds.request)
+        {
+            connection.deadline = deadline;
+        }
+        match progress {
+            Progress::Whole => {
+                connection.is_even = reception.is_even();
+                return Some(Received::Request(connection, reception));
+            }
+            Progress::NoMemory => return Some(Received::NoMemory(connection)),
+            Progress::Blocked => {
+                self.keep(connection, Stage::Receiving(reception));
+            }
+            Progress::Ready => self.postpone(connection, Stage::Receiving(reception)),
+            Progress::Failed => {}
+        }
+        None
+    }
+
+    /// Sends what is left of an answer.
+    fn send<R: Clock>(&mut self, rt: &R, connection: Connection, sending: Sending) {
+        let (mut connection, mut sending) = (connection, sending);
+        match send(&mut sending, &mut connection.stream) {
+            Progress::Whole => self.finish(rt, connection, sending.len()),
+            Progress::Blocked => {
+                self.keep(connection, Stage::Sending(sending));
+            }
+            Progress::Ready => self.postpone(connection, Stage::Sending(sending)),
+            Progress::Failed | Progress::NoMemory => {}
+        }
+    }
+
+    /// Ends an answer of so many bytes. Where bytes of the request are unread, or may still come before the answer has
+    /// gone, they are let go first: were the connection closed over them, the client would be reset, and might lose the
+    /// answer.
+    fn finish<R: Clock>(&mut self, rt: &R, connection: Connection, length: usize) {
+        let mut connection = connection;
+        self.answered = self.answered.saturating_add(1);
+        if connection.is_even && length <= SENT_AT_ONCE {
+            match connection.stream.read(&mut self.scrap) {
+                Ok(0) => return,
+                Err(error) if error.kind() == ErrorKind::WouldBlock => return,
+                _ => {}
+            }
+        }
+        if connection.stream.shutdown(Shutdown::Write).is_err() {
+            return;
+        }
+        if let Some(deadline) = deadline_after(rt, self.bounds.rest) {
+            connection.deadline = deadline;
+            self.drain(connection);
+        }
+    }
+
+    /// Lets go what has come after a request.
+    fn drain(&mut self, connection: Connection) {
+        let mut connection = connection;
+        match drain(&mut connection.stream, &mut self.scrap) {
+            Progress::Blocked => {
+                self.keep(connection, Stage::Draining);
+            }
+            Progress::Ready => self.postpone(connection, Stage::Draining),
+            Progress::Whole | Progress::Failed | Progress::NoMemory => {}
+        }
+    }
+
+    /// Keeps a connection until it is ready, and returns its key. Where too many are open, or too much is held, others
+    /// are closed; one that cannot be watched is closed itself.
+    fn keep(&mut self, connection: Connection, stage: Stage) -> usize {
+        self.open.make_room(&self.bounds, stage.held());
+        let mut connection = connection;
+        let key = self.open.next_key();
+        let now = Some((stage.interest(), key));
+        if connection.watched != now {
+            let registry = self.poll.registry();
+            let stream = &mut connection.stream;
+            let watched = match connection.watched {
+                Some(_) => registry.reregister(stream, Token(key), stage.interest()),
+                None => registry.register(stream, Token(key), stage.interest()),
+            };
+            if watched.is_err() {
+                return key;
+            }
+            connection.watched = now;
+        }
+        self.open.keep(Waiting { connection, stage });
+        key
+    }
+
+    /// Keeps a connection that may be ready for more, and lets others have their turn.
+    fn postpone(&mut self, connection: Connection, stage: Stage) {
+        let key = self.keep(connection, stage);
+        self.put_ready(key);
+    }
+
+    /// Notes that a key is to be seen to.
+    fn put_ready(&mut self, key: usize) {
+        let _ = self.ready.push_back(key);
+    }
+
+    /// Makes way where no connection can be accepted, as where no more files can be open: one is closed, or time passes.
+    fn make_way<R: Clock>(&mut self, rt: &R) {
+        if self.open.is_empty() {
+            thread::sleep(rt, Duration::from_millis(PAUSE));
+        } else {
+            self.open.close_worst(0);
+        }
+    }
+
+    /// Waits until something is ready, or time is up. What has come before a connection is late is still taken: it is
+    /// closed only after one more look.
+    fn wait<R: Clock>(&mut self, rt: &R) {
+        if let Some(late) = self.late {
+            self.late = None;
+            self.open.close_late(late);
+        }
+        let timeout = self.time_left(rt);
+        if !self.poll_for(timeout) {
+            thread::sleep(rt, Duration::from_millis(PAUSE));
+        }
+    }
+
+    /// Takes reports, for which it waits so long at most, or without end. Connections to be accepted come first, since no
+    /// other thread is woken for them. Returns whether the system reports at all.
+    fn poll_for(&mut self, timeout: Option<Duration>) -> bool {
+        if self.poll.poll(&mut self.events, timeout).is_err() {
+            return false;
+        }
+        for event in self.events.iter() {
+            let key = event.token().0;
+            let _ = if key == NEW {
+                self.ready.push_front(key)
+            } else {
+                self.ready.push_back(key)
+            };
+        }
+        true
+    }
+
+    /// Returns how long it is until the first connection is late. It notes the time where one is.
+    fn time_left<R: Clock>(&mut self, rt: &R) -> Option<Duration> {
+        let soonest = self.open.soonest?;
+        let now = Instant::now(rt).ok()?;
+        if soonest <= now {
+            self.late = Some(now);
+        }
+        Some(soonest.saturating_duration_since(now))
+    }
+}
+
+/// Returns when a time has passed from now on. `None` where the clock has no such moment.
+fn deadline_after<R: Clock>(rt: &R, time: Duration) -> Option<Instant> {
+    Instant::now(rt).ok()?.checked_add(time)
+}

@@ -1,0 +1,15 @@
+//! Edge: HTTP; used by `gateway_server`.
+//!
+//! The connections of a thread, as an iterator of requests: a readiness loop, which accepts, reads, writes and closes
+//! within bounds of time, number and memory, and hands out a request once it is whole.
+#![tactic(auto)]
+
+mod bounds;
+mod connection;
+mod connections;
+mod listening;
+mod open;
+
+pub use bounds::Bounds;
+pub use connection::{Asked, Connection};
+pub use connections::Connections;
