@@ -174,8 +174,8 @@ pub(crate) fn answer<R: Wait, T: Transcode, G: Gate>(
         Request::Command(command) => tell_reply(rt, alloc, app.registry, command),
         Request::Registration { subject, text } => tell_id(rt, alloc, app.registry, subject, text),
         Request::Schema { id } => tell_text(alloc, app.registry, id),
-        Request::Transcoding { reader, message } => tell_message(
-            rt, app, seat, gate, reader, message,
-        ),
+        Request::Transcoding { reader, message } => {
+            Ok(tell_message(rt, app, seat, gate, reader, message))
+        }
     }
 }

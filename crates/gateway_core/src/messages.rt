@@ -1,6 +1,6 @@
 //! A message of one schema, rewritten for another.
 
-ghost use Rattle.std.specs.Prelude.{◌≡◌, ◌≤◌, ◌⊎◌, IfOk, vec_len};
+ghost use Rattle.std.specs.Prelude.{◌≡◌, ◌≤◌, ◌⊎◌, length, vec_len};
 ghost use Rattle.outcome.specs.Outcome.{outcome_of};
 ghost use Rattle.outcome.specs.declared.limits.TheConstants.{MOST_PAYLOAD};
 ghost use Rattle.schema_registry.specs.Shared.{IsReceiptOf};
@@ -19,9 +19,8 @@ use crate::transcode::{Transcode, TranscodeFault};
 use gateway_answers::{Answer, Fault};
 use outcome::Outcome;
 use schema_registry::Receipt;
-use std::alloc::AllocError;
 use std::sync::Wait;
-use wire_frames::open_envelope;
+use wire_frames::Message;
 
 /// The answer that tells an outcome, to the reader of that id.
 fn answer_of_outcome(id: u32, outcome: Outcome) -> Answer
@@ -86,38 +85,35 @@ fn rewritten<R: Wait, T: Transcode, G: Gate>(
 }
 
 /// Rewrites a message for the reader of an id: first the reader is looked up, then the message opened, then its writer
-/// looked up. Its payload is copied once, and the message is let go before the payload is transcoded. The error is want
-/// of memory for that copy.
+/// looked up. Its payload is transcoded in the memory that it was received in.
 pub(crate) fn tell_message<R: Wait, T: Transcode, G: Gate>(
     rt: &R,
     app: &App<'_, T>,
     seat: &mut T::Seat,
     gate: &mut G,
     id: u32,
-    message: Vec<u8>,
-) -> Result<Told, AllocError>
+    message: Message,
+) -> Told
     requires cells { T.cells app.now.transcoder.now ≡ app.now.registry.now }
     requires seat { T.rests app.now.transcoder.now seat.old }
-    requires message { vec_len message ≤ MOST_BODY }
+    requires message { length message ≤ MOST_BODY }
     ensures seat { T.rests app.now.transcoder.now seat.new }
-    ensures told { IfOk result (λ told. TellsNoReader told.evidence (answer_of told.answer)
-        ⊎ TellsNoWriter app.now.registry.now id message.items told.evidence (answer_of told.answer)
+    ensures told { TellsNoReader result.evidence (answer_of result.answer)
+        ⊎ TellsNoWriter app.now.registry.now id message result.evidence (answer_of result.answer)
         ⊎ TellsMessage (IsWhyNone (T.refuses app.now.transcoder.now seat.old seat.new)
-        (SaidNo G.says gate.old gate.new)) app.now.registry.now id message.items told.evidence
-        (answer_of told.answer)) }
+        (SaidNo G.says gate.old gate.new)) app.now.registry.now id message result.evidence
+        (answer_of result.answer) }
 {
     let Some((_, mut reader)) = app.registry.find(id) else {
-        return Ok(refused(Fault::NoSchema));
+        return refused(Fault::NoSchema);
     };
-    let (writer_id, payload) = match open_envelope(&message) {
+    let (writer_id, payload) = match message.open() {
         Ok(opened) => opened,
-        Err(error) => return Ok(refused_for(reader, Fault::BadEnvelope(error))),
+        Err(error) => return refused_for(reader, Fault::BadEnvelope(error)),
     };
     let Some((_, mut writer)) = app.registry.find(writer_id) else {
-        return Ok(refused_for(reader, Fault::NoSchema));
+        return refused_for(reader, Fault::NoSchema);
     };
-    let payload = payload.to_vec(app.alloc)?;
-    drop(message);
     let transcoder = app.transcoder;
     let answer = rewritten(
         rt,
@@ -129,5 +125,5 @@ pub(crate) fn tell_message<R: Wait, T: Transcode, G: Gate>(
         payload,
     );
     let evidence = Evidence::Pair { writer, reader };
-    Ok(Told { answer, evidence })
+    Told { answer, evidence }
 }
