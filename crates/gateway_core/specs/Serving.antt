@@ -33,6 +33,12 @@ without_evidence telling.ReadFault = serving.ReadFault
 without_evidence (telling.CutShort sent evidence) = serving.WriteFault sent
 without_evidence telling.NoMemory = serving.NoMemory
 
+-- what was received tells what the bytes ask, where they are known, unless memory ran out
+abbrev pub TellsRequest : Option (List ℕ) → Result rust.Request Fault → Type 0
+TellsRequest input result =
+    (request : Result Request Fault) × Tells request_of result request
+    × IfSome input (λ bytes. IsAsked bytes request)
+
 -- ---- for private clauses
 
 -- what was read is what the bytes ask, where they are known, unless memory ran out
@@ -40,11 +46,6 @@ abbrev pub TellsAsked : Option (List ℕ) → (List ℕ → Result Request Fault
     → Type 0
 TellsAsked left asked result =
     (request : Result Request Fault) × Tells request_of result request × IfSome left (λ more. request ≡ asked more)
-
-abbrev pub TellsRequest : Option (List ℕ) → Result rust.Request Fault → Type 0
-TellsRequest input result =
-    (request : Result Request Fault) × Tells request_of result request
-    × IfSome input (λ bytes. IsAsked bytes request)
 
 -- the bytes and the status of an answer, or of the answer that memory ran out
 abbrev pub IsTextOf : Answer → List ℕ → ℕ → Type 0
@@ -63,21 +64,29 @@ module _ (refuses : Shown → Shown → TranscodeFault → Type 0) where
     pub asked : IfSome input (λ bytes. IsAsked bytes request)
     pub answers : (answer ≡ Refused faults.NoMemory) ⊎ Answers refuses cells request evidence answer
 
-  -- a whole answer was written, with this status
-  pub record IsServed (cells : List ℕ) (input old new : Option (List ℕ)) (status : ℕ) (evidence : Evidence)
+  -- these are the bytes and the status of such an answer
+  pub record IsReplied (cells : List ℕ) (input : Option (List ℕ)) (bytes : List ℕ) (status : ℕ) (evidence : Evidence)
       : Type 0 where
     pub answer : Answer
     pub is_answer : IsAnswer cells input evidence answer
     pub status_is : status ≡ number_of (status_of_answer answer)
-    pub written : Appends old new (answer_text answer)
+    pub bytes_are : bytes ≡ answer_text answer
+
+  -- a whole answer was written, with this status
+  pub record IsServed (cells : List ℕ) (input old new : Option (List ℕ)) (status : ℕ) (evidence : Evidence)
+      : Type 0 where
+    pub bytes : List ℕ
+    pub replied : IsReplied cells input bytes status evidence
+    pub written : Appends old new bytes
 
   -- the first bytes of an answer were written, as many as it says, and not more than the answer has
   pub record IsCutShort (cells : List ℕ) (input old new : Option (List ℕ)) (sent : ℕ) (evidence : Evidence)
       : Type 0 where
-    pub answer : Answer
-    pub is_answer : IsAnswer cells input evidence answer
-    pub written : Appends old new (take sent (answer_text answer))
-    pub few : sent ≤ length (answer_text answer)
+    pub bytes : List ℕ
+    pub status : ℕ
+    pub replied : IsReplied cells input bytes status evidence
+    pub written : Appends old new (take sent bytes)
+    pub few : sent ≤ length bytes
 
   -- nothing was written, or the beginning of an answer
   abbrev pub IsFault : List ℕ → (input old new : Option (List ℕ)) → TellError → Type 0

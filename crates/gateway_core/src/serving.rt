@@ -1,30 +1,29 @@
 //! One request read, one answer written.
 
-ghost use Rattle.std.specs.Prelude.{◌≡◌, ◌⊎◌, ◌++◌, [], Err, IfErr, IfOk, IfSome, Result, drop};
+ghost use Rattle.std.specs.Prelude.{◌≡◌, ◌⊎◌, ◌++◌, [], Err, IfErr, IfOk, IfSome, drop};
 ghost use Rattle.httparse.specs.Grammar.{RequestHead};
 ghost use Rattle.httparse.specs.Spans.{IsRequestAt, IsRequestWithin};
 ghost use Rattle.http_request.specs.declared.read_error.ReadError.TheVariants as reading;
-ghost use Rattle.gateway_answers.specs.Answer.{answer_of};
 ghost use Rattle.gateway_requests.specs.Asking.{asked};
 ghost use Rattle.gateway_requests.specs.Request.{request_of};
 ghost use Rattle.gateway_requests.specs.Sizes.{IsWithin};
 ghost use Rattle.gateway_requests.specs.declared.limits.TheConstants.{MOST_BODY};
 ghost use Rattle.gateway_core.specs.Gates.{SaidNo};
-ghost use Rattle.gateway_core.specs.Serving.{IsAnswer, IsFault, IsServed, IsTextOf, ServesSome, TellsAsked, TellsRequest};
+ghost use Rattle.gateway_core.specs.Serving.{IsFault, IsServed, ServesSome, TellsAsked, TellsRequest};
 ghost use Rattle.gateway_core.specs.Transcoding.{IsWhyNone};
 
-use crate::answering::{Told, answer, refused};
 use crate::app::App;
 use crate::evidence::Evidence;
 use crate::gate::Gate;
+use crate::replying::{Reply, reply_to};
 use crate::serve_error::{ServeError, TellError};
 use crate::transcode::Transcode;
 use crate::writing::write_all;
-use gateway_answers::{Answer, AnswerBytes, Fault};
+use gateway_answers::Fault;
 use gateway_requests::{Request, Routes, choose, path_of, request_of};
 use http_request::{Front, MOST_FIELDS, MOST_HEAD, ReadError, read_body, read_head};
 use httparse::spans::{EMPTY_HEADER_SPAN, HeaderSpan, RequestSpans};
-use std::alloc::{AllocError, Global};
+use std::alloc::Global;
 use std::io::{Read, Write};
 use std::sync::Wait;
 
@@ -83,47 +82,6 @@ fn read_request<R: Read>(
     }
 }
 
-/// The answer to the request that the reader gives.
-fn answer_request<R: Wait, T: Transcode, I: Read, G: Gate>(
-    rt: &R,
-    app: &App<'_, T>,
-    seat: &mut T::Seat,
-    reader: &mut I,
-    gate: &mut G,
-) -> Result<Told, ReadError>
-    requires cells { T.cells app.now.transcoder.now ≡ app.now.registry.now }
-    requires seat { T.rests app.now.transcoder.now seat.old }
-    ensures seat { T.rests app.now.transcoder.now seat.new }
-    ensures ok { IfOk result (λ told. IsAnswer (IsWhyNone (T.refuses app.now.transcoder.now seat.old seat.new)
-        (SaidNo G.says gate.old gate.new)) app.now.registry.now (I.remaining reader.old) told.evidence
-        (answer_of told.answer)) }
-    ensures closed { result ≡ Err reading.Closed → IfSome (I.remaining reader.old) (λ input. input ≡ []) }
-    ensures fault { IfErr result (λ e. (e ≡ reading.Closed) ⊎ (e ≡ reading.Failed)) }
-{
-    match read_request(app.alloc, app.routes, reader)? {
-        Ok(request) => match answer(rt, app, seat, gate, request) {
-            Ok(told) => Ok(told),
-            Err(AllocError) => Ok(refused(Fault::NoMemory)),
-        },
-        Err(fault) => Ok(refused(fault)),
-    }
-}
-
-/// Returns the bytes of an answer and its status, or those of the answer that memory ran out.
-fn bytes_of(alloc: Global, answer: Answer) -> Result<(AnswerBytes, u16), AllocError>
-    ensures { IfOk result (λ text. IsTextOf (answer_of answer) (text.0.front.items ++ text.0.rest.items) text.1) }
-{
-    let status = answer.status().number();
-    match answer.into_bytes(alloc) {
-        Ok(bytes) => Ok((bytes, status)),
-        Err(AllocError) => {
-            let refusal = Answer::Fault(Fault::NoMemory);
-            let status = refusal.status().number();
-            Ok((refusal.into_bytes(alloc)?, status))
-        }
-    }
-}
-
 /// Reads one request and writes one answer: the status, and the receipts that the answer stands on.
 ///
 /// `Closed` where no byte came, `ReadFault` where the reader failed, `NoMemory` where not even a fault's text found
@@ -147,9 +105,13 @@ pub fn serve_and_tell<R: Wait, T: Transcode, I: Read, O: Write, G: Gate>(
         (SaidNo G.says gate.old gate.new)) app.now.registry.now (I.remaining reader.old)
         (O.contents writer.old) (O.contents writer.new)) }
 {
-    let told = answer_request(rt, app, seat, reader, gate)?;
-    let Told { answer, evidence } = told;
-    let (bytes, status) = bytes_of(app.alloc, answer)?;
+    let request = read_request(app.alloc, app.routes, reader)?;
+    let reply = reply_to(rt, app, seat, gate, request)?;
+    let Reply {
+        bytes,
+        status,
+        evidence,
+    } = reply;
     match write_all(writer, &bytes.front, &bytes.rest) {
         Ok(()) => Ok((status, evidence)),
         Err(cut) => Err(TellError::CutShort {

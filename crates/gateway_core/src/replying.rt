@@ -1,0 +1,96 @@
+//! The answer to a request that was received, before it is written.
+
+ghost use Rattle.std.specs.Prelude.{◌≡◌, ◌++◌, ℕ, IfOk, List, Option};
+ghost use Rattle.gateway_answers.specs.Answer.{answer_of};
+ghost use Rattle.gateway_requests.specs.Request.{request_of};
+ghost use Rattle.gateway_requests.specs.Sizes.{IsWithin};
+ghost use Rattle.gateway_requests.specs.declared.limits.TheConstants.{MOST_BODY};
+ghost use Rattle.gateway_core.specs.Gates.{SaidNo};
+ghost use Rattle.gateway_core.specs.Serving.{IsAnswer, IsReplied, IsTextOf, TellsRequest};
+ghost use Rattle.gateway_core.specs.Transcoding.{IsWhyNone};
+
+use crate::answering::{Told, answer, refused};
+use crate::app::App;
+use crate::evidence::Evidence;
+use crate::gate::Gate;
+use crate::transcode::Transcode;
+use gateway_answers::{Answer, AnswerBytes, Fault};
+use gateway_requests::Request;
+use std::alloc::{AllocError, Global};
+use std::sync::Wait;
+
+/// An answer that is not yet written.
+#[derive(Drop)]
+pub struct Reply {
+    pub bytes: AnswerBytes,
+    pub status: u16,
+    /// The receipts that the answer stands on.
+    pub evidence: Evidence,
+}
+
+/// Returns the answer to a request, or to its fault.
+fn answer_to<R: Wait, T: Transcode, G: Gate>(
+    rt: &R,
+    app: &App<'_, T>,
+    seat: &mut T::Seat,
+    gate: &mut G,
+    request: Result<Request, Fault>,
+) -> Told
+    requires cells { T.cells app.now.transcoder.now ≡ app.now.registry.now }
+    requires seat { T.rests app.now.transcoder.now seat.old }
+    requires size { IfOk request (λ r. IsWithin MOST_BODY (request_of r)) }
+    ensures seat { T.rests app.now.transcoder.now seat.new }
+    ensures answers { (input : Option (List ℕ)) → TellsRequest input request
+        → IsAnswer (IsWhyNone (T.refuses app.now.transcoder.now seat.old seat.new)
+        (SaidNo G.says gate.old gate.new)) app.now.registry.now input result.evidence (answer_of result.answer) }
+{
+    match request {
+        Ok(request) => match answer(rt, app, seat, gate, request) {
+            Ok(told) => told,
+            Err(AllocError) => refused(Fault::NoMemory),
+        },
+        Err(fault) => refused(fault),
+    }
+}
+
+/// Returns the bytes of an answer and its status, or those of the answer that memory ran out.
+fn bytes_of(alloc: Global, answer: Answer) -> Result<(AnswerBytes, u16), AllocError>
+    ensures { IfOk result (λ text. IsTextOf (answer_of answer) (text.0.front.items ++ text.0.rest.items) text.1) }
+{
+    let status = answer.status().number();
+    match answer.into_bytes(alloc) {
+        Ok(bytes) => Ok((bytes, status)),
+        Err(AllocError) => {
+            let refusal = Answer::Fault(Fault::NoMemory);
+            let status = refusal.status().number();
+            Ok((refusal.into_bytes(alloc)?, status))
+        }
+    }
+}
+
+/// Returns the reply to what the bytes of a request asked, or to the first of their faults, whoever received them. The
+/// error says that not even the answer that memory ran out found memory.
+pub fn reply_to<R: Wait, T: Transcode, G: Gate>(
+    rt: &R,
+    app: &App<'_, T>,
+    seat: &mut T::Seat,
+    gate: &mut G,
+    request: Result<Request, Fault>,
+) -> Result<Reply, AllocError>
+    requires cells { T.cells app.now.transcoder.now ≡ app.now.registry.now }
+    requires seat { T.rests app.now.transcoder.now seat.old }
+    requires size { IfOk request (λ r. IsWithin MOST_BODY (request_of r)) }
+    ensures seat { T.rests app.now.transcoder.now seat.new }
+    ensures replied { IfOk result (λ reply. (input : Option (List ℕ)) → TellsRequest input request
+        → IsReplied (IsWhyNone (T.refuses app.now.transcoder.now seat.old seat.new)
+        (SaidNo G.says gate.old gate.new)) app.now.registry.now input
+        (reply.bytes.front.items ++ reply.bytes.rest.items) reply.status reply.evidence) }
+{
+    let Told { answer, evidence } = answer_to(rt, app, seat, gate, request);
+    let (bytes, status) = bytes_of(app.alloc, answer)?;
+    Ok(Reply {
+        bytes,
+        status,
+        evidence,
+    })
+}
