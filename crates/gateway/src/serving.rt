@@ -1,18 +1,50 @@
-//! One request read, one answer written, from a pool.
+//! One request answered, from a pool: of those that were received, or read and written.
 
-ghost use Rattle.std.specs.Prelude.{IfErr, IfOk};
+ghost use Rattle.std.specs.Prelude.{◌++◌, ℕ, IfErr, IfOk, List, Option};
+ghost use Rattle.gateway_requests.specs.Request.{request_of};
+ghost use Rattle.gateway_requests.specs.Sizes.{IsWithin};
+ghost use Rattle.gateway_requests.specs.declared.limits.TheConstants.{MOST_BODY};
 ghost use Rattle.session_pool.specs.Seats.{Rests};
 ghost use Rattle.gateway_core.specs.Gates.{SaidNo};
-ghost use Rattle.gateway_core.specs.Serving.{IsFault, IsServed, ServesSome};
+ghost use Rattle.gateway_core.specs.Serving.{IsFault, IsReplied, IsServed, ServesSome, TellsRequest};
 ghost use Rattle.gateway_core.specs.Transcoding.{IsWhyNone};
 ghost use Rattle.gateway.specs.Refusing.{Refuses};
 
 use crate::app::App;
 use crate::pooled::Pooled;
-use gateway_core::{Evidence, Gate, ServeError, TellError};
+use gateway_answers::Fault;
+use gateway_core::{Evidence, Gate, Reply, ServeError, TellError};
+use gateway_requests::Request;
 use session_pool::ClientSeat;
+use std::alloc::AllocError;
 use std::io::{Read, Write};
 use std::sync::Wait;
+
+/// Returns the reply to what the bytes of a request asked, or to the first of their faults, whoever received them. The
+/// error says that not even the answer that memory ran out found memory.
+pub fn reply_to<'p, R: Wait, G: Gate>(
+    rt: &R,
+    app: &App<'_, 'p>,
+    seat: &mut ClientSeat<'p>,
+    gate: &mut G,
+    request: Result<Request, Fault>,
+) -> Result<Reply, AllocError>
+    requires seat { Rests app.now.pool.now seat.old }
+    requires size { IfOk request (λ r. IsWithin MOST_BODY (request_of r)) }
+    ensures seat { Rests app.now.pool.now seat.new }
+    ensures replied { IfOk result (λ reply. (input : Option (List ℕ)) → TellsRequest input request
+        → IsReplied (IsWhyNone (Refuses seat.old seat.new) (SaidNo G.says gate.old gate.new)) app.now.registry.now
+        input (reply.bytes.front.items ++ reply.bytes.rest.items) reply.status reply.evidence) }
+{
+    let transcoder = Pooled { pool: app.pool };
+    let answering = gateway_core::App {
+        alloc: app.alloc,
+        registry: app.registry,
+        transcoder: &transcoder,
+        routes: &app.routes,
+    };
+    gateway_core::reply_to(rt, &answering, seat, gate, request)
+}
 
 /// Reads one request and writes one answer: the status, and the receipts that the answer stands on.
 ///
