@@ -1,6 +1,6 @@
 //! A request that is received part by part.
 
-ghost use Rattle.std.specs.Prelude.{◌≡◌, ◌<◌, [], IfOk, OnErr, false, length, option_map, true};
+ghost use Rattle.std.specs.Prelude.{◌≡◌, ◌<◌, ◌++◌, [], List, ℕ, IfOk, OnErr, false, length, option_map, true};
 ghost use Rattle.std.specs.Io.KnownBytes.{Keeps};
 ghost use Rattle.byte_transfer.specs.Moving.{Receives};
 ghost use Rattle.gateway_requests.specs.Asking.{body_in};
@@ -76,6 +76,13 @@ impl Reception {
             head: Vec::new(alloc),
             stage: Stage::Head,
         }
+    }
+
+    /// Returns the bytes of the head; before that is whole, and where the request is refused, all that came.
+    pub fn head(&self) -> &[u8]
+        ensures { (rest : List ℕ) × (self.now.bytes ≡ result.now ++ rest) }
+    {
+        &self.head
     }
 
     /// Returns the number of bytes that are held. No clause speaks of it: it decides how many requests are kept.

@@ -42,6 +42,13 @@ impl Sending {
         self.bytes.front.len() + self.bytes.rest.len()
     }
 
+    /// Returns the number of its bytes that were sent.
+    pub fn sent(&self) -> usize
+        ensures { result ≡ self.now.sent }
+    {
+        self.sent
+    }
+
     /// Returns whether all its bytes were sent.
     pub fn is_sent(&self) -> bool
         ensures { (result ≡ true) ↔ (self.now.sent ≡ length self.now.bytes) }

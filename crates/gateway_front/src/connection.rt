@@ -1,5 +1,11 @@
 //! One connection: what has come of its request, what is left of its answer, and until when.
 
+ghost use Rattle.std.specs.Prelude.{◌≡◌, ◌<◌, IfOk, IfSome, length, true};
+ghost use Rattle.gateway_exchange.specs.Reception.{TellsEach, TellsWhole};
+ghost use Rattle.gateway_requests.specs.Request.{request_of};
+ghost use Rattle.gateway_requests.specs.Sizes.{IsWithin};
+ghost use Rattle.gateway_requests.specs.declared.limits.TheConstants.{MOST_BODY};
+
 use gateway_answers::Fault;
 use gateway_exchange::{Reception, Sending};
 use gateway_requests::Request;
@@ -19,14 +25,38 @@ pub struct Connection {
     pub(crate) deadline: Instant,
     /// What the system reports of it, and under which key, where it does.
     pub(crate) watched: Option<(Interest, usize)>,
+    /// The number of bytes that were received of the request.
+    pub(crate) received: usize,
+    /// The status of the answer.
+    pub(crate) status: u16,
+    /// The method and the path of the request, where lines are logged.
+    pub(crate) line: Option<String>,
 }
 
-/// A request, and the connection that waits for its answer.
+/// A request that is to be answered, and its connection.
 #[derive(Drop)]
 pub struct Asked {
-    /// What is asked, or the first fault of the request.
-    pub request: Result<Request, Fault>,
-    pub connection: Connection,
+    pub(crate) connection: Connection,
+    /// What was received. `None` where memory was wanting for it.
+    pub(crate) reception: Option<Reception>,
+}
+
+impl Asked {
+    /// Returns what is asked, or the first fault of the request, and the connection that waits for the answer.
+    pub fn into_parts(self) -> (Result<Request, Fault>, Connection)
+        ensures whole { IfSome self.reception (λ r. r.is_whole ≡ true → TellsEach r.bytes result.0) }
+        ensures ended { IfSome self.reception (λ r. 0 < length r.bytes → TellsWhole r.bytes result.0) }
+        ensures size { IfOk result.0 (λ request. IsWithin MOST_BODY (request_of request)) }
+    {
+        let Asked {
+            connection,
+            reception,
+        } = self;
+        match reception {
+            Some(reception) => (reception.into_request(), connection),
+            None => (Err(Fault::NoMemory), connection),
+        }
+    }
 }
 
 /// What a connection waits for.

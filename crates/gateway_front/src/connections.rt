@@ -3,8 +3,9 @@
 use crate::bounds::Bounds;
 use crate::connection::{Asked, Connection, Stage, Waiting};
 use crate::listening::{NEW, leave, watch};
+use crate::log::{Entry, Log, LogLock, request_line};
 use crate::open::OpenConnections;
-use gateway_answers::{AnswerBytes, Fault};
+use gateway_answers::AnswerBytes;
 use gateway_exchange::{Progress, Reception, Sending, drain, receive, send};
 use gateway_requests::Routes;
 use mio::net::TcpListener;
@@ -30,6 +31,9 @@ const SENT_AT_ONCE: usize = 16_384;
 /// The number of milliseconds that a thread waits where no connection can be accepted and none can be closed.
 const PAUSE: u64 = 10;
 
+/// The number of milliseconds after which lines are tried again that standard error has not taken.
+const LOG_PAUSE: u64 = 100;
+
 /// The connections of a thread.
 #[derive(Drop)]
 pub struct Connections {
@@ -49,44 +53,28 @@ pub struct Connections {
     is_accepting: bool,
     answered: u64,
     scrap: Vec<u8>,
-}
-
-/// A connection whose request is whole, or has ended, or finds no memory.
-#[derive(Drop)]
-enum Received {
-    Request(Connection, Reception),
-    NoMemory(Connection),
-}
-
-impl Received {
-    /// Returns the request, as it is to be served.
-    fn asked(self) -> Asked {
-        match self {
-            Received::Request(connection, reception) => Asked {
-                request: reception.into_request(),
-                connection,
-            },
-            Received::NoMemory(connection) => Asked {
-                request: Err(Fault::NoMemory),
-                connection,
-            },
-        }
-    }
+    /// The lines of answers, where these are logged.
+    log: Option<Log>,
 }
 
 impl Connections {
-    /// Returns the connections to a listener, which is made non-blocking; none is accepted yet. The errors are the
-    /// system's, and want of memory.
+    /// Returns the connections to a listener, which is made non-blocking; none is accepted yet. With a lock it logs a
+    /// line for each answer. The errors are the system's, and want of memory.
     pub fn new(
         net: &impl Net,
         alloc: Global,
         listener: &std::net::TcpListener,
         bounds: Bounds,
+        lock: Option<&LogLock>,
     ) -> io::Result<Connections> {
         listener.set_nonblocking(true)?;
         let listener = TcpListener::from_std(listener.try_clone()?);
         let poll = Poll::new(net)?;
         watch(&poll, &listener)?;
+        let log = match lock {
+            Some(lock) => Some(Log::new(net, alloc, lock)?),
+            None => None,
+        };
         Ok(Connections {
             alloc,
             listener,
@@ -101,6 +89,7 @@ impl Connections {
             is_accepting: true,
             answered: 0,
             scrap: vec![in alloc; 0; CHUNK]?,
+            log,
         })
     }
 
@@ -116,7 +105,7 @@ impl Connections {
             if let Some(asked) = self.next_whole() {
                 return Some(asked);
             }
-            let received = match self.ready.pop_front() {
+            let asked = match self.ready.pop_front() {
                 Some(NEW) => self.accept(rt, routes),
                 Some(key) => self.resume(rt, routes, key),
                 None if !self.is_accepting && self.open.is_empty() => return None,
@@ -125,8 +114,8 @@ impl Connections {
                     None
                 }
             };
-            if let Some(received) = received {
-                return Some(received.asked());
+            if asked.is_some() {
+                return asked;
             }
         }
         None
@@ -140,8 +129,8 @@ impl Connections {
             match self.ready.pop_front() {
                 Some(NEW) => self.put_ready(NEW),
                 Some(key) => {
-                    if let Some(received) = self.resume(rt, routes, key) {
-                        self.keep_whole(received);
+                    if let Some(asked) = self.resume(rt, routes, key) {
+                        self.keep_whole(asked);
                     }
                 }
                 None => return,
@@ -149,9 +138,16 @@ impl Connections {
         }
     }
 
-    /// Sends the answer to a request, now or as the client takes it.
-    pub fn answer<R: Clock>(&mut self, rt: &R, connection: Connection, bytes: AnswerBytes) {
+    /// Sends the answer to a request, with its status, now or as the client takes it.
+    pub fn answer<R: Clock>(
+        &mut self,
+        rt: &R,
+        connection: Connection,
+        bytes: AnswerBytes,
+        status: u16,
+    ) {
         let mut connection = connection;
+        connection.status = status;
         if let Some(deadline) = deadline_after(rt, self.bounds.answer) {
             connection.deadline = deadline;
             self.send(rt, connection, Sending::new(bytes));
@@ -162,23 +158,27 @@ impl Connections {
     fn next_whole(&mut self) -> Option<Asked> {
         for _ in 0..self.whole.len() {
             let key = self.whole.pop_front()?;
-            if self.open.is_whole(key)
-                && let Some(
-                    Waiting {
+            if self.open.is_whole(key) {
+                let Waiting { connection, stage } = self.open.take(key)?;
+                if let Stage::Whole(reception) = stage {
+                    let reception = Some(reception);
+                    return Some(Asked {
                         connection,
-                        stage: Stage::Whole(reception),
-                    },
-                ) = self.open.take(key)
-            {
-                return Some(Received::Request(connection, reception).asked());
+                        reception,
+                    });
+                }
             }
         }
         None
     }
 
     /// Keeps a whole request until `next` hands it out. One that found no memory is closed.
-    fn keep_whole(&mut self, received: Received) {
-        if let Received::Request(connection, reception) = received {
+    fn keep_whole(&mut self, asked: Asked) {
+        let Asked {
+            connection,
+            reception,
+        } = asked;
+        if let Some(reception) = reception {
             let key = self.keep(connection, Stage::Whole(reception));
             let _ = self.whole.push_back(key);
         }
@@ -186,7 +186,7 @@ impl Connections {
 
     /// Accepts one connection, and reads what has come of its request. A connection that cannot be accepted counts as
     /// accepted.
-    fn accept<R: Clock>(&mut self, rt: &R, routes: &Routes) -> Option<Received> {
+    fn accept<R: Clock>(&mut self, rt: &R, routes: &Routes) -> Option<Asked> {
         if !self.is_accepting {
             return None;
         }
@@ -210,12 +210,15 @@ impl Connections {
             begun,
             deadline: begun.checked_add(self.bounds.head)?,
             watched: None,
+            received: 0,
+            status: 0,
+            line: None,
         };
         self.receive(routes, connection, Reception::new(self.alloc))
     }
 
     /// Sees to a connection of which something was reported. Returns its request, where that is to be served now.
-    fn resume<R: Clock>(&mut self, rt: &R, routes: &Routes, key: usize) -> Option<Received> {
+    fn resume<R: Clock>(&mut self, rt: &R, routes: &Routes, key: usize) -> Option<Asked> {
         let Waiting { connection, stage } = self.open.take(key)?;
         match stage {
             Stage::Receiving(reception) => return self.receive(routes, connection, reception),
@@ -235,7 +238,7 @@ impl Connections {
         routes: &Routes,
         connection: Connection,
         reception: Reception,
-    ) -> Option<Received> {
+    ) -> Option<Asked> {
         let (mut connection, mut reception) = (connection, reception);
         let progress = receive(&mut reception, routes, &mut connection.stream);
         if reception.has_head()
@@ -246,9 +249,22 @@ impl Connections {
         match progress {
             Progress::Whole => {
                 connection.is_even = reception.is_even();
-                return Some(Received::Request(connection, reception));
+                connection.received = reception.held();
+                if self.log.is_some() {
+                    connection.line = request_line(self.alloc, reception.head()).ok();
+                }
+                let reception = Some(reception);
+                return Some(Asked {
+                    connection,
+                    reception,
+                });
             }
-            Progress::NoMemory => return Some(Received::NoMemory(connection)),
+            Progress::NoMemory => {
+                return Some(Asked {
+                    connection,
+                    reception: None,
+                });
+            }
             Progress::Blocked => {
                 self.keep(connection, Stage::Receiving(reception));
             }
@@ -267,7 +283,23 @@ impl Connections {
                 self.keep(connection, Stage::Sending(sending));
             }
             Progress::Ready => self.postpone(connection, Stage::Sending(sending)),
-            Progress::Failed | Progress::NoMemory => {}
+            Progress::Failed | Progress::NoMemory => self.note(rt, &connection, sending.sent()),
+        }
+    }
+
+    /// Logs an answer, of which so many bytes were sent, where answers are logged.
+    fn note<R: Clock>(&mut self, rt: &R, connection: &Connection, sent: usize) {
+        if let Some(log) = &mut self.log
+            && let Some(line) = &connection.line
+            && let Ok(now) = Instant::now(rt)
+        {
+            let entry = Entry {
+                status: connection.status,
+                received: connection.received,
+                sent,
+                time: now.saturating_duration_since(connection.begun),
+            };
+            log.note(line.as_str(), entry);
         }
     }
 
@@ -277,6 +309,7 @@ impl Connections {
     fn finish<R: Clock>(&mut self, rt: &R, connection: Connection, length: usize) {
         let mut connection = connection;
         self.answered = self.answered.saturating_add(1);
+        self.note(rt, &connection, length);
         if connection.is_even && length <= SENT_AT_ONCE {
             match connection.stream.read(&mut self.scrap) {
                 Ok(0) => return,
@@ -355,7 +388,14 @@ impl Connections {
             self.late = None;
             self.open.close_late(late);
         }
-        let timeout = self.time_left(rt);
+        let mut timeout = self.time_left(rt);
+        if let Some(log) = &mut self.log {
+            log.flush();
+            if log.is_pending() {
+                let soon = Duration::from_millis(LOG_PAUSE);
+                timeout = Some(timeout.map_or(soon, |time| time.min(soon)));
+            }
+        }
         if !self.poll_for(timeout) {
             thread::sleep(rt, Duration::from_millis(PAUSE));
         }

@@ -8,8 +8,10 @@ mod bounds;
 mod connection;
 mod connections;
 mod listening;
+mod log;
 mod open;
 
 pub use bounds::Bounds;
 pub use connection::{Asked, Connection};
 pub use connections::Connections;
+pub use log::LogLock;

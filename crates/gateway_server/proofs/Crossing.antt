@@ -4,17 +4,16 @@ use denote.Param.Send.{IsSend, IsSync, shr_send, shr_sync}
 use denote.Param.SendFields.{FieldsHave, declared_send, declared_sync, as_row_send, as_row_sync}
 use denote.Ref.{NamedLft}
 use Rattle.std.proofs.Crossing.{sync}
-use Rattle.std.proofs.net.tcp.TcpListener.TheSendSync as listener
+use Rattle.gateway_front.proofs.connections.Connections.TheSendSync as connections
 use Rattle.schema_registry.proofs.Crossing.{shared-sync}
 use Rattle.session_pool.proofs.Crossing.{client-send, pool-sync, worker-send}
-use Rattle.gateway_server.proofs.options.ServeOptions.TheSendSync as options
 use Rattle.gateway_server.proofs.signals.Signals.TheSendSync as signals
 use Rattle.gateway_server.specs.contracts.client.Client as client
 use Rattle.gateway_server.specs.contracts.shared.Shared as shared
 use Rattle.gateway_server.specs.contracts.worker.Worker as worker
 
-fields-sync : (α ι κ : NamedLft) → FieldsHave IsSync (shared.the_type α ι κ).parts
-fields-sync α ι κ = (
+fields-sync : (α ι : NamedLft) → FieldsHave IsSync (shared.the_type α ι).parts
+fields-sync α ι = (
   sync,
   (
     search (shared-sync, shr_sync, as_row_sync) depth 60 fits 20000,
@@ -22,26 +21,26 @@ fields-sync α ι κ = (
       search (pool-sync, shr_sync, as_row_sync) depth 60 fits 20000,
       (
         search (signals.the_sync, shr_sync, as_row_sync) depth 60 fits 20000,
-        (
-          search (listener.the_sync, shr_sync, as_row_sync) depth 60 fits 20000,
-          (search (options.the_sync) depth 60 fits 20000, tt),
-        ),
+        tt,
       ),
     ),
   ),
 )
 
-pub threads-share : (α ι κ : NamedLft) → IsSync (shared.the_row α ι κ)
-threads-share α ι κ = declared_sync (shared.the_type α ι κ) (fields-sync α ι κ)
+pub threads-share : (α ι : NamedLft) → IsSync (shared.the_row α ι)
+threads-share α ι = declared_sync (shared.the_type α ι) (fields-sync α ι)
 
-pub client-goes : (α ι κ : NamedLft) → IsSend (client.the_row α ι κ)
-client-goes α ι κ = declared_send (client.the_type α ι κ) (
+pub client-goes : (α ι : NamedLft) → IsSend (client.the_row α ι)
+client-goes α ι = declared_send (client.the_type α ι) (
   search (threads-share, shr_send, as_row_send) depth 60 fits 20000,
-  (search (client-send) depth 60 fits 20000, (search (worker-send) depth 60 fits 20000, tt)),
+  (
+    search (client-send) depth 60 fits 20000,
+    (search (worker-send) depth 60 fits 20000, (search (connections.the_send) depth 60 fits 20000, tt)),
+  ),
 )
 
-pub worker-goes : (α ι κ : NamedLft) → IsSend (worker.the_row α ι κ)
-worker-goes α ι κ = declared_send (worker.the_type α ι κ) (
+pub worker-goes : (α ι : NamedLft) → IsSend (worker.the_row α ι)
+worker-goes α ι = declared_send (worker.the_type α ι) (
   search (threads-share, shr_send, as_row_send) depth 60 fits 20000,
   (search (worker-send) depth 60 fits 20000, tt),
 )

@@ -1,84 +1,64 @@
-//! A client's thread: the connections that it accepts, one after another.
+//! A client's thread: the requests of its connections, one after another.
 
 ghost use Rattle.session_pool.specs.Seats.{Rests, RestsWorker};
 
-use crate::connection::serve_connection;
 use crate::gate::ClientGate;
-use crate::options::ServeOptions;
 use crate::shared::Shared;
-use gateway::{App, Gate};
+use gateway::{App, reply_to};
+use gateway_front::Connections;
 use session_pool::{ClientSeat, WorkerSeat};
 use std::alloc::AllocError;
-use std::net::TcpListener;
 use std::sync::Wait;
-use std::thread;
-use std::time::{Clock, Duration};
+use std::time::Clock;
 
-/// How many milliseconds a client waits where no connection can be accepted, as where no more files can be open.
-const PAUSE: u64 = 10;
-
-/// What a client's thread is given: a seat for its sessions, and one to take turns by while it waits for them.
+/// What a client's thread is given: its connections, a seat for its sessions, and one to take turns by while it waits
+/// for them.
 #[derive(Drop)]
-pub(crate) struct Client<'a, 'l, 'p> {
-    pub(crate) shared: &'a Shared<'a, 'l, 'p>,
+pub(crate) struct Client<'a, 'p> {
+    pub(crate) shared: &'a Shared<'a, 'p>,
     pub(crate) seat: ClientSeat<'p>,
     pub(crate) helper: WorkerSeat<'p>,
+    pub(crate) connections: Connections,
     ghost rests: { Rests shared.now.pool.now seat },
     ghost helps: { RestsWorker shared.now.pool.now helper },
 }
 
-/// Accepts connections, as many as the options say, and answers one request on each. Returns how many were answered. A
-/// connection that cannot be accepted counts as accepted.
-fn serve_connections<'p, R: Wait + Clock, G: Gate>(
+/// Answers the requests of the gate's connections, until no more are accepted and all are closed. A request whose answer
+/// finds no memory is closed without one.
+fn serve_requests<'p, R: Wait + Clock>(
     rt: &R,
     app: &App<'_, 'p>,
     seat: &mut ClientSeat<'p>,
-    gate: &mut G,
-    listener: &TcpListener,
-    options: &ServeOptions,
-) -> u64
+    gate: &mut ClientGate<'_, 'p, R>,
+)
     requires { Rests app.now.pool.now seat.old }
     ensures { Rests app.now.pool.now seat.new }
 {
-    let mut answered: u64 = 0;
-    let mut accepted: u32 = 0;
-    for stream in listener.incoming() {
-        match stream {
-            Ok(stream) => {
-                let time = options.request_timeout;
-                if serve_connection(rt, app, seat, gate, &stream, time) {
-                    answered = answered.saturating_add(1);
-                }
-            }
-            Err(_) => thread::sleep(rt, Duration::from_millis(PAUSE)),
-        }
-        accepted = accepted.wrapping_add(1);
-        if options.each != 0 && accepted == options.each {
-            break;
+    for _ in rt.forever() {
+        let Some(asked) = gate.next() else {
+            return;
+        };
+        let (request, connection) = asked.into_parts();
+        if let Ok(reply) = reply_to(rt, app, seat, gate, request) {
+            gate.answer(connection, reply);
         }
     }
-    answered
 }
 
-/// What a client's thread does. Returns how many requests it answered; the error is want of memory.
+/// What a client's thread does. Returns how many answers it sent whole; the error is want of memory.
 pub(crate) fn run_client<R: Wait + Clock>(
     rt: &R,
-    client: Client<'_, '_, '_>,
+    client: Client<'_, '_>,
 ) -> Result<u64, AllocError> {
     let Client {
         shared,
         mut seat,
         helper,
+        connections,
     } = client;
     let pool = shared.pool;
     let app = App::new(shared.alloc, shared.registry, pool.cache(), pool)?;
-    let mut gate = ClientGate::new(rt, shared.signals, pool, helper);
-    Ok(serve_connections(
-        rt,
-        &app,
-        &mut seat,
-        &mut gate,
-        shared.listener,
-        &shared.options,
-    ))
+    let mut gate = ClientGate::new(rt, shared, helper, connections)?;
+    serve_requests(rt, &app, &mut seat, &mut gate);
+    Ok(gate.answered())
 }

@@ -1,12 +1,10 @@
 //! Edge: HTTP; used by `avrogate`.
 //!
-//! The service on a listener: a thread a client, which accepts connections and answers one request on each, and workers
-//! beside them, over one pool of sessions.
+//! The service on a listener: threads of clients, each with connections of its own, which answer one request on each,
+//! and workers beside them, over one pool of sessions.
 #![tactic(auto)]
 
 mod client;
-mod connection;
-mod deadline;
 mod gate;
 mod options;
 mod service;

@@ -7,21 +7,66 @@ use crate::shared::Shared;
 use crate::signals::Signals;
 use crate::threads::run_threads;
 use command_io::{RunError, write_whole};
+use gateway_front::{Bounds, Connections, LogLock};
 use program_cache::ProgramCache;
 use schema_registry::SharedRegistry;
 use session_pool::SessionPool;
 use std::alloc::Global;
-use std::io::Write;
-use std::net::TcpListener;
+use std::io::{ErrorKind, Write};
+use std::net::{Net, TcpListener};
 use std::sync::Wait;
 use std::thread::Threads;
-use std::time::Clock;
+use std::time::{Clock, Duration};
 
-/// Prints a line, and then serves on a listener, over a new registry and a new pool: how many requests were answered.
+/// How long what follows a request may take, once its answer was sent.
+const REST: Duration = Duration::from_secs(2);
+
+/// The number of bytes of requests and answers that the connections of a client hold at most, beside the request that
+/// is served.
+const MOST_HELD: usize = 134_217_728;
+
+/// Returns the bounds of the connections of a client.
+fn bounds_of(options: &ServeOptions) -> Bounds {
+    Bounds {
+        head: options.head_timeout.min(options.request_timeout),
+        request: options.request_timeout,
+        answer: options.request_timeout,
+        rest: REST,
+        open: options.connections as usize,
+        bytes: MOST_HELD,
+        each: options.each,
+    }
+}
+
+/// Returns a set of connections to a listener for each client. `Read` where the system refuses one.
+fn sets_of(
+    net: &impl Net,
+    alloc: Global,
+    listener: &TcpListener,
+    options: &ServeOptions,
+) -> Result<Vec<Connections>, RunError> {
+    let lock = if options.is_logged {
+        Some(LogLock::new(alloc)?)
+    } else {
+        None
+    };
+    let mut sets = Vec::new(alloc);
+    for _ in 0..options.clients {
+        let bounds = bounds_of(options);
+        match Connections::new(net, alloc, listener, bounds, lock.as_ref()) {
+            Ok(connections) => sets.push(connections)?,
+            Err(error) if error.kind() == ErrorKind::OutOfMemory => return Err(RunError::NoMemory),
+            Err(_) => return Err(RunError::Read),
+        }
+    }
+    Ok(sets)
+}
+
+/// Prints a line, and then serves over a new registry and a new pool: how many requests were answered.
 fn serve_after<R: Threads + Wait + Clock + Sync, W: Write>(
     rt: &R,
     alloc: Global,
-    listener: &TcpListener,
+    sets: &mut Vec<Connections>,
     options: &ServeOptions,
     writer: &mut W,
     line: &str,
@@ -39,19 +84,18 @@ fn serve_after<R: Threads + Wait + Clock + Sync, W: Write>(
         registry: &registry,
         pool: &pool,
         signals: &signals,
-        listener,
-        options: *options,
     };
     write_whole(writer, line.as_bytes())?;
-    Ok(run_threads(rt, &shared, &mut seats, &mut helpers)?)
+    Ok(run_threads(rt, &shared, &mut seats, &mut helpers, sets)?)
 }
 
-/// Serves on a listener, over a new registry, until each client has accepted as many connections as the options say. It
-/// prints `listening P`, with the port, before the first, and `served N`, the number of answers, after the last.
+/// Serves on a listener, which is made non-blocking, over a new registry, until each client has accepted as many
+/// connections as the options say, and all are closed. It prints `listening P`, with the port, before the first, and
+/// `served N`, the number of answers that were sent whole, after the last.
 ///
-/// `Read` where the listener has no port, `Write` where a line could not be printed, `NoMemory` where the service found
-/// no room to begin in.
-pub fn serve_on<R: Threads + Wait + Clock + Sync, W: Write>(
+/// `Read` where the listener has no port or cannot be watched, `Write` where a line could not be printed, `NoMemory`
+/// where the service found no room to begin in.
+pub fn serve_on<R: Net + Threads + Wait + Clock + Sync, W: Write>(
     rt: &R,
     alloc: Global,
     listener: &TcpListener,
@@ -65,7 +109,8 @@ pub fn serve_on<R: Threads + Wait + Clock + Sync, W: Write>(
     };
     let port = address.port();
     let line = format!(in alloc; "listening {port}\n")?;
-    let answered = serve_after(rt, alloc, listener, options, writer, line.as_str())?;
+    let mut sets = sets_of(rt, alloc, listener, options)?;
+    let answered = serve_after(rt, alloc, &mut sets, options, writer, line.as_str())?;
     let line = format!(in alloc; "served {answered}\n")?;
     write_whole(writer, line.as_bytes())
 }

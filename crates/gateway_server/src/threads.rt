@@ -7,6 +7,7 @@ use crate::client::{Client, run_client};
 use crate::shared::Shared;
 use crate::worker::{Worker, run_worker};
 use gateway::{pop_client, pop_worker};
+use gateway_front::Connections;
 use session_pool::{ClientSeat, WorkerSeat};
 use std::alloc::AllocError;
 use std::sync::Wait;
@@ -14,12 +15,13 @@ use std::thread;
 use std::thread::Threads;
 use std::time::Clock;
 
-/// What each client is given: its seat, and one of the workers'.
-fn clients_of<'a, 'l, 'p>(
-    shared: &'a Shared<'a, 'l, 'p>,
+/// What each client is given: its connections, its seat, and one of the workers'.
+fn clients_of<'a, 'p>(
+    shared: &'a Shared<'a, 'p>,
     seats: &mut Vec<ClientSeat<'p>>,
     helpers: &mut Vec<WorkerSeat<'p>>,
-) -> Result<Vec<Client<'a, 'l, 'p>>, AllocError>
+    sets: &mut Vec<Connections>,
+) -> Result<Vec<Client<'a, 'p>>, AllocError>
     requires seats { All (IsNewClient shared.now.pool.now) seats.old.items }
     requires helpers { All (IsNewWorker shared.now.pool.now) helpers.old.items }
     ensures { All (IsNewWorker shared.now.pool.now) helpers.new.items }
@@ -32,20 +34,24 @@ fn clients_of<'a, 'l, 'p>(
         let Some(helper) = pop_worker(shared.pool, helpers) else {
             return Ok(clients);
         };
+        let Some(connections) = sets.pop() else {
+            return Ok(clients);
+        };
         clients.push(Client {
             shared,
             seat,
             helper,
+            connections,
         })?;
     }
     Ok(clients)
 }
 
 /// What each worker is given.
-fn workers_of<'a, 'l, 'p>(
-    shared: &'a Shared<'a, 'l, 'p>,
+fn workers_of<'a, 'p>(
+    shared: &'a Shared<'a, 'p>,
     seats: &mut Vec<WorkerSeat<'p>>,
-) -> Result<Vec<Worker<'a, 'l, 'p>>, AllocError>
+) -> Result<Vec<Worker<'a, 'p>>, AllocError>
     requires { All (IsNewWorker shared.now.pool.now) seats.old.items }
 {
     let mut workers = Vec::new(shared.alloc);
@@ -61,12 +67,12 @@ fn workers_of<'a, 'l, 'p>(
 /// Each worker in a thread of its own, every one joined.
 fn run_workers<R: Threads + Wait + Sync>(
     rt: &R,
-    workers: Vec<Worker<'_, '_, '_>>,
+    workers: Vec<Worker<'_, '_>>,
 ) -> Result<(), AllocError> {
     thread::map_vec(
         rt,
         workers,
-        &|worker: Worker<'_, '_, '_>| run_worker(rt, worker),
+        &|worker: Worker<'_, '_>| run_worker(rt, worker),
     )?;
     Ok(())
 }
@@ -74,13 +80,13 @@ fn run_workers<R: Threads + Wait + Sync>(
 /// Each client in a thread of its own, every one joined, and then the workers end: how many requests were answered.
 fn run_clients<R: Threads + Wait + Clock + Sync>(
     rt: &R,
-    shared: &Shared<'_, '_, '_>,
-    clients: Vec<Client<'_, '_, '_>>,
+    shared: &Shared<'_, '_>,
+    clients: Vec<Client<'_, '_>>,
 ) -> Result<u64, AllocError> {
     let counts = thread::map_vec(
         rt,
         clients,
-        &|client: Client<'_, '_, '_>| run_client(rt, client),
+        &|client: Client<'_, '_>| run_client(rt, client),
     );
     shared.signals.end();
     let mut answered: u64 = 0;
@@ -93,9 +99,9 @@ fn run_clients<R: Threads + Wait + Clock + Sync>(
 /// Clients and workers at once: how many requests were answered.
 fn run_all<R: Threads + Wait + Clock + Sync>(
     rt: &R,
-    shared: &Shared<'_, '_, '_>,
-    clients: Vec<Client<'_, '_, '_>>,
-    workers: Vec<Worker<'_, '_, '_>>,
+    shared: &Shared<'_, '_>,
+    clients: Vec<Client<'_, '_>>,
+    workers: Vec<Worker<'_, '_>>,
 ) -> Result<u64, AllocError> {
     let (worked, answered) = thread::join(
         rt,
@@ -108,16 +114,17 @@ fn run_all<R: Threads + Wait + Clock + Sync>(
 
 /// Serves with a thread for each client and for each seat that is then left of the workers': how many requests were
 /// answered.
-pub(crate) fn run_threads<'a, 'l, 'p, R: Threads + Wait + Clock + Sync>(
+pub(crate) fn run_threads<'a, 'p, R: Threads + Wait + Clock + Sync>(
     rt: &R,
-    shared: &'a Shared<'a, 'l, 'p>,
+    shared: &'a Shared<'a, 'p>,
     seats: &mut Vec<ClientSeat<'p>>,
     helpers: &mut Vec<WorkerSeat<'p>>,
+    sets: &mut Vec<Connections>,
 ) -> Result<u64, AllocError>
     requires seats { All (IsNewClient shared.now.pool.now) seats.old.items }
     requires helpers { All (IsNewWorker shared.now.pool.now) helpers.old.items }
 {
-    let clients = clients_of(shared, seats, helpers)?;
+    let clients = clients_of(shared, seats, helpers, sets)?;
     let workers = workers_of(shared, helpers)?;
     run_all(rt, shared, clients, workers)
 }

@@ -14,14 +14,14 @@ const WORKER_SLICE: u64 = 10_000_000;
 
 /// What a worker's thread is given.
 #[derive(Drop)]
-pub(crate) struct Worker<'a, 'l, 'p> {
-    pub(crate) shared: &'a Shared<'a, 'l, 'p>,
+pub(crate) struct Worker<'a, 'p> {
+    pub(crate) shared: &'a Shared<'a, 'p>,
     pub(crate) seat: WorkerSeat<'p>,
     ghost rests: { RestsWorker shared.now.pool.now seat },
 }
 
 /// What a worker's thread does: it takes turns, and sleeps where nothing is ready, until the clients have ended.
-pub(crate) fn run_worker<R: Wait>(rt: &R, worker: Worker<'_, '_, '_>) {
+pub(crate) fn run_worker<R: Wait>(rt: &R, worker: Worker<'_, '_>) {
     let Worker { shared, mut seat } = worker;
     let mut gate = WorkerGate::new(rt, shared.signals);
     work(rt, shared.pool, &mut seat, WORKER_SLICE, &mut gate);

@@ -1,0 +1,10 @@
+-- The seat rests between two requests.
+use Rattle.session_pool.specs.Seats.{Rests}
+use Rattle.gateway_server.proofs.client.serve_requests.Given as goal
+
+abbrev pub invariant-loop : goal.invariant-loop
+invariant-loop g l = record {
+  goes_on : (goal.iterator-loop g).can_next l.iterator';
+  ends : (goal.iterator-loop g).is_finite l.iterator';
+  rests : Rests l.app.pool.now l.seat;
+}
