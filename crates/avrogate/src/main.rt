@@ -12,7 +12,7 @@ use commands::{RunError, Status, Verb, run};
 use gateway_server::{ServeOptions, serve_on};
 use std::alloc::AllocError;
 use std::io;
-use std::net::{Net, TcpListener, TcpStream};
+use std::net::{Net, SocketAddr, TcpListener, TcpStream};
 use std::process::ExitCode;
 use std::rt::Env;
 use std::sync::Wait;
@@ -32,7 +32,20 @@ fn status_of(done: Result<Status, RunError>) -> Status
     }
 }
 
-/// Serves HTTP on 127.0.0.1. A port that cannot be bound is bad traffic.
+/// Returns how a service is to run by its words.
+fn options_of(words: &ServeWords) -> ServeOptions {
+    ServeOptions {
+        clients: words.clients,
+        workers: words.workers,
+        each: words.each,
+        connections: words.connections,
+        head_timeout: Duration::from_secs(u64::from(words.head_timeout)),
+        request_timeout: Duration::from_secs(u64::from(words.request_timeout)),
+        is_logged: words.is_logged,
+    }
+}
+
+/// Serves HTTP. An address that cannot be listened on is told on standard output, and is bad traffic.
 fn serve<
     R: Net<Listener = TcpListener, Stream = TcpStream>
         + Threads
@@ -42,17 +55,16 @@ fn serve<
         + Print
         + AllocGlobal,
 >(rt: &R, words: &ServeWords) -> Result<Status, AllocError> {
-    let port = words.port;
-    let address = format!(in rt.alloc(); "127.0.0.1:{port}")?;
-    let Ok(listener) = TcpListener::bind(rt, address.as_str()) else {
-        return Ok(Status::BadTraffic);
+    let address = SocketAddr::new(words.address, words.port);
+    let address = format!(in rt.alloc(); "{address}")?;
+    let listener = match TcpListener::bind(rt, address.as_str()) {
+        Ok(listener) => listener,
+        Err(error) => {
+            let _ = println!(rt; "cannot listen on {address}: {error}");
+            return Ok(Status::BadTraffic);
+        }
     };
-    let options = ServeOptions {
-        clients: words.clients,
-        workers: words.workers,
-        each: words.each,
-        request_timeout: Duration::from_secs(u64::from(words.request_timeout)),
-    };
+    let options = options_of(words);
     if !options.is_within() {
         return Ok(Status::BadWords);
     }
@@ -94,13 +106,19 @@ fn refuse(rt: &impl Eprint, error: &io::Error) -> Status {
     Status::NoMemory
 }
 
+/// Tells that the address of a service is none.
+fn refuse_address(rt: &impl Eprint) -> Status {
+    let _ = eprintln!(rt; "error: '--address <IP>' takes an address such as 127.0.0.1 or ::1");
+    Status::BadWords
+}
+
 /// What the words ask for; or the status, where it was told what is wrong with them or the help that they ask for.
 fn task_in(rt: &(impl Print + Eprint + AllocGlobal), words: &[String]) -> Result<Task, Status> {
     let Ok(line) = cli(rt.alloc()) else {
         return Err(Status::NoMemory);
     };
     match line.try_get_matches_from(words) {
-        Ok(matches) => task_of(&matches).ok_or(Status::BadWords),
+        Ok(matches) => task_of(&matches).ok_or_else(|| refuse_address(rt)),
         Err(error) => Err(explain(rt, &error)),
     }
 }

@@ -52,8 +52,10 @@ Example:
 
 /// What `serve` answers and prints.
 pub(crate) const SERVE: &str =
-    "Answers HTTP on 127.0.0.1: the routes of the schema registry, and POST /transcode/ID.
-Prints `listening P`, and `served N` at the end.
+    "Answers HTTP: the routes of the schema registry, and POST /transcode/ID. There is neither TLS nor
+authorisation, so an address that others reach wants a proxy before it.
+Prints `listening P`, and `served N` at the end; or `cannot listen on ADDRESS: WHY`, and ends with 3.
+With --log each answer is a line on standard error: METHOD PATH STATUS RECEIVED SENT MICROSECONDS.
 
 Example:
   avrogate serve --port 8081 &

@@ -51,16 +51,19 @@ fn run<'a>(alloc: Global) -> Result<Command<'a>, AllocError> {
 /// The greatest port.
 const MOST_PORT: i64 = 65_535;
 
-/// How many clients there may be.
+/// The greatest number of clients.
 const MOST_CLIENTS: i64 = 64;
 
-/// How many workers there may be.
+/// The greatest number of workers.
 const MOST_WORKERS: i64 = 64;
 
-/// How many connections a client may be asked to accept.
+/// The greatest number of connections that a client may be asked to accept.
 const MOST_EACH: i64 = 4_294_967_295;
 
-/// How many seconds a request may take at most, an hour.
+/// The greatest number of connections of a client that may be open at once.
+const MOST_CONNECTIONS: i64 = 65_536;
+
+/// The greatest number of seconds that a request may take, an hour.
 const MOST_TIMEOUT: i64 = 3_600;
 
 /// A word with a number from one to another, and its number where the word is not there.
@@ -81,21 +84,52 @@ fn numbered<'a>(
         .help(help)
 }
 
+/// The address that a service listens on.
+fn address<'a>(alloc: Global) -> Arg<'a> {
+    Arg::new(alloc, "address")
+        .long("address")
+        .value_name("IP")
+        .action(ArgAction::Set)
+        .default_value("127.0.0.1")
+        .help("The address that it listens on")
+}
+
+/// Whether a service logs its answers.
+fn log<'a>(alloc: Global) -> Arg<'a> {
+    Arg::new(alloc, "log")
+        .long("log")
+        .action(ArgAction::SetTrue)
+        .help("Writes a line for each answer to standard error")
+}
+
 /// The subcommand that serves HTTP, with its numbers.
 fn serve<'a>(alloc: Global) -> Result<Command<'a>, AllocError> {
-    let port = "The port on 127.0.0.1, 0 for any that is free";
-    let clients = "How many threads accept connections";
+    let port = "The port, 0 for any that is free";
+    let clients = "How many threads answer requests";
     let workers = "How many threads stand beside them for messages that take long";
-    let each = "How many connections each of them accepts, 0 for no end";
-    let timeout = "How many seconds a request may take to come, and its answer to go";
+    let each = "How many connections each client accepts, 0 for no end";
+    let connections = "How many connections of each client may be open at once";
+    let head = "How many seconds the head of a request may take to come";
+    let request = "How many seconds a request may take to come, and its answer to go";
     Command::new(alloc, "serve")
         .about("Serves the schema registry's API over HTTP, and rewrites messages")
         .after_help(help::SERVE)
+        .arg(address(alloc))?
         .arg(numbered(alloc, "port", 0, MOST_PORT, "8081", port))?
         .arg(numbered(alloc, "clients", 1, MOST_CLIENTS, "4", clients))?
         .arg(numbered(alloc, "workers", 1, MOST_WORKERS, "4", workers))?
         .arg(numbered(alloc, "each", 0, MOST_EACH, "0", each))?
-        .arg(numbered(alloc, "request-timeout", 1, MOST_TIMEOUT, "10", timeout))
+        .arg(numbered(
+            alloc,
+            "connections",
+            1,
+            MOST_CONNECTIONS,
+            "1024",
+            connections,
+        ))?
+        .arg(numbered(alloc, "head-timeout", 1, MOST_TIMEOUT, "5", head))?
+        .arg(numbered(alloc, "request-timeout", 1, MOST_TIMEOUT, "10", request))?
+        .arg(log(alloc))
 }
 
 /// A subcommand without flags, what it does and what lines it reads and writes.
@@ -120,23 +154,28 @@ pub fn cli<'a>(alloc: Global) -> Result<Command<'a>, AllocError> {
         .subcommand(serve(alloc)?)
 }
 
-/// What the words that were read ask of a service.
+/// Returns a number of the words that were read. `None` where it is not there.
+fn number_of(words: &ArgMatches<'_>, name: &str) -> Option<u32> {
+    let number: u64 = words.get_one(name)?;
+    u32::try_from(number).ok()
+}
+
+/// Returns what the words that were read ask of a service. `None` where the address is none.
 fn serve_words_of(words: &ArgMatches<'_>) -> Option<ServeWords> {
-    let port: u64 = words.get_one("port")?;
-    let clients: u64 = words.get_one("clients")?;
-    let workers: u64 = words.get_one("workers")?;
-    let each: u64 = words.get_one("each")?;
-    let request_timeout: u64 = words.get_one("request-timeout")?;
     Some(ServeWords {
-        port: u16::try_from(port).ok()?,
-        clients: u32::try_from(clients).ok()?,
-        workers: u32::try_from(workers).ok()?,
-        each: u32::try_from(each).ok()?,
-        request_timeout: u32::try_from(request_timeout).ok()?,
+        address: words.get_one("address")?,
+        port: u16::try_from(number_of(words, "port")?).ok()?,
+        clients: number_of(words, "clients")?,
+        workers: number_of(words, "workers")?,
+        each: number_of(words, "each")?,
+        connections: number_of(words, "connections")?,
+        head_timeout: number_of(words, "head-timeout")?,
+        request_timeout: number_of(words, "request-timeout")?,
+        is_logged: words.get_flag("log"),
     })
 }
 
-/// What the words that were read ask for.
+/// Returns what the words that were read ask for. `None` where the address of a service is none.
 pub fn task_of(matches: &ArgMatches<'_>) -> Option<Task> {
     match matches.subcommand() {
         Some(("serve", words)) => Some(Task::Serve(serve_words_of(words)?)),

@@ -1,6 +1,7 @@
 //! What the words of the command line ask for.
 
 use crate::verb::Verb;
+use std::net::IpAddr;
 
 /// What the words of the command line ask for.
 #[derive(Clone, Copy, Debug, PartialEq, Eq)]
@@ -14,14 +15,22 @@ pub enum Task {
 /// How a service is to run.
 #[derive(Clone, Copy, Debug, PartialEq, Eq)]
 pub struct ServeWords {
-    /// The port on 127.0.0.1, or 0 for any that is free.
+    /// The address that it listens on.
+    pub address: IpAddr,
+    /// The port, or 0 for any that is free.
     pub port: u16,
-    /// How many threads accept connections.
+    /// The number of threads that answer requests.
     pub clients: u32,
-    /// How many threads stand beside them for messages that take long.
+    /// The number of threads beside them for messages that take long.
     pub workers: u32,
-    /// How many connections each client accepts, or 0 for no end.
+    /// The number of connections that each client accepts, or 0 for no end.
     pub each: u32,
-    /// How many seconds the bytes of one request may take to come, and then those of its answer to go.
+    /// The number of connections of each client that may be open at once.
+    pub connections: u32,
+    /// The number of seconds that the head of a request may take to come.
+    pub head_timeout: u32,
+    /// The number of seconds that the bytes of one request may take to come, and then those of its answer to go.
     pub request_timeout: u32,
+    /// Whether each answer is logged.
+    pub is_logged: bool,
 }

@@ -18,8 +18,8 @@ use std::sync::Wait;
 use std::thread::Threads;
 use std::time::{Clock, Duration};
 
-/// How long what follows a request may take, once its answer was sent.
-const REST: Duration = Duration::from_secs(2);
+/// The number of seconds that what follows a request may take, once its answer was sent.
+const REST: u64 = 2;
 
 /// The number of bytes of requests and answers that the connections of a client hold at most, beside the request that
 /// is served.
@@ -31,7 +31,7 @@ fn bounds_of(options: &ServeOptions) -> Bounds {
         head: options.head_timeout.min(options.request_timeout),
         request: options.request_timeout,
         answer: options.request_timeout,
-        rest: REST,
+        rest: Duration::from_secs(REST),
         open: options.connections as usize,
         bytes: MOST_HELD,
         each: options.each,

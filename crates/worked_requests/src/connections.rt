@@ -15,6 +15,9 @@ use std::{io, thread};
 /// How many threads accept connections.
 const CLIENTS: u32 = 2;
 
+/// How many connections of each may be open at once.
+const OPEN: u32 = 1_024;
+
 /// How many workers stand beside them.
 const WORKERS: u32 = 2;
 
@@ -124,7 +127,7 @@ fn ask_or_stop<R: Net<Stream = TcpStream>>(
 }
 
 /// What the server prints while it serves on a listener.
-fn printed<R: Threads + Wait + Clock + Sync>(
+fn printed<R: Net + Threads + Wait + Clock + Sync>(
     rt: &R,
     alloc: Global,
     listener: &TcpListener,
@@ -134,7 +137,10 @@ fn printed<R: Threads + Wait + Clock + Sync>(
         clients: CLIENTS,
         workers: WORKERS,
         each,
+        connections: OPEN,
+        head_timeout: Duration::from_secs(PATIENCE),
         request_timeout: Duration::from_secs(PATIENCE),
+        is_logged: false,
     };
     let mut lines = Vec::new(alloc);
     serve_on(rt, alloc, listener, &options, &mut lines)?;
