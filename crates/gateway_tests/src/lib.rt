@@ -14,6 +14,8 @@ mod memory;
 #[cfg(test)]
 mod refusals;
 #[cfg(test)]
+mod replying;
+#[cfg(test)]
 mod schemas;
 #[cfg(test)]
 mod seats;
