@@ -29,7 +29,7 @@ pub struct Reply {
 }
 
 /// Returns the answer to a request, or to its fault.
-fn answer_to<R: Wait, T: Transcode, G: Gate>(
+fn answer_request<R: Wait, T: Transcode, G: Gate>(
     rt: &R,
     app: &App<'_, T>,
     seat: &mut T::Seat,
@@ -86,7 +86,7 @@ pub fn reply_to<R: Wait, T: Transcode, G: Gate>(
         (SaidNo G.says gate.old gate.new)) app.now.registry.now input
         (reply.bytes.front.items ++ reply.bytes.rest.items) reply.status reply.evidence) }
 {
-    let Told { answer, evidence } = answer_to(rt, app, seat, gate, request);
+    let Told { answer, evidence } = answer_request(rt, app, seat, gate, request);
     let (bytes, status) = bytes_of(app.alloc, answer)?;
     Ok(Reply {
         bytes,

@@ -6,7 +6,7 @@ use Rattle.gateway_core.proofs.replying.reply_to.Goals as goal
 
 pub returns-clause-replied : goal.returns-clause-replied
 returns-clause-replied g c = λ input tells.
-    let told = c.answer_to-answer in
+    let told = c.answer_request-answer in
     let bytes = c.in_ok-bytes.bytes in
     replied _ c.args.app.now.registry.now input told.result.evidence (answer_of told.result.answer)
     (bytes.front.items ++ bytes.rest.items) c.in_ok-bytes.status (told.ensures.answers input tells) c.in_ok-bytes.ensures
