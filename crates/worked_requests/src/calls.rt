@@ -11,6 +11,8 @@ pub(crate) enum Trouble {
     Interruptions,
     /// A signal interrupts each call.
     InterruptedForGood,
+    /// It would block at each second call, for which it is asked once more.
+    Blocks,
     /// It fails at its call of that number, counted from 1 on.
     FailsAt(u32),
     /// It moves no byte at its call of that number.
@@ -77,6 +79,10 @@ impl Calls {
             Trouble::Interruptions if !self.was_interrupted => {
                 self.was_interrupted = true;
                 Err(io::Error::from(ErrorKind::Interrupted))
+            }
+            Trouble::Blocks if !self.was_interrupted => {
+                self.was_interrupted = true;
+                Err(io::Error::from(ErrorKind::WouldBlock))
             }
             _ => {
                 self.was_interrupted = false;

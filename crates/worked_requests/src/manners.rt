@@ -56,7 +56,8 @@ fn is_right(served: &Served, at_once: &Served) -> bool {
     served.status == at_once.status && served.bytes.as_slice() == at_once.bytes.as_slice()
 }
 
-/// Answers a request in a manner, and appends a line where that differs. Whether a device failed.
+/// Answers a request in a manner, as a whole and in parts, and appends a line where that differs. Whether a device of the
+/// first failed.
 fn try_manner<R: Wait>(
     rt: &R,
     alloc: Global,
@@ -69,6 +70,11 @@ fn try_manner<R: Wait>(
     let served = service.serve(rt, alloc, row, manner.reading, manner.writing);
     if !is_right(&served, at_once) {
         push_difference(alloc, output, &manner.name, &served)?;
+    }
+    let parts = service.serve_in_parts(rt, alloc, row, manner.reading, manner.writing);
+    if !is_right(&parts, at_once) {
+        let name = format!(in alloc; "in parts: {}", manner.name)?;
+        push_difference(alloc, output, &name, &parts)?;
     }
     Ok(served.reader_failed || served.writer_failed)
 }
@@ -167,6 +173,19 @@ pub(crate) fn push_row<R: Wait>(
     }
     if row.is_once {
         return Ok(at_once.bytes);
+    }
+    let blocking = Behaviour {
+        piece: 1,
+        trouble: Trouble::Blocks,
+    };
+    let parts = service.serve_in_parts(rt, alloc, row, blocking, blocking);
+    if !is_right(&parts, &at_once) {
+        push_difference(
+            alloc,
+            output,
+            "in parts: a byte at each second call",
+            &parts,
+        )?;
     }
     for manner in &steady_manners(alloc)? {
         try_manner(rt, alloc, output, service, row, &at_once, manner)?;

@@ -8,6 +8,7 @@ use crate::manners::{push_closed, push_row};
 use crate::row::{Row, row_of};
 use crate::service::Service;
 use gateway::{App, Helping, pop_client, pop_worker};
+use gateway_requests::Routes;
 use gateway_server::RunError;
 use program_cache::ProgramCache;
 use schema_registry::SharedRegistry;
@@ -86,7 +87,8 @@ fn push_by_pool<'p, R: Wait>(
         return Err(RunError::Read);
     };
     let gate = Helping::new(pool, helper);
-    let mut service = Service::new(app, seat, gate);
+    let routes = Routes::new(alloc)?;
+    let mut service = Service::new(app, routes, seat, gate);
     push_rows(rt, alloc, output, rows, &mut service)
 }
 
