@@ -17,6 +17,7 @@ use machine_store::Opening;
 impl Machine {
     /// An array or a map is opened.
     pub(crate) fn blocks(&mut self, program: &Program, input: &[u8], ended: bool) -> Step
+        requires runs { self.old.state.end ≡ None }
         requires pc { self.old.state.pc < MOST_INSTRS }
         requires within { self.old.state.pos ≤ length input.now }
         requires whole { self.old.state.content ≡ None }
@@ -33,6 +34,7 @@ impl Machine {
 
     /// An array or a map that is skipped is opened.
     pub(crate) fn skip_blocks(&mut self, program: &Program, input: &[u8], ended: bool) -> Step
+        requires runs { self.old.state.end ≡ None }
         requires pc { self.old.state.pc < MOST_INSTRS }
         requires within { self.old.state.pos ≤ length input.now }
         requires whole { self.old.state.content ≡ None }
@@ -55,6 +57,7 @@ impl Machine {
         input: &[u8],
         ended: bool,
     ) -> Step
+        requires runs { self.old.state.end ≡ None }
         requires pc { self.old.state.pc < MOST_INSTRS }
         requires within { self.old.state.pos ≤ length input.now }
         requires whole { self.old.state.content ≡ None }
@@ -85,6 +88,7 @@ impl Machine {
         input: &[u8],
         ended: bool,
     ) -> Step
+        requires runs { self.old.state.end ≡ None }
         requires pc { self.old.state.pc < MOST_INSTRS }
         requires within { self.old.state.pos ≤ length input.now }
         requires whole { self.old.state.content ≡ None }

@@ -52,7 +52,8 @@ impl Moving {
 impl Machine {
     /// Bytes move.
     fn put(&mut self, moving: Moving, bytes: &[u8]) -> Result<(), AllocError>
-        requires { HasRoom moving self.old.state }
+        requires runs { self.old.state.end ≡ None }
+        requires room { HasRoom moving self.old.state }
         ensures put { OnOk result (self.new.state ≡ (move_of moving).put bytes.now self.old.state) }
         ensures appends { OnlyAppends self.old self.new }
         ensures refused { OnErr result (self.new ≡ self.old) }
@@ -66,6 +67,7 @@ impl Machine {
 
     /// A length moves.
     fn put_length(&mut self, moving: Moving, len: usize) -> Result<(), AllocError>
+        requires runs { self.old.state.end ≡ None }
         requires room { HasRoom moving self.old.state }
         requires few { len ≤ MOST_CONTENT }
         ensures put { OnOk result (self.new.state ≡ (move_of moving).put (shortest (pos len)) self.old.state) }
@@ -116,6 +118,7 @@ impl Machine {
 
     /// A length was read: it moves, and the content is to follow, unless it is empty.
     fn begin(&mut self, moving: Moving, len: usize, to: usize, input: &[u8]) -> Step
+        requires runs { self.old.state.end ≡ None }
         requires pc { self.old.state.pc < MOST_INSTRS }
         requires room { HasRoom moving self.old.state }
         requires few { len ≤ MOST_CONTENT }
@@ -154,6 +157,7 @@ impl Machine {
         input: &[u8],
         ended: bool,
     ) -> Step
+        requires runs { self.old.state.end ≡ None }
         requires room { HasRoom moving self.old.state }
         requires there { self.old.state.pos + MOST_CHUNK ≤ length input.now }
         requires left { MOST_CHUNK < content.left }
@@ -190,6 +194,7 @@ impl Machine {
         input: &[u8],
         ended: bool,
     ) -> Step
+        requires runs { self.old.state.end ≡ None }
         requires pc { self.old.state.pc < MOST_INSTRS }
         requires room { HasRoom moving self.old.state }
         requires there { self.old.state.pos + content.left ≤ length input.now }
@@ -249,6 +254,7 @@ impl Machine {
         input: &[u8],
         ended: bool,
     ) -> Step
+        requires runs { self.old.state.end ≡ None }
         requires pc { self.old.state.pc < MOST_INSTRS }
         requires room { HasRoom moving self.old.state }
         requires on { IsOn input.now self.old }
@@ -280,6 +286,7 @@ impl Machine {
         input: &[u8],
         ended: bool,
     ) -> Step
+        requires runs { self.old.state.end ≡ None }
         requires pc { self.old.state.pc < MOST_INSTRS }
         requires room { HasRoom moving self.old.state }
         requires on { IsOn input.now self.old }
@@ -310,6 +317,7 @@ impl Machine {
         input: &[u8],
         ended: bool,
     ) -> Step
+        requires runs { self.old.state.end ≡ None }
         requires pc { self.old.state.pc < MOST_INSTRS }
         requires room { HasRoom moving self.old.state }
         requires on { IsOn input.now self.old }
@@ -343,6 +351,7 @@ impl Machine {
         input: &[u8],
         ended: bool,
     ) -> Step
+        requires runs { self.old.state.end ≡ None }
         requires pc { self.old.state.pc < MOST_INSTRS }
         requires on { IsOn input.now self.old }
         requires asked { AsksOf moving self.old.check self.old.state.content }
@@ -366,6 +375,7 @@ impl Machine {
         input: &[u8],
         ended: bool,
     ) -> Step
+        requires runs { self.old.state.end ≡ None }
         requires pc { self.old.state.pc < MOST_INSTRS }
         requires on { IsOn input.now self.old }
         requires asked { AsksOf Moving.Bytes self.old.check self.old.state.content }

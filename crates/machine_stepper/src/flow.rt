@@ -21,6 +21,7 @@ impl Machine {
         input: &[u8],
         ended: bool,
     ) -> Step
+        requires runs { self.old.state.end ≡ None }
         requires pc { self.old.state.pc < MOST_INSTRS }
         requires within { self.old.state.pos ≤ length input.now }
         requires whole { self.old.state.content ≡ None }

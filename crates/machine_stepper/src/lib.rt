@@ -6,6 +6,7 @@
 mod ahead;
 mod blocks;
 mod contents;
+mod ended;
 mod finding;
 mod flow;
 mod laws;
@@ -17,8 +18,10 @@ mod room;
 mod slice;
 mod step;
 mod store_access;
+mod taking;
 mod views;
 
+pub use ended::EndView;
 pub use laws::machines_go_on_with_more_input;
 pub use machine::Machine;
 pub use machine_rules::Content;

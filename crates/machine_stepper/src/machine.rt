@@ -11,9 +11,11 @@ ghost use Rattle.avro_bytes.specs.Shortest.{IsTight, shortest};
 ghost use Rattle.isa.specs.Table.{added, next, stop, trap};
 ghost use Rattle.machine_rules.specs.declared.ending.Verdict.TheVariants.{Done};
 ghost use Rattle.machine_rules.specs.Ending.{refused, told};
+ghost use Rattle.machine_store.specs.Buffers.{is_front};
 ghost use Rattle.machine_stepper.specs.Contract.{OnlyAppends, Takes};
 ghost use Rattle.machine_stepper.specs.Running.{end_of};
 
+use crate::ended::Ended;
 use crate::finding::Foresight;
 use crate::step::Step;
 use avro_bytes::{Fault, Meter, put_long};
@@ -25,6 +27,10 @@ use outcome::Outcome;
 use std::alloc::{AllocError, Global};
 use std::marker::Model;
 
+/// An output of at most so many bytes is copied where the run ends, so that the arena need not grow again for the next
+/// run. A longer one is handed out in the arena's memory, where it can be.
+const MOST_COPIED: usize = 65_536;
+
 /// A run of a program: callers see it as a state of the instruction table, and how that is kept.
 #[derive(Drop)]
 pub struct Machine {
@@ -35,7 +41,7 @@ pub struct Machine {
     pub(crate) content: Option<Content>,
     pub(crate) check: TextCheck,
     pub(crate) count: RowCount,
-    pub(crate) end: Option<End>,
+    pub(crate) end: Option<Ended>,
     pub(crate) scratch: Vec<u8>,
     /// What was found ahead.
     pub(crate) foresight: Foresight,
@@ -43,11 +49,13 @@ pub struct Machine {
 }
 
 impl Model for Machine {
-    ghost use Rattle.machine_stepper.specs.Running.{Running, running_of};
+    ghost use Rattle.machine_stepper.specs.Running.{IsThere, Running, running_of};
 
     ghost Value = { Running };
 
     ghost view = { λ m. running_of m.pc m.pos m.calls.items m.store m.content m.check m.count.rows m.end };
+
+    ghost invariant = { λ m. IsThere m.store.layout m.end };
 }
 
 impl Machine {
@@ -138,7 +146,7 @@ impl Machine {
         ensures stopped { stop (end_of end) self.old.state ≡ Some self.new.state }
         ensures kept { self.new ≡ record self.old { state = self.new.state } }
     {
-        self.end = Some(end);
+        self.end = Some(Ended::Told(end));
         Step::Moved
     }
 
@@ -173,6 +181,31 @@ impl Machine {
         }
     }
 
+    /// Whether the output is to be left where it lies: it is long, and one segment with which the arena begins.
+    fn leaves_output(&self) -> bool
+        ensures { result ≡ true → is_front self.now.layout.out ≡ true }
+    {
+        match self.store.out_in_front() {
+            Some(output) => output.len() > MOST_COPIED,
+            None => false,
+        }
+    }
+
+    /// Ends the run with the output, which is copied, or left where it lies.
+    fn finish(&mut self) -> Step
+        ensures takes { Takes (told Done self.old.state) result self.old self.new }
+        ensures kept { self.new ≡ record self.old { state = record self.old.state { end = self.new.state.end } } }
+    {
+        if self.leaves_output() {
+            self.end = Some(Ended::InStore);
+            return Step::Moved;
+        }
+        match self.put_together() {
+            Ok(output) => self.stop(End::Out(Outcome::Done(output))),
+            Err(_) => Step::NoMemory,
+        }
+    }
+
     /// What a verdict comes to.
     pub(crate) fn conclude(&mut self, verdict: Verdict) -> Step
         ensures takes { Takes (told verdict self.old.state) result self.old self.new }
@@ -184,10 +217,7 @@ impl Machine {
             Verdict::Malformed { kind, at } => self.stop(End::Out(Outcome::Malformed { kind, at })),
             Verdict::Mismatch(miss) => self.stop(End::Out(Outcome::Mismatch(miss))),
             Verdict::OutputTooLarge => self.stop(End::Out(Outcome::OutputTooLarge)),
-            Verdict::Done => match self.put_together() {
-                Ok(out) => self.stop(End::Out(Outcome::Done(out))),
-                Err(_) => Step::NoMemory,
-            },
+            Verdict::Done => self.finish(),
             Verdict::Trap(trap) => self.trap(trap),
         }
     }
@@ -268,7 +298,8 @@ impl Machine {
 
     /// Bytes at the end of the current buffer.
     pub(crate) fn add(&mut self, bytes: &[u8]) -> Result<(), AllocError>
-        requires { has_current self.old.state.store.frames ≡ true }
+        requires runs { self.old.state.end ≡ None }
+        requires room { has_current self.old.state.store.frames ≡ true }
         ensures added { OnOk result (self.new.state ≡ added bytes.now self.old.state) }
         ensures appends { OnlyAppends self.old self.new }
         ensures check { self.new.check ≡ self.old.check }
@@ -279,7 +310,8 @@ impl Machine {
 
     /// The shortest spelling of a number at the end of the current buffer.
     pub(crate) fn add_long(&mut self, number: i64) -> Result<(), AllocError>
-        requires { has_current self.old.state.store.frames ≡ true }
+        requires runs { self.old.state.end ≡ None }
+        requires room { has_current self.old.state.store.frames ≡ true }
         ensures added { OnOk result (self.new.state ≡ added (shortest number) self.old.state) }
         ensures appends { OnlyAppends self.old self.new }
         ensures check { self.new.check ≡ self.old.check }
@@ -293,6 +325,7 @@ impl Machine {
     /// Bytes at the end of the current buffer: the run is at the next instruction then, with the bytes up to an offset
     /// read.
     pub(crate) fn move_bytes(&mut self, bytes: &[u8], to: usize) -> Step
+        requires runs { self.old.state.end ≡ None }
         requires pc { self.old.state.pc < MOST_INSTRS }
         requires room { has_current self.old.state.store.frames ≡ true }
         ensures takes { Takes (Some (next to (added bytes.now self.old.state))) result self.old self.new }
@@ -308,6 +341,7 @@ impl Machine {
 
     /// The same of a number that was read, in its shortest spelling: its own, where that is the shortest.
     pub(crate) fn move_number(&mut self, number: i64, spelling: &[u8], to: usize) -> Step
+        requires runs { self.old.state.end ≡ None }
         requires pc { self.old.state.pc < MOST_INSTRS }
         requires room { has_current self.old.state.store.frames ≡ true }
         requires tight { IsTight spelling.now → spelling.now ≡ shortest number }
@@ -325,6 +359,7 @@ impl Machine {
     /// The shortest spelling of a number that was read at the end of the current buffer: its own, where that is the
     /// shortest.
     pub(crate) fn add_spelled(&mut self, number: i64, spelling: &[u8]) -> Result<(), AllocError>
+        requires runs { self.old.state.end ≡ None }
         requires room { has_current self.old.state.store.frames ≡ true }
         requires tight { IsTight spelling.now → spelling.now ≡ shortest number }
         ensures added { OnOk result (self.new.state ≡ added (shortest number) self.old.state) }

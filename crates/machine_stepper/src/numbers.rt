@@ -17,6 +17,7 @@ use machine_rows::spelling;
 impl Machine {
     /// A boolean moves.
     pub(crate) fn boolean(&mut self, program: &Program, input: &[u8], ended: bool) -> Step
+        requires runs { self.old.state.end ≡ None }
         requires pc { self.old.state.pc < MOST_INSTRS }
         requires within { self.old.state.pos ≤ length input.now }
         requires whole { self.old.state.content ≡ None }
@@ -36,6 +37,7 @@ impl Machine {
 
     /// An int moves, in its shortest spelling.
     pub(crate) fn int(&mut self, program: &Program, input: &[u8], ended: bool) -> Step
+        requires runs { self.old.state.end ≡ None }
         requires pc { self.old.state.pc < MOST_INSTRS }
         requires within { self.old.state.pos ≤ length input.now }
         requires whole { self.old.state.content ≡ None }
@@ -58,6 +60,7 @@ impl Machine {
 
     /// A long moves, in its shortest spelling.
     pub(crate) fn long(&mut self, program: &Program, input: &[u8], ended: bool) -> Step
+        requires runs { self.old.state.end ≡ None }
         requires pc { self.old.state.pc < MOST_INSTRS }
         requires within { self.old.state.pos ≤ length input.now }
         requires whole { self.old.state.content ≡ None }

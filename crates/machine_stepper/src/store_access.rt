@@ -68,6 +68,7 @@ impl Machine {
 
     /// A miss is told.
     pub(crate) fn miss(&mut self, miss: u32)
+        requires { self.old.state.end ≡ None }
         ensures missed { self.new.state ≡ missed miss self.old.state }
         ensures appends { OnlyAppends self.old self.new }
     {
@@ -76,6 +77,7 @@ impl Machine {
 
     /// A frame is opened, inside which the meter is such.
     pub(crate) fn open(&mut self, opening: Opening, inside: Meter) -> Step
+        requires runs { self.old.state.end ≡ None }
         requires pc { self.old.state.pc < MOST_INSTRS }
         requires few { FewSlots opening }
         requires deep { length self.old.state.store.frames < MOST_DEPTH }
@@ -95,6 +97,7 @@ impl Machine {
 
     /// A slot of the newest record is selected.
     pub(crate) fn select(&mut self, slot: usize) -> Step
+        requires runs { self.old.state.end ≡ None }
         requires pc { self.old.state.pc < MOST_INSTRS }
         requires there { HasSlot slot (slots_of self.old.state.store.frames) }
         ensures takes { Takes (Some (next self.old.state.pos
@@ -111,6 +114,7 @@ impl Machine {
 
     /// The newest record is closed.
     pub(crate) fn close_record(&mut self) -> Step
+        requires runs { self.old.state.end ≡ None }
         requires pc { self.old.state.pc < MOST_INSTRS }
         requires record { is_some (slots_of self.old.state.store.frames) ≡ true }
         requires below { has_current_below self.old.state.store.frames ≡ true }
@@ -130,7 +134,8 @@ impl Machine {
 
     /// The newest frame, which is skipped, is left.
     pub(crate) fn leave(&mut self)
-        requires { is_skipped self.old.state.store.frames ≡ true }
+        requires runs { self.old.state.end ≡ None }
+        requires skipped { is_skipped self.old.state.store.frames ≡ true }
         ensures left { self.new.state ≡ with_frames (leave self.old.state.store.frames) self.old.state }
         ensures appends { OnlyAppends self.old self.new }
     {
@@ -140,6 +145,7 @@ impl Machine {
     /// At the next item of the newest array or map, with the bytes up to an offset read.
     #[tactic(auto, using(crate::proofs::Appending::next_many, crate::proofs::Appending::same_arena))]
     pub(crate) fn gather(&mut self, walk: BlockWalk, to: usize, inside: Meter) -> Step
+        requires runs { self.old.state.end ≡ None }
         requires pc { self.old.state.pc < MOST_INSTRS }
         requires blocks { is_some (walk_of self.old.state.store.frames) ≡ true }
         requires units { self.old.state.units < inside.units }
@@ -158,6 +164,7 @@ impl Machine {
 
     /// At the next item of the newest array or map, which is skipped, with the bytes up to an offset read.
     pub(crate) fn pass(&mut self, walk: BlockWalk, to: usize, inside: Meter) -> Step
+        requires runs { self.old.state.end ≡ None }
         requires pc { self.old.state.pc < MOST_INSTRS }
         requires blocks { is_some (skip_walk_of self.old.state.store.frames) ≡ true }
         requires units { self.old.state.units ≤ inside.units }
@@ -174,6 +181,7 @@ impl Machine {
 
     /// The newest array or map is closed, with the bytes up to an offset read, and the run goes on at an address.
     pub(crate) fn close_blocks(&mut self, address: usize, to: usize) -> Step
+        requires runs { self.old.state.end ≡ None }
         requires blocks { is_some (walk_of self.old.state.store.frames) ≡ true }
         requires below { has_current_below self.old.state.store.frames ≡ true }
         ensures takes { Takes (Some (record self.old.state {

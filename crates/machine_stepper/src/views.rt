@@ -4,9 +4,11 @@ ghost use Rattle.std.specs.Prelude.{◌≡◌, ◌++◌, length, reverse, slice_
 ghost use Rattle.machine_store.specs.Segments.{AreSegments, bytes_of};
 ghost use Rattle.machine_store.specs.Viewing.{buffer_of, place_and_length, segments_of_buffer, view_of};
 ghost use Rattle.machine_rules.specs.Chunks.{content_of};
-ghost use Rattle.machine_stepper.specs.Running.{carried, end_of};
+ghost use Rattle.machine_stepper.specs.Running.{carried, end_of, end_view_of, start};
 
+use crate::ended::EndView;
 use crate::machine::Machine;
+use crate::taking::{end_out_of, view_of_ended};
 use isa::End;
 use machine_rules::Content;
 use machine_store::{BufferAt, FrameView};
@@ -41,27 +43,39 @@ impl Machine {
         self.content
     }
 
-    /// How the run ended.
-    pub fn end(&self) -> Option<&End>
-        ensures { option_map (λ end. end_of end.now) result ≡ self.now.state.end }
+    /// Returns how the run ended, to be read.
+    pub fn end(&self) -> Option<EndView<'_>>
+        ensures { option_map end_view_of result ≡ self.now.state.end }
     {
-        self.end.as_ref()
+        match &self.end {
+            Some(ended) => Some(view_of_ended(&self.store, ended)),
+            None => None,
+        }
     }
 
-    /// How the run ended, which is taken out. This is no row of the instruction table, and leaves a state that no run
-    /// comes to: it is for a machine that is reset next.
-    pub fn take_end(&mut self) -> Option<End>
+    /// Returns how the run ended, and goes back to what `new` gives, in the memory that is left: an output that lies in
+    /// the arena as it is takes the arena's along.
+    pub fn end_and_reset(&mut self) -> Option<End>
         ensures end { option_map end_of result ≡ self.old.state.end }
-        ensures taken { self.new ≡ record self.old { state = record self.old.state { end = None } } }
+        ensures begun { self.new ≡ start }
     {
-        self.end.take()
+        let end = match self.end.take() {
+            Some(ended) => Some(end_out_of(self.alloc, &mut self.store, ended)),
+            None => None,
+        };
+        self.reset();
+        end
     }
 
-    /// How the run ended.
+    /// Returns how the run ended.
     pub fn into_end(self) -> Option<End>
         ensures { option_map end_of result ≡ self.state.end }
     {
-        self.end
+        let mut store = self.store;
+        match self.end {
+            Some(ended) => Some(end_out_of(self.alloc, &mut store, ended)),
+            None => None,
+        }
     }
 
     /// The bytes of a character that is cut, of a text that moves; none where no text moves, or no text begins so.

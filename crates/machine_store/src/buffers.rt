@@ -1,15 +1,16 @@
 //! Buffers, as segments of one arena.
 
-ghost use Rattle.std.specs.Prelude.{◌≡◌, ◌≢◌, ◌+◌, ◌-◌, ◌^◌, ◌<◌, ◌≤◌, [], ◌++◌, drop, length, map, slice_get, take, OnErr, OnOk, IfOk};
+ghost use Rattle.std.specs.Prelude.{◌≡◌, ◌≢◌, ◌+◌, ◌-◌, ◌^◌, ◌<◌, ◌≤◌, [], ◌++◌, drop, is_some, length, map, slice_get, take, IfNone, IfOk, IfSome, OnErr, OnOk, OnSome};
 ghost use Rattle.isa.specs.declared.limits.TheConstants.{MOST_SLOTS};
 ghost use Rattle.machine_store.specs.declared.buffers.Buffer.TheVariants.{Empty};
-ghost use Rattle.machine_store.specs.Buffers.{AreLaid, AreRopes, IsHeld, AllHeld, IsLater, IsPlace, buffer_at, out_after, segments_at, segments_of, slots_after, with_added, with_closed, with_fewer, with_none, with_opened};
+ghost use Rattle.machine_store.specs.Buffers.{AreLaid, AreRopes, IsHeld, AllHeld, IsLater, IsPlace, buffer_at, is_front, out_after, segments_at, segments_of, slots_after, with_added, with_closed, with_fewer, with_none, with_opened};
 ghost use Rattle.machine_ropes.specs.Segments.{bytes_of, with_bytes, with_lists, with_segment, with_segments};
 
 use crate::slots::Slots;
 use machine_ropes::{Ropes, Segment};
 use std::alloc::{AllocError, Global};
 use std::marker::Model;
+use std::mem;
 
 /// The segments of a buffer.
 #[derive(Clone, Copy)]
@@ -408,6 +409,38 @@ impl Buffers {
                 self.ropes.write(alloc, &self.arena, middle, out)?;
                 out.extend_from_slice(last.bytes(&self.arena))
             }
+        }
+    }
+
+    /// Returns the bytes of the output, where it is one segment with which the arena begins.
+    pub fn out_in_front(&self) -> Option<&[u8]>
+        ensures some { is_some result ≡ is_front self.now.out }
+        ensures bytes { IfSome result (λ out. out.now ≡ bytes_of self.now.arena self.now.out) }
+    {
+        match self.out {
+            Buffer::One(segment) if segment.place == 0 => Some(segment.bytes(&self.arena)),
+            _ => None,
+        }
+    }
+
+    /// Takes the output out, where it is one segment with which the arena begins: hands out the arena's own memory, cut
+    /// at the segment's end, and goes back to what `new` gives. `None` leaves all as it was.
+    pub fn take_out(&mut self, alloc: Global) -> Option<Vec<u8>>
+        ensures some { is_some result ≡ is_front self.old.out }
+        ensures bytes { IfSome result (λ out. out.items ≡ bytes_of self.old.arena self.old.out) }
+        ensures taken { OnSome result (self.new ≡ record { arena = []; out = []; slots = [] }) }
+        ensures kept { IfNone result (self.new ≡ self.old) }
+    {
+        match self.out {
+            Buffer::One(segment) if segment.place == 0 => {
+                let mut arena = mem::replace(&mut self.arena, Vec::new(alloc));
+                arena.truncate(segment.end);
+                self.ropes.clear();
+                self.out = Buffer::Empty;
+                self.slots.clear();
+                Some(arena)
+            }
+            _ => None,
         }
     }
 

@@ -1,9 +1,10 @@
 //! The frames that are open, and the buffers that they add to.
 
-ghost use Rattle.std.specs.Prelude.{◌≡◌, ◌+◌, ◌-◌, ◌<◌, ◌≤◌, true, false, [], ◌∷◌, length, is_some, reverse, vec_len, Some, None, OnErr, OnOk, IfOk};
+ghost use Rattle.std.specs.Prelude.{◌≡◌, ◌+◌, ◌-◌, ◌<◌, ◌≤◌, true, false, [], ◌∷◌, length, is_some, reverse, vec_len, Some, None, OnErr, OnOk, OnSome, IfNone, IfOk, IfSome};
 ghost use Rattle.avro_bytes.specs.declared.limits.TheConstants.{MOST_DEPTH};
 ghost use Rattle.outcome.specs.declared.limits.TheConstants.{MOST_OUTPUT};
 ghost use Rattle.isa.specs.State.{add, emptied, has_current, is_done, total};
+ghost use Rattle.machine_store.specs.Buffers.{is_front};
 ghost use Rattle.machine_store.specs.Frames.{FewSlots, HasSlot, HoldsBuffers, first_of, frame_of, has_current_below, is_skip, is_skipped, items_of, newest_place, opened_at, place_of, skip_walk_of, slots_of, slots_opened, walk_of};
 ghost use Rattle.machine_store.specs.Store.{Appends, around_items, close_blocks, close_record, closed_between, leave, meter_of, next_item, next_skipped, select, with_frames};
 
@@ -545,6 +546,36 @@ impl Store {
         match self.top {
             Frame::Blocks { items, .. } => items,
             _ => 0,
+        }
+    }
+
+    /// Returns the bytes of the output, where it is one segment with which the arena begins.
+    pub fn out_in_front(&self) -> Option<&[u8]>
+        ensures some { is_some result ≡ is_front self.now.layout.out }
+        ensures bytes { IfSome result (λ out. out.now ≡ self.now.store.out) }
+    {
+        self.buffers.out_in_front()
+    }
+
+    /// Takes the output out, where it is one segment with which the arena begins: hands out the arena's own memory, and
+    /// goes back to what `new` gives, in the memory that is left. `None` leaves all as it was.
+    pub fn take_out(&mut self, alloc: Global) -> Option<Vec<u8>>
+        ensures some { is_some result ≡ is_front self.old.layout.out }
+        ensures bytes { IfSome result (λ out. out.items ≡ self.old.store.out) }
+        ensures taken { OnSome result (self.new ≡ start) }
+        ensures kept { IfNone result (self.new ≡ self.old) }
+    {
+        match self.buffers.take_out(alloc) {
+            Some(out) => {
+                self.top = Frame::Bottom;
+                self.below.clear();
+                self.lost = 0;
+                self.units = 0;
+                self.mark = None;
+                self.over = false;
+                Some(out)
+            }
+            None => None,
         }
     }
 
