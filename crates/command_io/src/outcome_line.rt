@@ -2,7 +2,7 @@
 
 ghost use Rattle.std.specs.Prelude.{◌≡◌, ◌++◌, string_bytes, OnOk};
 ghost use Rattle.hex.specs.Hex.{encode_lower};
-ghost use Rattle.outcome.specs.Outcome.{outcome_of};
+ghost use Rattle.outcome.specs.Outcome.{Done, outcome_of};
 ghost use Rattle.command_io.specs.OutcomeLine.{hex_of, line_of};
 
 use outcome::Outcome;
@@ -35,15 +35,20 @@ fn push_hex(alloc: Global, output: &mut String, bytes: &[u8]) -> Result<(), Allo
     push_digits(alloc, output, bytes)
 }
 
+/// Appends the line of an output, without its LF.
+pub(crate) fn push_done(alloc: Global, output: &mut String, bytes: &[u8]) -> Result<(), AllocError>
+    ensures { OnOk result (string_bytes output.new ≡ string_bytes output.old ++ line_of (Done bytes.now)) }
+{
+    output.push_str("done ")?;
+    push_hex(alloc, output, bytes)
+}
+
 /// Appends the line of an outcome, without its LF. What an `Err` leaves of the text is not said.
 pub fn push_outcome(alloc: Global, output: &mut String, outcome: &Outcome) -> Result<(), AllocError>
     ensures { OnOk result (string_bytes output.new ≡ string_bytes output.old ++ line_of (outcome_of outcome.now)) }
 {
     match outcome {
-        Outcome::Done(bytes) => {
-            output.push_str("done ")?;
-            push_hex(alloc, output, bytes)
-        }
+        Outcome::Done(bytes) => push_done(alloc, output, bytes),
         Outcome::Mismatch(found) => {
             let kind = found.kind.name();
             let (writer, reader) = (found.writer_node, found.reader_node);

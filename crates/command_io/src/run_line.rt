@@ -3,9 +3,10 @@
 ghost use Rattle.std.specs.Prelude.{◌≡◌, ◌++◌, string_bytes, OnOk};
 ghost use Rattle.command_io.specs.RunLine.{line_of_run, name_of_trap, text_of_end};
 
-use crate::outcome_line::push_outcome;
-use isa::{End, Trap};
-use machine_stepper::Machine;
+use crate::outcome_line::{push_done, push_outcome};
+use isa::Trap;
+use machine_stepper::{EndView, Machine};
+use outcome::Outcome;
 use std::alloc::{AllocError, Global};
 use std::fmt::Write;
 
@@ -29,9 +30,14 @@ fn push_end(alloc: Global, output: &mut String, machine: &Machine) -> Result<(),
     ensures { OnOk result (string_bytes output.new ≡ string_bytes output.old ++ text_of_end machine.now.state.end) }
 {
     match machine.end() {
-        Some(End::Out(outcome)) => push_outcome(alloc, output, outcome),
-        Some(End::Trap(trap)) => {
-            let name = name_of_trap(*trap);
+        Some(EndView::Done(bytes)) => push_done(alloc, output, bytes),
+        Some(EndView::Mismatch(found)) => push_outcome(alloc, output, &Outcome::Mismatch(found)),
+        Some(EndView::Malformed { kind, at }) => {
+            push_outcome(alloc, output, &Outcome::Malformed { kind, at })
+        }
+        Some(EndView::OutputTooLarge) => push_outcome(alloc, output, &Outcome::OutputTooLarge),
+        Some(EndView::Trap(trap)) => {
+            let name = name_of_trap(trap);
             write!(output, "trap {name}")
         }
         None => output.push_str("running"),

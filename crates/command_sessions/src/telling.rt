@@ -51,7 +51,7 @@ fn push_end_line(alloc: Global, output: &mut String, session: &Session) -> Resul
         let count = machine.count();
         return write!(output, "no memory count {count}");
     }
-    if machine.end().is_none() {
+    if !machine.has_ended() {
         return output.push_str("pending");
     }
     push_run(alloc, output, machine)

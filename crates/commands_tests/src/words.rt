@@ -1,17 +1,19 @@
 //! Answers in words, as the rows have them.
 
 use crate::again::{Pair, transcoded};
-use isa::End;
-use machine::{Outcome, PairError};
+use machine::{EndView, Outcome, PairError};
 use std::alloc::{AllocError, Global};
+
+/// An output.
+fn done_words(alloc: Global, bytes: &[u8]) -> Result<String, AllocError> {
+    let hex = hex::encode(alloc, bytes)?;
+    format!(in alloc; "done {hex}")
+}
 
 /// The outcome of a payload.
 pub(crate) fn outcome_words(alloc: Global, outcome: &Outcome) -> Result<String, AllocError> {
     match outcome {
-        Outcome::Done(bytes) => {
-            let hex = hex::encode(alloc, bytes.as_slice())?;
-            format!(in alloc; "done {hex}")
-        }
+        Outcome::Done(bytes) => done_words(alloc, bytes.as_slice()),
         Outcome::Mismatch(found) => {
             let kind = found.kind.name();
             format!(in alloc;
@@ -28,10 +30,15 @@ pub(crate) fn outcome_words(alloc: Global, outcome: &Outcome) -> Result<String, 
 }
 
 /// How a run stands.
-pub(crate) fn end_words(alloc: Global, end: Option<&End>) -> Result<String, AllocError> {
+pub(crate) fn end_words(alloc: Global, end: Option<EndView<'_>>) -> Result<String, AllocError> {
     match end {
-        Some(End::Out(outcome)) => outcome_words(alloc, outcome),
-        Some(End::Trap(_)) => String::from_str(alloc, "trap"),
+        Some(EndView::Done(bytes)) => done_words(alloc, bytes),
+        Some(EndView::Mismatch(found)) => outcome_words(alloc, &Outcome::Mismatch(found)),
+        Some(EndView::Malformed { kind, at }) => {
+            outcome_words(alloc, &Outcome::Malformed { kind, at })
+        }
+        Some(EndView::OutputTooLarge) => outcome_words(alloc, &Outcome::OutputTooLarge),
+        Some(EndView::Trap(_)) => String::from_str(alloc, "trap"),
         None => String::from_str(alloc, "running"),
     }
 }

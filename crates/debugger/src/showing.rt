@@ -7,10 +7,9 @@ ghost use Rattle.debugger.specs.Show.{first_line, name_of_state, out_line, place
 use crate::frames::{push_calls, push_frames};
 use crate::words::{push_buffer, push_mark, push_moving, push_truth};
 use assembler::disassemble;
-use isa::{End, Program};
-use machine_stepper::Machine;
+use isa::Program;
+use machine_stepper::{EndView, Machine};
 use machine_store::BufferAt;
-use outcome::Outcome;
 use std::alloc::{AllocError, Global};
 use std::fmt::Write;
 
@@ -23,11 +22,11 @@ fn name_of_state(machine: &Machine, no_memory: bool) -> &'static str
     }
     match machine.end() {
         None => "running",
-        Some(End::Out(Outcome::Done(_))) => "done",
-        Some(End::Out(Outcome::Mismatch(_))) => "mismatch",
-        Some(End::Out(Outcome::Malformed { .. })) => "malformed",
-        Some(End::Out(Outcome::OutputTooLarge)) => "output",
-        Some(End::Trap(_)) => "trap",
+        Some(EndView::Done(_)) => "done",
+        Some(EndView::Mismatch(_)) => "mismatch",
+        Some(EndView::Malformed { .. }) => "malformed",
+        Some(EndView::OutputTooLarge) => "output",
+        Some(EndView::Trap(_)) => "trap",
     }
 }
 

@@ -9,7 +9,8 @@ mod transcoding;
 
 pub use machine_plan::PlannedProgram;
 pub use machine_stepper::{
-    BufferAt, Content, FrameView, Machine, Slice, Step, Why, machines_go_on_with_more_input,
+    BufferAt, Content, EndView, FrameView, Machine, Slice, Step, Why,
+    machines_go_on_with_more_input,
 };
 pub use resolver::{Outcome, TranscodeError};
 pub use run::Run;

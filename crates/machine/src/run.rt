@@ -205,18 +205,17 @@ impl<'p> Run<'p> {
         self.machine.into_end()
     }
 
-    /// How it ended, which is taken out; the run goes back to what `new` gives for its program, in the room that it
-    /// has.
+    /// How it ended, which is taken out; the run goes back to what `new` gives for its program, in the room that is
+    /// left: an output can take the memory along in which it lies.
     pub fn take_end(&mut self) -> Option<End>
         ensures end { option_map end_of result ≡ self.old.machine.state.end }
         ensures begun { self.new ≡ begun self.old.program }
     {
         let machine = &mut self.machine;
-        let end = machine.take_end();
+        let end = machine.end_and_reset();
         machines_go_on_with_more_input(); // law
         self.input.clear();
         self.ended = false;
-        self.machine.reset();
         end
     }
 

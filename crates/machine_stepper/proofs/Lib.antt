@@ -1,6 +1,7 @@
 pub mod Appending
 pub mod Tables
 pub mod Counts
+pub mod Ends
 pub mod Stepping
 pub mod Slicing
 pub mod Longer

@@ -71,9 +71,9 @@ impl Machine {
     pub fn into_end(self) -> Option<End>
         ensures { option_map end_of result ≡ self.state.end }
     {
-        let mut store = self.store;
-        match self.end {
-            Some(ended) => Some(end_out_of(self.alloc, &mut store, ended)),
+        let (alloc, mut store, end) = (self.alloc, self.store, self.end);
+        match end {
+            Some(ended) => Some(end_out_of(alloc, &mut store, ended)),
             None => None,
         }
     }

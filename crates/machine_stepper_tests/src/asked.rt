@@ -5,6 +5,7 @@ ghost use Rattle.machine_stepper.specs.Running.{start};
 
 use crate::ahead_tests::push_found;
 use crate::arena_tests::{push_after, push_carry, push_steps};
+use crate::output_tests::push_outputs;
 use crate::programs::{push_words, run};
 use crate::show_tests::{push_listing, push_shown, push_shown_after};
 use crate::slice_tests::{TURNS, WAITING, push_messages, push_turns};
@@ -18,7 +19,8 @@ fn number(word: Option<&str>) -> u64 {
 }
 
 /// Appends what a machine answers before its first row. The words that a question has behind its first one are numbers:
-/// of rows, of times, of a frame's slot, or how many bytes a piece has and how many rows a slice.
+/// of rows, of times, of a frame's slot, how many bytes a piece has and how many rows a slice, or how many bytes the
+/// first of two messages has, and a piece.
 fn push_answer(
     alloc: Global,
     output: &mut String,
@@ -51,6 +53,7 @@ fn push_answer(
         "messages" => push_messages(output, machine, program, input),
         "shown" => push_shown_after(alloc, output, machine, program, input, k),
         "no-memory" => push_shown(alloc, output, machine, true),
+        "outputs" => push_outputs(alloc, output, machine, program, input, k, other),
         "listing" => push_listing(alloc, output, program.program()),
         "ahead" => push_found(alloc, output, program, input, k),
         "steps" => push_steps(alloc, output, machine, program.program(), input, k),

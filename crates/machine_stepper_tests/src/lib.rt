@@ -15,6 +15,8 @@ mod asked;
 #[cfg(test)]
 mod forms;
 #[cfg(test)]
+mod output_tests;
+#[cfg(test)]
 mod programs;
 #[cfg(test)]
 mod row_tests;

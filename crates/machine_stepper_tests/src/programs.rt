@@ -7,10 +7,9 @@ use crate::again::again;
 use crate::texts::push_text;
 use assembler::{AsmError, assemble};
 use hex::FromHexError;
-use isa::{End, Program, Trap};
+use isa::{Program, Trap};
 use machine_plan::PlannedProgram;
-use machine_stepper::{Machine, Why};
-use outcome::Outcome;
+use machine_stepper::{EndView, Machine, Why};
 use std::alloc::{AllocError, Global};
 use std::fmt::Write;
 
@@ -64,7 +63,11 @@ pub(crate) fn push_hex(alloc: Global, output: &mut String, bytes: &[u8]) -> Resu
 }
 
 /// Appends an output, and `-` where it has no bytes.
-fn push_done(alloc: Global, output: &mut String, bytes: &[u8]) -> Result<(), AllocError> {
+pub(crate) fn push_done(
+    alloc: Global,
+    output: &mut String,
+    bytes: &[u8],
+) -> Result<(), AllocError> {
     output.push_str("done ")?;
     if bytes.is_empty() {
         return output.push_str("-");
@@ -73,10 +76,14 @@ fn push_done(alloc: Global, output: &mut String, bytes: &[u8]) -> Result<(), All
 }
 
 /// Appends the end of a run.
-fn push_end(alloc: Global, output: &mut String, end: &End) -> Result<(), AllocError> {
+pub(crate) fn push_end(
+    alloc: Global,
+    output: &mut String,
+    end: EndView<'_>,
+) -> Result<(), AllocError> {
     match end {
-        End::Out(Outcome::Done(bytes)) => push_done(alloc, output, bytes.as_slice()),
-        End::Out(Outcome::Mismatch(m)) => {
+        EndView::Done(bytes) => push_done(alloc, output, bytes),
+        EndView::Mismatch(m) => {
             let kind = m.kind.name();
             write!(
                 output,
@@ -84,13 +91,13 @@ fn push_end(alloc: Global, output: &mut String, end: &End) -> Result<(), AllocEr
                 m.writer_node, m.reader_node
             )
         }
-        End::Out(Outcome::Malformed { kind, at }) => {
+        EndView::Malformed { kind, at } => {
             let kind = kind.name();
             write!(output, "malformed {kind} at {at}")
         }
-        End::Out(Outcome::OutputTooLarge) => output.push_str("output too large"),
-        End::Trap(trap) => {
-            let trap = trap_name(*trap);
+        EndView::OutputTooLarge => output.push_str("output too large"),
+        EndView::Trap(trap) => {
+            let trap = trap_name(trap);
             write!(output, "trap {trap}")
         }
     }

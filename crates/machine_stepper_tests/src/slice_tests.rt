@@ -117,7 +117,7 @@ pub(crate) fn push_messages(
     'messages: for _message in 0..3 {
         machine.reset();
         push_slice(output, machine, program, input, true, &turn)?;
-        output.push_str(if machine.take_end().is_some() {
+        output.push_str(if machine.end_and_reset().is_some() {
             " taken\n"
         } else {
             " lost\n"

@@ -51,7 +51,7 @@ fn refused_memory_ends_a_session_until_it_is_reset(rt: HostRuntime) -> Result<()
     let mut session = Session::begin(alloc, program);
     session.refuse();
     same(&rt, session.slice(9), slice(0, Stopped::Ended));
-    assert!(rt; session.no_memory() && session.machine().end().is_none());
+    assert!(rt; session.no_memory() && !session.machine().has_ended());
     session.reset(program);
     same(&rt, session.slice(9), slice(0, Stopped::Waits));
     Ok(())

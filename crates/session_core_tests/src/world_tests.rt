@@ -2,8 +2,7 @@
 
 use crate::again::row_for;
 use crate::same::same;
-use isa::End;
-use outcome::Outcome;
+use machine::EndView;
 use session_core::{Act, Event, EventRefusal, EventReply, PublishError, World};
 use std::alloc::{AllocError, Global};
 use std::test::Fail;
@@ -52,7 +51,7 @@ const REPLIES: [EventReply; 8] = [
 /// Whether the first session of a world has ended with these bytes.
 fn is_done(world: &World, bytes: &[u8]) -> bool {
     match world.session(0).and_then(|session| session.machine().end()) {
-        Some(End::Out(Outcome::Done(output))) => output.as_slice() == bytes,
+        Some(EndView::Done(output)) => output == bytes,
         _ => false,
     }
 }

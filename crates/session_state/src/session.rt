@@ -234,7 +234,7 @@ impl<'p> Session<'p> {
         ensures { self.new ≡ refused self.old }
     {
         self.run.is_alone(); // law
-        if self.run.machine().end().is_none() {
+        if !self.run.machine().has_ended() {
             self.out_of_memory = true;
         }
         self.run.shrink_to(MOST_ROOM);
@@ -360,7 +360,7 @@ impl<'p> Session<'p> {
         ensures { result ≡ is_some (end_in self.now) }
     {
         self.run.is_alone(); // law
-        self.out_of_memory || self.run.machine().end().is_some()
+        self.out_of_memory || self.run.machine().has_ended()
     }
 
     /// How it ended, where it has.

@@ -19,3 +19,11 @@ returns-clause-joins c =
     let blocks = subst (λ (r : Running). is_some (walk_of r.state.store.frames) ≡ true) (sym c.self.view_is) c.requires.blocks in
     subst (λ (r : Running). GrowsBy (closing_bytes r.state.store.frames b.store.frames) c.args.self.now.layout.arena b.store b.layout.arena) c.self.view_is
     (store_closed i.store b c.args.self.now.layout.arena (ap (λ (r : Running). r.layout.arena) c.self.view_is) c.close_blocks.result blocks c.close_blocks.ensures.closed c.close_blocks.ensures.arena c.close_blocks.ensures.refused)
+
+pub returns-then-is_err-clause-joins : goal.returns-then-is_err-clause-joins
+returns-then-is_err-clause-joins c =
+    let i = c.self.inside in
+    let b = c.close_blocks.new.self in
+    let blocks = subst (λ (r : Running). is_some (walk_of r.state.store.frames) ≡ true) (sym c.self.view_is) c.requires.blocks in
+    subst (λ (r : Running). GrowsBy (closing_bytes r.state.store.frames b.store.frames) c.args.self.now.layout.arena b.store b.layout.arena) c.self.view_is
+    (store_closed i.store b c.args.self.now.layout.arena (ap (λ (r : Running). r.layout.arena) c.self.view_is) c.close_blocks.result blocks c.close_blocks.ensures.closed c.close_blocks.ensures.arena c.close_blocks.ensures.refused)
