@@ -381,7 +381,7 @@ impl<'p> Session<'p> {
     }
 
     /// How it ended, where it has, which is taken out: the session goes back to what `begin` gives for its program, in
-    /// the room that it has, of which it lets go as `refuse` does.
+    /// the room that is left, of which it lets go as `refuse` does.
     pub fn take_end(&mut self) -> Option<SessionEnd>
         ensures end { option_map end_of result ≡ end_in self.old }
         ensures begun { self.new ≡ begun self.old.program }
