@@ -7,5 +7,5 @@ pub invariant_of-self : goal.invariant_of-self
 invariant_of-self c =
     let P = c.self.inside.program.now in
     let input = c.clear.new.self.items in
-    subst (λ m. IsKept (run_of P input false m)) (sym c.end_and_reset.ensures.begun)
+    subst (λ m. IsKept (run_of P input false m)) (sym c.end_and_reset-end.ensures.begun)
     (kept_at_start P input false (c.machines_go_on_with_more_input.ensures.under P) (c.machines_go_on_with_more_input.ensures.begins input))
