@@ -7,7 +7,7 @@ use outcome::Mismatch;
 /// How a run ended, as a machine keeps it.
 #[derive(Drop)]
 pub(crate) enum Ended {
-    /// So.
+    /// With this end, an output of which is copied.
     Told(End),
     /// With the output, which lies in the store: one segment, with which the arena begins.
     InStore,
