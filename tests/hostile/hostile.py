@@ -1,10 +1,13 @@
 """The checks of tests/hostile.sh. Usage: hostile.py PROGRAM"""
-import json, os, random, socket, subprocess, sys, threading, time
+import json, os, random, resource, socket, subprocess, sys, threading, time
 
 PROGRAM = sys.argv[1]
 CLIENTS, ROUNDS = 64, 4 if os.environ.get("SHORT") else 12
 IDLE_SECONDS, MOST_IDLE_SHARE = 5 if os.environ.get("SHORT") else 10, 0.05  # of processor time, which other load does not add to
-SILENT_CONNECTIONS = 4  # as many as a default service has clients
+SILENT, TRICKLING, UNREAD = (200, 50, 20) if os.environ.get("SHORT") else (1_000, 200, 50)
+GOOD = 100  # requests that are timed beside these
+FEW_FILES = 128  # open files of a service that meets its limit
+MOST_HELD = 4 * (128 + 84) << 20  # bytes of a service of 4 clients: those of waiting connections, and of the request that is served
 PATIENCE = 300  # seconds for one answer
 LONGS = 100_000  # items of a message that takes many turns
 
@@ -41,8 +44,9 @@ SCHEMAS = [
 
 
 class Server:
-    def __init__(self, *words):
-        self.process = subprocess.Popen([PROGRAM, "serve", "--port", "0", *words], stdout=subprocess.PIPE)
+    def __init__(self, *words, files=None):
+        limit = None if files is None else (lambda: resource.setrlimit(resource.RLIMIT_NOFILE, (files, files)))
+        self.process = subprocess.Popen([PROGRAM, "serve", "--port", "0", *words], stdout=subprocess.PIPE, preexec_fn=limit)
         told = self.process.stdout.readline().split()
         assert told[:1] == [b"listening"], told
         self.port = int(told[1])
@@ -53,6 +57,11 @@ class Server:
     def processor_time(self):
         with open("/proc/%d/stat" % self.process.pid) as stat:
             return sum(map(int, stat.read().rsplit(")", 1)[1].split()[11:13])) / os.sysconf("SC_CLK_TCK")
+
+    def most_memory(self):
+        """The most bytes that were resident."""
+        with open("/proc/%d/status" % self.process.pid) as status:
+            return next(int(line.split()[1]) << 10 for line in status if line.startswith("VmHWM"))
 
     def exchange(self, data, pieces=1, pause=0.0, cut=False):
         """All bytes that come back before the server closes, to bytes that are sent in so many pieces."""
@@ -224,39 +233,157 @@ def idle(server, name):
     check("%s an idle service takes under %.0f %% of a processor" % (name, MOST_IDLE_SHARE * 100), share < MOST_IDLE_SHARE, "%.2f %%" % (share * 100))
 
 
-def answered_beside(silent, *words):
-    """How many of a few requests are answered rightly while so many connections send nothing, and in how many seconds."""
-    server = Server(*words)
+def good_ones(server, count):
+    """How many of so many requests are answered rightly, and the seconds of each."""
+    chance = random.Random(1)
+    right, times = 0, []
+    for _ in range(count):
+        bytes_, want = messages(chance)
+        begin = time.monotonic()
+        right += server.exchange(bytes_) == want
+        times.append(time.monotonic() - begin)
+    return right, sorted(times)
+
+
+def told_times(times):
+    return "median %.1f ms, worst %.1f ms" % (times[len(times) // 2] * 1e3, times[-1] * 1e3)
+
+
+def trickle(server, stop):
+    """Sends requests a byte at a time, one after another, and compares their answers."""
+    chance = random.Random(3)
+    while not stop.is_set():
+        bytes_, want = messages(chance)
+        with server.connect() as connection:
+            for at in range(len(bytes_)):
+                connection.sendall(bytes_[at : at + 1])
+                if stop.wait(0.02):
+                    return
+            got = b""
+            while piece := connection.recv(1 << 16):
+                got += piece
+        told("trickling", got, want)
+
+
+def crowd():
+    """Default options, with time enough for all: silent ones, trickling ones, ones that read nothing, cut and malformed ones."""
+    server = Server("--head-timeout", str(10 * PATIENCE), "--request-timeout", str(10 * PATIENCE))
+    stop = threading.Event()
+    wrong.clear()
     try:
         register(server)
-        idle(server, "after a few requests")
-        start = time.monotonic()
-        idle_ones = [server.connect() for _ in range(silent)]
-        time.sleep(0.5)
-        chance = random.Random(1)
-        answered = 0
-        for _ in range(20):
-            bytes_, want = messages(chance)
-            answered += server.exchange(bytes_) == want
-        took = time.monotonic() - start
-        for connection in idle_ones:
+        held = [server.connect() for _ in range(SILENT)]
+        for _ in range(UNREAD):
+            held.append(server.connect())
+            held[-1].sendall(long_messages(random.Random(5))[0])
+        threads = [threading.Thread(target=guarded, args=(trickle, server, stop)) for _ in range(TRICKLING)]
+        threads += [threading.Thread(target=guarded, args=(hostile, server, at)) for at in range(8)]
+        for thread in threads:
+            thread.start()
+        right, times = good_ones(server, GOOD)
+        stop.set()
+        for thread in threads:
+            thread.join()
+        name = "%d good requests beside %d silent, %d trickling, %d unread and 8 hostile clients: %s"
+        check(name % (GOOD, SILENT, TRICKLING, UNREAD, told_times(times)), right == GOOD and not wrong, "%d right; %s" % (right, "; ".join(wrong[:5])))
+        most = server.most_memory()
+        check("the service took %d MiB at most, within its bound" % (most >> 20), most < MOST_HELD, most)
+        for connection in held:
             connection.close()
-        return answered, took
+    finally:
+        stop.set()
+        server.close()
+
+
+def late_ones_are_closed():
+    """A head, a body and an answer that take longer than their time."""
+    server = Server("--head-timeout", "1", "--request-timeout", "3")
+    try:
+        register(server)
+        whole, _ = messages(random.Random(7))
+        for name, start, least in ("head", whole[:9], 0.9), ("body", whole[:-1], 2.9):
+            begin = time.monotonic()
+            with server.connect() as connection:
+                connection.sendall(start)
+                got = connection.recv(1 << 16)
+            took = time.monotonic() - begin
+            check("a %s that does not come is closed after its time: %.1f s" % (name, took), got == b"" and took > least, "%r" % got[:100])
     finally:
         server.close()
 
 
-def silent_connections():
-    """With a timeout beyond our patience: what is stopped is not answered. Then with a short one, after which it is."""
-    few, many = SILENT_CONNECTIONS, str(SILENT_CONNECTIONS + 1)
-    answered, took = answered_beside(few, "--clients", many, "--request-timeout", str(10 * PATIENCE))
-    check("%d connections that send nothing do not stop a service of %s clients: %.1f s" % (few, many, took), answered == 20, "%d answers" % answered)
-    answered, took = answered_beside(few, "--request-timeout", "5")
-    check("%d connections that send nothing hold a default service for its 5 s, and it answers then: %.1f s" % (few, took), answered == 20 and took > 4.9, "%d answers" % answered)
+def no_more_files():
+    """More silent connections than a service may have open files: the oldest go, and good requests are answered."""
+    server = Server("--head-timeout", str(10 * PATIENCE), "--request-timeout", str(10 * PATIENCE), files=FEW_FILES)
+    try:
+        register(server)
+        held = [server.connect() for _ in range(2 * FEW_FILES)]
+        right, times = good_ones(server, GOOD)
+        check("%d silent connections to a service of %d open files: %s" % (2 * FEW_FILES, FEW_FILES, told_times(times)), right == GOOD, "%d right" % right)
+        for connection in held:
+            connection.close()
+    finally:
+        server.close()
 
 
+def large_at_once():
+    """Bodies of a MiB from 16 clients at once."""
+    server = Server("--request-timeout", str(10 * PATIENCE))
+    wrong.clear()
+    payload = number(1) + text("x" * (1 << 20))
+    want = answer(200, BYTES, envelope(2, text("x" * (1 << 20)) + number(7)))
+
+    def ask():
+        for _ in range(ROUNDS):
+            told("1 MiB", server.exchange(request("POST", "/transcode/2", envelope(1, payload))), want)
+
+    try:
+        register(server)
+        threads = [threading.Thread(target=guarded, args=(ask,)) for _ in range(16)]
+        for thread in threads:
+            thread.start()
+        for thread in threads:
+            thread.join()
+        check("messages of 1 MiB from 16 clients at once", not wrong, "; ".join(wrong[:5]))
+    finally:
+        server.close()
+
+
+def bytes_behind():
+    """What comes after a request costs none of its answer, whatever that is, and nobody is reset."""
+    server = Server()
+    wrong.clear()
+    try:
+        register(server)
+        long_request, long_answer = long_messages(random.Random(9))
+        kinds = [
+            (request("GET", "/subjects/none/versions"), fault(404, 40401, "subject not found")),
+            (request("GET", "/nothing"), fault(404, 404, "no such route")),
+            (request("DELETE", "/subjects"), None),
+            (b"POST /transcode/2 HTTP/1.1\r\ncontent-length: 99999999\r\n\r\n", None),
+            (long_request, long_answer),
+            no_head(None),
+            no_envelope(None),
+        ]
+        for bytes_, want in kinds:
+            for behind in b"", b"\r\n", request("GET", "/config"), b"x" * 100_000, b"x" * 3_000_000:
+                got = server.exchange(bytes_ + behind, pieces=3, pause=0.01)
+                told("behind", got, got if want is None and got.startswith(b"HTTP/1.1 4") else want)
+        check("%d answers to requests with bytes behind them are whole" % (5 * len(kinds)), not wrong, "; ".join(wrong[:5]))
+    except Exception as error:
+        check("answers to requests with bytes behind them", False, repr(error))
+    finally:
+        server.close()
+
+
+soft, hard = resource.getrlimit(resource.RLIMIT_NOFILE)
+resource.setrlimit(resource.RLIMIT_NOFILE, (min(hard, 16_384) if hard > 0 else 16_384, hard))
 at_once("4 clients and 4 workers", "--clients", "4", "--workers", "4")
 at_once("4 clients and 1 worker", "--clients", "4", "--workers", "1")
 at_once("1 client and 4 workers", "--clients", "1", "--workers", "4")
-silent_connections()
+crowd()
+late_ones_are_closed()
+no_more_files()
+large_at_once()
+bytes_behind()
 print("all were tried")
