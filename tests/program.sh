@@ -62,7 +62,8 @@ printf 'finish 0\n' | "$program" replay >/dev/full 2>"$err"; status=$?; : >"$out
 "$program" replay more </dev/null >"$out" 2>"$err"; want 'replay and a further word' 2 none some
 printf '%s02|61\n' "$listing" | "$program" run >/dev/full 2>"$err"; status=$?; : >"$out"; (exit $status); want 'run to a full device' 3 none none
 for words in '--port 65536' '--port -1' '--clients 0' '--clients 65' '--each -1' '--each 4294967296' '--request-timeout 0' \
-  '--request-timeout 3601' '--workers' '--workers 0' '--workers 65' 'more'; do
+  '--request-timeout 3601' '--workers' '--workers 0' '--workers 65' '--connections 0' '--connections 65537' '--head-timeout 0' \
+  '--head-timeout 3601' '--address' '--address localhost' '--address 127.0.0.256' '--log yes' 'more'; do
   "$program" serve $words </dev/null >"$out" 2>"$err"; want "serve $words" 2 none some
 done
 "$program" serve --help </dev/null >"$out" 2>"$err"; want 'help of serve' 0 some none
@@ -72,7 +73,7 @@ for _ in $(seq 600); do grep -q '^listening ' "$out" && break; sleep 0.1; done
 port=$(sed -n 's/^listening //p' "$out")
 [ -n "$port" ] || { echo "serve does not say where it listens: $(head -c 300 "$out" "$err")"; kill "$server"; }
 "$program" serve --port "$port" </dev/null >"$folder/second" 2>"$folder/second_err"; status=$?
-[ "$status" = 3 ] && [ ! -s "$folder/second" ] && [ ! -s "$folder/second_err" ] && passed=$((passed + 1)) \
+[ "$status" = 3 ] && grep -qx "cannot listen on 127.0.0.1:$port: .*" "$folder/second" && [ ! -s "$folder/second_err" ] && passed=$((passed + 1)) \
   || { echo "a port that is taken: $status"; failed=$((failed + 1)); }
 for path in config nowhere; do
   exec 3<>"/dev/tcp/127.0.0.1/$port"; printf 'GET /%s HTTP/1.1\r\n\r\n' "$path" >&3; timeout 300 cat <&3 >/dev/null; exec 3>&-
