@@ -1,7 +1,9 @@
 // A small server by hand, as a limit to compare `avrogate serve` with: threads that each accept a connection of 127.0.0.1,
 // read one request, answer it and close. It knows three routes (register a schema, give a schema by its id, rewrite a
 // message) and one pair of schemas, whose messages it reads with the checks of docs/RULES.md and writes in the shortest
-// form. What it answers has the same bytes. It checks no schema and no compatibility. bench/service.sh builds and runs it.
+// form. What it answers has the same bytes. It has the deadlines of ours for a head, a request and an answer, and ends a
+// connection as ours does, so that no client is reset; but a thread waits for one connection, so that silent ones stop it.
+// It checks no schema and no compatibility. bench/service.sh builds and runs it.
 // Usage: service PORT THREADS   (port 0 is any free one; it prints `listening P`)
 #include <arpa/inet.h>
 #include <netinet/in.h>
@@ -10,6 +12,7 @@
 #include <unistd.h>
 
 #include <algorithm>
+#include <chrono>
 #include <csignal>
 #include <cstdint>
 #include <cstdio>
@@ -28,8 +31,8 @@ using std::string_view;
 constexpr size_t HEAD = 16384, TEXT = 16777216, MESSAGE = TEXT + 5, OUTPUT = 67108864;
 constexpr uint64_t UNITS = 1048576;
 
-// The message: id long, name string, tags array of string, score int; the reader's score is a long, and behind it comes
-// its source, a string, whose default is "none".
+// The message: id long, name string, tags array of string, data bytes, score int; the reader's score is a long, and after it
+// comes its source, a string, whose default is "none".
 
 struct Fault {
     const char* kind;
@@ -64,6 +67,7 @@ struct Payload {
     int64_t long_number() { return signed_number(10, 1); }
     int64_t int_number() { return signed_number(5, 15); }
 
+    string_view bytes_();
     string_view text();
 };
 
@@ -89,14 +93,20 @@ bool is_utf8(string_view text) {
     return true;
 }
 
-string_view Payload::text() {
+string_view Payload::bytes_() {
     size_t begin = at;
     int64_t length = long_number();
     if (length < 0 || length > int64_t(TEXT)) throw Fault{"BadLength", begin};
     need(length);
-    string_view text(reinterpret_cast<const char*>(bytes + at), length);
-    if (!is_utf8(text)) throw Fault{"BadText", at};
+    string_view all(reinterpret_cast<const char*>(bytes + at), length);
     at += length;
+    return all;
+}
+
+string_view Payload::text() {
+    string_view text = bytes_();
+    size_t from = at - text.size();
+    if (!is_utf8(text)) throw Fault{"BadText", from};
     return text;
 }
 
@@ -135,6 +145,7 @@ void rewrite(string_view message, string& out) {
     if (items > 0) put_number(out, items);
     out += tags;
     out += '\0';
+    put_text(out, payload.bytes_());
     put_number(out, payload.int_number());
     put_text(out, "none");
     if (payload.at < payload.size) throw Fault{"Trailing", payload.at};
@@ -232,8 +243,13 @@ long body_length(string_view head) {
     return length;
 }
 
-// more bytes of the request; false where none came
-bool receive(int connection, string& request, size_t most) {
+using Clock = std::chrono::steady_clock;
+constexpr std::chrono::seconds HEAD_TIME(5), REQUEST_TIME(10), ANSWER_TIME(10), REST_TIME(2);
+constexpr size_t SENT_AT_ONCE = 16384;
+
+// more bytes of the request; false where none came, or time is up
+bool receive(int connection, string& request, size_t most, Clock::time_point deadline) {
+    if (Clock::now() > deadline) return false;
     size_t had = request.size();
     request.resize(had + most);
     ssize_t got = recv(connection, &request[had], most, 0);
@@ -244,19 +260,39 @@ bool receive(int connection, string& request, size_t most) {
 // one request, and its answer; false where no byte came
 bool serve(int connection, string& request, string& out) {
     request.clear();
+    auto begun = Clock::now();
     size_t head;
-    while ((head = request.find("\r\n\r\n")) == request.npos && request.size() <= HEAD && receive(connection, request, 4096)) {}
+    while ((head = request.find("\r\n\r\n")) == request.npos && request.size() <= HEAD && receive(connection, request, 4096, begun + HEAD_TIME)) {}
     if (request.empty()) return false;
     size_t one = request.find(' '), two = request.find(' ', one + 1);
     long length = head == request.npos ? -1 : body_length(string_view(request).substr(0, head + 2));
     if (length < 0 || two == request.npos || two > head) return refuse(out, "400 Bad Request", 400, "bad request"), true;
     if (length > long(MESSAGE)) return refuse(out, "413 Payload Too Large", 41301, "too large"), true;
     size_t whole = head + 4 + length;
-    while (request.size() < whole && receive(connection, request, std::min<size_t>(whole - request.size(), 65536))) {}
+    while (request.size() < whole && receive(connection, request, std::min<size_t>(whole - request.size(), 262144), begun + REQUEST_TIME)) {}
     if (request.size() < whole) return refuse(out, "400 Bad Request", 400, "bad request"), true;
     string_view view(request);
     route(view.substr(0, one), view.substr(one + 1, two - one - 1), view.substr(head + 4, length), out);
     return true;
+}
+
+bool send_all(int connection, const string& out) {
+    auto deadline = Clock::now() + ANSWER_TIME;
+    for (size_t sent = 0; sent < out.size();) {
+        ssize_t more = send(connection, out.data() + sent, out.size() - sent, MSG_NOSIGNAL);
+        if (more <= 0 || Clock::now() > deadline) return false;
+        sent += more;
+    }
+    return true;
+}
+
+// takes what still comes, so that the client is not reset
+void finish(int connection, size_t length) {
+    static thread_local char rest[65536];
+    if (length <= SENT_AT_ONCE && recv(connection, rest, sizeof rest, MSG_DONTWAIT) <= 0) return;
+    if (shutdown(connection, SHUT_WR) != 0) return;
+    auto deadline = Clock::now() + REST_TIME;
+    while (Clock::now() < deadline && recv(connection, rest, sizeof rest, 0) > 0) {}
 }
 
 void client(int listener) {
@@ -267,13 +303,7 @@ void client(int listener) {
         timeval limit{5, 0};
         setsockopt(connection, SOL_SOCKET, SO_RCVTIMEO, &limit, sizeof limit);
         setsockopt(connection, SOL_SOCKET, SO_SNDTIMEO, &limit, sizeof limit);
-        if (serve(connection, request, out)) {
-            for (size_t sent = 0; sent < out.size();) {
-                ssize_t more = send(connection, out.data() + sent, out.size() - sent, MSG_NOSIGNAL);
-                if (more <= 0) break;
-                sent += more;
-            }
-        }
+        if (serve(connection, request, out) && send_all(connection, out)) finish(connection, out.size());
         close(connection);
     }
 }

@@ -1,8 +1,8 @@
 #!/usr/bin/env bash
 # `avrogate serve` beside a small server by hand (bench/service.cpp), each with 4 client threads and one request a
 # connection, under the load of wrk (Debian's package, which is installed if it is missing): a schema by its id, and
-# messages of about 100 bytes, 10 KB and 1 MiB to a reader with a promoted and an added field, of ours with 1, 2 and 4
-# workers. First all have to answer the same bytes; then come 3 rounds of 2 seconds, in each of which all come in turn.
+# messages of about 100 bytes, 10 KB, 1 MiB and 8 MiB, of many texts and of one byte string, to a reader with a promoted
+# and an added field, of ours with 1 and 4 workers. First all have to answer the same bytes; then come 3 rounds of 2 seconds, in each of which all come in turn.
 # It prints, of each, the median of requests a second and of processor time a request (user and system, of the server
 # alone). wrk shares the machine, so that requests a second say less than processor time. It takes about two minutes. Not
 # part of the gate.
@@ -20,7 +20,7 @@ import json, os, re, statistics, subprocess, sys, time
 from avro_encoding import number, text
 
 program, folder = sys.argv[1:]
-ROUNDS, SECONDS, THREADS, CONNECTIONS, WORKERS = 3, 2, 2, 16, (1, 2, 4)
+ROUNDS, SECONDS, THREADS, CONNECTIONS, WORKERS = 3, 2, 2, 16, (1, 4)
 
 
 def schema(*fields):
@@ -28,21 +28,24 @@ def schema(*fields):
     return json.dumps({"type": "record", "name": "Event", "fields": fields}, separators=(",", ":"), sort_keys=True)
 
 
-SHARED = ("id", "long"), ("name", "string"), ("tags", {"type": "array", "items": "string"})
+SHARED = ("id", "long"), ("name", "string"), ("tags", {"type": "array", "items": "string"}), ("data", "bytes")
 writer = schema(*SHARED, ("score", "int"))
 reader = schema(*SHARED, ("score", "long"), ("source", "string", "none"))
 
 
-# the message of a record with so many tags
-def message_of(many):
+# the message of a record with so many tags and so many bytes
+def message_of(many, data=b""):
     tags = ["alpha-%d" % (n % 10) * 2 for n in range(many)]
-    return b"\0\0\0\0\1" + number(1 << 40) + text("Grüße aus dem Büro im Hof") + number(many) + b"".join(map(text, tags)) + b"\0" + number(-1234567)
+    front = b"\0\0\0\0\1" + number(1 << 40) + text("Grüße aus dem Büro im Hof") + (number(many) + b"".join(map(text, tags)) if many else b"")
+    return front + b"\0" + number(len(data)) + data + number(-1234567)
 
 
+MIB = 1 << 20
 TAGS = ["alpha-%d" % n * 2 for n in range(4)]
 message = message_of(4)
 payload = message[5:]
-MESSAGES = {"100 bytes": message, "10 KB": message_of(600), "1 MiB": message_of(61_680)}
+MESSAGES = {"100 bytes": message, "10 KB": message_of(600), "1 MiB of texts": message_of(MIB // 15), "1 MiB of bytes": message_of(0, b"\xfe" * MIB),
+            "8 MiB of texts": message_of(8 * MIB // 15), "8 MiB of bytes": message_of(0, b"\xfe" * (8 * MIB))}
 SPOILT = [message[:-1], message + b"\0", message[:5] + b"\x80" * 10 + payload, message.replace(b"\xc3", b"\xff", 1), message[:4], b"\1" + message[1:],
           b"\0\0\0\0\1" + payload.replace(number(4) + text(TAGS[0]), number(-4) + number(1) + text(TAGS[0]))]
 
