@@ -1,0 +1,41 @@
+//! What is reported of a payload, of a message and of an item of a batch.
+
+use avro_bytes::MalformedKind;
+use outcome::Mismatch;
+use wire_frames::EnvelopeError;
+
+/// What is reported of a payload and the room that was given for its output.
+#[derive(Clone, Copy, Debug, PartialEq, Eq)]
+pub enum PayloadReport {
+    /// The output lies at the room's front, and is so long.
+    Done { length: usize },
+    /// The output is so long, which the room is not.
+    RoomTooSmall { length: usize },
+    Mismatch(Mismatch),
+    /// The first fault, and its offset in the payload.
+    Malformed { kind: MalformedKind, at: usize },
+    OutputTooLarge,
+    PayloadTooLarge,
+    NoMemory,
+}
+
+/// What a call reports.
+#[derive(Clone, Copy, Debug, PartialEq, Eq)]
+pub enum Report {
+    Payload(PayloadReport),
+    /// No pair is open.
+    Closed,
+    /// The bytes are no message.
+    BadEnvelope(EnvelopeError),
+    /// The message names another writer, by this id.
+    OtherWriter { id: u32 },
+    /// The item's payload does not lie within the buffer.
+    OutOfRange,
+}
+
+/// The ids of a pair: what a message has to have, and what its output gets.
+#[derive(Clone, Copy, Debug, PartialEq, Eq)]
+pub struct Ids {
+    pub writer: u32,
+    pub reader: u32,
+}
