@@ -19,12 +19,6 @@ range_of item = (item.payload_offset, item.payload_length)
 abbrev pub payload_of : List ℕ → BatchItem → List ℕ
 payload_of payloads item = take item.payload_length (drop item.payload_offset payloads)
 
--- for a private clause: the item's payload, or that it does not lie within the buffer
-abbrev pub IsPayloadOf : List ℕ → BatchItem → Option (List ℕ) → Type 0
-IsPayloadOf payloads item (Some payload) = (item.payload_offset + item.payload_length ≤ length payloads)
-    × (payload ≡ payload_of payloads item)
-IsPayloadOf payloads item None = length payloads < item.payload_offset + item.payload_length
-
 -- what is reported of an item's payload, with this room for its output
 abbrev pub ReportsItem : Pair → List ℕ → List ℕ → BatchItem → Report → Type 0
 ReportsItem pair payloads room item (reports.Payload report) = (item.payload_offset + item.payload_length ≤ length payloads)

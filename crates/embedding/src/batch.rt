@@ -1,7 +1,7 @@
 //! Many payloads by one call.
 
-ghost use Rattle.std.specs.Prelude.{◌≡◌, ◌≤◌, ◌+◌, length, map, take};
-ghost use Rattle.embedding.specs.Batch.{IsBatch, IsItem, IsPayloadOf, output_length, range_of};
+ghost use Rattle.std.specs.Prelude.{◌≡◌, ◌≤◌, ◌<◌, ◌+◌, MatchOption, length, map, take};
+ghost use Rattle.embedding.specs.Batch.{IsBatch, IsItem, output_length, payload_of, range_of};
 
 use crate::numbers::ReportNumbers;
 use crate::owning::OwningTranscoder;
@@ -21,7 +21,9 @@ pub struct BatchItem {
 impl BatchItem {
     /// Returns its payload; None where that does not lie within the buffer.
     fn payload<'b>(&self, payloads: &'b [u8]) -> Option<&'b [u8]>
-        ensures { IsPayloadOf payloads.now self.now result }
+        ensures { MatchOption result (length payloads.now < self.now.payload_offset + self.now.payload_length)
+            (λ payload. (self.now.payload_offset + self.now.payload_length ≤ length payloads.now)
+            × (payload.now ≡ payload_of payloads.now self.now)) }
     {
         if self.payload_offset > payloads.len() {
             return None;

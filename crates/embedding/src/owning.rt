@@ -1,6 +1,6 @@
 //! A pair of schemas, and all that it takes to transcode one payload after another.
 
-ghost use Rattle.std.specs.Prelude.{◌≡◌, ℕ, List, None, IfErr, IfOk};
+ghost use Rattle.std.specs.Prelude.{◌≡◌, ◌≤◌, ◌+◌, ◌++◌, ℕ, List, None, IfErr, IfOk, length, take};
 ghost use Rattle.program_definition.specs.Code.{code_of};
 ghost use Rattle.program_lowering.specs.declared.error.CompileError.TheVariants.{ProgramTooLarge};
 ghost use Rattle.wire_frames.specs.Envelope.{prefix};
@@ -38,6 +38,16 @@ impl Model for OwningTranscoder {
     ghost view = { λ t. record { writer = t.pair.writer.nodes; reader = t.pair.reader.nodes } };
 }
 
+/// Writes a head and an output to the room's front.
+#[inline(always)]
+fn write_both(head: &[u8], output: &[u8], room: &mut [u8])
+    requires { length head.now + length output.now ≤ length room.old }
+    ensures { take (length head.now + length output.now) room.new ≡ head.now ++ output.now }
+{
+    room[..head.len()].copy_from_slice(head);
+    room[head.len()..head.len() + output.len()].copy_from_slice(output);
+}
+
 /// Writes a head and the output of an outcome to the room's front, where it is done and both fit. Returns what is
 /// reported of it.
 #[inline(always)]
@@ -50,8 +60,7 @@ fn report_of(outcome: &Outcome, head: &[u8], room: &mut [u8]) -> PayloadReport
             if length > room.len() {
                 return PayloadReport::RoomTooSmall { length };
             }
-            room[..head.len()].copy_from_slice(head);
-            room[head.len()..length].copy_from_slice(output);
+            write_both(head, output, room);
             PayloadReport::Done { length }
         }
         Outcome::Mismatch(mismatch) => PayloadReport::Mismatch(*mismatch),
