@@ -9,7 +9,6 @@ ghost use Rattle.embedding.specs.Batch.{ReportsBatch, range_of};
 ghost use Rattle.embedding.specs.Opening.{TellsOpening, TellsReading};
 ghost use Rattle.embedding.specs.Report.{ReportsMessage, ReportsPayload, Tells};
 ghost use Rattle.embedding.specs.Words.{WritesWords};
-ghost use Rattle.embedding.specs.declared.TheConstants.{VERSION};
 
 use embedding::{BatchItem, Ids, ReportNumbers, VERSION, report_reading, write_words};
 use std::alloc::Global;

@@ -47,7 +47,7 @@ fault_of (errors.Reader fault) = fault_code fault
 fault_of errors.ProgramTooLarge = 0
 fault_of errors.NoMemory = 0
 
--- the first fault of a text, unless memory ran out
+-- for a private clause: the first fault of a text, unless memory ran out
 abbrev pub IsTextFault : List ℕ → TextFault → Type 0
 IsTextFault text faults.NotUtf8 = ¬ (IsUtf8 text)
 IsTextFault text (faults.Schema e) = e ≢ schema.NoMemory → schema_of text ≡ Err e
@@ -61,10 +61,15 @@ ParsesBytes text (Err fault) = IsTextFault text fault
 abbrev pub IsPairOfTexts : List ℕ → List ℕ → Pair → Type 0
 IsPairOfTexts w r pair = (schema_of w ≡ Ok pair.writer) × (schema_of r ≡ Ok pair.reader)
 
--- why two texts make no pair, the first reason, unless memory ran out
+-- the first fault of a text
+abbrev pub IsFirstFault : List ℕ → TextFault → Type 0
+IsFirstFault text faults.NotUtf8 = ¬ (IsUtf8 text)
+IsFirstFault text (faults.Schema e) = (e ≢ schema.NoMemory) × (schema_of text ≡ Err e)
+
+-- why two texts make no pair, the first reason; nothing where memory ran out
 abbrev pub IsOpenError : List ℕ → List ℕ → OpenError → Type 0
-IsOpenError w r (errors.Writer fault) = IsTextFault w fault
-IsOpenError w r (errors.Reader fault) = IsTextFault r fault × (W : List Node) × (schema_of w ≡ Ok W)
+IsOpenError w r (errors.Writer fault) = IsFirstFault w fault
+IsOpenError w r (errors.Reader fault) = IsFirstFault r fault × (W : List Node) × (schema_of w ≡ Ok W)
 IsOpenError w r errors.ProgramTooLarge = (pair : Pair) × IsPairOfTexts w r pair × (program_of pair.writer pair.reader ≡ None)
 IsOpenError w r errors.NoMemory = Unit {0}
 
