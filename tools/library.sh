@@ -1,0 +1,68 @@
+#!/usr/bin/env bash
+# Makes the library that programs in other languages use: FOLDER/include/avrogate.h, FOLDER/lib/libavrogate.a,
+# FOLDER/lib/libavrogate.so and FOLDER/lib/pkgconfig/avrogate.pc. Both libraries show the functions of the header alone.
+# The code is what `rt lib` makes of crates/avrogate_c, which takes minutes where the crates below are built in this
+# checkout, and the time of their proofs where they are not; where `rt ci` has left their libraries, and nothing has
+# changed since, it is compiled over those. Beside it is the toolchain's object that calls malloc, realloc and free.
+# It needs a C compiler and binutils, which are installed with apt-get where there are none.
+# Usage: tools/library.sh FOLDER
+set -euo pipefail
+[ $# = 1 ] || { echo "usage: $0 FOLDER" >&2; exit 2; }
+mkdir -p "$1"
+folder=$(realpath "$1") top=$(realpath "$(dirname "$0")/..")
+. "$top/tests/packages.sh"
+command_of cc gcc libc6-dev
+command_of objcopy binutils
+kit=$(dirname "$(rt doc)")
+crate=$top/crates/avrogate_c
+read -r -a below <<<"$(sed -n 's/^avrogate_c staticlib: //p' "$top/crates.txt")"
+
+# Whether `rt ci` has left each library below, newer than all that it was made of.
+are_left() {
+  local name rlib
+  for name in "${below[@]}"; do
+    rlib=$top/crates/$name/out/rlib/$name.rlib/format
+    [ -e "$rlib" ] && [ ! -e "$top/crates/$name/out/rlib/stamp" ] || return 1
+    [ -z "$(find "$top/crates/$name" -path '*/out' -prune -o -newer "$rlib" -type f -print -quit)" ] || return 1
+  done
+}
+# Compiles the crate over those.
+compile() {
+  local name rlib words=(--crate-name avrogate_c src/lib.rt --extern "std=$kit/rlibs/std.rlib" -L "dependency=$kit/rlibs")
+  for name in "${below[@]}"; do words+=(--extern "$name=$top/crates/$name/out/rlib/$name.rlib"); done
+  for rlib in "$top"/crates/*/out/rlib; do words+=(-L "dependency=$rlib"); done
+  words+=(--antt-project "$kit/rattle/logic/antt-project.json" --logic-built "$kit/logic_built" --jobs 2)
+  for name in avrogate_c "${below[@]}"; do words+=(--links "$name="); done
+  "$kit/bin/rattle" build "${words[@]}" --crate-type staticlib --toolchain "$kit/toolchain" --backend llvm -o out/libavrogate_c.a
+}
+log=$(mktemp) work=$(mktemp -d)
+trap 'rm -rf "$log" "$work"' EXIT
+cd "$crate"
+mkdir -p out
+if are_left; then compile >"$log" 2>&1; else rt lib >"$log" 2>&1; fi || { tail -n 40 "$log" >&2; exit 1; }
+grep '^logic=' "$log" | tail -n 1
+
+cd "$work"
+ar x "$crate/out/libavrogate_c.a"
+ar x "$kit/c/liblibc_c.a"
+ld -r -o whole.o ./*.o
+objcopy --wildcard --keep-global-symbol='avrogate_*' whole.o avrogate.o
+mkdir -p "$folder/include" "$folder/lib/pkgconfig"
+cp "$top/include/avrogate.h" "$folder/include/"
+number() { sed -n "s/^#define AVROGATE_VERSION_$1 //p" "$folder/include/avrogate.h"; }
+major=$(number MAJOR) version=$major.$(number MINOR).$(number PATCH)
+rm -f "$folder/lib/libavrogate.a"
+ar rcsD "$folder/lib/libavrogate.a" avrogate.o
+echo 'AVROGATE { global: avrogate_*; local: *; };' >map
+cc -shared -Wl,-soname,"libavrogate.so.$major" -Wl,--version-script,map -Wl,-z,defs -Wl,-z,relro,-z,now \
+  -o "$folder/lib/libavrogate.so.$major" avrogate.o
+ln -sf "libavrogate.so.$major" "$folder/lib/libavrogate.so"
+cat >"$folder/lib/pkgconfig/avrogate.pc" <<PC
+prefix=\${pcfiledir}/../..
+Name: avrogate
+Description: Avro messages, rewritten from their writer's schema into a reader's
+Version: $version
+Cflags: -I\${prefix}/include
+Libs: -L\${prefix}/lib -lavrogate
+PC
+echo "made $folder/lib/libavrogate.a and $folder/lib/libavrogate.so, version $version"
