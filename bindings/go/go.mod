@@ -1,0 +1,3 @@
+module avrogate
+
+go 1.19
