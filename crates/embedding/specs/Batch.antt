@@ -1,6 +1,6 @@
 -- What a batch reports: of each item what its payload alone would report, with the room from where the outputs before it
 -- end. All of this is this project's own.
-use Rattle.std.specs.Prelude.{◌≡◌, ◌≤◌, ◌<◌, ◌+◌, ◌==◌, ℕ, List, [], ◌∷◌, length, take, drop, map, Option, Some, None, if◌then◌else◌}
+use Rattle.std.specs.Prelude.{◌≡◌, ◌≤◌, ◌<◌, ◌+◌, ◌==◌, ℕ, List, [], ◌∷◌, length, take, drop, Option, Some, None, if◌then◌else◌}
 use Rattle.embedding.specs.declared.batch.BatchItem.{BatchItem}
 use Rattle.embedding.specs.declared.numbers.ReportNumbers.{ReportNumbers}
 use Rattle.embedding.specs.declared.report.Report.{Report}

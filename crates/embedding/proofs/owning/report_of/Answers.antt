@@ -1,4 +1,4 @@
-use Rattle.std.proofs.Common.{◌≡◌, ◌++◌, length, refl, subst, arith}
+use Rattle.std.proofs.Common.{◌++◌, refl, subst, arith}
 use Rattle.std.proofs.lemmas.List.{length-append}
 use Rattle.outcome.specs.Outcome.{outcome_of}
 use Rattle.outcome.specs.declared.payload.Outcome as rust

@@ -1,4 +1,4 @@
-use Rattle.std.proofs.Common.{◌≡◌, ◌∙◌, ap, refl}
+use Rattle.std.proofs.Common.{◌∙◌, ap, refl}
 use Rattle.embedding.proofs.Batches.{item_reported}
 use Rattle.embedding.specs.Numbers.{numbers_of}
 use Rattle.embedding.specs.declared.report.PayloadReport.TheVariants as payloads
