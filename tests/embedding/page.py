@@ -15,7 +15,7 @@ for name in ("tools", "bindings"):
 # one shell for all, so that what one block exports stands in the next
 script, wanted, files = ["exec 2>&1"], [], 0
 for found in re.finditer(r"^```\w*\n(.*?)^```\n", page, re.S | re.M):
-    block, named = found[1], re.search(r"`([\w.]+)`:\n\n$", page[: found.start()])
+    block, named = found[1], re.search(r"\*\*([\w.]+)\*\*:\n\n$", page[: found.start()])
     if named:
         files += 1
         with open(os.path.join(WORK, named[1]), "w", encoding="utf-8") as out:
