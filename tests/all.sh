@@ -67,6 +67,7 @@ try_built tests/registry_lock.sh
 try_built tests/plans.sh
 try_built tests/stack.sh
 try_built tests/allocations.sh
+try tests/embedding.sh
 try_built tests/peers/compare.sh
 try_built bench/memory.sh
 [ "$left_out" = 0 ] || echo "$left_out left out"
