@@ -12,9 +12,9 @@ use outcome::Outcome;
 use std::alloc::{AllocError, Global};
 use std::test::Fail;
 
-/// A long text, read in pieces and found ahead, is one segment, as a record is whose slots come in order; a record whose
-/// slots come in another order is two, and an array of such records is more. A short output comes after a long one, and
-/// a long one after a short one.
+/// A long text, read in pieces and found ahead, is one segment, as a record is whose slots come in order; where slots
+/// come in another order, a record is two segments, and an array of such records is more. A short output comes after a
+/// long one, and a long one after a short one.
 const ROWS: &str = "\
 outputs 65540 4096|0 TEXT;1 HALT|828008{65537:61}0262|done 828008{65537:61} done 828008{65537:61};\
 done 0262 done 0262;done 828008{65537:61} done 828008{65537:61};
