@@ -295,6 +295,37 @@ def crowd():
         server.close()
 
 
+def flood():
+    """Clients that send without end after their request, more than there are threads: good requests are answered beside."""
+    server = Server()
+    stop = threading.Event()
+    wrong.clear()
+
+    def pour():
+        while not stop.is_set():
+            try:
+                with server.connect() as connection:
+                    connection.sendall(request("GET", "/nothing"))
+                    while not stop.is_set():
+                        connection.sendall(b"x" * (1 << 20))
+            except OSError:
+                pass  # it is closed after its two seconds
+
+    try:
+        register(server)
+        threads = [threading.Thread(target=pour) for _ in range(16)]
+        for thread in threads:
+            thread.start()
+        time.sleep(0.5)
+        right, times = good_ones(server, GOOD)
+        check("%d good requests beside 16 clients that send without end: %s" % (GOOD, told_times(times)), right == GOOD, "%d right" % right)
+    finally:
+        stop.set()
+        server.close()
+        for thread in threads:
+            thread.join()
+
+
 def late_ones_are_closed():
     """A head, a body and an answer that take longer than their time."""
     server = Server("--head-timeout", "1", "--request-timeout", "3")
@@ -382,6 +413,7 @@ at_once("4 clients and 4 workers", "--clients", "4", "--workers", "4")
 at_once("4 clients and 1 worker", "--clients", "4", "--workers", "1")
 at_once("1 client and 4 workers", "--clients", "1", "--workers", "4")
 crowd()
+flood()
 late_ones_are_closed()
 no_more_files()
 large_at_once()

@@ -42,8 +42,12 @@ pub struct Connections {
     bounds: Bounds,
     poll: Poll,
     events: Events,
-    /// The keys of what was reported and has not been seen to.
+    /// Whether connections to be accepted were reported, and none was tried since.
+    has_new: bool,
+    /// The keys of what was reported, or put off, and has not been seen to.
     ready: VecDeque<usize>,
+    /// The number of these that are seen to before the system is asked again.
+    round: usize,
     /// The keys of whole requests that came while another one was served.
     whole: VecDeque<usize>,
     open: OpenConnections,
@@ -81,7 +85,9 @@ impl Connections {
             bounds,
             poll,
             events: Events::with_capacity(alloc, REPORTS)?,
-            ready: VecDeque::with_capacity(alloc, REPORTS + 1)?,
+            has_new: false,
+            ready: VecDeque::with_capacity(alloc, REPORTS)?,
+            round: 0,
             whole: VecDeque::new(alloc),
             open: OpenConnections::new(alloc),
             late: None,
@@ -105,15 +111,10 @@ impl Connections {
             if let Some(asked) = self.next_whole() {
                 return Some(asked);
             }
-            let asked = match self.ready.pop_front() {
-                Some(NEW) => self.accept(rt, routes),
-                Some(key) => self.resume(rt, routes, key),
-                None if !self.is_accepting && self.open.is_empty() => return None,
-                None => {
-                    self.wait(rt);
-                    None
-                }
-            };
+            if !self.is_accepting && self.open.is_empty() {
+                return None;
+            }
+            let asked = self.see_to_next(rt, routes);
             if asked.is_some() {
                 return asked;
             }
@@ -121,21 +122,34 @@ impl Connections {
         None
     }
 
+    /// Sees to a connection to be accepted, or else to what is ready next; or asks the system where this round is over.
+    /// Returns a request that is to be served.
+    fn see_to_next<R: Clock>(&mut self, rt: &R, routes: &Routes) -> Option<Asked> {
+        if self.has_new {
+            self.has_new = false;
+            return self.accept(rt, routes);
+        }
+        if self.round == 0 {
+            self.wait(rt);
+            return None;
+        }
+        self.round -= 1;
+        let key = self.ready.pop_front()?;
+        self.resume(rt, routes, key)
+    }
+
     /// Reads and writes what is ready of the connections, while a request of this thread is served. Whole requests wait
     /// for `next`. It waits for nothing, and accepts no connection.
     pub fn go_on<R: Clock>(&mut self, rt: &R, routes: &Routes) {
         self.poll_for(Some(Duration::ZERO));
         for _ in 0..self.ready.len() {
-            match self.ready.pop_front() {
-                Some(NEW) => self.put_ready(NEW),
-                Some(key) => {
-                    if let Some(asked) = self.resume(rt, routes, key) {
-                        self.keep_whole(asked);
-                    }
-                }
-                None => return,
+            if let Some(key) = self.ready.pop_front()
+                && let Some(asked) = self.resume(rt, routes, key)
+            {
+                self.keep_whole(asked);
             }
         }
+        self.round = self.ready.len();
     }
 
     /// Sends the answer to a request, with its status, now or as the client takes it.
@@ -364,11 +378,6 @@ impl Connections {
     /// Keeps a connection that may be ready for more, and lets others have their turn.
     fn postpone(&mut self, connection: Connection, stage: Stage) {
         let key = self.keep(connection, stage);
-        self.put_ready(key);
-    }
-
-    /// Notes that a key is to be seen to.
-    fn put_ready(&mut self, key: usize) {
         let _ = self.ready.push_back(key);
     }
 
@@ -381,8 +390,8 @@ impl Connections {
         }
     }
 
-    /// Waits until something is ready, or time is up. What has come before a connection is late is still taken: it is
-    /// closed only after one more look.
+    /// Takes what the system reports, and begins a round of all that is ready. Where nothing is ready yet it waits, until
+    /// time is up. What has come before a connection is late is still taken: it is closed only after one more look.
     fn wait<R: Clock>(&mut self, rt: &R) {
         if let Some(late) = self.late {
             self.late = None;
@@ -392,28 +401,30 @@ impl Connections {
         if let Some(log) = &mut self.log {
             log.flush();
             if log.is_pending() {
-                let soon = Duration::from_millis(LOG_PAUSE);
-                timeout = Some(timeout.map_or(soon, |time| time.min(soon)));
+                timeout = earlier_of(timeout, Duration::from_millis(LOG_PAUSE));
             }
+        }
+        if !self.ready.is_empty() {
+            timeout = Some(Duration::ZERO);
         }
         if !self.poll_for(timeout) {
             thread::sleep(rt, Duration::from_millis(PAUSE));
         }
+        self.round = self.ready.len();
     }
 
-    /// Takes reports, for which it waits so long at most, or without end. Connections to be accepted come first, since no
-    /// other thread is woken for them. Returns whether the system reports at all.
+    /// Takes reports, for which it waits so long at most, or without end. Returns whether the system reports at all.
     fn poll_for(&mut self, timeout: Option<Duration>) -> bool {
         if self.poll.poll(&mut self.events, timeout).is_err() {
             return false;
         }
         for event in self.events.iter() {
             let key = event.token().0;
-            let _ = if key == NEW {
-                self.ready.push_front(key)
+            if key == NEW {
+                self.has_new = true;
             } else {
-                self.ready.push_back(key)
-            };
+                let _ = self.ready.push_back(key);
+            }
         }
         true
     }
@@ -427,6 +438,14 @@ impl Connections {
         }
         Some(soonest.saturating_duration_since(now))
     }
+}
+
+/// Returns the shorter of two times, where both are there.
+fn earlier_of(one: Option<Duration>, other: Duration) -> Option<Duration> {
+    Some(match one {
+        Some(one) => one.min(other),
+        None => other,
+    })
 }
 
 /// Returns when a time has passed from now on. `None` where the clock has no such moment.
