@@ -1,6 +1,6 @@
 //! The body of a request, behind its head.
 
-ghost use Rattle.std.specs.Prelude.{◌≡◌, ◌≤◌, ◌⊎◌, IfErr, IfOk, IfSome, option_map, vec_len};
+ghost use Rattle.std.specs.Prelude.{◌≡◌, ◌<◌, ◌≤◌, ◌⊎◌, IfErr, IfOk, IfSome, length, option_map, vec_len};
 ghost use Rattle.http_request.specs.Body.{IsBodyOf};
 
 use crate::read_error::ReadError;
@@ -11,30 +11,32 @@ use std::io::Read;
 /// How many bytes a reader is asked for at once.
 const CHUNK: usize = 4_096;
 
-/// Reads the body of that length: what was received behind the head, and the rest from the reader. `None` where the
+/// Reads the body of that size: what was received behind the head, and the rest from the reader. `None` where the
 /// reader ends before.
 ///
-/// `Failed` where the reader failed, `NoMemory` where the body finds no room.
+/// `Failed` where the reader failed, which is not asked where the whole body was received; `NoMemory` where the body
+/// finds no room.
 pub fn read_body<R: Read>(
     alloc: Global,
     reader: &mut R,
     received: &[u8],
-    length: usize,
+    size: usize,
 ) -> Result<Option<Vec<u8>>, ReadError>
-    ensures body { IfOk result (λ body. IsBodyOf (R.remaining reader.old) received.now length
+    ensures body { IfOk result (λ body. IsBodyOf (R.remaining reader.old) received.now size
         (option_map (λ v. v.items) body)) }
-    ensures size { IfOk result (λ body. IfSome body (λ v. vec_len v ≤ length)) }
-    ensures fault { IfErr result (λ e. (e ≡ ReadError.Failed) ⊎ (e ≡ ReadError.NoMemory)) }
+    ensures size { IfOk result (λ body. IfSome body (λ v. vec_len v ≤ size)) }
+    ensures fault { IfErr result (λ e. ((e ≡ ReadError.Failed) × (length received.now < size))
+        ⊎ (e ≡ ReadError.NoMemory)) }
 {
     let mut body = received.to_vec(alloc)?;
     let mut chunk = [0u8; CHUNK];
-    while body.len() < length {
-        let wanted = (length - body.len()).min(CHUNK);
+    while body.len() < size {
+        let wanted = (size - body.len()).min(CHUNK);
         match read_once(reader, &mut chunk[..wanted])? {
             0 => return Ok(None),
             count => body.extend_from_slice(&chunk[..count])?,
         }
     }
-    body.truncate(length);
+    body.truncate(size);
     Ok(Some(body))
 }

@@ -8,4 +8,4 @@ invariant-loop-chunk g l = (taken : List ℕ) × (l.body.items ≡ l.fn.received
     × Consumes (g.R.Read.remaining l.fn.reader) (g.R.Read.remaining l.reader) taken
 
 abbrev pub decreases-loop-chunk : goal.decreases-loop-chunk
-decreases-loop-chunk g l = l.length - length l.body.items
+decreases-loop-chunk g l = l.size - length l.body.items
