@@ -3,7 +3,8 @@
 # ones and then at distances that grow. It needs a C compiler, which is installed with apt-get where there is none. Not
 # part of the gate.
 # The program, on inputs to each of its words but `replay`: status 4 and nothing written, or the whole answer where a
-# buffer could stay as it was, or, of `debug`, an answer that tells want of memory. The tests that ask again for what was
+# buffer could stay as it was, or, of `debug`, an answer that tells want of memory. `serve` does not begin, or answers each request, asked once more where
+# it told want of memory. The tests that ask again for what was
 # refused: they pass, or end because what they build themselves was refused (an output that is a vector refuses a write
 # then), or because a call that they compare tells want of memory; an answer that changed fails its assertion.
 # Usage, after `rt ci`, or `rt run` in crates/avrogate and `rt test` in each crate of tests: tests/allocations.sh [PROGRAM]
@@ -13,6 +14,7 @@ set -uo pipefail
 cd "$(dirname "$0")/.."
 . tests/packages.sh
 command_of cc gcc libc6-dev
+command_of python3 python3
 folder=$(mktemp -d)
 trap 'rm -rf "$folder"' EXIT
 cat >"$folder/refuse.c" <<'C'
@@ -88,6 +90,7 @@ each "$folder/pair" compile --image
 each "$folder/debug" debug
 { "$program" compile <"$folder/pair"; printf 'end\n02|3606|666f6f02|00\n0206666f6f\n0g\n'; } >"$folder/run"
 each "$folder/run" run
+if PYTHONDONTWRITEBYTECODE=1 python3 tests/allocations/serve.py "$program" "$folder/refuse.so" "$folder"; then count ok; else count bad 'avrogate serve: see above'; fi
 
 # ask_again CRATE TEST ..: tests that ask again for what was refused, in the test program of their crate
 ask_again() {

@@ -1,0 +1,96 @@
+"""`avrogate serve` with each of its allocations refused in turn, one a run: it does not begin, with status 4; or each request
+is answered as it should be, or 50301, or closed where not even that finds memory, and asked once more it is answered.
+Usage: serve.py PROGRAM REFUSE.so FOLDER   (with SHORT=1 in the environment at distances that grow)"""
+import json, os, socket, subprocess, sys
+
+PROGRAM, LIBRARY, FOLDER = sys.argv[1:]
+PATIENCE = 300
+WRITER = json.dumps({"type": "record", "name": "T", "fields": [{"name": "a", "type": "long"}, {"name": "b", "type": "string"}]})
+READER = json.dumps({"type": "record", "name": "T", "fields": [{"name": "b", "type": "string"}, {"name": "c", "type": "int", "default": 7}]})
+
+
+def number(n):
+    n, out = n << 1, bytearray()
+    while n > 127:
+        out.append(n & 127 | 128)
+        n >>= 7
+    return bytes(out) + bytes([n])
+
+
+def text(size):
+    return number(size) + b"x" * size
+
+
+def message(size):
+    return b"\0\0\0\0\1" + number(1) + text(size), b"\0\0\0\0\2" + text(size) + number(7)
+
+
+# a request, and the body of its answer
+def requests():
+    yield "POST", "/subjects/t/versions", json.dumps({"schema": WRITER}).encode(), b'{"id":1}'
+    yield "POST", "/subjects/t/versions", json.dumps({"schema": READER}).encode(), b'{"id":2}'
+    yield "GET", "/subjects/t/versions", b"", b"[1,2]"
+    for size in 3, 100_000, 1_000_000:
+        yield "POST", "/transcode/2", *message(size)
+
+
+def exchange(port, method, path, body):
+    """The body of the answer, or None where the connection is closed without one."""
+    got = b""
+    with socket.create_connection(("127.0.0.1", port), timeout=PATIENCE) as connection:
+        connection.sendall(b"%s %s HTTP/1.1\r\ncontent-length: %d\r\n\r\n" % (method.encode(), path.encode(), len(body)) + body)
+        while piece := connection.recv(1 << 20):
+            got += piece
+    return got.split(b"\r\n\r\n", 1)[1] if got else None
+
+
+def served(port):
+    """What is wrong with the answers, or None."""
+    for method, path, body, want in requests():
+        for attempt in range(2):
+            got = exchange(port, method, path, body)
+            if got == want:
+                break
+            if attempt == 1 or got is not None and b'"error_code":50301' not in got:
+                return "%s %s: %.100r" % (method, path, got)
+    return None
+
+
+def run(at):
+    """Whether the allocation of that number was made, and what went wrong."""
+    mark = FOLDER + "/served"
+    if os.path.exists(mark):
+        os.remove(mark)
+    environment = {**os.environ, "REFUSE": str(at), "REFUSED": mark, "LD_PRELOAD": LIBRARY}
+    server = subprocess.Popen([PROGRAM, "serve", "--port", "0", "--clients", "1", "--workers", "1"], env=environment, stdout=subprocess.PIPE)
+    try:
+        told = server.stdout.readline().split()
+        if told[:1] == [b"listening"]:
+            try:
+                wrong = served(int(told[1]))
+            except OSError as error:
+                wrong = repr(error)
+            if server.poll() is not None:
+                wrong = "it ended with status %d" % server.returncode
+        else:
+            status = server.wait()
+            wrong = None if status == 4 and not told else "status %d, %r" % (status, told)
+    finally:
+        server.kill()
+        server.wait()
+    return os.path.exists(mark), wrong
+
+
+at, runs, failed = 1, 0, []
+while True:
+    was_refused, wrong = run(at)
+    if wrong:
+        failed.append("avrogate serve, allocation %d: %s" % (at, wrong))
+    if not was_refused or len(failed) > 20:
+        break
+    runs += 1
+    at += 1 + (at // 5 if os.environ.get("SHORT") else 0)
+for line in failed:
+    print(line)
+print("avrogate serve: %d allocations refused in turn" % runs)
+sys.exit(1 if failed or runs == 0 else 0)
