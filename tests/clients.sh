@@ -3,7 +3,7 @@
 # (both of its registry clients, and its serializers) and golang-github-lensesio-schema-registry-dev (with goavro). Each
 # call of the profile by each of them, their messages by way of /transcode, and each call that the profile leaves out with
 # the refusal that names it. A line for each check: `works`, `left out` (such a call, and its refusal) or `FAILED`; then how
-# many there are of each. What is missing of their packages is installed with apt-get, which needs root. Not part of the gate.
+# many there are of each. What is missing of their packages is installed with apt-get, which needs root. The gate runs it.
 # Usage: tests/clients.sh [PROGRAM]   (crates/avrogate/out/avrogate if it is left out)
 set -euo pipefail
 here=$(dirname "$(realpath "$0")")

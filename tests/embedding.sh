@@ -7,8 +7,7 @@
 # docs/EMBEDDING.md shows. A line for each check that fails. With SHORT=1 in the environment there are 500 pairs in place
 # of 5,000. What is missing of Debian's gcc, g++, binutils, pkg-config, valgrind, python3, python3-pip,
 # python3-setuptools, python3-wheel, python3-confluent-kafka, golang-go, cargo and default-jdk-headless is installed with
-# apt-get, which needs root. Not part of the gate, which proves the crates and has tests of the calls in
-# `transcoder_handle`.
+# apt-get, which needs root. The gate runs it; `transcoder_handle` has tests of the calls besides.
 # Usage: tests/embedding.sh [PAIRS] [SEED]
 set -uo pipefail
 top=$(realpath "$(dirname "$0")/..")

@@ -1,7 +1,7 @@
 #!/usr/bin/env bash
 # Fails where README.md, a page of docs/ or tests/peers/README.md names a file, a folder or a crate that is not there, and
 # where docs/MAP.md lacks a crate. A file may be named by its whole path, under its crate, or, in a paragraph that names
-# crates, under one of these. Not part of the gate.
+# crates, under one of these. The gate runs it.
 # Usage: tests/map.sh
 set -euo pipefail
 cd "$(dirname "$0")/.."

@@ -1,7 +1,7 @@
 #!/usr/bin/env bash
 # How often the plan of a program reads a payload: once, whether it finds the output or the rows are taken then. Counted by
 # valgrind's callgrind, as calls from elsewhere into the code that reads what a nest of a plan holds, of payloads that are
-# one such nest: three records that a reader reorders. Not part of the gate. It installs Debian's valgrind where that is
+# one such nest: three records that a reader reorders. The gate runs it. It installs Debian's valgrind where that is
 # missing.
 # Usage: tests/plans.sh [PROGRAM]   (crates/avrogate/out/avrogate if it is left out)
 set -uo pipefail

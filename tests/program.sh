@@ -1,6 +1,6 @@
 #!/usr/bin/env bash
 # What the built program does beyond its answers, which crates/worked_rows has: its words, its statuses, and devices
-# that fail. Not part of the gate.
+# that fail. The gate runs it.
 # Usage: tests/program.sh PROGRAM
 set -uo pipefail
 program=$(realpath "$1")

@@ -2,7 +2,7 @@
 # How briefly `avrogate serve` holds the lock of its registry: while one registration is compared with 4,095 versions,
 # which takes seconds, other requests are answered as if nothing were there: in a small part of the time that the
 # registration takes beside them. A line for each check. It takes a minute or two; with SHORT=1 in the environment it is
-# compared with 1,000 versions. Not part of the gate.
+# compared with 1,000 versions. The gate runs it.
 # Usage: tests/registry_lock.sh [PROGRAM]   (crates/avrogate/out/avrogate if it is left out)
 set -euo pipefail
 here=$(dirname "$(realpath "$0")")

@@ -4,7 +4,7 @@
 # end early. Each has to be answered as it should, and the server has to answer after each. A line for each check. It takes
 # some minutes at most. A thread gets the stack that `ulimit -s` tells (8,192 KiB as a rule); with STACK=1024 in the
 # environment it gets 1,024 KiB, which shows how much of it is needed. With SHORT=1 in the environment what is refused at
-# each depth, and what is left idle at each place, is tried at some of them. Not part of the gate.
+# each depth, and what is left idle at each place, is tried at some of them. The gate runs it.
 # Usage: tests/stack.sh [PROGRAM [PART ..]]   (crates/avrogate/out/avrogate if it is left out; a PART of tests/stack/worst.py)
 set -euo pipefail
 here=$(dirname "$(realpath "$0")")

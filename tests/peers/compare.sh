@@ -3,7 +3,7 @@
 # Each difference has to be one of the rules in rules.py, and tests/peers/README.md says of each why our answer is the
 # specification's: a model of the specification answers as the program does, and with a difference's rules on as the
 # library does. Payloads over which a library would not end are not drawn. What is missing of Debian's packages python3-avro,
-# libavro-java and default-jdk-headless is installed with apt-get, which needs root. Not part of the gate.
+# libavro-java and default-jdk-headless is installed with apt-get, which needs root. The gate runs it.
 # Usage: tests/peers/compare.sh PROGRAM [PAIRS] [SEED]   (20,000 pairs, or 1,000 with SHORT=1 in the environment, and seed 1)
 # Status: 0 nothing is left over, 1 something is, 2 a package cannot be had or a step failed.
 set -uo pipefail
