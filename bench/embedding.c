@@ -1,8 +1,9 @@
-/* Transcodes one message so often, in this process, by libavrogate (`ours`, `batch` by 64 at a time) or by avro-c (`avro`), and compares the
- * last output. avro-c reads the payload through a resolved writer into a value, and writes that again.
- * Usage: embedding ours|batch|avro same|evolved COUNT; prints the nanoseconds of processor time that a message took */
-#include <avrogate.h>
+/* Transcodes one message so often, in this process, by libavrogate (`ours`, `batch` by 64 at a time) or by avro-c
+ * (`avro`), and compares the last output. avro-c reads the payload through a resolved writer into a value, and writes
+ * that again. Usage: embedding ours|batch|avro same|evolved COUNT; prints the nanoseconds of processor time that a
+ * message took */
 #include <avro.h>
+#include <avrogate.h>
 
 #include <stdio.h>
 #include <stdlib.h>
@@ -11,11 +12,11 @@
 
 #define FIELD(name, type) "{\"name\":\"" name "\",\"type\":\"" type "\"}"
 #define RECORD(fields) "{\"type\":\"record\",\"name\":\"User\",\"fields\":[" fields "]}"
-static const char writer[] = RECORD(FIELD("id", "long") "," FIELD("name", "string") "," FIELD("email", "string") "," FIELD("age", "int") ","
-                                    FIELD("active", "boolean") "," FIELD("seen", "long"));
+static const char writer[] = RECORD(FIELD("id", "long") "," FIELD("name", "string") "," FIELD(
+    "email", "string") "," FIELD("age", "int") "," FIELD("active", "boolean") "," FIELD("seen", "long"));
 /* the email is dropped, the age promoted, the fields in another order (avro-c fills no defaults, so none is added) */
-static const char evolved[] = RECORD(FIELD("name", "string") "," FIELD("age", "long") "," FIELD("id", "long") "," FIELD("active", "boolean") ","
-                                     FIELD("seen", "long"));
+static const char evolved[] = RECORD(FIELD("name", "string") "," FIELD("age", "long") "," FIELD("id", "long") "," FIELD(
+    "active", "boolean") "," FIELD("seen", "long"));
 
 enum { BATCH = 64 };
 
@@ -69,13 +70,15 @@ static size_t by_batch(avrogate_transcoder *t, const uint8_t *payload, size_t le
         items[i].payload_length = length;
     }
     for (; count > 0; count -= BATCH) {
-        if (avrogate_transcode_batch(t, payloads, BATCH * length, room, BATCH * 256, items, BATCH) != AVROGATE_OK) return 0;
+        if (avrogate_transcode_batch(t, payloads, BATCH * length, room, BATCH * 256, items, BATCH) != AVROGATE_OK)
+            return 0;
     }
     memmove(room, room + items[BATCH - 1].output_offset, items[BATCH - 1].report.length);
     return items[BATCH - 1].report.status == AVROGATE_OK ? items[BATCH - 1].report.length : 0;
 }
 
-static size_t by_avro(const char *reader_text, const uint8_t *payload, size_t length, uint8_t *room, long count, double *begin) {
+static size_t by_avro(const char *reader_text, const uint8_t *payload, size_t length, uint8_t *room, long count,
+                      double *begin) {
     avro_schema_t w, r;
     avro_value_iface_t *resolver, *kind;
     avro_value_t value, view;
@@ -85,7 +88,8 @@ static size_t by_avro(const char *reader_text, const uint8_t *payload, size_t le
     if (avro_schema_from_json_length(reader_text, strlen(reader_text), &r)) return 0;
     resolver = avro_resolved_writer_new(w, r);
     kind = avro_generic_class_from_schema(r);
-    if (!resolver || !kind || avro_generic_value_new(kind, &value) || avro_resolved_writer_new_value(resolver, &view)) return 0;
+    if (!resolver || !kind || avro_generic_value_new(kind, &value) || avro_resolved_writer_new_value(resolver, &view))
+        return 0;
     avro_resolved_writer_set_dest(&view, &value);
     *begin = now();
     for (; count > 0; count--) {

@@ -15,12 +15,12 @@
  *  - A transcoder is first made by its holder, as AVROGATE_TRANSCODER_INIT or of bytes that are all 0, and from then on
  *    only these functions write it. It is not copied, nor forgotten, while it is open; it may be moved by whoever alone
  *    uses it. A closed one may be closed again.
- *  - Threads: one call at a time uses a transcoder. Another thread may use it next where the holder orders the two calls,
- *    as by a lock or by joining a thread. Calls on different transcoders, and those that take none, need no order.
+ *  - Threads: one call at a time uses a transcoder. Another thread may use it next where the holder orders the two
+ *    calls, as by a lock or by joining a thread. Calls on different transcoders, and those that take none, need no order.
  *  - A pointer with a length leads to so many bytes (or items), which nothing else writes during the call. Where the
  *    length is 0 it may be NULL. No length in bytes is above PTRDIFF_MAX. No other pointer is NULL.
- *  - What a call writes (transcoder, room, report, items, fault) overlaps nothing else that it is passed. So a payload is
- *    not rewritten in its own place.
+ *  - What a call writes (transcoder, room, report, items, fault) overlaps nothing else that it is passed. So a payload
+ *    is not rewritten in its own place.
  *  - malloc, realloc and free come from one allocator, which aligns a block to each power of two up to 16 that divides
  *    its size. No call is made from a signal handler, nor in the forked child of a process with threads.
  *  - The stack has room for a call: 256 KiB for avrogate_open and avrogate_can_read, 64 KiB for the others. (Measured
@@ -49,7 +49,7 @@ extern "C" {
 #define AVROGATE_MOST_PAYLOAD 16777216
 #define AVROGATE_MOST_OUTPUT 67108864
 
-/* What comes before the payload in a message: a byte 0, and the id of the writer's schema in four, the highest first. */
+/* What comes before the payload in a message: a byte 0, and the id of the writer's schema in four, highest first. */
 #define AVROGATE_ENVELOPE_LENGTH 5
 
 /* What a call comes to. */
@@ -172,9 +172,9 @@ uint32_t avrogate_transcode_message(avrogate_transcoder *transcoder,
                                     uint8_t *room, size_t room_length,
                                     avrogate_report *report);
 
-/* The same of many payloads that lie in one buffer. Outputs lie in the room one after another: items[i].output_offset is
- * where that of item i begins, or would, and items[i].report is what avrogate_transcode reports with the room from there
- * on. An output that does not fit takes no place, and a later one may: report.length tells how much room it needs.
+/* The same of many payloads that lie in one buffer. Outputs lie in the room one after another: items[i].output_offset
+ * is where that of item i begins, or would, and items[i].report is what avrogate_transcode reports with the room from
+ * there on. An output that does not fit takes no place, and a later one may: report.length tells how much room it needs.
  * An item whose payload does not lie within the buffer is told OUT_OF_RANGE. Returns OK, or CLOSED, and then the items
  * are as they were. */
 uint32_t avrogate_transcode_batch(avrogate_transcoder *transcoder,
@@ -189,8 +189,8 @@ uint32_t avrogate_can_read(const char *writer, size_t writer_length,
                            const char *reader, size_t reader_length,
                            uint32_t *fault);
 
-/* Writes the words of a status, in English, and a byte 0 to the room's front, where both fit. Returns how long the words
- * are, without that byte: 0 where the number is no status's. 64 bytes are enough for any. */
+/* Writes the words of a status, in English, and a byte 0 to the room's front, where both fit. Returns how long the
+ * words are, without that byte: 0 where the number is no status's. 64 bytes are enough for any. */
 size_t avrogate_status_text(uint32_t status, char *room, size_t room_length);
 
 /* Returns the version of the library, as AVROGATE_VERSION is that of the header. */

@@ -1,13 +1,14 @@
 #!/usr/bin/env bash
-# The library for programs in other languages, made by tools/library.sh: its header beside the source, what it exports; C
-# and C++ as strict compilers take them, statically and dynamically; valgrind on memory and, with four threads, on races;
-# each allocation refused in turn; the stack that the header tells; the packages for Python (installed by pip without a
-# network; with a consumer of librdkafka's mock cluster that upgrades 10,000 messages), Go, Rust and Java, each on pairs of
-# schemas and payloads of tests/peers' generator with the answers of its model of the specification; and what
-# docs/EMBEDDING.md shows. A line for each check that fails. With SHORT=1 in the environment there are 500 pairs in place
-# of 5,000. What is missing of Debian's gcc, g++, binutils, pkg-config, valgrind, python3, python3-pip,
-# python3-setuptools, python3-wheel, python3-confluent-kafka, golang-go, cargo and default-jdk-headless is installed with
-# apt-get, which needs root. The gate runs it; `transcoder_handle` has tests of the calls besides.
+# The library for programs in other languages, made by tools/library.sh: its header beside the source, what it
+# exports; C and C++ as strict compilers take them, statically and dynamically; valgrind on memory and, with four
+# threads, on races; each allocation refused in turn; the stack that the header tells; the packages for Python
+# (installed by pip without a network; with a consumer of librdkafka's mock cluster that upgrades 10,000 messages),
+# Go, Rust and Java, each on pairs of schemas and payloads of tests/peers' generator with the answers of its model of
+# the specification; and what docs/EMBEDDING.md shows. A line for each check that fails. With SHORT=1 in the
+# environment there are 500 pairs in place of 5,000. What is missing of Debian's gcc, g++, binutils, pkg-config,
+# valgrind, python3, python3-pip, python3-setuptools, python3-wheel, python3-confluent-kafka, golang-go, cargo and
+# default-jdk-headless is installed with apt-get, which needs root. The gate runs it; `transcoder_handle` has tests
+# of the calls besides.
 # Usage: tests/embedding.sh [PAIRS] [SEED]
 set -uo pipefail
 top=$(realpath "$(dirname "$0")/..")
@@ -63,8 +64,11 @@ prints() { check "$1" bash -c '"${@:2}" >"$1/told" && diff "$1/told" "$0"' "$own
 build transcode
 prints 'each call in C' "$folder/transcode"
 prints 'memory by valgrind' valgrind -q --leak-check=full --error-exitcode=9 "$folder/transcode"
-check 'pkg-config' bash -c 'cc -std=c99 "$1" $(PKG_CONFIG_PATH=$2/pkgconfig pkg-config --cflags --libs avrogate) -o "$3"' - \
-  "$own/transcode.c" "$made/lib" "$folder/dynamic"
+dynamic() {
+  cc -std=c99 "$own/transcode.c" $(PKG_CONFIG_PATH=$made/lib/pkgconfig pkg-config --cflags --libs avrogate) \
+    -o "$folder/dynamic"
+}
+check 'pkg-config' dynamic
 prints 'each call of the shared library' env LD_LIBRARY_PATH="$made/lib" "$folder/dynamic"
 echo '#include <avrogate.h>' >"$folder/header.cpp"
 check 'the header in C++' c++ -std=c++11 "${strict[@]}" -fsyntax-only "$folder/header.cpp"
@@ -78,20 +82,23 @@ check '64 KiB of stack to transcode' bash -c 'ulimit -s 64; exec "$0" data 999' 
 check '256 KiB of stack to open, arrays' bash -c 'ulimit -s 256; exec "$0" schema 127' "$folder/deep"
 check '256 KiB of stack to open, records' bash -c 'ulimit -s 256; exec "$0" names 1022' "$folder/deep"
 
-"$python" "$own/cases.py" "$folder/cases" "$pairs" "$seed" || exit 1
+count=$("$python" "$own/cases.py" "$folder/cases" "$pairs" "$seed") || exit 1
 export CASES=$folder/cases
 cp -r "$top/bindings" "$folder/bindings"
 cd "$folder/bindings" || exit 1
 # counted COMMAND ..: it ends well, and says how many payloads it has compared, which are those of the cases
-counted() { "$@" 2>&1 | tee "$folder/counted"; [ "${PIPESTATUS[0]}" = 0 ] && grep -q "^\.*$count payloads alone, as messages and in batches" "$folder/counted"; }
-count=$("$python" -c 'import sys; sys.path.insert(0, sys.argv[1]); from pairs_file import pairs_of; print(sum(len(it[2]) for it in pairs_of(sys.argv[2])))' \
-  "$top/tests/peers" "$CASES")
+counted() {
+  "$@" 2>&1 | tee "$folder/counted"
+  [ "${PIPESTATUS[0]}" = 0 ] && grep -q "^\.*$count payloads alone, as messages and in batches" "$folder/counted"
+}
 
-install=(-m pip install -q --no-index --no-build-isolation --no-deps --root-user-action ignore --target "$folder/python" ./python)
-check 'pip install' "$python" "${install[@]}"
+install=(install -q --no-index --no-build-isolation --no-deps --root-user-action ignore --target "$folder/python")
+check 'pip install' "$python" -m pip "${install[@]}" ./python
 export PYTHONPATH=$folder/python AVROGATE_LIBRARY=$shared
 check 'Python' counted "$python" -m unittest discover -s python/tests
-check 'an upgrading consumer' bash -c '"$@" 2>/dev/null | grep -x "10000 messages upgraded, 0 differ"' - "$python" python/tests/kafka_upgrade.py 10000
+upgrade() { "$python" python/tests/kafka_upgrade.py 10000 >"$folder/upgraded"; }
+check 'an upgrading consumer' upgrade
+check 'all of its messages' grep -x '10000 messages upgraded, 0 differ' "$folder/upgraded"
 unset PYTHONPATH
 export PKG_CONFIG_PATH=$made/lib/pkgconfig LD_LIBRARY_PATH=$made/lib GOCACHE=$folder/gocache GOFLAGS=-mod=mod
 go_tests() { (cd go && go vet ./... && go test -v -count=1 ./...); }
@@ -100,8 +107,9 @@ rust_tests() { (cd rust && AVROGATE_FOLDER=$made CARGO_TARGET_DIR=$folder/rust c
 check 'Rust' counted rust_tests
 check 'bindings/java/build.sh' java/build.sh "$made" "$folder/java"
 java_tests() {
-  javac -Xlint:all -cp "$folder/java/avrogate.jar" -d "$folder/java/tests" java/src/test/java/avrogate/Cases.java \
-    && java -Xcheck:jni -cp "$folder/java/avrogate.jar:$folder/java/tests" -Djava.library.path="$folder/java" avrogate.Cases "$CASES"
+  local jar=$folder/java/avrogate.jar classes=$folder/java/tests
+  javac -Xlint:all -cp "$jar" -d "$classes" java/src/test/java/avrogate/Cases.java \
+    && java -Xcheck:jni -cp "$jar:$classes" -Djava.library.path="$folder/java" avrogate.Cases "$CASES"
 }
 check 'Java' counted java_tests
 unset PKG_CONFIG_PATH LD_LIBRARY_PATH AVROGATE_LIBRARY GOFLAGS

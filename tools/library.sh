@@ -28,12 +28,14 @@ are_left() {
 }
 # Compiles the crate over those.
 compile() {
-  local name rlib words=(--crate-name avrogate_c src/lib.rt --extern "std=$kit/rlibs/std.rlib" -L "dependency=$kit/rlibs")
+  local name rlib words=(--crate-name avrogate_c src/lib.rt)
+  words+=(--extern "std=$kit/rlibs/std.rlib" -L "dependency=$kit/rlibs")
   for name in "${below[@]}"; do words+=(--extern "$name=$top/crates/$name/out/rlib/$name.rlib"); done
   for rlib in "$top"/crates/*/out/rlib; do words+=(-L "dependency=$rlib"); done
   words+=(--antt-project "$kit/rattle/logic/antt-project.json" --logic-built "$kit/logic_built" --jobs 2)
   for name in avrogate_c "${below[@]}"; do words+=(--links "$name="); done
-  "$kit/bin/rattle" build "${words[@]}" --crate-type staticlib --toolchain "$kit/toolchain" --backend llvm -o out/libavrogate_c.a
+  words+=(--crate-type staticlib --toolchain "$kit/toolchain" --backend llvm)
+  "$kit/bin/rattle" build "${words[@]}" -o out/libavrogate_c.a
 }
 log=$(mktemp) work=$(mktemp -d)
 trap 'rm -rf "$log" "$work"' EXIT

@@ -162,7 +162,8 @@ func (t *Transcoder) Transcode(dst, payload []byte) ([]byte, error) {
 func (t *Transcoder) TranscodeMessage(dst []byte, writerID, readerID uint32, message []byte) ([]byte, error) {
 	bytes, length := bytesOf(message)
 	return t.append(dst, func(room *C.uint8_t, roomLength C.size_t, report *C.avrogate_report) {
-		C.avrogate_transcode_message(&t.held, C.uint32_t(writerID), C.uint32_t(readerID), bytes, length, room, roomLength, report)
+		w, r := C.uint32_t(writerID), C.uint32_t(readerID)
+		C.avrogate_transcode_message(&t.held, w, r, bytes, length, room, roomLength, report)
 	})
 }
 
@@ -191,7 +192,7 @@ type Result struct {
 	Err    error
 }
 
-// TranscodeBatch returns what becomes of each payload, by as few calls of the library as the room for their outputs allows.
+// TranscodeBatch returns what becomes of each payload, by as few calls of the library as the room for outputs allows.
 func (t *Transcoder) TranscodeBatch(payloads [][]byte) ([]Result, error) {
 	t.lock.Lock()
 	defer t.lock.Unlock()
@@ -223,7 +224,8 @@ func (t *Transcoder) batch(payloads [][]byte, waiting []int, need int, results [
 	}
 	bytes, length := bytesOf(buffer)
 	room, roomLength := bytesOf(t.room)
-	status := Status(C.avrogate_transcode_batch(&t.held, bytes, length, room, roomLength, &items[0], C.size_t(len(items))))
+	count := C.size_t(len(items))
+	status := Status(C.avrogate_transcode_batch(&t.held, bytes, length, room, roomLength, &items[0], count))
 	if status != OK {
 		return nil, 0, &Error{Status: status}
 	}
@@ -243,7 +245,7 @@ func (t *Transcoder) batch(payloads [][]byte, waiting []int, need int, results [
 	return still, more, nil
 }
 
-// CanRead tells whether the reader can read all data of the writer, but for bytes that are no UTF-8 where it has a string.
+// CanRead tells whether the reader can read all data of the writer, but for bytes that are no UTF-8.
 func CanRead(writer, reader string) (bool, error) {
 	w, wLength := textOf([]byte(writer))
 	r, rLength := textOf([]byte(reader))

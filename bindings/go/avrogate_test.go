@@ -13,8 +13,9 @@ import (
 )
 
 const (
-	writer  = `{"type":"record","name":"T","fields":[{"name":"a","type":"long"},{"name":"b","type":"string"}]}`
-	reader  = `{"type":"record","name":"T","fields":[{"name":"b","type":["null","string"]},{"name":"c","type":"int","default":7}]}`
+	writer = `{"type":"record","name":"T","fields":[{"name":"a","type":"long"},{"name":"b","type":"string"}]}`
+	reader = `{"type":"record","name":"T","fields":[{"name":"b","type":["null","string"]},` +
+		`{"name":"c","type":"int","default":7}]}`
 	payload = "\x36\x06foo"
 	output  = "\x02\x06foo\x0e"
 )

@@ -1,5 +1,5 @@
-/* What nests deepest: `data N` transcodes N records in one another, `schema N` opens and compares N arrays in one another, and `names N` a
- * record of N records, of which each holds the one before it. Prints the statuses. */
+/* What nests deepest: `data N` transcodes N records in one another, `schema N` opens and compares N arrays in one
+ * another, and `names N` a record of N records, of which each holds the one before it. Prints the statuses. */
 #include <avrogate.h>
 
 #include <stdio.h>
@@ -7,9 +7,10 @@
 #include <string.h>
 
 static int data(size_t depth) {
-    static const char list[] = "{\"type\":\"record\",\"name\":\"L\",\"fields\":[{\"name\":\"n\",\"type\":[\"null\",\"L\"]}]}";
-    static const char back[] =
-        "{\"type\":\"record\",\"name\":\"L\",\"fields\":[{\"name\":\"n\",\"type\":[\"L\",\"null\"]},{\"name\":\"x\",\"type\":\"int\",\"default\":1}]}";
+    static const char list[] =
+        "{\"type\":\"record\",\"name\":\"L\",\"fields\":[{\"name\":\"n\",\"type\":[\"null\",\"L\"]}]}";
+    static const char back[] = "{\"type\":\"record\",\"name\":\"L\",\"fields\":[{\"name\":\"n\",\"type\":[\"L\","
+                               "\"null\"]},{\"name\":\"x\",\"type\":\"int\",\"default\":1}]}";
     avrogate_transcoder t = AVROGATE_TRANSCODER_INIT;
     uint32_t fault, opened = avrogate_open(&t, list, strlen(list), back, strlen(back), &fault), status;
     uint8_t *payload = malloc(depth + 1), *room = malloc(2 * depth + 64);
@@ -35,8 +36,9 @@ static size_t arrays(char *text, size_t depth) {
 static size_t records(char *text, size_t depth) {
     size_t length = (size_t)sprintf(text, "{\"type\":\"record\",\"name\":\"R\",\"fields\":["), at;
     for (at = 0; at < depth; at++) {
-        length += (size_t)sprintf(text + length, "%s{\"name\":\"f%u\",\"type\":{\"type\":\"record\",\"name\":\"T%u\",\"fields\":[", at ? "," : "",
-                                  (unsigned)at, (unsigned)at);
+        length += (size_t)sprintf(text + length,
+                                  "%s{\"name\":\"f%u\",\"type\":{\"type\":\"record\",\"name\":\"T%u\",\"fields\":[",
+                                  at ? "," : "", (unsigned)at, (unsigned)at);
         if (at) length += (size_t)sprintf(text + length, "{\"name\":\"x\",\"type\":\"T%u\"}", (unsigned)at - 1);
         length += (size_t)sprintf(text + length, "]}}");
     }

@@ -1,6 +1,6 @@
-"""Compares include/avrogate.h with what it declares: the exports of crates/avrogate_c (names, parameters, results), the structs that cross,
-the numbers of the definitions and of the bindings, the limits and the versions. Prints what differs, and then writes to a file C code that
-compiles only where sizes and offsets are those of `#[repr(C)]`.
+"""Compares include/avrogate.h with what it declares: the exports of crates/avrogate_c (names, parameters, results),
+the structs that cross, the numbers of the definitions and of the bindings, the limits and the versions. Prints what
+differs, and writes to a file C code that compiles only where sizes and offsets are those of `#[repr(C)]`.
 Usage: header.py TOP OUT.c"""
 import re
 import sys
@@ -71,7 +71,8 @@ def types_in_c(kind):
 
 def compare_functions():
     source = re.findall(r'extern "C" fn (\w+)\((.*?)\)(?: -> (\w+))?\s+ensures', exports, re.S)
-    declared = {name: (result, words) for result, name, words in re.findall(r"(?m)^(void|uint32_t|size_t) (avrogate_\w+)\(([^)]*)\);", header)}
+    found = re.findall(r"(?m)^(void|uint32_t|size_t) (avrogate_\w+)\(([^)]*)\);", header)
+    declared = {name: (result, words) for result, name, words in found}
     same("functions", sorted(declared), sorted(name for name, _, _ in source))
     for name, words, result in source:
         words = re.findall(r"(\w+): ([^,]+?)(?:,|\s*$)", words.strip())
@@ -82,15 +83,18 @@ def compare_functions():
         pattern = [kind + re.escape(word) for kind, word in zip(types, names)]
         is_same = len(told) == len(pattern) and all(map(re.fullmatch, pattern, told))
         if not is_same or told_result != {"": "void", "u32": "uint32_t", "usize": "size_t"}[result]:
-            wrong.append("%s: header %s(%s), source %s -> %s" % (name, told_result, ", ".join(told), ", ".join(pattern), result))
+            both = (name, told_result, ", ".join(told), ", ".join(pattern), result)
+            wrong.append("%s: header %s(%s), source %s -> %s" % both)
 
 
 def fields_of(name):
     """The fields of a struct that crosses, as C sees them."""
-    for path in (("transcoder_handle", "src", "handle.rt"), ("embedding", "src", "numbers.rt"), ("embedding", "src", "batch.rt")):
-        body = re.search(r"#\[repr\(C\)\]\n(?:#\[.*\]\n)*pub struct %s \{(.*?)\n\}" % name, text("crates", *path), re.S)
+    struct = r"#\[repr\(C\)\]\n(?:#\[.*\]\n)*pub struct %s \{(.*?)\n\}" % name
+    for crate, file in (("transcoder_handle", "handle.rt"), ("embedding", "numbers.rt"), ("embedding", "batch.rt")):
+        body = re.search(struct, text("crates", crate, "src", file), re.S)
         if body:
-            found = re.findall(r"(?m)^    (?:pub )?(?!ghost)(\w+): ([^,{]+),", re.sub(r"(?m)^ *(///.*|(pub )?ghost .*)$", "", body[1]))
+            plain = re.sub(r"(?m)^ *(///.*|(pub )?ghost .*)$", "", body[1])
+            found = re.findall(r"(?m)^    (?:pub )?(?!ghost)(\w+): ([^,{]+),", plain)
             # (a handle's `held` is a struct of one pointer)
             return [(field, "*mut u8" if kind == "Held" else kind) for field, kind in found]
     raise AssertionError("no struct " + name)
@@ -129,26 +133,31 @@ def compare_numbers():
     same("mismatches", enum("mismatch"), numbers("code_of", "outcome", "specs", "MismatchKind.antt"))
     same("malformed", enum("malformed"), numbers("malformed_code", "embedding", "specs", "Numbers.antt"))
     same("envelopes", enum("envelope"), numbers("envelope_code", "embedding", "specs", "Numbers.antt"))
-    faults = {**numbers("schema_code", "embedding", "specs", "Opening.antt"), **numbers("fault_code", "embedding", "specs", "Opening.antt")}
+    opening = ("embedding", "specs", "Opening.antt")
+    faults = {**numbers("schema_code", *opening), **numbers("fault_code", *opening)}
     # (want of memory is a status, and no fault of a text: `IsFirstFault`)
     same("faults", enum("fault"), {"SCHEMA_" + it: number for it, number in faults.items() if it != "NO_MEMORY"})
 
 
 def compare_bindings():
     python = text("bindings", "python", "avrogate", "_library.py")
-    for name, word in (("Status", "status"), ("MismatchKind", "mismatch"), ("MalformedKind", "malformed"), ("Fault", "fault")):
+    words = {"Status": "status", "MismatchKind": "mismatch", "MalformedKind": "malformed", "Fault": "fault"}
+    for name, word in words.items():
         body = re.search(r"class %s\(IntEnum\):(.*?)\n\n\n" % name, python, re.S)[1]
-        same("python's " + name, enum(word), {it: int(number) for it, number in re.findall(r"(?m)^    (\w+) = (\d+)$", body)})
+        told = re.findall(r"(?m)^    (\w+) = (\d+)$", body)
+        same("python's " + name, enum(word), {it: int(number) for it, number in told})
     rust = text("bindings", "rust", "src", "error.rs")
     short = {it.replace("SCHEMA_", ""): number for it, number in enum("fault").items()}
-    for name, wanted in (("MismatchKind", enum("mismatch")), ("MalformedKind", enum("malformed")), ("EnvelopeError", enum("envelope")), ("Fault", short)):
+    kinds = (enum("mismatch"), enum("malformed"), enum("envelope"), short)
+    for name, wanted in zip(("MismatchKind", "MalformedKind", "EnvelopeError", "Fault"), kinds):
         body = re.search(r"    %s \{(.*?)\}" % name, rust, re.S)[1]
         same("rust's " + name, wanted, {snake(it): int(number) for it, number in re.findall(r"(\w+) = (\d+)", body)})
     java = text("bindings", "java", "src", "main", "java", "avrogate", "AvrogateException.java")
-    for name, wanted in (("MISMATCHES", enum("mismatch")), ("MALFORMED", enum("malformed")), ("ENVELOPES", enum("envelope")), ("FAULTS", short)):
+    for name, wanted in zip(("MISMATCHES", "MALFORMED", "ENVELOPES", "FAULTS"), kinds):
         words = re.findall(r'"(\w*)"', re.search(r"%s = \{(.*?)\};" % name, java, re.S)[1])
         same("java's " + name, wanted, {snake(it): at for at, it in enumerate(words) if it})
-    statuses = re.search(r"enum Status \{\s*(.*?);", text("bindings", "java", "src", "main", "java", "avrogate", "Status.java"), re.S)[1]
+    java = text("bindings", "java", "src", "main", "java", "avrogate", "Status.java")
+    statuses = re.search(r"enum Status \{\s*(.*?);", java, re.S)[1]
     same("java's Status", enum("status"), {it: at for at, it in enumerate(re.findall(r"\w+", statuses))})
     go = text("bindings", "go", "avrogate.go")
     told = set(re.findall(r"C\.AVROGATE_(\w+)", go))
@@ -164,7 +173,8 @@ def compare_constants():
     ):
         wanted = re.search(r"const %s: usize = ([\d_]+);" % const, text("crates", *path))[1].replace("_", "")
         same(name, re.search(r"#define AVROGATE_%s (\d+)" % name, header)[1], wanted)
-    version = [int(re.search(r"#define AVROGATE_VERSION_%s (\d+)" % it, header)[1]) for it in ("MAJOR", "MINOR", "PATCH")]
+    parts = ("MAJOR", "MINOR", "PATCH")
+    version = [int(re.search(r"#define AVROGATE_VERSION_%s (\d+)" % it, header)[1]) for it in parts]
     number = re.search(r"VERSION: u32 = ([\d_]+);", text("crates", "embedding", "src", "texts.rt"))[1]
     same("version", version[0] * 10000 + version[1] * 100 + version[2], int(number.replace("_", "")))
     of_program = re.search(r'VERSION: &str = "(.*)"', text("crates", "command_line", "src", "lib.rt"))[1]

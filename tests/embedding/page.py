@@ -1,6 +1,7 @@
-"""Runs what docs/EMBEDDING.md shows: writes each fenced block that stands under the name of a file to that file, runs the commands of each block
-that begins with `$`, and compares what they print. /tmp/avrogate of the page is the folder that is given, and the commands run in a folder with
-the page's files, where tools/ and bindings/ are those of the repository.
+"""Runs what docs/EMBEDDING.md shows: writes each fenced block that stands under the name of a file to that file, runs
+the commands of each block that begins with `$`, and compares what they print. /tmp/avrogate of the page is the folder
+that is given, and the commands run in a folder with the page's files, where tools/ and bindings/ are those of the
+repository.
 Usage: page.py TOP FOLDER WORK"""
 import os
 import re

@@ -1,6 +1,6 @@
-/* Refuses each allocation in turn (the linker wraps malloc, realloc and free): each call has the same answer or AVROGATE_NO_MEMORY, a
- * transcoder is open just where AVROGATE_OK was told, it works again when there is memory, and nothing is left. Prints how many
- * allocations there were. */
+/* Refuses each allocation in turn (the linker wraps malloc, realloc and free): each call has the same answer or
+ * AVROGATE_NO_MEMORY, a transcoder is open just where AVROGATE_OK was told, it works again when there is memory, and
+ * nothing is left. Prints how many allocations there were. */
 #include <avrogate.h>
 
 #include <stdio.h>
@@ -17,7 +17,10 @@ static bool is_refused(void) { return before_refusal >= 0 && before_refusal-- ==
 
 void *__wrap_malloc(size_t size) {
     void *block = is_refused() ? NULL : __real_malloc(size);
-    if (block) blocks++; else refusals++;
+    if (block)
+        blocks++;
+    else
+        refusals++;
     return block;
 }
 
@@ -36,9 +39,10 @@ void __wrap_free(void *block) {
 static const char writer[] =
     "{\"type\":\"record\",\"name\":\"T\",\"fields\":[{\"name\":\"a\",\"type\":{\"type\":\"array\",\"items\":\"long\"}},"
     "{\"name\":\"b\",\"type\":\"string\"},{\"name\":\"n\",\"type\":[\"null\",\"T\"]}]}";
-static const char reader[] =
-    "{\"type\":\"record\",\"name\":\"T\",\"fields\":[{\"name\":\"b\",\"type\":[\"null\",\"string\"]},{\"name\":\"n\",\"type\":[\"null\",\"T\"]},"
-    "{\"name\":\"c\",\"type\":\"int\",\"default\":7},{\"name\":\"a\",\"type\":{\"type\":\"array\",\"items\":\"long\"}}]}";
+static const char reader[] = "{\"type\":\"record\",\"name\":\"T\",\"fields\":[{\"name\":\"b\",\"type\":[\"null\","
+                             "\"string\"]},{\"name\":\"n\",\"type\":[\"null\",\"T\"]},"
+                             "{\"name\":\"c\",\"type\":\"int\",\"default\":7},{\"name\":\"a\",\"type\":{\"type\":"
+                             "\"array\",\"items\":\"long\"}}]}";
 static const uint8_t message[] = {0, 0, 0, 0, 1, 4, 2, 4, 0, 6, 'f', 'o', 'o', 2, 0, 0, 0};
 static const uint8_t wanted[] = {0, 0, 0, 0, 2, 2, 6, 'f', 'o', 'o', 2, 2, 0, 0, 14, 0, 14, 4, 2, 4, 0};
 static const char *wrong = NULL;
@@ -50,18 +54,22 @@ static void want(bool is_right, const char *what) {
 /* Asks for one payload, whole and cut, as a payload, a message and a batch. */
 static void ask(avrogate_transcoder *t) {
     const uint8_t *payload = message + AVROGATE_ENVELOPE_LENGTH;
-    const size_t length = sizeof message - AVROGATE_ENVELOPE_LENGTH, wanted_length = sizeof wanted - AVROGATE_ENVELOPE_LENGTH;
+    const size_t length = sizeof message - AVROGATE_ENVELOPE_LENGTH,
+                 wanted_length = sizeof wanted - AVROGATE_ENVELOPE_LENGTH;
     uint8_t room[64];
     avrogate_report report;
     avrogate_item items[2];
     uint32_t status = avrogate_transcode(t, payload, length - 1, room, sizeof room, &report);
-    want(status == AVROGATE_NO_MEMORY || (status == AVROGATE_MALFORMED && report.kind == AVROGATE_TRUNCATED && report.offset == length - 1),
+    want(status == AVROGATE_NO_MEMORY ||
+             (status == AVROGATE_MALFORMED && report.kind == AVROGATE_TRUNCATED && report.offset == length - 1),
          "a payload that is cut");
     status = avrogate_transcode(t, payload, length, room, sizeof room, &report);
-    want(status == AVROGATE_NO_MEMORY || (status == AVROGATE_OK && report.length == wanted_length && !memcmp(room, wanted + 5, wanted_length)),
+    want(status == AVROGATE_NO_MEMORY ||
+             (status == AVROGATE_OK && report.length == wanted_length && !memcmp(room, wanted + 5, wanted_length)),
          "a payload");
     status = avrogate_transcode_message(t, 1, 2, message, sizeof message, room, sizeof room, &report);
-    want(status == AVROGATE_NO_MEMORY || (status == AVROGATE_OK && report.length == sizeof wanted && !memcmp(room, wanted, sizeof wanted)),
+    want(status == AVROGATE_NO_MEMORY ||
+             (status == AVROGATE_OK && report.length == sizeof wanted && !memcmp(room, wanted, sizeof wanted)),
          "a message");
     memset(items, 0, sizeof items);
     items[0].payload_length = length - 1;
@@ -70,7 +78,8 @@ static void ask(avrogate_transcoder *t) {
     status = items[0].report.status;
     want(status == AVROGATE_NO_MEMORY || status == AVROGATE_MALFORMED, "a batch's payload that is cut");
     status = items[1].report.status;
-    want(status == AVROGATE_NO_MEMORY || (status == AVROGATE_OK && !memcmp(room + items[1].output_offset, wanted + 5, wanted_length)),
+    want(status == AVROGATE_NO_MEMORY ||
+             (status == AVROGATE_OK && !memcmp(room + items[1].output_offset, wanted + 5, wanted_length)),
          "a batch's payload");
 }
 

@@ -1,12 +1,13 @@
-/* Four threads, each with transcoders of its own, and with one that they share under a lock, which one of them closes at the end. */
+/* Four threads, each with transcoders of its own, and with one that they share under a lock, which one of them closes
+ * at the end. */
 #include <avrogate.h>
 
 #include <pthread.h>
 #include <stdio.h>
 #include <string.h>
 
-static const char writer[] =
-    "{\"type\":\"record\",\"name\":\"T\",\"fields\":[{\"name\":\"a\",\"type\":\"long\"},{\"name\":\"b\",\"type\":\"string\"}]}";
+static const char writer[] = "{\"type\":\"record\",\"name\":\"T\",\"fields\":[{\"name\":\"a\",\"type\":\"long\"},{"
+                             "\"name\":\"b\",\"type\":\"string\"}]}";
 static const char reader[] =
     "{\"type\":\"record\",\"name\":\"T\",\"fields\":[{\"name\":\"b\",\"type\":[\"null\",\"string\"]},"
     "{\"name\":\"c\",\"type\":\"int\",\"default\":7}]}";

@@ -5,9 +5,8 @@
 #include <stdlib.h>
 #include <string.h>
 
-static const char writer[] =
-    "{\"type\":\"record\",\"name\":\"T\",\"fields\":[{\"name\":\"a\",\"type\":\"long\"},"
-    "{\"name\":\"b\",\"type\":\"string\"}]}";
+static const char writer[] = "{\"type\":\"record\",\"name\":\"T\",\"fields\":[{\"name\":\"a\",\"type\":\"long\"},"
+                             "{\"name\":\"b\",\"type\":\"string\"}]}";
 static const char reader[] =
     "{\"type\":\"record\",\"name\":\"T\",\"fields\":[{\"name\":\"b\",\"type\":[\"null\",\"string\"]},"
     "{\"name\":\"c\",\"type\":\"int\",\"default\":7}]}";
@@ -17,8 +16,9 @@ static const uint8_t *const payload = message + AVROGATE_ENVELOPE_LENGTH;
 static void show(const avrogate_report *r, const uint8_t *room) {
     char words[64];
     size_t length = avrogate_status_text(r->status, words, sizeof words);
-    printf("%u %s (%u) kind %u length %u offset %u nodes %u %u id %u", (unsigned)r->status, words, (unsigned)length, (unsigned)r->kind,
-           (unsigned)r->length, (unsigned)r->offset, (unsigned)r->writer_node, (unsigned)r->reader_node, (unsigned)r->writer_id);
+    printf("%u %s (%u) kind %u length %u offset %u nodes %u %u id %u", (unsigned)r->status, words, (unsigned)length,
+           (unsigned)r->kind, (unsigned)r->length, (unsigned)r->offset, (unsigned)r->writer_node,
+           (unsigned)r->reader_node, (unsigned)r->writer_id);
     if (r->status == AVROGATE_OK) {
         size_t i;
         printf(" bytes ");
@@ -35,7 +35,8 @@ static void transcode(avrogate_transcoder *t, const uint8_t *bytes, size_t lengt
     if (status != report.status) printf("returned %u\n", (unsigned)status);
 }
 
-static void rewrite(avrogate_transcoder *t, uint32_t writer_id, const uint8_t *bytes, size_t length, size_t room_length) {
+static void rewrite(avrogate_transcoder *t, uint32_t writer_id, const uint8_t *bytes, size_t length,
+                    size_t room_length) {
     uint8_t room[64];
     avrogate_report report;
     uint32_t status = avrogate_transcode_message(t, writer_id, 0xfffffffe, bytes, length, room, room_length, &report);
@@ -50,7 +51,8 @@ static void open_pair(avrogate_transcoder *t, const char *w, const char *r) {
 
 static void batch(avrogate_transcoder *t) {
     static const uint8_t payloads[] = {0x36, 0x06, 'f', 'o', 'o', 0x36, 0x06, 'b', 'a', 'r'};
-    static const size_t ranges[][2] = {{0, 5}, {0, 4}, {5, 5}, {5, 6}, {(size_t)-1, 2}, {2, (size_t)-1}, {0, 5}, {10, 0}};
+    static const size_t ranges[][2] = {{0, 5},          {0, 4},          {5, 5}, {5, 6},
+                                       {(size_t)-1, 2}, {2, (size_t)-1}, {0, 5}, {10, 0}};
     avrogate_item items[8];
     uint8_t room[14];
     size_t i;
@@ -104,7 +106,8 @@ int main(void) {
     avrogate_close(&t);
     rewrite(&t, 258, message, 10, 64);
     printf("batch %u\n", (unsigned)avrogate_transcode_batch(&t, payload, 5, NULL, 0, NULL, 0));
-    printf("words %u %u", (unsigned)avrogate_status_text(AVROGATE_OK, words, 4), (unsigned)avrogate_status_text(99, words, 4));
+    printf("words %u %u", (unsigned)avrogate_status_text(AVROGATE_OK, words, 4),
+           (unsigned)avrogate_status_text(99, words, 4));
     printf(" %s", words);
     avrogate_status_text(AVROGATE_OK, words, 5);
     printf(" %s\n", words);

@@ -5,11 +5,40 @@
 
 The library is found by the environment's AVROGATE_LIBRARY, or as libavrogate.so where the loader looks.
 """
-from ._library import AvrogateError, BadEnvelope, BadSchema, Closed, Fault, Malformed, MalformedKind, Mismatch, MismatchKind, NoMemory
-from ._library import OtherWriter, Status, TooLarge, library_version
+from ._library import (
+    AvrogateError,
+    BadEnvelope,
+    BadSchema,
+    Closed,
+    Fault,
+    Malformed,
+    MalformedKind,
+    Mismatch,
+    MismatchKind,
+    NoMemory,
+    OtherWriter,
+    Status,
+    TooLarge,
+    library_version,
+)
 from .transcoder import BatchItem, Transcoder, can_read
 
 __all__ = [
-    "AvrogateError", "BadEnvelope", "BadSchema", "BatchItem", "Closed", "Fault", "Malformed", "MalformedKind", "Mismatch", "MismatchKind",
-    "NoMemory", "OtherWriter", "Status", "TooLarge", "Transcoder", "can_read", "library_version",
+    "AvrogateError",
+    "BadEnvelope",
+    "BadSchema",
+    "BatchItem",
+    "Closed",
+    "Fault",
+    "Malformed",
+    "MalformedKind",
+    "Mismatch",
+    "MismatchKind",
+    "NoMemory",
+    "OtherWriter",
+    "Status",
+    "TooLarge",
+    "Transcoder",
+    "can_read",
+    "library_version",
 ]

@@ -163,7 +163,8 @@ class Mismatch(AvrogateError):
     """The reader has no place for the datum, by these two types of the schemas."""
 
     def __init__(self, report: Report) -> None:
-        self.kind, self.writer_node, self.reader_node = MismatchKind(report.kind), report.writer_node, report.reader_node
+        self.kind = MismatchKind(report.kind)
+        self.writer_node, self.reader_node = report.writer_node, report.reader_node
         super().__init__(report.status, "%s, types %d and %d" % (self.kind.name, self.writer_node, self.reader_node))
 
 

@@ -2,7 +2,7 @@
 
     consumer = DeserializingConsumer({..., "value.deserializer": Upgrading(reader, reader_id, writer_of)})
 
-`writer_of(id)` returns the text of the schema of an id: for a registry's client, `lambda id: client.get_schema(id).schema_str`.
+`writer_of(id)` returns the text of an id's schema: of a registry's client, `client.get_schema(id).schema_str`.
 """
 from typing import Any, Callable, Dict, Optional
 
@@ -13,7 +13,10 @@ ENVELOPE = 5
 
 
 class Upgrading:
-    """Rewrites messages of whatever writers into messages of one reader's schema; with `then`, hands these on, as to an AvroDeserializer."""
+    """Rewrites messages of whatever writers into messages of one reader's schema.
+
+    With `then` it hands these on, as to an AvroDeserializer.
+    """
 
     def __init__(
         self,
@@ -26,7 +29,7 @@ class Upgrading:
         self._transcoders: Dict[int, Transcoder] = {}
 
     def __call__(self, value: Optional[bytes], ctx: Any = None) -> Any:
-        """Returns the reader's message of a message, or what `then` makes of it; None for None, as a tombstone has it."""
+        """Returns the reader's message of a message, or what `then` makes of it; None for None, a tombstone."""
         if value is None:
             return None
         if len(value) < ENVELOPE or value[0] != 0:

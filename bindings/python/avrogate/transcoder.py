@@ -15,7 +15,7 @@ def _bytes_of(text: Schema) -> bytes:
 
 
 def can_read(writer: Schema, reader: Schema) -> bool:
-    """Returns whether the reader can read all data of the writer, but for bytes that are no UTF-8 where it has a string."""
+    """Returns whether the reader can read all data of the writer, but for bytes that are no UTF-8."""
     writer, reader, fault = _bytes_of(writer), _bytes_of(reader), ctypes.c_uint32()
     status = LIBRARY.avrogate_can_read(writer, len(writer), reader, len(reader), ctypes.byref(fault))
     if status not in (Status.OK, Status.CANNOT_READ):
@@ -32,7 +32,10 @@ class BatchItem:
 
 
 class Transcoder:
-    """The program of one pair of schemas. Threads may share one: its calls take turns. Close it, or let it be collected."""
+    """The program of one pair of schemas.
+
+    Threads may share one: its calls take turns. Close it, or let it be collected.
+    """
 
     def __init__(self, writer: Schema, reader: Schema) -> None:
         self._held, self._lock = Held(), threading.Lock()

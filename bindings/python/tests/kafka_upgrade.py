@@ -1,6 +1,6 @@
-"""A consumer that upgrades: librdkafka's own mock cluster (its producer's client makes it), messages of two versions of a schema, and a
-DeserializingConsumer that has each as a third has it. Each is compared with what this file encodes itself. The program prints how many
-there were, and ends with status 1 where one differs.
+"""A consumer that upgrades: librdkafka's own mock cluster (its producer's client makes it), messages of two versions
+of a schema, and a DeserializingConsumer that has each as a third has it. Each is compared with what this file encodes
+itself. The program prints how many there were, and ends with status 1 where one differs.
 Usage: kafka_upgrade.py [COUNT]"""
 import sys
 import time
@@ -11,10 +11,14 @@ from confluent_kafka import DeserializingConsumer, Producer
 TOPIC, COUNT, SECONDS = "orders", int(sys.argv[1]) if len(sys.argv) > 1 else 10000, 600
 FIELDS = '{"type":"record","name":"Order","fields":[%s]}'
 FIRST = FIELDS % '{"name":"number","type":"int"},{"name":"customer","type":"string"}'
-SECOND = FIELDS % '{"name":"customer","type":"string"},{"name":"number","type":"long"},{"name":"tags","type":{"type":"array","items":"string"}}'
+SECOND = FIELDS % (
+    '{"name":"customer","type":"string"},{"name":"number","type":"long"},'
+    '{"name":"tags","type":{"type":"array","items":"string"}}'
+)
 READER = FIELDS % (
     '{"name":"number","type":"long"},{"name":"customer","type":["null","string"]},'
-    '{"name":"tags","type":{"type":"array","items":"string"},"default":[]},{"name":"paid","type":"boolean","default":false}'
+    '{"name":"tags","type":{"type":"array","items":"string"},"default":[]},'
+    '{"name":"paid","type":"boolean","default":false}'
 )
 WRITERS, READER_ID = {101: FIRST, 102: SECOND}, 103
 
@@ -42,7 +46,8 @@ def envelope(id):
 
 def order(index):
     """An order's number, customer and tags, and whether its message is of the second version."""
-    return index * 7919 % 1000003, "customer %d %s" % (index % 97, "\u00e9" * (index % 5)), ["tag%d" % it for it in range(index % 4)], index % 3 == 0
+    customer = "customer %d %s" % (index % 97, "\u00e9" * (index % 5))
+    return index * 7919 % 1000003, customer, ["tag%d" % it for it in range(index % 4)], index % 3 == 0
 
 
 def sent(index):
@@ -69,7 +74,8 @@ def main():
                 producer.poll(1)
     assert producer.flush(SECONDS) == 0, "not all messages were sent"
     upgrading = Upgrading(READER, READER_ID, WRITERS.__getitem__)
-    words = {"bootstrap.servers": "%s:%d" % (broker.host, broker.port), "group.id": "readers", "auto.offset.reset": "earliest"}
+    words = {"bootstrap.servers": "%s:%d" % (broker.host, broker.port), "group.id": "readers"}
+    words["auto.offset.reset"] = "earliest"
     consumer = DeserializingConsumer({**words, "value.deserializer": upgrading})
     consumer.subscribe([TOPIC])
     seen, differ, end = set(), 0, time.monotonic() + SECONDS

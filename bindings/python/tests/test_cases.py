@@ -1,4 +1,4 @@
-"""The package on pairs of schemas and payloads whose answers are known: python3 -m unittest, with CASES naming their file."""
+"""The package on pairs of schemas and payloads whose answers are known, in the file that CASES names."""
 import os
 import threading
 import unittest
@@ -73,8 +73,8 @@ class Cases(unittest.TestCase):
                 for payload, wanted in rows:
                     self.assertEqual(answer(lambda: transcoder.transcode(payload)), wanted)
                     message = answer(lambda: transcoder.transcode_message(7, 9, b"\0\0\0\0\7" + payload))
-                    with_head = "done 0000000009" + wanted[5:].removeprefix("-") if wanted.startswith("done") else wanted
-                    self.assertEqual(message, with_head)
+                    output = wanted.removeprefix("done ").removeprefix("-")
+                    self.assertEqual(message, "done 0000000009" + output if wanted.startswith("done") else wanted)
                 batch = transcoder.transcode_batch([payload for payload, _ in rows])
                 told = [line(item.error) if item.error else "done " + (item.output.hex() or "-") for item in batch]
                 self.assertEqual(told, [wanted for _, wanted in rows])
@@ -107,7 +107,8 @@ class Calls(unittest.TestCase):
         long = b"\x36" + b"\xc0\xbb\x01" + b"x" * 12000
         with Transcoder(WRITER, READER) as transcoder:
             self.assertEqual(len(transcoder.transcode(long)), 12005)
-            grown = '{"type":"record","name":"R","fields":[{"name":"x","type":{"type":"fixed","name":"F","size":999},"default":"%s"}]}' % ("." * 999)
+        fixed = '{"type":"fixed","name":"F","size":999}'
+        grown = '{"type":"record","name":"R","fields":[{"name":"x","type":%s,"default":"%s"}]}' % (fixed, "." * 999)
         with Transcoder('{"type":"record","name":"R","fields":[]}', grown) as transcoder:
             self.assertEqual([item.output for item in transcoder.transcode_batch([b""] * 100)], [b"." * 999] * 100)
 

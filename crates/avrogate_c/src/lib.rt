@@ -1,7 +1,7 @@
 //! Edge: C; a static library.
 //!
-//! The transcoder as programs in other languages call it. `include/avrogate.h` declares each of these functions, and says
-//! in words what it asks of its callers and what it tells.
+//! The transcoder as programs in other languages call it. `include/avrogate.h` declares each of these functions, and
+//! says in words what it asks of its callers and what it tells.
 #![tactic(auto)]
 
 ghost use Rattle.std.specs.Prelude.{◌≡◌, None, map};

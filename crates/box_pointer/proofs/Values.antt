@@ -1,4 +1,4 @@
--- The machine value of a `BoxPointer`: a pointer and the bits of its allocator. It is taken apart and put together here.
+-- The machine value of a `BoxPointer`, a pointer and the bits of its allocator, is taken apart and put together here.
 use Rattle.std.proofs.Common.{◌≡◌, ℕ, List, [], ◌∷◌, ◌++◌, refl, subst}
 use mathlib.Core.Bool.{true, ◌&&◌}
 use lib.Dec.{T}

@@ -59,7 +59,8 @@ pub record AreAlike (end : ℕ) (room room' : List ℕ) : Type 0 where
   pub long : length room ≡ length room'
   pub front : take end room ≡ take end room'
 
-rest_long : (at end : ℕ) (room room' : List ℕ) → AreAlike end room room' → length (drop at room) ≡ length (drop at room')
+rest_long : (at end : ℕ) (room room' : List ℕ) → AreAlike end room room'
+    → length (drop at room) ≡ length (drop at room')
 rest_long at end room room' alike =
     length-drop at room ∙ ap (λ n. n - at) alike.long ∙ sym (length-drop at room')
 
@@ -67,12 +68,13 @@ alike_part : (at n end : ℕ) (room room' : List ℕ) → AreAlike end room room
     → take n (drop at room) ≡ take n (drop at room')
 alike_part at n end room room' alike within =
     sym (drop-take at n room)
-    ∙ ap (drop at) (sym (take-take (at + n) end room within) ∙ ap (take (at + n)) alike.front ∙ take-take (at + n) end room' within)
+    ∙ ap (drop at) (sym (take-take (at + n) end room within)
+    ∙ ap (take (at + n)) alike.front ∙ take-take (at + n) end room' within)
     ∙ drop-take at n room'
 
 -- what was reported of a payload is still so where its output ends before what has been written
-report_stays : (pair : Pair) (payload room room' : List ℕ) (at end : ℕ) (report : PayloadReport) → AreAlike end room room'
-    → at + length_told (payload_numbers report) ≤ end
+report_stays : (pair : Pair) (payload room room' : List ℕ) (at end : ℕ) (report : PayloadReport)
+    → AreAlike end room room' → at + length_told (payload_numbers report) ≤ end
     → IsPayloadReport pair [] payload (drop at room) report → IsPayloadReport pair [] payload (drop at room') report
 report_stays pair payload room room' at end (payloads.Done len) alike within is = (
   subst (λ n. len ≤ n) (rest_long at end room room' alike) is.0,

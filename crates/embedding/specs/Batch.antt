@@ -1,5 +1,5 @@
--- What a batch reports: of each item what its payload alone would report, with the room from where the outputs before it
--- end. All of this is this project's own.
+-- What a batch reports: of each item what its payload alone would report, with the room from where the outputs before
+-- it end. All of this is this project's own.
 use Rattle.std.specs.Prelude.{◌≡◌, ◌≤◌, ◌<◌, ◌+◌, ◌==◌, ℕ, List, [], ◌∷◌, length, take, drop, Option, Some, None, if◌then◌else◌}
 use Rattle.embedding.specs.declared.batch.BatchItem.{BatchItem}
 use Rattle.embedding.specs.declared.numbers.ReportNumbers.{ReportNumbers}
@@ -21,7 +21,8 @@ payload_of payloads item = take item.payload_length (drop item.payload_offset pa
 
 -- what is reported of an item's payload, with this room for its output
 abbrev pub ReportsItem : Pair → List ℕ → List ℕ → BatchItem → Report → Type 0
-ReportsItem pair payloads room item (reports.Payload report) = (item.payload_offset + item.payload_length ≤ length payloads)
+ReportsItem pair payloads room item (reports.Payload report) =
+    (item.payload_offset + item.payload_length ≤ length payloads)
     × IsPayloadReport pair [] (payload_of payloads item) room report
 ReportsItem pair payloads room item reports.OutOfRange = length payloads < item.payload_offset + item.payload_length
 ReportsItem pair payloads room item _ = ⊥
@@ -44,7 +45,8 @@ IsBatch pair payloads room at [] = Unit {0}
 IsBatch pair payloads room at (item ∷ items) = IsItem pair payloads room at item
     × IsBatch pair payloads room (at + output_length item) items
 
--- what a batch reports to whoever holds the transcoder of a pair; to whoever holds none, by its status, that it is closed
+-- what a batch reports to whoever holds the transcoder of a pair; to whoever holds none it tells that it is closed
 abbrev pub ReportsBatch : Option Pair → List ℕ → List ℕ → List BatchItem → ℕ → Type 0
-ReportsBatch (Some pair) payloads room items status = (status ≡ code_of statuses.Done) × IsBatch pair payloads room 0 items
+ReportsBatch (Some pair) payloads room items status =
+    (status ≡ code_of statuses.Done) × IsBatch pair payloads room 0 items
 ReportsBatch None payloads room items status = status ≡ code_of statuses.Closed

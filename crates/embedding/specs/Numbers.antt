@@ -33,7 +33,15 @@ envelope_code envelopes.BadMagic = 2
 
 -- a status without parts
 abbrev pub bare : Status → ReportNumbers
-bare status = record { status = code_of status; kind = 0; length = 0; offset = 0; writer_node = 0; reader_node = 0; writer_id = 0 }
+bare status = record {
+  status = code_of status;
+  kind = 0;
+  length = 0;
+  offset = 0;
+  writer_node = 0;
+  reader_node = 0;
+  writer_id = 0;
+}
 
 abbrev pub payload_numbers : PayloadReport → ReportNumbers
 payload_numbers (payloads.Done length) = record (bare statuses.Done) { length = length }
@@ -43,7 +51,10 @@ payload_numbers (payloads.Mismatch m) = record (bare statuses.Mismatch) {
   writer_node = m.writer_node;
   reader_node = m.reader_node;
 }
-payload_numbers (payloads.Malformed kind at) = record (bare statuses.Malformed) { kind = malformed_code kind; offset = at }
+payload_numbers (payloads.Malformed kind at) = record (bare statuses.Malformed) {
+  kind = malformed_code kind;
+  offset = at;
+}
 payload_numbers payloads.OutputTooLarge = bare statuses.OutputTooLarge
 payload_numbers payloads.PayloadTooLarge = bare statuses.PayloadTooLarge
 payload_numbers payloads.NoMemory = bare statuses.NoMemory

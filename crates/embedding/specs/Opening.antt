@@ -70,7 +70,8 @@ IsFirstFault text (faults.Schema e) = (e ≢ schema.NoMemory) × (schema_of text
 abbrev pub IsOpenError : List ℕ → List ℕ → OpenError → Type 0
 IsOpenError w r (errors.Writer fault) = IsFirstFault w fault
 IsOpenError w r (errors.Reader fault) = IsFirstFault r fault × (W : List Node) × (schema_of w ≡ Ok W)
-IsOpenError w r errors.ProgramTooLarge = (pair : Pair) × IsPairOfTexts w r pair × (program_of pair.writer pair.reader ≡ None)
+IsOpenError w r errors.ProgramTooLarge =
+    (pair : Pair) × IsPairOfTexts w r pair × (program_of pair.writer pair.reader ≡ None)
 IsOpenError w r errors.NoMemory = Unit {0}
 
 -- the pair that two texts declare, or why they make none

@@ -26,13 +26,15 @@ pub record IsOutput (pair : Pair) (head payload whole : List ℕ) : Type 0 where
 -- The payload's outcome, a head and its output at the room's front; or that both together do not fit, and how long they
 -- are; or that the payload passes its limit; and nothing where memory ran out.
 abbrev pub IsPayloadReport : Pair → List ℕ → List ℕ → List ℕ → PayloadReport → Type 0
-IsPayloadReport pair head payload room (payloads.Done len) = (len ≤ length room) × IsOutput pair head payload (take len room)
+IsPayloadReport pair head payload room (payloads.Done len) =
+    (len ≤ length room) × IsOutput pair head payload (take len room)
 IsPayloadReport pair head payload room (payloads.RoomTooSmall len) =
     (length room < len) × (whole : List ℕ) × IsOutput pair head payload whole × (length whole ≡ len)
 IsPayloadReport pair head payload room (payloads.Mismatch m) = IsOutcome pair.writer pair.reader payload (Mismatched m)
 IsPayloadReport pair head payload room (payloads.Malformed kind at) =
     IsOutcome pair.writer pair.reader payload (Malformed kind at)
-IsPayloadReport pair head payload room payloads.OutputTooLarge = IsOutcome pair.writer pair.reader payload OutputTooLarge
+IsPayloadReport pair head payload room payloads.OutputTooLarge =
+    IsOutcome pair.writer pair.reader payload OutputTooLarge
 IsPayloadReport pair head payload room payloads.PayloadTooLarge = refusal payload ≡ Some refusals.TooLarge
 IsPayloadReport pair head payload room payloads.NoMemory = Unit {0}
 
@@ -42,7 +44,7 @@ ReportsPayload (Some pair) payload room (reports.Payload report) = IsPayloadRepo
 ReportsPayload (Some pair) payload room _ = ⊥
 ReportsPayload None payload room report = report ≡ reports.Closed
 
--- what is reported of a message: its payload's report, if it has the writer's id, and the output as the reader's message
+-- what is reported of a message: its payload's report, if it has the writer's id, the output as the reader's message
 abbrev pub IsMessageReport : Pair → Ids → List ℕ → List ℕ → Report → Type 0
 IsMessageReport pair ids message room (reports.Payload report) = (payload : List ℕ)
     × (message ≡ envelope ids.writer payload) × IsPayloadReport pair (prefix ids.reader) payload room report
@@ -58,7 +60,8 @@ ReportsMessage None ids message room report = report ≡ reports.Closed
 
 -- these numbers tell a report of which something holds
 abbrev pub Tells : (Report → Type 0) → ℕ → ReportNumbers → Type 0
-Tells Holds status numbers = (report : Report) × Holds report × (numbers ≡ numbers_of report) × (status ≡ numbers.status)
+Tells Holds status numbers =
+    (report : Report) × Holds report × (numbers ≡ numbers_of report) × (status ≡ numbers.status)
 
 -- for a private clause: what is reported where this is the outcome
 abbrev pub TellsOutcome : rust.Outcome → List ℕ → List ℕ → PayloadReport → Type 0

@@ -35,11 +35,13 @@ false-true e = absurd (subst (λ (y : Bool). T y) (sym e) tt)
 module _ {M : Type 1} {𝓤 : Ura M} {𝓛 : Logic 𝓤} {K : Type 0} {Γ : List (Item 𝓤)} {G : Goal 𝓤 𝓛.H} where
   -- put together of a pointer and what it then owns
   pub held_in : K → (p : Ptr) (x : Option R.Denot)
-      → Step K 𝓛 (‵ ((held.the_row).own_val (record { at = p; value = x }) (word p ∷ [])) ∷ Γ) G (‵ (held_owns p x) ∷ Γ) G
+      → Step K 𝓛 (‵ ((held.the_row).own_val (record { at = p; value = x }) (word p ∷ [])) ∷ Γ) G
+      (‵ (held_owns p x) ∷ Γ) G
   held_in t p x = step (λ s.
       nothing t $ feq_i t (List Val) (ptr_val p ∷ []) (ptr_val p ∷ []) refl $ fjoin t $
       feq_i t (List Val) (word p ∷ []) (word p ∷ []) refl $ fjoin t $
-      fpack t (Valss (RawPtr ∷ [])) (within (shape held.the_type) (p, tt) (word p ∷ [])) (ptr_val p ∷ [], tt) $ fjoin t $ s)
+      fpack t (Valss (RawPtr ∷ [])) (within (shape held.the_type) (p, tt) (word p ∷ [])) (ptr_val p ∷ [], tt) $
+      fjoin t $ s)
 
   -- and taken apart
   pub held_out : K → (d : (held.the_row).Denot) (vs : List Val)

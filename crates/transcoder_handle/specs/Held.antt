@@ -1,5 +1,5 @@
--- What the memory of a handle is: the block of the transcoder that it is open on, with the right to free it; nothing where
--- it is closed.
+-- What the memory of a handle is: the block of the transcoder that it is open on, with the right to free it; nothing
+-- where it is closed.
 use Rattle.std.specs.Prelude.{Option, Some, None}
 use Rattle.std.specs.Borrow.{Fml}
 use Rattle.std.specs.Box.Ownership.{box_owns}

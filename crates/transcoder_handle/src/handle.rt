@@ -128,8 +128,8 @@ impl Handle {
         Report::Payload(report)
     }
 
-    /// Writes the output of a payload to the room's front, where it fits, and what is reported of it. Returns the status
-    /// of the report.
+    /// Writes the output of a payload to the room's front, where it fits, and what is reported of it. Returns the
+    /// report's status.
     pub fn transcode(
         &mut self,
         alloc: Global,
@@ -157,8 +157,8 @@ impl Handle {
         report
     }
 
-    /// Writes the reader's message of a writer's to the room's front, where it fits, and what is reported of it. Returns
-    /// the status of the report.
+    /// Writes the reader's message of a writer's to the room's front, where it fits, and what is reported of it.
+    /// Returns the report's status.
     pub fn transcode_message(
         &mut self,
         alloc: Global,

@@ -38,7 +38,8 @@ static bool grow(held *it, size_t length) {
     return true;
 }
 
-JNIEXPORT jlong JNICALL Java_avrogate_Native_open(JNIEnv *env, jclass self, jbyteArray writer, jbyteArray reader, jlongArray told) {
+JNIEXPORT jlong JNICALL Java_avrogate_Native_open(JNIEnv *env, jclass self, jbyteArray writer, jbyteArray reader,
+                                                  jlongArray told) {
     avrogate_report report = {AVROGATE_NO_MEMORY, 0, 0, 0, 0, 0, 0};
     held *it = calloc(1, sizeof *it);
     jbyte *w = (*env)->GetByteArrayElements(env, writer, NULL), *r = (*env)->GetByteArrayElements(env, reader, NULL);
@@ -79,7 +80,8 @@ static jbyteArray transcode(JNIEnv *env, held *it, const uint32_t *ids, jbyteArr
         uint8_t *bytes = (*env)->GetPrimitiveArrayCritical(env, payload, NULL);
         if (!bytes) return NULL;
         if (ids) {
-            avrogate_transcode_message(&it->transcoder, ids[0], ids[1], bytes, length, it->room, it->room_length, &report);
+            avrogate_transcode_message(&it->transcoder, ids[0], ids[1], bytes, length, it->room, it->room_length,
+                                       &report);
         } else {
             avrogate_transcode(&it->transcoder, bytes, length, it->room, it->room_length, &report);
         }
@@ -96,20 +98,22 @@ static jbyteArray transcode(JNIEnv *env, held *it, const uint32_t *ids, jbyteArr
     return output;
 }
 
-JNIEXPORT jbyteArray JNICALL Java_avrogate_Native_transcode(JNIEnv *env, jclass self, jlong at, jbyteArray payload, jlongArray told) {
+JNIEXPORT jbyteArray JNICALL Java_avrogate_Native_transcode(JNIEnv *env, jclass self, jlong at, jbyteArray payload,
+                                                            jlongArray told) {
     (void)self;
     return transcode(env, (held *)(intptr_t)at, NULL, payload, told);
 }
 
-JNIEXPORT jbyteArray JNICALL Java_avrogate_Native_transcodeMessage(JNIEnv *env, jclass self, jlong at, jint writer_id, jint reader_id,
-                                                                   jbyteArray message, jlongArray told) {
+JNIEXPORT jbyteArray JNICALL Java_avrogate_Native_transcodeMessage(JNIEnv *env, jclass self, jlong at, jint writer_id,
+                                                                   jint reader_id, jbyteArray message,
+                                                                   jlongArray told) {
     uint32_t ids[2] = {(uint32_t)writer_id, (uint32_t)reader_id};
     (void)self;
     return transcode(env, (held *)(intptr_t)at, ids, message, told);
 }
 
-JNIEXPORT jint JNICALL Java_avrogate_Native_transcodeBatch(JNIEnv *env, jclass self, jlong at, jbyteArray payloads, jbyteArray room,
-                                                           jlongArray told) {
+JNIEXPORT jint JNICALL Java_avrogate_Native_transcodeBatch(JNIEnv *env, jclass self, jlong at, jbyteArray payloads,
+                                                           jbyteArray room, jlongArray told) {
     held *it = (held *)(intptr_t)at;
     size_t count = (size_t)(*env)->GetArrayLength(env, told) / ITEM;
     jsize payloads_length = (*env)->GetArrayLength(env, payloads), room_length = (*env)->GetArrayLength(env, room);
@@ -125,7 +129,8 @@ JNIEXPORT jint JNICALL Java_avrogate_Native_transcodeBatch(JNIEnv *env, jclass s
         uint8_t *from = (*env)->GetPrimitiveArrayCritical(env, payloads, NULL);
         uint8_t *to = from ? (*env)->GetPrimitiveArrayCritical(env, room, NULL) : NULL;
         if (to) {
-            status = avrogate_transcode_batch(&it->transcoder, from, (size_t)payloads_length, to, (size_t)room_length, items, count);
+            status = avrogate_transcode_batch(&it->transcoder, from, (size_t)payloads_length, to, (size_t)room_length,
+                                              items, count);
             (*env)->ReleasePrimitiveArrayCritical(env, room, to, 0);
         }
         if (from) (*env)->ReleasePrimitiveArrayCritical(env, payloads, from, JNI_ABORT);
@@ -140,7 +145,8 @@ JNIEXPORT jint JNICALL Java_avrogate_Native_transcodeBatch(JNIEnv *env, jclass s
     return (jint)status;
 }
 
-JNIEXPORT jint JNICALL Java_avrogate_Native_canRead(JNIEnv *env, jclass self, jbyteArray writer, jbyteArray reader, jlongArray told) {
+JNIEXPORT jint JNICALL Java_avrogate_Native_canRead(JNIEnv *env, jclass self, jbyteArray writer, jbyteArray reader,
+                                                    jlongArray told) {
     avrogate_report report = {AVROGATE_NO_MEMORY, 0, 0, 0, 0, 0, 0};
     jbyte *w = (*env)->GetByteArrayElements(env, writer, NULL), *r = (*env)->GetByteArrayElements(env, reader, NULL);
     (void)self;

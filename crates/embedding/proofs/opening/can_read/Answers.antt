@@ -13,4 +13,5 @@ returns-in-Err c = c.fault_of_writer.ensures c.args.writer.now c.args.reader.now
 
 pub returns-in-Err-parse : goal.returns-in-Err-parse
 returns-in-Err-parse c =
-    c.fault_of_reader.ensures c.args.writer.now c.args.reader.now c.in-Ok.schema.nodes c.in-Ok.ensures c.in-Err-parse.ensures
+    c.fault_of_reader.ensures c.args.writer.now c.args.reader.now c.in-Ok.schema.nodes c.in-Ok.ensures
+    c.in-Err-parse.ensures

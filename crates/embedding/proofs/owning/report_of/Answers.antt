@@ -12,7 +12,8 @@ returns-then-length-room c = λ pair payload is.
       c.args.head.now ++ output,
       record {
         output = output;
-        is_outcome = subst (λ (o : rust.Outcome). IsOutcome pair.writer pair.reader payload (outcome_of o)) c.in-Done.is is;
+        is_outcome = subst (λ (o : rust.Outcome). IsOutcome pair.writer pair.reader payload (outcome_of o))
+            c.in-Done.is is;
         is_whole = refl;
       },
       omega (arith, length-append c.args.head.now output, c.len.ensures),

@@ -4,11 +4,11 @@ package avrogate;
 public final class AvrogateException extends RuntimeException {
     private static final long serialVersionUID = 1;
     private static final String[] MISMATCHES = {"", "NoMatch", "NoBranch", "NoSymbol", "NoDefault", "BytesNotText"};
-    private static final String[] MALFORMED = {"", "BadNumber", "BadBoolean", "BadLength", "BadText", "BadEnum", "BadBranch", "BadBlock",
-        "TooDeep", "TooMany", "Truncated", "Trailing"};
+    private static final String[] MALFORMED = {"", "BadNumber", "BadBoolean", "BadLength", "BadText", "BadEnum",
+        "BadBranch", "BadBlock", "TooDeep", "TooMany", "Truncated", "Trailing"};
     private static final String[] ENVELOPES = {"", "ShortEnvelope", "BadMagic"};
-    private static final String[] FAULTS = {"", "TooLarge", "NotJson", "BadNumber", "Unknown", "OutOfProfile", "BadName", "Redefined",
-        "BadUnion", "BadSymbols", "BadDefault", "", "NotUtf8"};
+    private static final String[] FAULTS = {"", "TooLarge", "NotJson", "BadNumber", "Unknown", "OutOfProfile", "BadName",
+        "Redefined", "BadUnion", "BadSymbols", "BadDefault", "", "NotUtf8"};
 
     private final Status status;
     private final String kind;
@@ -35,7 +35,8 @@ public final class AvrogateException extends RuntimeException {
         String words = Native.statusText(status.code());
         switch (status) {
             case MISMATCH:
-                words += ": " + MISMATCHES[number] + ", types " + report[Native.WRITER_NODE] + " and " + report[Native.READER_NODE];
+                words += ": " + MISMATCHES[number] + ", types " + report[Native.WRITER_NODE];
+                words += " and " + report[Native.READER_NODE];
                 return new AvrogateException(status, MISMATCHES[number], report, words);
             case MALFORMED:
                 words += ": " + MALFORMED[number] + " at " + report[Native.OFFSET];
@@ -43,7 +44,8 @@ public final class AvrogateException extends RuntimeException {
             case BAD_ENVELOPE:
                 return new AvrogateException(status, ENVELOPES[number], report, words + ": " + ENVELOPES[number]);
             case OTHER_WRITER:
-                return new AvrogateException(status, "", report, words + ": " + Integer.toUnsignedString((int) report[Native.WRITER_ID]));
+                words += ": " + report[Native.WRITER_ID];
+                return new AvrogateException(status, "", report, words);
             case BAD_WRITER:
             case BAD_READER:
                 return new AvrogateException(status, FAULTS[number], report, words + ": " + FAULTS[number]);
@@ -56,7 +58,7 @@ public final class AvrogateException extends RuntimeException {
         return status;
     }
 
-    /** The kind of a mismatch, of what is malformed or of what is no message, or the fault of a schema's text; else empty. */
+    /** The kind of a mismatch, of what is malformed or is no message, or the fault of a schema's text; else empty. */
     public String kind() {
         return kind;
     }

@@ -29,7 +29,7 @@ final class Native {
 
     private Native() {}
 
-    /** Returns an open transcoder, or 0; writes the status and the fault of a text, as the first two numbers of a report. */
+    /** Returns an open transcoder, or 0; writes the status and the fault of a text, as a report's first two numbers. */
     static native long open(byte[] writer, byte[] reader, long[] report);
 
     static native void close(long transcoder);

@@ -5,7 +5,7 @@ import java.nio.charset.StandardCharsets;
 import java.util.ArrayList;
 import java.util.List;
 
-/** The program of one pair of schemas. Threads may share one: its calls take turns. Close it, or let it be collected. */
+/** The program of a pair of schemas. Threads may share one: its calls take turns. Close it, or let it be collected. */
 public final class Transcoder implements AutoCloseable {
     private static final Cleaner CLEANER = Cleaner.create();
 
@@ -71,7 +71,7 @@ public final class Transcoder implements AutoCloseable {
         return outputOf(Native.transcode(open(), payload, report), report);
     }
 
-    /** Returns the reader's message of a writer's, in the wire format of Confluent's registry. Of the ids all 32 bits count. */
+    /** Returns the reader's message of a writer's, in Confluent's wire format. Of the ids all 32 bits count. */
     public synchronized byte[] transcodeMessage(int writerId, int readerId, byte[] message) {
         long[] report = new long[Native.REPORT];
         return outputOf(Native.transcodeMessage(open(), writerId, readerId, message, report), report);
@@ -135,7 +135,7 @@ public final class Transcoder implements AutoCloseable {
         return more;
     }
 
-    /** Returns whether the reader can read all data of the writer, but for bytes that are no UTF-8 where it has a string. */
+    /** Returns whether the reader can read all data of the writer, but for bytes that are no UTF-8. */
     public static boolean canRead(String writer, String reader) {
         long[] report = new long[Native.REPORT];
         Status status = Status.of(Native.canRead(bytesOf(writer), bytesOf(reader), report));

@@ -11,7 +11,8 @@ import java.util.List;
 /** The classes on pairs of schemas and payloads whose answers are known, in the file that the first word names. */
 public final class Cases {
     private static final String WRITER =
-        "{\"type\":\"record\",\"name\":\"T\",\"fields\":[{\"name\":\"a\",\"type\":\"long\"},{\"name\":\"b\",\"type\":\"string\"}]}";
+        "{\"type\":\"record\",\"name\":\"T\",\"fields\":[{\"name\":\"a\",\"type\":\"long\"},"
+        + "{\"name\":\"b\",\"type\":\"string\"}]}";
     private static final String READER =
         "{\"type\":\"record\",\"name\":\"T\",\"fields\":[{\"name\":\"b\",\"type\":[\"null\",\"string\"]},"
         + "{\"name\":\"c\",\"type\":\"int\",\"default\":7}]}";
@@ -115,7 +116,8 @@ public final class Cases {
         Transcoder transcoder = new Transcoder(WRITER, READER);
         byte[] message = joined(new byte[] {0, 0, 0, 1, 2}, PAYLOAD);
         same(hexOf(transcoder.transcodeMessage(258, 3, message)), "0000000003" + hexOf(OUTPUT));
-        same(answer(() -> transcoder.transcodeMessage(259, 3, message)), "the message has the id of another writer: 258");
+        String other = "the message has the id of another writer: 258";
+        same(answer(() -> transcoder.transcodeMessage(259, 3, message)), other);
         same(answer(() -> transcoder.transcodeMessage(258, 3, new byte[4])), "the bytes are no message: ShortEnvelope");
         transcoder.close();
         transcoder.close();

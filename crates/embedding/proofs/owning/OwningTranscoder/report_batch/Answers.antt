@@ -14,12 +14,16 @@ loop-item-preserved c =
     let done = take index items in
     let now : take (index + 1) (slice_set items index item) ≡ done ++ item ∷ [] =
     take_more_set items index item (omega (arith, c.loop-item.auto.items, c.loop-item-test.true)) in
-    let alike : AreAlike (end_of 0 done) c.loop-item.room call.new.room =
-    record { long = sym call.auto.room; front = subst (λ (n : ℕ). take n c.loop-item.room ≡ take n call.new.room) kept.1 (sym call.ensures.before) } in
-    let last : IsItem pair payloads call.new.room (end_of 0 done) item =
-    subst (λ (it : Pair × ℕ). IsItem it.0 payloads call.new.room it.1 item) (λ i. (kept.4 i, kept.1 i)) call.ensures.item in (
-      subst (IsBatch pair payloads call.new.room 0) (sym now) (one_more pair payloads c.loop-item.room call.new.room 0 done item alike kept.0 last),
-      call.ensures.next ∙ ap (λ n. n + output_length item) kept.1 ∙ sym (end_of-append 0 done item) ∙ ap (end_of 0) (sym now),
+    let room = c.loop-item.room in let room' = call.new.room in
+    let front : take (end_of 0 done) room ≡ take (end_of 0 done) room' =
+    subst (λ (n : ℕ). take n room ≡ take n room') kept.1 (sym call.ensures.before) in
+    let alike : AreAlike (end_of 0 done) room room' = record { long = sym call.auto.room; front = front } in
+    let last : IsItem pair payloads room' (end_of 0 done) item =
+    subst (λ (it : Pair × ℕ). IsItem it.0 payloads room' it.1 item) (λ i. (kept.4 i, kept.1 i)) call.ensures.item in
+    let batch = one_more pair payloads room room' 0 done item alike kept.0 last in (
+      subst (IsBatch pair payloads room' 0) (sym now) batch,
+      call.ensures.next ∙ ap (λ n. n + output_length item) kept.1 ∙ sym (end_of-append 0 done item)
+          ∙ ap (end_of 0) (sym now),
       call.ensures.within,
       map-set_same range_of items index item _ call.ensures.asked ∙ kept.3,
       call.ensures.kept ∙ kept.4,

@@ -12,7 +12,8 @@ returns-clause-item c = elim c.match-payload.branch [
     refl,
     reports.Payload (payloads.Done w.in-Done.length),
     item_reported c.args.self.now c.args.payloads.now c.args.room.now _ _ _ c.args.at
-        (record c.args.item.now { output_offset = c.args.at; report = c.numbers-item.result }) _ _ c.requires w.in-Some.ensures
+        (record c.args.item.now { output_offset = c.args.at; report = c.numbers-item.result }) _ _
+        c.requires w.in-Some.ensures
         w.in-Done.is w.room-is w.report-report.ensures.report,
     c.numbers-item.ensures ∙ ap numbers_of w.report-is,
   )
@@ -20,7 +21,8 @@ returns-clause-item c = elim c.match-payload.branch [
     refl,
     reports.Payload w.report-report.result,
     item_reported c.args.self.now c.args.payloads.now c.args.room.now _ _ _ c.args.at
-        (record c.args.item.now { output_offset = c.args.at; report = c.numbers-item.result }) _ _ c.requires w.in-Some.ensures
+        (record c.args.item.now { output_offset = c.args.at; report = c.numbers-item.result }) _ _
+        c.requires w.in-Some.ensures
         refl w.room-is w.report-report.ensures.report,
     c.numbers-item.ensures ∙ ap numbers_of w.report-is,
   )
