@@ -3,7 +3,8 @@
 # FOLDER/lib/libavrogate.so and FOLDER/lib/pkgconfig/avrogate.pc. Both libraries show the functions of the header alone.
 # The code is what `rt lib` makes of crates/avrogate_c, which takes minutes where the crates below are built in this
 # checkout, and the time of their proofs where they are not; where `rt ci` has left their libraries, and nothing has
-# changed since, it is compiled over those. Beside it is the toolchain's object that calls malloc, realloc and free.
+# changed since, it is compiled over those; and where nothing has changed since it was made here, it is taken as it is.
+# Beside it is the toolchain's object that calls malloc, realloc and free.
 # It needs a C compiler and binutils, which are installed with apt-get where there are none.
 # Usage: tools/library.sh FOLDER
 set -euo pipefail
@@ -17,13 +18,23 @@ kit=$(dirname "$(rt doc)")
 crate=$top/crates/avrogate_c
 read -r -a below <<<"$(sed -n 's/^avrogate_c staticlib: //p' "$top/crates.txt")"
 
-# Whether `rt ci` has left each library below, newer than all that it was made of.
+archive=$crate/out/libavrogate_c.a
+
+# is_older CRATE THAN: whether no file of a crate is newer
+is_older() { [ -z "$(find "$top/crates/$1" -path '*/out' -prune -o -newer "$2" -type f -print -quit)" ]; }
+# Whether the code has been made here, later than all that it is made of.
+is_made() {
+  local name
+  [ -e "$archive" ] && [ "$archive" -nt "$top/crates.txt" ] && [ "$archive" -nt "$kit/KIT-ID" ] || return 1
+  for name in avrogate_c "${below[@]}"; do is_older "$name" "$archive" || return 1; done
+}
+# Whether `rt ci` has left each library below, later than all that it is made of. (Its folder tells when: its files may
+# be those of an earlier run.)
 are_left() {
   local name rlib
   for name in "${below[@]}"; do
-    rlib=$top/crates/$name/out/rlib/$name.rlib/format
-    [ -e "$rlib" ] && [ ! -e "$top/crates/$name/out/rlib/stamp" ] || return 1
-    [ -z "$(find "$top/crates/$name" -path '*/out' -prune -o -newer "$rlib" -type f -print -quit)" ] || return 1
+    rlib=$top/crates/$name/out/rlib/$name.rlib
+    [ -e "$rlib/format" ] && [ ! -e "$top/crates/$name/out/rlib/stamp" ] && is_older "$name" "$rlib" || return 1
   done
 }
 # Compiles the crate over those.
@@ -41,11 +52,13 @@ log=$(mktemp) work=$(mktemp -d)
 trap 'rm -rf "$log" "$work"' EXIT
 cd "$crate"
 mkdir -p out
-if are_left; then compile >"$log" 2>&1; else rt lib >"$log" 2>&1; fi || { tail -n 40 "$log" >&2; exit 1; }
-grep '^logic=' "$log" | tail -n 1
+if ! is_made; then
+  if are_left; then compile >"$log" 2>&1; else rt lib >"$log" 2>&1; fi || { tail -n 40 "$log" >&2; exit 1; }
+  grep '^logic=' "$log" | tail -n 1
+fi
 
 cd "$work"
-ar x "$crate/out/libavrogate_c.a"
+ar x "$archive"
 ar x "$kit/c/liblibc_c.a"
 ld -r -o whole.o ./*.o
 objcopy --wildcard --keep-global-symbol='avrogate_*' whole.o avrogate.o
