@@ -10,6 +10,9 @@ const READER: &[u8] =
 
 const PAYLOAD: &[u8] = b"\x36\x06foo";
 
+/// The payload without its last byte.
+const CUT: &[u8] = b"\x36\x06fo";
+
 const OUTPUT: &[u8] = b"\x02\x06foo\x0e";
 
 const NOTHING: ReportNumbers = ReportNumbers {
@@ -26,13 +29,13 @@ const NOTHING: ReportNumbers = ReportNumbers {
 /// its fault; and whether a closed handle tells that it is closed.
 fn payloads_are_rewritten(alloc: Global) -> bool {
     let mut handle = Handle::closed();
-    let (mut fault, mut room, mut told) = (0, [0; 16], NOTHING);
+    let (mut fault, mut room, mut small, mut told) = (0, [0; 16], [0; 5], NOTHING);
     let mut right = handle.transcode(alloc, PAYLOAD, &mut room, &mut told) == 7;
     right &= handle.open(alloc, WRITER, READER, &mut fault) == 0;
     right &= handle.transcode(alloc, PAYLOAD, &mut room, &mut told) == 0;
     right &= told.length == 6 && &room[..6] == OUTPUT;
-    right &= handle.transcode(alloc, PAYLOAD, &mut room[..5], &mut told) == 1 && told.length == 6;
-    right &= handle.transcode(alloc, &PAYLOAD[..4], &mut room, &mut told) == 3;
+    right &= handle.transcode(alloc, PAYLOAD, &mut small, &mut told) == 1 && told.length == 6;
+    right &= handle.transcode(alloc, CUT, &mut room, &mut told) == 3;
     right &= told.kind == 10 && told.offset == 4;
     handle.close(alloc);
     right &= handle.transcode(alloc, PAYLOAD, &mut room, &mut told) == 7;
@@ -56,7 +59,7 @@ fn bad_texts_are_told(alloc: Global) -> bool {
 /// Whether messages are rewritten, and those of another writer and what is no message are told.
 fn messages_are_rewritten(alloc: Global) -> bool {
     let mut handle = Handle::closed();
-    let (mut fault, mut room, mut told) = (0, [0; 16], NOTHING);
+    let (mut fault, mut room, mut small, mut told) = (0, [0; 16], [0; 10], NOTHING);
     let ids = Ids {
         writer: 258,
         reader: 3,
@@ -66,7 +69,7 @@ fn messages_are_rewritten(alloc: Global) -> bool {
     let mut right = handle.open(alloc, WRITER, READER, &mut fault) == 0;
     right &= handle.transcode_message(alloc, ids, message, &mut room, &mut told) == 0;
     right &= told.length == 11 && &room[..11] == b"\x00\x00\x00\x00\x03\x02\x06foo\x0e".as_slice();
-    right &= handle.transcode_message(alloc, ids, message, &mut room[..10], &mut told) == 1;
+    right &= handle.transcode_message(alloc, ids, message, &mut small, &mut told) == 1;
     right &= told.length == 11;
     right &= handle.transcode_message(alloc, ids, other, &mut room, &mut told) == 13;
     right &= told.writer_id == 259;
