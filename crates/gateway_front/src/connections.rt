@@ -1,5 +1,7 @@
 //! The connections of a thread.
 
+ghost use Rattle.std.specs.Prelude.{◌≡◌};
+
 use crate::bounds::Bounds;
 use crate::connection::{Asked, Connection, Stage, Waiting};
 use crate::listening::{NEW, leave, watch};
@@ -13,6 +15,7 @@ use mio::{Events, Poll, Token};
 use std::alloc::Global;
 use std::collections::VecDeque;
 use std::io::{ErrorKind, Read};
+use std::marker::Model;
 use std::net::{Net, Shutdown};
 use std::sync::Wait;
 use std::time::{Clock, Duration, Instant};
@@ -34,7 +37,7 @@ const PAUSE: u64 = 10;
 /// The number of milliseconds after which lines are tried again that standard error has not taken.
 const LOG_PAUSE: u64 = 100;
 
-/// The connections of a thread.
+/// The connections of a thread. Callers see it as the number of answers that were sent whole.
 #[derive(Drop)]
 pub struct Connections {
     alloc: Global,
@@ -59,6 +62,14 @@ pub struct Connections {
     scrap: Vec<u8>,
     /// The lines of answers, where these are logged.
     log: Option<Log>,
+}
+
+impl Model for Connections {
+    ghost use Rattle.std.specs.Prelude.{ℕ};
+
+    ghost Value = { ℕ };
+
+    ghost view = { λ c. c.answered };
 }
 
 impl Connections {
@@ -100,7 +111,9 @@ impl Connections {
     }
 
     /// Returns the number of answers that were sent whole.
-    pub fn answered(&self) -> u64 {
+    pub fn answered(&self) -> u64
+        ensures { result ≡ self.now }
+    {
         self.answered
     }
 
