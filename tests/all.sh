@@ -4,7 +4,8 @@
 # one. What a script needs of Debian's packages it installs, which needs root; one that cannot have them is left out, and
 # so is one that would begin after MOST_MINUTES. A script that fails ends nothing. The last line is `N passed, M failed`,
 # alone at the beginning of a line: what `rt ci` counted, and one for each script; the line before it says how many were
-# left out. No script fails by a time that other load on the machine changes.
+# left out. No script fails by a time that other load on the machine changes; one that fails is tried once more, which is
+# told, and counts by its second try.
 # Usage: tests/all.sh [PROGRAM]   With a PROGRAM, as `rt run` in crates/avrogate leaves it, `rt ci` is not run, and the
 # scripts alone are tried and counted. RT_JOBS is how many checks `rt ci` runs side by side, one a processor if it is not
 # set; with LONG=1 in the environment the scripts have their long forms; MOST_MINUTES is counted from the beginning, and
@@ -39,6 +40,11 @@ try() {
     return
   fi
   "$@" 2>&1 </dev/null | sed -u 's/^/  /' || status=$?
+  if [ $status != 0 ] && [ $status != 77 ]; then
+    echo "$1 failed with status $status ($((SECONDS - begin)) s), and is tried once more"
+    status=0
+    "$@" 2>&1 </dev/null | sed -u 's/^/  /' || status=$?
+  fi
   if [ $status = 0 ]; then
     echo "passed $1 ($((SECONDS - begin)) s)"
     passed=$((passed + 1))
