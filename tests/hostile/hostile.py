@@ -6,6 +6,7 @@ CLIENTS, ROUNDS = 64, 4 if os.environ.get("SHORT") else 12
 IDLE_SECONDS, MOST_IDLE_SHARE = 5 if os.environ.get("SHORT") else 10, 0.05  # of processor time, which other load does not add to
 SILENT, TRICKLING, UNREAD = (200, 50, 20) if os.environ.get("SHORT") else (1_000, 200, 50)
 GOOD = 100  # requests that are timed beside these
+UNLOGGED = 1_000  # requests whose lines are more than a pipe and the service hold
 FEW_FILES = 128  # open files of a service that meets its limit
 MOST_HELD = 4 * (128 + 84) << 20  # bytes of a service of 4 clients: those of waiting connections, and of the request that is served
 PATIENCE = 300  # seconds for one answer
@@ -44,9 +45,9 @@ SCHEMAS = [
 
 
 class Server:
-    def __init__(self, *words, files=None):
+    def __init__(self, *words, files=None, stderr=None):
         limit = None if files is None else (lambda: resource.setrlimit(resource.RLIMIT_NOFILE, (files, files)))
-        self.process = subprocess.Popen([PROGRAM, "serve", "--port", "0", *words], stdout=subprocess.PIPE, preexec_fn=limit)
+        self.process = subprocess.Popen([PROGRAM, "serve", "--port", "0", *words], stdout=subprocess.PIPE, stderr=stderr, preexec_fn=limit)
         told = self.process.stdout.readline().split()
         assert told[:1] == [b"listening"], told
         self.port = int(told[1])
@@ -357,6 +358,44 @@ def no_more_files():
         server.close()
 
 
+def log_of(lines):
+    """How many answers these lines tell, and how many they say were dropped; None where one of them is neither."""
+    told_ones = dropped = 0
+    for line in lines:
+        words = line.split()
+        if len(words) == 2 and words[0] == b"dropped":
+            dropped += int(words[1])
+        elif len(words) == 6 and words[0] in (b"GET", b"POST", b"-") and all(word.isdigit() for word in words[2:]):
+            told_ones += 1
+        else:
+            return None
+    return told_ones, dropped
+
+
+def log_holds_up_nobody():
+    """A log that nobody reads: requests are answered, and what was not written is counted."""
+    server = Server("--clients", "1", "--log", stderr=subprocess.PIPE)
+    path = "/" + "x" * 255
+    want = fault(404, 404, "no such route")
+    try:
+        register(server)
+        right = sum(server.exchange(request("GET", path)) == want for _ in range(UNLOGGED))
+        check("%d requests to a service whose log nobody reads" % UNLOGGED, right == UNLOGGED, "%d right" % right)
+        lines = []
+        reader = threading.Thread(target=lambda: lines.extend(server.process.stderr))
+        reader.start()
+        time.sleep(1)
+        right = sum(server.exchange(request("GET", path + "?query")) == want for _ in range(10))
+        time.sleep(1)
+        server.close()
+        reader.join()
+        told_all = log_of(lines)
+        asked = len(SCHEMAS) + UNLOGGED + 10
+        check("the log tells each answer, or counts it as dropped: %s" % (told_all,), right == 10 and told_all is not None and sum(told_all) == asked and told_all[1] > 0, "%d asked" % asked)
+    finally:
+        server.close()
+
+
 def large_at_once():
     """Bodies of a MiB from 16 clients at once."""
     server = Server("--request-timeout", str(10 * PATIENCE))
@@ -416,6 +455,7 @@ crowd()
 flood()
 late_ones_are_closed()
 no_more_files()
+log_holds_up_nobody()
 large_at_once()
 bytes_behind()
 print("all were tried")
