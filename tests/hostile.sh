@@ -1,10 +1,11 @@
 #!/usr/bin/env bash
-# Hostile use of `avrogate serve`, all at once: 64 clients, a third of which are slow, cut off or malformed, each of whose
-# answers has to be, byte for byte, the one that was computed for its request, whatever was sent after that, and must not
-# end with a reset; 1,000 silent connections, 200 that trickle and 50 that read nothing, beside which good requests are
-# timed, and beside clients that send without end; a log that nobody reads; heads and bodies that do not come; fewer open files than connections; messages of a MiB from 16 clients; bytes
-# behind each kind of request; what the service takes of memory, and of a processor while nobody asks. A line for each
-# check. It takes about three minutes; with SHORT=1 in the environment there are fewer of each. The gate runs it.
+# Hostile use of `avrogate serve`, all at once: 64 clients, a third of which are slow, cut off or malformed, each of
+# whose answers has to be, byte for byte, the one that was computed for its request, whatever was sent after that, and
+# must not end with a reset; 1,000 silent connections, 200 that trickle and 50 that read nothing, beside which good
+# requests are timed, and beside clients that send without end; a log that nobody reads; heads and bodies that do not
+# come; fewer open files than connections; messages of a MiB from 16 clients; bytes behind each kind of request; what
+# the service takes of memory, and of a processor while nobody asks. A line for each check. It takes about three
+# minutes; with SHORT=1 in the environment there are fewer of each. The gate runs it.
 # Usage: tests/hostile.sh [PROGRAM]   (crates/avrogate/out/avrogate if it is left out)
 set -euo pipefail
 here=$(dirname "$(realpath "$0")")
