@@ -6,7 +6,7 @@ use httparse::Status;
 use httparse::spans::{EMPTY_HEADER_SPAN, HeaderSpan, parse_request};
 use libc::net::{EPOLL_CTL_ADD, EPOLLOUT};
 use mio::Poll;
-use os::{EpollEvent, write_no_sigpipe};
+use os::EpollEvent;
 use std::alloc::{AllocError, Global};
 use std::io;
 use std::net::Net;
@@ -147,7 +147,7 @@ impl Log {
                 break;
             }
             let end = self.pending.len().min(MOST_WRITTEN);
-            let count = write_no_sigpipe(STANDARD_ERROR, &self.pending[..end]);
+            let count = libc::write(STANDARD_ERROR, &self.pending[..end]);
             if count <= 0 {
                 break;
             }
