@@ -1,5 +1,6 @@
-"""`avrogate serve` with each of its allocations refused in turn, one a run: it does not begin, with status 4; or each request
-is answered as it should be, or 50301, or closed where not even that finds memory, and asked once more it is answered.
+"""`avrogate serve` with each of its allocations refused in turn, one a run: it ends before it serves, with status 4; or each
+request is answered as it should be, or 50301, or closed where its connection or that answer finds no memory, and asked
+once more it is answered.
 Usage: serve.py PROGRAM REFUSE.so FOLDER   (with SHORT=1 in the environment at distances that grow)"""
 import json, os, socket, subprocess, sys
 
@@ -35,12 +36,15 @@ def requests():
 
 
 def exchange(port, method, path, body):
-    """The body of the answer, or None where the connection is closed without one."""
+    """The body of the answer, or None where the connection is closed without one, maybe before all was sent."""
     got = b""
-    with socket.create_connection(("127.0.0.1", port), timeout=PATIENCE) as connection:
-        connection.sendall(b"%s %s HTTP/1.1\r\ncontent-length: %d\r\n\r\n" % (method.encode(), path.encode(), len(body)) + body)
-        while piece := connection.recv(1 << 20):
-            got += piece
+    try:
+        with socket.create_connection(("127.0.0.1", port), timeout=PATIENCE) as connection:
+            connection.sendall(b"%s %s HTTP/1.1\r\ncontent-length: %d\r\n\r\n" % (method.encode(), path.encode(), len(body)) + body)
+            while piece := connection.recv(1 << 20):
+                got += piece
+    except (ConnectionResetError, BrokenPipeError):
+        got = b""
     return got.split(b"\r\n\r\n", 1)[1] if got else None
 
 
@@ -56,6 +60,18 @@ def served(port):
     return None
 
 
+def served_by(server, port):
+    """What is wrong with the answers of a server that says where it listens, or None; it may end then for want of memory."""
+    try:
+        return served(port)
+    except OSError as error:
+        try:
+            status = server.wait(timeout=10)
+        except subprocess.TimeoutExpired:
+            return repr(error)
+        return None if status == 4 else "it ended with status %d" % status
+
+
 def run(at):
     """Whether the allocation of that number was made, and what went wrong."""
     mark = FOLDER + "/served"
@@ -65,16 +81,9 @@ def run(at):
     server = subprocess.Popen([PROGRAM, "serve", "--port", "0", "--clients", "1", "--workers", "1"], env=environment, stdout=subprocess.PIPE)
     try:
         told = server.stdout.readline().split()
-        if told[:1] == [b"listening"]:
-            try:
-                wrong = served(int(told[1]))
-            except OSError as error:
-                wrong = repr(error)
-            if server.poll() is not None:
-                wrong = "it ended with status %d" % server.returncode
-        else:
-            status = server.wait()
-            wrong = None if status == 4 and not told else "status %d, %r" % (status, told)
+        wrong = served_by(server, int(told[1])) if told[:1] == [b"listening"] else None
+        if told[:1] != [b"listening"] and (told or server.wait() != 4):
+            wrong = "status %s, %r" % (server.poll(), told)
     finally:
         server.kill()
         server.wait()
