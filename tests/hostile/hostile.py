@@ -258,7 +258,7 @@ def trickle(server, stop):
         with server.connect() as connection:
             for at in range(len(bytes_)):
                 connection.sendall(bytes_[at : at + 1])
-                if stop.wait(0.02):
+                if stop.wait(0.005):  # a request takes two seconds at most, of the ten that it may
                     return
             got = b""
             while piece := connection.recv(1 << 16):
@@ -267,8 +267,8 @@ def trickle(server, stop):
 
 
 def crowd():
-    """Default options, with time enough for all: silent ones, trickling ones, ones that read nothing, cut and malformed ones."""
-    server = Server("--head-timeout", str(10 * PATIENCE), "--request-timeout", str(10 * PATIENCE))
+    """Default options: silent ones, trickling ones, ones that read nothing, cut and malformed ones."""
+    server = Server()
     stop = threading.Event()
     wrong.clear()
     try:
