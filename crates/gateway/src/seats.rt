@@ -1,11 +1,11 @@
 //! Seats that are handed out one by one.
 
-ghost use Rattle.std.specs.Prelude.{All, IfSome};
+ghost use Rattle.std.specs.Prelude.{◌≡◌, ◌∷◌, ◌++◌, [], All, IfNone, IfSome};
 ghost use Rattle.session_pool.specs.Seats.{IsNewClient, IsNewWorker, Rests, RestsWorker};
 
 use session_pool::{ClientSeat, SessionPool, WorkerSeat};
 
-/// Takes the last of some clients' seats. `None` where none is left.
+/// Takes out the last of some clients' seats. `None` where none is left.
 pub fn pop_client<'p>(
     pool: &SessionPool<'p>,
     seats: &mut Vec<ClientSeat<'p>>,
@@ -13,11 +13,13 @@ pub fn pop_client<'p>(
     requires { All (IsNewClient pool.now) seats.old.items }
     ensures seat { IfSome result (Rests pool.now) }
     ensures others { All (IsNewClient pool.now) seats.new.items }
+    ensures last { IfSome result (λ seat. seats.old.items ≡ seats.new.items ++ seat ∷ []) }
+    ensures none { IfNone result (seats.old.items ≡ []) }
 {
     seats.pop()
 }
 
-/// Takes the last of some workers' seats. `None` where none is left.
+/// Takes out the last of some workers' seats. `None` where none is left.
 pub fn pop_worker<'p>(
     pool: &SessionPool<'p>,
     seats: &mut Vec<WorkerSeat<'p>>,
@@ -25,6 +27,8 @@ pub fn pop_worker<'p>(
     requires { All (IsNewWorker pool.now) seats.old.items }
     ensures seat { IfSome result (RestsWorker pool.now) }
     ensures others { All (IsNewWorker pool.now) seats.new.items }
+    ensures last { IfSome result (λ seat. seats.old.items ≡ seats.new.items ++ seat ∷ []) }
+    ensures none { IfNone result (seats.old.items ≡ []) }
 {
     seats.pop()
 }
