@@ -1,0 +1,5 @@
+pub mod Checks
+pub mod Fields
+pub mod Texts
+pub mod Bodies
+pub mod Lengths
