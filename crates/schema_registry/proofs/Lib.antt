@@ -12,3 +12,8 @@ pub mod Cells
 pub mod Levels
 pub mod SomeAnswer
 pub mod MemoryFaults
+pub mod Replayed
+pub mod SameIds
+pub mod KeptAgain
+pub mod Restarts
+pub mod Replays

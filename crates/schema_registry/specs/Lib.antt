@@ -14,3 +14,5 @@ pub mod Found
 pub mod Required
 pub mod Receipt
 pub mod Shared
+pub mod Keeping
+pub mod Replaying

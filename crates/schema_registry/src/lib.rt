@@ -6,8 +6,11 @@
 mod candidate;
 mod command;
 mod compatible;
+mod decision;
 mod history;
+mod keeper;
 mod kept_receipt;
+mod kept_registry;
 mod known_version;
 mod laws;
 mod level;
@@ -22,14 +25,19 @@ mod shared;
 mod subject;
 
 pub use command::{Command, Version};
+pub use keeper::{KeepFault, Keeper};
 pub use kept_receipt::KeptReceipt;
-pub use laws::memory_is_no_bad_schema;
+pub use kept_registry::KeptRegistry;
+pub use laws::{
+    an_id_names_one_schema, kept_commands_are_accepted_again, kept_commands_make_the_registry,
+    memory_is_no_bad_schema,
+};
 pub use level::Level;
 pub use limits::{
     LONGEST_SUBJECT, MOST_LEVELS, MOST_SCHEMAS, MOST_SUBJECTS, MOST_VERSION, limits_are_these,
 };
 pub use refusal::Refusal;
-pub use registry::Registry;
+pub use registry::{Registry, ReplayFault, UnreplayedLine};
 pub use reply::Reply;
 pub use shared::{Receipt, Registered, SharedRegistry};
 pub use subject::{is_subject, is_version};

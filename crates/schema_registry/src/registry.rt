@@ -11,6 +11,7 @@ ghost use Rattle.schema_registry.specs.Tables.{numbers_from};
 pub(crate) mod asking;
 mod levels;
 pub(crate) mod registering;
+mod replaying;
 mod requiring;
 
 use crate::command::Command;
@@ -20,6 +21,7 @@ use crate::refusal::Refusal;
 use crate::reply::Reply;
 use crate::schemas::SchemaTable;
 use avro_schema::Schema;
+pub use replaying::{ReplayFault, UnreplayedLine};
 use schema_registry_maps::Versions;
 use std::alloc::Global;
 use std::collections::BTreeMap;

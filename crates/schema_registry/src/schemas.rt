@@ -1,6 +1,6 @@
 //! Schemas under their ids, found by their texts.
 
-ghost use Rattle.std.specs.Prelude.{◌≡◌, ◌≤◌, ◌<◌, [], ◌∷◌, ◌++◌, length, None, option_map, IfOk, OnOk, OnErr, if◌then◌else◌, string_bytes};
+ghost use Rattle.std.specs.Prelude.{◌≡◌, ◌≤◌, ◌<◌, ◌+◌, ◌^◌, unwrap_or, [], ◌∷◌, ◌++◌, length, None, option_map, IfOk, OnOk, OnErr, if◌then◌else◌, string_bytes};
 ghost use Rattle.std.specs.BTreeMap.{get_by_text};
 ghost use Rattle.std.specs.Vec.{vec_capacity, vec_len};
 ghost use Rattle.schema_registry_maps.specs.Maps.{AreSame, Puts, ids_in, number_of};
@@ -75,6 +75,17 @@ impl SchemaTable {
         ensures { result ≡ id_of text.now self.now }
     {
         self.ids.get(text).copied()
+    }
+
+    /// Returns the id that the schema of a compact text has, or gets when it is added.
+    pub(crate) fn id_to_be(&self, text: &str) -> u32
+        requires { length self.now < 2 ^ 31 }
+        ensures { result ≡ unwrap_or (id_of text.now self.now) (length self.now + 1) }
+    {
+        match self.id_of(text) {
+            Some(id) => id,
+            None => self.schemas.len() as u32 + 1,
+        }
     }
 
     /// Whether there is no room for the schema of a compact text.

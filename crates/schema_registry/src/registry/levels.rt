@@ -32,6 +32,7 @@ impl Registry {
             → answer_to (registry_after self.now) (SetLevelCommand (Some subject.now) level)
             ≡ unless_refused result (LevelReply level) }
         ensures memory { IfSome result (λ e. e ≢ Refusal.NoMemory) }
+        ensures stored { IfSome result (λ e. e ≢ Refusal.NotStored) }
     {
         if !is_subject(subject) {
             return Some(Refusal::BadSubject);
@@ -40,6 +41,20 @@ impl Registry {
             return Some(Refusal::Full);
         }
         None
+    }
+
+    /// Returns why no level is set for a subject, or for all of them, where there is memory; None where one is.
+    pub(crate) fn refusal_to_set(&self, subject: &Option<String>) -> Option<Refusal>
+        ensures answer { (level : Level)
+            → answer_to (registry_after self.now) (SetLevelCommand (option_map string_bytes subject.now) level)
+            ≡ unless_refused result (LevelReply level) }
+        ensures memory { IfSome result (λ e. e ≢ Refusal.NoMemory) }
+        ensures stored { IfSome result (λ e. e ≢ Refusal.NotStored) }
+    {
+        match subject {
+            Some(subject) => self.level_refusal(subject),
+            None => None,
+        }
     }
 
     /// Sets the level of a subject, or the global one, and keeps the history.

@@ -9,6 +9,7 @@ ghost use Rattle.schema_registry.specs.Accepting.{declaration_of, id_for, regist
 ghost use Rattle.schema_registry.specs.Answer.{Answer, AreSafe, Gives, IsAnswer, where_declared};
 ghost use Rattle.schema_registry.specs.Answers.{AreAccepted, GivesId, Grows, answer_to, is_full, pairs_of};
 ghost use Rattle.schema_registry.specs.Command.{RegisterCommand, command_of, subject_in};
+ghost use Rattle.schema_registry.specs.Keeping.{IsDecision};
 ghost use Rattle.schema_registry.specs.Lists.{level_of, versions_of, with_text};
 ghost use Rattle.schema_registry.specs.Subject.{is_subject};
 ghost use Rattle.schema_registry.specs.Tables.{AddsRegistration, AsksToRegister, entry_of};
@@ -16,6 +17,7 @@ ghost use Rattle.schema_registry.specs.Tables.{AddsRegistration, AsksToRegister,
 use super::Registry;
 use crate::candidate::Candidate;
 use crate::command::Command;
+use crate::decision::Decision;
 use crate::history::History;
 use crate::known_version::KnownVersion;
 use crate::limits::MOST_SUBJECTS;
@@ -129,6 +131,45 @@ impl Registry {
         Ok(id)
     }
 
+    /// Decides what becomes of a schema that is to be a version of a subject, or why it may not be one. Nothing changes.
+    pub(crate) fn decide(&self, subject: &str, schema: &Candidate<'_>) -> Result<Decision, Refusal>
+        ensures ok { IfOk result (IsDecision (registry_after self.now) subject.now schema.now) }
+        ensures err { IfErr result (λ e. GivesId (registry_after self.now) subject.now schema.now (Err e)) }
+    {
+        if let Some(known) = self.version_with(subject, schema.schema()) {
+            return Ok(Decision::Known(known.id));
+        }
+        self.may_add(subject, schema)?;
+        Ok(Decision::New(self.schemas.id_to_be(schema.schema().text())))
+    }
+
+    /// Does what was decided of a schema and a subject, and keeps the history. Only memory may be wanted for it.
+    fn register_as(
+        &mut self,
+        decision: Decision,
+        subject: String,
+        schema: &Candidate<'_>,
+        history: History,
+    ) -> Result<u32, Refusal>
+        requires command { AddsRegistration self.old (string_bytes subject) schema.now history.commands }
+        requires decided { IsDecision (registry_after self.old) (string_bytes subject) schema.now decision }
+        ensures answer { GivesId (registry_after self.old) (string_bytes subject) schema.now result }
+        ensures ok { OnOk result (self.new ≡ history.commands) }
+        ensures err { OnErr result (self.new ≡ self.old) }
+        ensures memory { IfErr result (λ e. e ≡ Refusal.NoMemory) }
+    {
+        match decision {
+            Decision::Known(id) => {
+                self.history = history;
+                Ok(id)
+            }
+            Decision::New(_id) => {
+                let copy = schema.schema().copy()?;
+                self.add(subject, copy, history)
+            }
+        }
+    }
+
     /// Gives a schema its id, and makes it a version of the subject.
     pub(crate) fn register(
         &mut self,
@@ -141,51 +182,51 @@ impl Registry {
         ensures ok { OnOk result (self.new ≡ history.commands) }
         ensures err { OnErr result (self.new ≡ self.old) }
     {
-        if let Some(known) = self.version_with(&subject, schema.schema()) {
-            self.history = history;
-            return Ok(known.id);
-        }
-        self.may_add(&subject, schema)?;
-        let copy = schema.schema().copy()?;
-        self.add(subject, copy, history)
+        let decision = self.decide(&subject, schema)?;
+        self.register_as(decision, subject, schema, history)
     }
 
-    /// Does what a command asks that registers a schema, which was parsed from its text.
-    pub(crate) fn register_parsed(
+    /// Does what was decided of a command that registers a schema, which was parsed from its text. Only memory may be
+    /// wanted for it.
+    pub(crate) fn register_decided(
         &mut self,
+        decision: Decision,
         command: Command,
         schema: &Candidate<'_>,
     ) -> Result<u32, Refusal>
-        requires { AsksToRegister (command_of command) (subject_in (command_of command)) schema.now }
+        requires asks { AsksToRegister (command_of command) (subject_in (command_of command)) schema.now }
+        requires decided { IsDecision (registry_after self.old) (subject_in (command_of command)) schema.now decision }
         ensures answer { GivesId (registry_after self.old) (subject_in (command_of command)) schema.now result }
         ensures known { IfOk result (λ id. (0 < id) × (id ≤ MOST_SCHEMAS)) }
-        ensures accepted { AreAccepted self.old }
         ensures ok { OnOk result (self.new ≡ self.old ++ command_of command ∷ []) }
         ensures err { OnErr result (self.new ≡ self.old) }
+        ensures memory { IfErr result (λ e. e ≡ Refusal.NoMemory) }
     {
-        self.is_accepted(); // law
         let history = self.history.and(&command);
-        self.register_asked(command, schema, history)
+        self.register_asked(decision, command, schema, history)
     }
 
-    /// Registers what a command asks to register, and keeps the history.
+    /// Does what was decided of a command that registers a schema, and keeps the history.
     fn register_asked(
         &mut self,
+        decision: Decision,
         command: Command,
         schema: &Candidate<'_>,
         history: History,
     ) -> Result<u32, Refusal>
         requires asks { AsksToRegister (command_of command) (subject_in (command_of command)) schema.now }
+        requires decided { IsDecision (registry_after self.old) (subject_in (command_of command)) schema.now decision }
         requires new { history.commands ≡ self.old ++ command_of command ∷ [] }
         ensures answer { GivesId (registry_after self.old) (subject_in (command_of command)) schema.now result }
         ensures ok { OnOk result (self.new ≡ history.commands) }
         ensures err { OnErr result (self.new ≡ self.old) }
+        ensures memory { IfErr result (λ e. e ≡ Refusal.NoMemory) }
     {
         match command {
             Command::Register {
                 subject,
                 text: _text,
-            } => self.register(subject, schema, history),
+            } => self.register_as(decision, subject, schema, history),
             _other => unreachable!(),
         }
     }

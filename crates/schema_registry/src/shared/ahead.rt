@@ -68,6 +68,7 @@ impl SharedRegistry {
     ) -> Result<Option<Requirement>, AllocError> {
         self.registry
             .lock(rt)
+            .registry()
             .requirement(subject, candidate.schema())
     }
 
@@ -101,7 +102,11 @@ impl SharedRegistry {
     ) -> Result<(), AllocError>
         ensures { candidate.new ≡ candidate.old }
     {
-        let required = self.registry.lock(rt).requirement_beside(subject, version)?;
+        let required = self
+            .registry
+            .lock(rt)
+            .registry()
+            .requirement_beside(subject, version)?;
         if let Some(required) = required {
             self.compare_shown(required.level, &required.ids, candidate)?;
         }
@@ -118,7 +123,8 @@ impl SharedRegistry {
         ensures { IsSomeAnswer (LookupCommand (string_bytes subject) text.now) (answer_of result) }
     {
         let schema = schema_for(self.alloc, &subject, text)?;
-        let registry = self.registry.lock(rt);
+        let locked = self.registry.lock(rt);
+        let registry = locked.registry();
         registry.is_accepted(); // law
         registry.lookup_schema(subject, &schema)
     }
@@ -136,7 +142,8 @@ impl SharedRegistry {
         let schema = schema_beside(self.alloc, subject, version, text)?;
         let mut candidate = Candidate::new(self.alloc, schema);
         self.compare_beside(rt, subject, version, &mut candidate)?;
-        let registry = self.registry.lock(rt);
+        let locked = self.registry.lock(rt);
+        let registry = locked.registry();
         registry.is_accepted(); // law
         registry.check_schema(subject, version, &candidate)
     }

@@ -26,9 +26,9 @@ returns-in_err-compare_beside g c =
 
 pub returns : goal.returns
 returns g c =
-    let commands = c.deref-2.result.now in
+    let commands = c.registry-registry.result.now in
     let ok = c.in_ok-schema.ensures.ok in
     let is = beside-is (registry_after commands) c.args.subject.now ok.0 c.args.version ok.1 c.args.text.now c.in_ok-schema.schema ok.2 in
-    some-answer commands (CheckCommand c.args.subject.now c.args.version c.args.text.now) c.check_schema.result (rw (c.deref.ensures, ← c.deref-2.ensures) at c.is_accepted.ensures)
+    some-answer commands (CheckCommand c.args.subject.now c.args.version c.args.text.now) c.check_schema.result c.is_accepted.ensures
     (subst (λ a. Gives a c.check_schema.result) (sym is) (rw (c.compare_beside.ensures, c.new-candidate.ensures) at c.check_schema.ensures))
     (whatever-refused c.check_schema.result (ok.0, ok.1, short-text c.args.text.now c.in_ok-schema.schema ok.2))

@@ -19,10 +19,10 @@ returns-in_err-schema g c =
 
 pub returns : goal.returns
 returns g c =
-    let commands = c.deref-3.result.now in
+    let commands = c.registry-registry.result.now in
     let s = string_bytes c.args.subject in
     let ok = rw c.deref.ensures at c.in_ok-schema.ensures.ok in
     let is = lookup-is (registry_after commands) s c.args.text.now c.in_ok-schema.schema ok.0 ok.1 in
-    some-answer commands (LookupCommand s c.args.text.now) c.lookup_schema.result (rw (c.deref-2.ensures, ← c.deref-3.ensures) at c.is_accepted.ensures)
+    some-answer commands (LookupCommand s c.args.text.now) c.lookup_schema.result c.is_accepted.ensures
     (subst (λ a. Gives a c.lookup_schema.result) (sym is) c.lookup_schema.ensures)
     (whatever-refused c.lookup_schema.result (ok.0, short-text c.args.text.now c.in_ok-schema.schema ok.1))

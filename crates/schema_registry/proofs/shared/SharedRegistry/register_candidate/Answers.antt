@@ -4,7 +4,7 @@ use Rattle.schema_registry.specs.Accepting.{registry_after}
 use Rattle.schema_registry.specs.Answer.{IsAnswer}
 use Rattle.schema_registry.specs.Answers.{answer_to}
 use Rattle.schema_registry.specs.Command.{RegisterCommand}
-use Rattle.schema_registry.proofs.SomeAnswer.{memory-refused, registration-grows}
+use Rattle.schema_registry.proofs.SomeAnswer.{memory-refused, registration-grows, unstored-registration, why-refused}
 use Rattle.schema_registry.proofs.Told.{asked-grows, registered-refusal}
 use Rattle.schema_registry.proofs.shared.SharedRegistry.register_candidate.Goals as goal
 
@@ -23,14 +23,20 @@ returns-in_err-compare_ahead-clause-answer g c =
 pub returns-in_err-id-clause-answer : goal.returns-in_err-id-clause-answer
 returns-in_err-id-clause-answer g c =
     let p = err_from_is_err_and c.from_residual-in_err-id.result c.from_residual-in_err-id.ensures.1 in
-    let asked = c.requires in
+    let asks = c.requires in
+    let s = string_bytes c.args.subject in
+    let t = string_bytes c.args.text in
+    let schema = c.args.candidate.now in
+    let commands = c.deref_mut.result.now.registry in
+    let lists = registry_after commands in
+    let accepted = rw (c.registry.ensures, c.deref-2.ensures, ← c.deref_mut.ensures.value) at c.is_accepted.ensures in
+    let refusal = c.in_err-id.field-0.0 in
+    let refused = rw c.compare_ahead.ensures at c.in_err-id.ensures.refused in
+    let unstored = rw c.compare_ahead.ensures at c.in_err-id.ensures.unstored in
     rw (p.1, p.2) (
-      λ _. record { commands = c.deref_mut.result.now; accepted = c.in_err-id.ensures.accepted; grows = asked-grows (registry_after c.deref_mut.result.now) (string_bytes c.args.subject) (string_bytes c.args.text) c.args.candidate.now asked },
-      λ known. record {
-        commands = c.deref_mut.result.now;
-        accepted = c.in_err-id.ensures.accepted;
-        answer = subst (λ command. IsAnswer (answer_to (registry_after c.deref_mut.result.now) command) (Err c.in_err-id.field-0.0)) (sym asked.command_is)
-            (registered-refusal (registry_after c.deref_mut.result.now) (string_bytes c.args.subject) asked.text c.args.candidate.now asked.subject_is asked.declares
-            c.in_err-id.field-0.0 ((rw c.compare_ahead.ensures at c.in_err-id.ensures.answer) known));
-      },
+      λ _. record { commands = commands; accepted = accepted; grows = asked-grows lists s t schema asks },
+      why-refused commands (RegisterCommand s t) refusal accepted (λ asks. asks)
+          (λ stored no_want. subst (λ command. IsAnswer (answer_to lists command) (Err refusal)) (sym asks.command_is)
+          (registered-refusal lists s asks.text schema asks.subject_is asks.declares refusal (refused stored no_want)))
+          (λ is. unstored-registration commands s t schema asks (unstored is).0),
     )
