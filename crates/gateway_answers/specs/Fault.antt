@@ -34,6 +34,7 @@ code_of faults.Clash = 50001
 code_of faults.NoMemory = 50301
 code_of faults.Full = 50302
 code_of faults.NotFinished = 50303
+code_of faults.NotStored = 50304
 
 abbrev pub status_of : Fault → Status
 status_of faults.BadRequest = statuses.BadRequest
@@ -58,6 +59,7 @@ status_of faults.Clash = statuses.InternalServerError
 status_of faults.NoMemory = statuses.ServiceUnavailable
 status_of faults.Full = statuses.ServiceUnavailable
 status_of faults.NotFinished = statuses.ServiceUnavailable
+status_of faults.NotStored = statuses.ServiceUnavailable
 
 -- a code is its status, or has two digits behind it
 abbrev pub CodesBeginWithTheirStatus : Type 0
@@ -89,6 +91,7 @@ message_of faults.Clash = codes "clash"
 message_of faults.NoMemory = codes "no memory"
 message_of faults.Full = codes "full"
 message_of faults.NotFinished = codes "not finished"
+message_of faults.NotStored = codes "not stored"
 
 -- for a private clause: its text has no parts
 abbrev pub HasFixedText : Fault → Type 0

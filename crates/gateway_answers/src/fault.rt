@@ -51,6 +51,8 @@ pub enum Fault {
     Full,
     /// The session was abandoned before it ended.
     NotFinished,
+    /// The command would be accepted, and could not be written to the store of the registry.
+    NotStored,
 }
 
 impl Fault {
@@ -80,6 +82,7 @@ impl Fault {
             Fault::NoMemory => 50301,
             Fault::Full => 50302,
             Fault::NotFinished => 50303,
+            Fault::NotStored => 50304,
         }
     }
 
@@ -105,7 +108,8 @@ impl Fault {
             | Fault::BadEnvelope(_)
             | Fault::ProgramTooLarge => Status::UnprocessableEntity,
             Fault::Clash => Status::InternalServerError,
-            Fault::NoMemory | Fault::Full | Fault::NotFinished => Status::ServiceUnavailable,
+            Fault::NoMemory | Fault::Full | Fault::NotFinished | Fault::NotStored =>
+                Status::ServiceUnavailable,
         }
     }
 
@@ -145,6 +149,7 @@ impl Fault {
             Fault::NoMemory => "no memory",
             Fault::Full => "full",
             Fault::NotFinished => "not finished",
+            Fault::NotStored => "not stored",
             Fault::BadSchema(_)
             | Fault::Malformed { .. }
             | Fault::Mismatch(_)

@@ -30,6 +30,7 @@ fault_of refusals.NoSchema = faults.NoSchema
 fault_of refusals.Incompatible = faults.Incompatible
 fault_of refusals.Full = faults.Full
 fault_of refusals.Clash = faults.Clash
+fault_of refusals.NotStored = faults.NotStored
 fault_of refusals.NoMemory = faults.NoMemory
 
 -- a level that was set, or one that was asked for

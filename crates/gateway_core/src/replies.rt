@@ -30,6 +30,7 @@ pub(crate) fn fault_of(refusal: Refusal) -> Fault
         Refusal::Incompatible => Fault::Incompatible,
         Refusal::Full => Fault::Full,
         Refusal::Clash => Fault::Clash,
+        Refusal::NotStored => Fault::NotStored,
         Refusal::NoMemory => Fault::NoMemory,
     }
 }

@@ -29,6 +29,7 @@ begins faults.Clash = inr refl
 begins faults.NoMemory = inr refl
 begins faults.Full = inr refl
 begins faults.NotFinished = inr refl
+begins faults.NotStored = inr refl
 
 pub returns : goal.returns
 returns c = begins
