@@ -1,0 +1,6 @@
+pub mod Blocks
+pub mod Writes
+pub mod Crash
+pub mod Steps
+pub mod Bytes
+pub mod LastLine

@@ -1,0 +1,22 @@
+//! Registry; used by the store of the registry.
+//!
+//! A file of lines that outlives a crash. A line is on the disk before `append` answers `Ok`. After a crash the file
+//! reads as the lines that it had, with at most one more, of which nothing was answered.
+#![tactic(auto)]
+
+mod crashing;
+mod error;
+mod journal;
+mod layout;
+mod opening;
+mod reading;
+mod taking_back;
+#[cfg(test)]
+mod tests;
+mod writing;
+
+pub use crashing::Aftermath;
+pub use error::{AppendError, Damage, OpenError, ReadError};
+pub use journal::Journal;
+pub use layout::{CLOSED, LONGEST, NEWLINE, OPEN};
+pub use reading::{Found, read_lines};
