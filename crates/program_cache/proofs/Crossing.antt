@@ -1,4 +1,4 @@
--- That threads may use one cache of programs (`ProgramCache` is `Sync`), level by level.
+-- That threads may use one cache of programs (`ProgramCache` is `Sync`), level by level, and what it shows.
 use denote.Param.Send.{IsSend, IsSync, enum_send, enum_sync, recorded_send, recorded_sync, sendable, view_sync}
 use denote.Param.SendFields.{FieldsHave, declared_sync}
 use denote.Enum.Declared.{shape}
@@ -28,7 +28,7 @@ compiled-send : IsSend compiled.the_row
 compiled-send = recorded_send _ _ compiled.the_type.to compiled.the_type.to_one
     (enum_send (shape compiled.the_type) ((search (pair-send, crosses, sendable) depth 60 fits 20000, tt), ((search (schema-send, crosses, sendable) depth 60 fits 20000, tt), tt)))
 
-compiled-sync : IsSync compiled.the_row
+pub compiled-sync : IsSync compiled.the_row
 compiled-sync = recorded_sync _ _ compiled.the_type.to compiled.the_type.to_one
     (enum_sync (shape compiled.the_type) ((search (pair-sync, crosses, sendable) depth 60 fits 20000, tt), ((search (schema-sync, crosses, sendable) depth 60 fits 20000, tt), tt)))
 

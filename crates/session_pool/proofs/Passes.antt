@@ -114,34 +114,34 @@ module _ (pass : Pass) (old : ClientSeat) (mid new : SlotSeat) (i word : ℕ) (y
   may_tell on = is_out P (knows old.slots) (knows mid) (knows new) i pass.slot word y x same is.slot is.program took.took (λ p before. RowsOn before x) on
 
   module _ (back : Account → Session → Account) (left_word : ℕ) (gave : GaveBack back (knows mid) i x left_word (knows new)) where
-    pub still : ((a : Account) → (back a x).program ≡ y.program) → IsPassOf (record { slots = new }) pass
+    pub still : ((a : Account) → (back a x).program ≡ y.program) → IsPassOf (record old { slots = new }) pass
     still runs = record {
       slot = is_in P (knows old.slots) (knows mid) (knows new) i pass.slot word y x same is.slot is.program took.took back left_word gave;
       program = program_now P (knows old.slots) (knows mid) (knows new) i pass.slot word y x same is.slot is.program took.took back left_word gave (runs is.slot.pass.account);
     }
 
-    pub hands_back : HandsBack old pass y x (record { slots = new })
+    pub hands_back : HandsBack old pass y x (record old { slots = new })
     hands_back = record {
       fits = fits_pass;
       handed = handed_now P (knows old.slots) (knows mid) (knows new) i pass.slot word y x same is.slot is.program took.took back left_word gave;
     }
 
-    pub told_then : told (record { slots = new }) pass ≡ back (told old pass) x
+    pub told_then : told (record old { slots = new }) pass ≡ back (told old pass) x
     told_then = told_now P (knows old.slots) (knows mid) (knows new) i pass.slot word y x same is.slot is.program took.took back left_word gave
 
-  pub still_kept : (left_word : ℕ) → GaveBack kept (knows mid) i x left_word (knows new) → x.program ≡ y.program → IsPassOf (record { slots = new }) pass
+  pub still_kept : (left_word : ℕ) → GaveBack kept (knows mid) i x left_word (knows new) → x.program ≡ y.program → IsPassOf (record old { slots = new }) pass
   still_kept left_word gave runs = still kept left_word gave (λ a. runs)
 
-  pub still_told : (left_word : ℕ) → GaveBack told_all (knows mid) i x left_word (knows new) → RowsOn y x → IsPassOf (record { slots = new }) pass
+  pub still_told : (left_word : ℕ) → GaveBack told_all (knows mid) i x left_word (knows new) → RowsOn y x → IsPassOf (record old { slots = new }) pass
   still_told left_word gave on = still told_all left_word gave (λ a. rows_run y x on)
 
-  pub tells_rows : (left_word : ℕ) → GaveBack told_all (knows mid) i x left_word (knows new) → RowsOn y x → told (record { slots = new }) pass ≡ with_seen x.count (told old pass)
+  pub tells_rows : (left_word : ℕ) → GaveBack told_all (knows mid) i x left_word (knows new) → RowsOn y x → told (record old { slots = new }) pass ≡ with_seen x.count (told old pass)
   tells_rows left_word gave on = told_then told_all left_word gave ∙ told_rows (told old pass) y x fits_pass on
 
-  pub keeps_told : (left_word : ℕ) → GaveBack kept (knows mid) i x left_word (knows new) → x ≡ y → told (record { slots = new }) pass ≡ told old pass
+  pub keeps_told : (left_word : ℕ) → GaveBack kept (knows mid) i x left_word (knows new) → x ≡ y → told (record old { slots = new }) pass ≡ told old pass
   keeps_told left_word gave e = told_then kept left_word gave ∙ kept_same (told old pass) y x fits_pass e
 
-  pub tells_breaks : (left_word : ℕ) → GaveBack kept (knows mid) i x left_word (knows new) → (make : List ℕ → List ℕ) → x ≡ record y { breaks = make y.breaks } → told (record { slots = new }) pass ≡ with_breaks (make (told old pass).breaks) (told old pass)
+  pub tells_breaks : (left_word : ℕ) → GaveBack kept (knows mid) i x left_word (knows new) → (make : List ℕ → List ℕ) → x ≡ record y { breaks = make y.breaks } → told (record old { slots = new }) pass ≡ with_breaks (make (told old pass).breaks) (told old pass)
   tells_breaks left_word gave make e = told_then kept left_word gave ∙ kept_breaks (told old pass) y x make fits_pass e
 
 -- a pass for a session that has begun

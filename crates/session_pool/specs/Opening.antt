@@ -1,7 +1,10 @@
 -- What `open` answers. All of this is this project's own.
-use Rattle.std.specs.Prelude.{◌≡◌, ◌∷◌, [], Option, Some, None, IfSome}
+use Rattle.std.specs.Prelude.{◌≡◌, ◌∷◌, [], Option, Some, None, IfSome, MatchOption}
+use Rattle.std.proofs.Common.{Bor}
 use Rattle.avro_schema.specs.Schema.{Declaration}
 use Rattle.program_definition.specs.Code.{code_of}
+use Rattle.program_cache.specs.Compiled.{IsOther}
+use Rattle.program_cache.specs.declared.compiled.Compiled.{Compiled}
 use Rattle.program_cache.specs.declared.refusal.PairRefusal.{PairRefusal}
 use Rattle.program_cache.specs.declared.refusal.PairRefusal.TheVariants as pairs
 use Rattle.session_pool_rule.specs.Results.{IsOccupied, Searched}
@@ -30,13 +33,19 @@ pub record HasOpened (old : ClientSeat) (pass : Pass) (new : ClientSeat) : Type 
   pub others : KeepsOthers old pass new
   pub found : Searched IsOccupied (knows old.slots) pass.slot (free ∷ free ∷ []) (knows new.slots)
 
--- The two schemas have no program; or all slots were found taken, in order; or it is another refusal, and no slot was
--- looked at.
+-- the seat shows what another pair than these two schemas was compiled to
+abbrev pub ShowsOther : Option Declaration → Option Declaration → ClientSeat → Type 0
+ShowsOther writer reader seat = MatchOption seat.other_pair ⊥ (λ other.
+    IfSome writer (λ w. IfSome reader (λ r. IsOther w r other.now)))
+
+-- The two schemas have no program; or all slots were found taken, in order; or another pair has their cell, which the
+-- seat shows, and no slot was looked at; or memory ran out, and none was looked at.
 abbrev pub IsWhyNotOpened : OpenError → Option Declaration → Option Declaration → ClientSeat → ClientSeat → Type 0
 IsWhyNotOpened ProgramTooLarge writer reader old new = IfSome writer (λ w. IfSome reader (λ r.
     code_of w.nodes r.nodes ≡ None))
 IsWhyNotOpened Full writer reader old new = FindsNoneFree (knows old.slots) (knows new.slots)
-IsWhyNotOpened Clash writer reader old new = knows new.slots ≡ knows old.slots
+IsWhyNotOpened Clash writer reader old new =
+    (knows new.slots ≡ knows old.slots) × ShowsOther writer reader new
 IsWhyNotOpened NoMemory writer reader old new = knows new.slots ≡ knows old.slots
 
 -- the refusal of the cache
@@ -44,3 +53,9 @@ abbrev pub open_error : PairRefusal → OpenError
 open_error pairs.ProgramTooLarge = ProgramTooLarge
 open_error (pairs.Clash pair) = Clash
 open_error pairs.NoMemory = NoMemory
+
+-- the other pair that a refusal of the cache shows
+abbrev pub shown_by : PairRefusal → Option (Bor Compiled)
+shown_by pairs.ProgramTooLarge = None
+shown_by (pairs.Clash other) = Some other
+shown_by pairs.NoMemory = None

@@ -4,7 +4,8 @@ ghost use Rattle.std.specs.Prelude.{◌≡◌, ◌<◌, ◌≤◌, All, IfOk, ve
 ghost use Rattle.session_pool.specs.declared.limits.TheConstants.{MOST_CLIENTS};
 ghost use Rattle.session_pool_jobs.specs.declared.limits.TheConstants.{MOST_WORKERS};
 
-use program_cache::ProgramCache;
+use crate::refusals::OpenError;
+use program_cache::{Compiled, PairRefusal, ProgramCache};
 use session_pool_jobs::{JobSeat, Jobs};
 use session_pool_slots::{SessionSlots, SlotSeat};
 use std::alloc::{AllocError, Global};
@@ -18,10 +19,12 @@ pub struct SessionPool<'p> {
     pub(crate) jobs: Jobs,
 }
 
-/// A client's seat: what it knows of the slots.
+/// A client's seat: what it knows of the slots, and what its last `open` found in the cell of its pair, where that was
+/// of another pair.
 #[derive(Drop)]
 pub struct ClientSeat<'p> {
     pub(crate) slots: SlotSeat<'p>,
+    pub(crate) other_pair: Option<&'p Compiled>,
 }
 
 /// A worker's seat: what it knows of the slots, and its jobs.
@@ -29,6 +32,35 @@ pub struct ClientSeat<'p> {
 pub struct WorkerSeat<'p> {
     pub(crate) slots: SlotSeat<'p>,
     pub(crate) jobs: JobSeat,
+}
+
+impl<'p> ClientSeat<'p> {
+    ghost use Rattle.session_pool.specs.Opening.{open_error, shown_by};
+
+    /// What the last `open` found in the cell of its pair, which is of another pair, where it answered `Clash`. `None`
+    /// after any other answer, and before the first.
+    pub fn other_pair(&self) -> Option<&'p Compiled>
+        ensures { result ≡ self.now.other_pair }
+    {
+        self.other_pair
+    }
+
+    /// Keeps the other pair that a refusal of the cache shows, or none. Returns the refusal without it.
+    pub(crate) fn note(&mut self, refusal: PairRefusal<'p>) -> OpenError
+        ensures error { result ≡ open_error refusal.entry }
+        ensures slots { self.new.slots ≡ self.old.slots }
+        ensures other { self.new.other_pair ≡ shown_by refusal.entry }
+    {
+        self.other_pair = None;
+        match refusal {
+            PairRefusal::ProgramTooLarge => OpenError::ProgramTooLarge,
+            PairRefusal::Clash(other) => {
+                self.other_pair = Some(other);
+                OpenError::Clash
+            }
+            PairRefusal::NoMemory => OpenError::NoMemory,
+        }
+    }
 }
 
 impl<'p> SessionPool<'p> {
@@ -85,7 +117,10 @@ impl<'p> SessionPool<'p> {
         let mut seats = Vec::new(self.alloc);
         for _ in 0..count {
             let slots = self.slots.another(first);
-            seats.push(ClientSeat { slots })?;
+            seats.push(ClientSeat {
+                slots,
+                other_pair: None,
+            })?;
         }
         Ok(seats)
     }

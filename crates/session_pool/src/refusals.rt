@@ -1,7 +1,6 @@
 //! Why a call of the pool was refused.
 
 use crate::pass::Pass;
-use program_cache::PairRefusal;
 use session_state::PieceRefusal;
 use thiserror::Error;
 
@@ -52,22 +51,6 @@ pub enum NotYet {
 pub struct ReturnedPass<W> {
     pub why: W,
     pub pass: Pass,
-}
-
-impl OpenError {
-    ghost use Rattle.std.specs.Prelude.{◌≡◌};
-    ghost use Rattle.session_pool.specs.Opening.{open_error};
-
-    /// The refusal of the cache.
-    pub(crate) fn of(refusal: PairRefusal) -> OpenError
-        ensures { result ≡ open_error refusal.entry }
-    {
-        match refusal {
-            PairRefusal::ProgramTooLarge => OpenError::ProgramTooLarge,
-            PairRefusal::Clash(_other) => OpenError::Clash,
-            PairRefusal::NoMemory => OpenError::NoMemory,
-        }
-    }
 }
 
 impl PieceError {

@@ -21,5 +21,5 @@ returns-in-Err-clause-debugs c =
     let y = c.in-Ok.taken.session in
     let x = c.clear_break.new.self in
     let w = c.in-Err.ensures in
-    subst (λ (e : DebugError). Debugs (ask.Clear c.args.address) c.args.seat.now c.args.pass.now (Err e) (record { slots = c.give_back.new.seat })) (sym c.of_clear.ensures)
-    (clear_refused c.args.address c.args.seat.now c.args.pass.now (record { slots = c.give_back.new.seat }) y x _ (hands_back c.args.pass.now c.args.seat.now c.take_out.new.seat c.give_back.new.seat _ _ y x c.slot-slot.ensures c.requires.pass c.in-Ok.ensures.taken kept _ c.give_back.ensures.gave) w (keeps_told c.args.pass.now c.args.seat.now c.take_out.new.seat c.give_back.new.seat _ _ y x c.slot-slot.ensures c.requires.pass c.in-Ok.ensures.taken _ c.give_back.ensures.gave w.1))
+    subst (λ (e : DebugError). Debugs (ask.Clear c.args.address) c.args.seat.now c.args.pass.now (Err e) (record c.args.seat.now { slots = c.give_back.new.seat })) (sym c.of_clear.ensures)
+    (clear_refused c.args.address c.args.seat.now c.args.pass.now (record c.args.seat.now { slots = c.give_back.new.seat }) y x _ (hands_back c.args.pass.now c.args.seat.now c.take_out.new.seat c.give_back.new.seat _ _ y x c.slot-slot.ensures c.requires.pass c.in-Ok.ensures.taken kept _ c.give_back.ensures.gave) w (keeps_told c.args.pass.now c.args.seat.now c.take_out.new.seat c.give_back.new.seat _ _ y x c.slot-slot.ensures c.requires.pass c.in-Ok.ensures.taken _ c.give_back.ensures.gave w.1))

@@ -17,4 +17,4 @@ pub returns-clause-hands : goal.returns-clause-hands
 returns-clause-hands c =
     let y = c.in-Ok.taken.session in
     let x = c.piece_owned.new.self in
-    (y, subst (λ (z : Session). HandsBack c.args.seat.now c.args.pass.now y z (record { slots = c.give_back-2.new.seat })) c.in_default-piece_owned.ensures.ok.1 (hands_back c.args.pass.now c.args.seat.now c.take_out.new.seat c.give_back-2.new.seat _ _ y x c.slot-slot.ensures c.requires.pass c.in-Ok.ensures.taken kept _ c.give_back-2.ensures.gave))
+    (y, subst (λ (z : Session). HandsBack c.args.seat.now c.args.pass.now y z (record c.args.seat.now { slots = c.give_back-2.new.seat })) c.in_default-piece_owned.ensures.ok.1 (hands_back c.args.pass.now c.args.seat.now c.take_out.new.seat c.give_back-2.new.seat _ _ y x c.slot-slot.ensures c.requires.pass c.in-Ok.ensures.taken kept _ c.give_back-2.ensures.gave))
