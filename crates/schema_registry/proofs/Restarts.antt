@@ -14,7 +14,7 @@ use Rattle.schema_registry.specs.declared.refusal.Refusal.{Refusal}
 use Rattle.schema_registry.specs.declared.refusal.Refusal.TheVariants.{NotStored}
 use Rattle.schema_registry.specs.Answers.{answer_to}
 use Rattle.schema_registry.specs.Accepting.{declaration_of, id_for, registry_after}
-use Rattle.schema_registry.specs.Keeping.{HasVersion, IsDecision, KeptCommand, KeptRegistration, KeptLevel, IsLeft, IsKept, command_for, registration_kept, kept_of, kept_from, kept_in}
+use Rattle.schema_registry.specs.Keeping.{HasVersion, IsDecision, MayFail, KeptCommand, KeptRegistration, KeptLevel, IsLeft, IsKept, command_for, registration_kept, kept_of, kept_from, kept_in}
 use Rattle.schema_registry.specs.Tables.{AsksToRegister}
 use Rattle.schema_registry.proofs.Added.{added-answer}
 use Rattle.schema_registry.proofs.Told.{registered-answer}
@@ -163,3 +163,20 @@ quiet_again old c schema decision asks decided known =
 pub beside : (A B : Type 0) (r : Result ℕ Refusal) → A → IfErr r (λ e. e ≡ NotStored → B) → IfErr r (λ e. e ≡ NotStored → A × B)
 beside A B (Ok id) a b = tt
 beside A B (Err e) a b = λ is. (a, b is)
+
+-- a command that was not stored would be accepted
+pub may-fail-level : {T K : Type 0} (fails : K → K → KeptCommand → Type 0) (of : Lists) (subject : Option (List ℕ)) (level : Level) (old new : K) (r : Result T Refusal)
+    → IfErr r (λ e. e ≡ NotStored → IsAnswer (answer_to of (SetLevelCommand subject level)) (Ok (LevelReply level)) × (fails old new (KeptLevel subject level) ⊎ (subject ≡ None)))
+    → IfErr r (λ e. e ≡ NotStored → MayFail fails of (SetLevelCommand subject level) old new)
+may-fail-level fails of subject level old new (Ok reply) why = tt
+may-fail-level fails of subject level old new (Err e) why = λ is. record {
+  reply = LevelReply level;
+  accepted = (why is).0;
+  changes = λ asks. asks;
+  why = at (why is).1;
+}
+  where
+    at : fails old new (KeptLevel subject level) ⊎ (subject ≡ None)
+        → ((k : KeptCommand) × (kept_of of (SetLevelCommand subject level) ≡ k ∷ []) × fails old new k) ⊎ ((l : Level) × (SetLevelCommand subject level ≡ SetLevelCommand None l))
+    at (inl failed) = inl (KeptLevel subject level, refl, failed)
+    at (inr none) = inr (level, ap (λ (s : Option (List ℕ)). SetLevelCommand s level) none)

@@ -1,11 +1,11 @@
 -- Which commands a registry has to find again after a restart. This project's own.
-use Rattle.std.specs.Prelude.{◌≡◌, ◌⊎◌, ℕ, List, [], ◌∷◌, ◌++◌, Bool, true, false, is_some, if◌then◌else◌, Option, Some, None, Result, Ok, Err}
+use Rattle.std.specs.Prelude.{◌≡◌, ◌⊎◌, ℕ, List, [], ◌∷◌, ◌++◌, Bool, true, false, is_some, if◌then◌else◌, Option, Some, None, MatchOption, Result, Ok, Err, ⊤}
 use Rattle.avro_schema_names.specs.declared.error.SchemaError.{SchemaError}
 use Rattle.avro_schema.specs.Schema.{Declaration}
 use Rattle.schema_registry.specs.declared.level.Level.{Level}
 use Rattle.schema_registry.specs.declared.decision.Decision.{Decision}
 use Rattle.schema_registry.specs.declared.decision.Decision.TheVariants.{Known, New}
-use Rattle.schema_registry.specs.Command.{Command, RegisterCommand, SetLevelCommand, LookupCommand, CheckCommand, VersionsCommand, VersionCommand, SubjectsCommand, SchemaCommand, LevelCommand}
+use Rattle.schema_registry.specs.Command.{Command, IsQuestion, RegisterCommand, SetLevelCommand, LookupCommand, CheckCommand, VersionsCommand, VersionCommand, SubjectsCommand, SchemaCommand, LevelCommand}
 use Rattle.schema_registry.specs.Lists.{Lists, level_of, no_lists, versions_of, with_text}
 use Rattle.schema_registry.specs.Accepting.{declaration_of, id_for, registry_after, taken}
 use Rattle.schema_registry.specs.Answer.{AreSafe, IsAnswer}
@@ -89,3 +89,33 @@ pub record IsKept {K : Type 0} (keeps leaves : K → List KeptCommand → Type 0
 pub record WithKeeper (K : Type 0) : Type 0 where
   pub registry : List Command
   pub keeper : K
+
+-- a command would be accepted, and the keeper failed, or memory ran out for what is kept of the level of all
+pub record MayFail {K : Type 0} (fails : K → K → KeptCommand → Type 0) (lists : Lists) (c : Command) (old new : K) : Type 0 where
+  pub reply : Reply
+  pub accepted : IsAnswer (answer_to lists c) (Ok reply)
+  pub changes : ¬ (IsQuestion c)
+  pub why : ((k : KeptCommand) × (kept_of lists c ≡ k ∷ []) × fails old new k)
+      ⊎ ((level : Level) × (c ≡ SetLevelCommand None level))
+
+-- ---- a keeper that may be absent
+
+-- it has these, or there is none
+abbrev pub KeepsIfSome : {K : Type 0} → (K → List KeptCommand → Type 0) → Option K → List KeptCommand → Type 0
+KeepsIfSome keeps keeper ks = MatchOption keeper ⊤ (λ k. keeps k ks)
+
+-- a crash may leave these of it; of none it leaves nothing
+abbrev pub LeavesIfSome : {K : Type 0} → (K → List KeptCommand → Type 0) → Option K → List KeptCommand → Type 0
+LeavesIfSome leaves keeper left = MatchOption keeper ⊥ (λ k. leaves k left)
+
+-- a call failed to keep a command, which it does only where there is one
+abbrev pub FailsIfSome : {K : Type 0} → (K → K → KeptCommand → Type 0) → Option K → Option K → KeptCommand → Type 0
+FailsIfSome fails old new k = MatchOption old ⊥ (λ o. MatchOption new ⊥ (λ n. fails o n k))
+
+-- the law that each crash leaves what it has
+pub only_of_some : {K : Type 0} (keeps leaves : K → List KeptCommand → Type 0)
+    → ((k : K) (ks left : List KeptCommand) → keeps k ks → leaves k left → left ≡ ks)
+    → (keeper : Option K) (ks left : List KeptCommand) → KeepsIfSome keeps keeper ks → LeavesIfSome leaves keeper left
+    → left ≡ ks
+only_of_some keeps leaves only (Some k) ks left has may = only k ks left has may
+only_of_some keeps leaves only None ks left has may = absurd may

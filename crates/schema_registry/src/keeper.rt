@@ -25,8 +25,8 @@ pub trait Keeper {
     /// It takes more.
     ghost is_open: { Self → Bool };
 
-    /// A call that took the first and left the second could not keep its command.
-    ghost fails: { Self → Self → Type 0 };
+    /// A call that took the first and left the second could not keep this command.
+    ghost fails: { Self → Self → KeptCommand → Type 0 };
 
     /// Keeps a registration, with the id that is answered. At `Ok` each crash leaves it. At `Err` the keeper has what it
     /// had, or takes no more.
@@ -40,7 +40,8 @@ pub trait Keeper {
         ensures open { OnOk result (is_open self.old ≡ true) }
         ensures closed { is_open self.old ≡ false → (is_open self.new ≡ false)
             × ((left : List KeptCommand) → leaves self.new left → leaves self.old left) }
-        ensures why { IfErr result (λ e. e ≡ KeepFault.NotStored → fails self.old self.new) };
+        ensures why { IfErr result (λ e. e ≡ KeepFault.NotStored
+            → fails self.old self.new (KeptRegistration id subject.now text.now)) };
 
     /// Keeps a level that is set for a subject, or for all. At `Ok` each crash leaves it. At `Err` the keeper has what it
     /// had, or takes no more.
@@ -54,7 +55,8 @@ pub trait Keeper {
         ensures open { OnOk result (is_open self.old ≡ true) }
         ensures closed { is_open self.old ≡ false → (is_open self.new ≡ false)
             × ((left : List KeptCommand) → leaves self.new left → leaves self.old left) }
-        ensures why { IfErr result (λ e. e ≡ KeepFault.NotStored → fails self.old self.new) };
+        ensures why { IfErr result (λ e. e ≡ KeepFault.NotStored
+            → fails self.old self.new (KeptLevel (option_map string_bytes subject.now) level)) };
 
     /// Takes back the command that it kept last, or takes no more.
     fn take_back(&mut self)
@@ -67,9 +69,47 @@ pub trait Keeper {
     ghost only_these: { (keeper : Self) (ks left : List KeptCommand) → keeps keeper ks → leaves keeper left → left ≡ ks };
 }
 
-/// Keeps nothing, for a registry that ends with its process.
+/// Keeps what its keeper keeps; or nothing, for a registry that ends with its process.
+impl<K: Keeper> Keeper for Option<K> {
+    ghost use Rattle.std.specs.Prelude.{true};
+    ghost use Rattle.std.specs.Option.{option_map_or};
+    ghost use Rattle.schema_registry.specs.Keeping.{FailsIfSome, KeepsIfSome, LeavesIfSome, only_of_some};
+
+    ghost keeps = { KeepsIfSome K.keeps };
+
+    ghost leaves = { LeavesIfSome K.leaves };
+
+    ghost is_open = { λ keeper. option_map_or K.is_open keeper true };
+
+    ghost fails = { FailsIfSome K.fails };
+
+    fn keep_registration(&mut self, id: u32, subject: &str, text: &str) -> Result<(), KeepFault> {
+        match self {
+            Some(keeper) => keeper.keep_registration(id, subject, text),
+            None => Ok(()),
+        }
+    }
+
+    fn keep_level(&mut self, subject: &Option<String>, level: Level) -> Result<(), KeepFault> {
+        match self {
+            Some(keeper) => keeper.keep_level(subject, level),
+            None => Ok(()),
+        }
+    }
+
+    fn take_back(&mut self) {
+        if let Some(keeper) = self {
+            keeper.take_back();
+        }
+    }
+
+    ghost only_these = { only_of_some K.keeps K.leaves K.only_these };
+}
+
 #[derive(Drop)]
 pub struct Unkept;
+
+pub type FileKeeper = Unkept;
 
 impl Keeper for Unkept {
     ghost use Rattle.std.specs.Prelude.{true, List};
@@ -81,7 +121,7 @@ impl Keeper for Unkept {
 
     ghost is_open = { λ _. true };
 
-    ghost fails = { λ _ _. ⊥ };
+    ghost fails = { λ _ _ _. ⊥ };
 
     fn keep_registration(
         &mut self,

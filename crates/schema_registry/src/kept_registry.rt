@@ -2,11 +2,11 @@
 
 ghost use Rattle.std.specs.Prelude.{◌≡◌, ◌≢◌, ◌<◌, ◌≤◌, ◌⊎◌, ◌++◌, [], ◌∷◌, ℕ, IfErr, IfOk, None, Ok, Err, OnOk, OnErr, option_map, string_bytes};
 ghost use Rattle.schema_registry.specs.declared.limits.TheConstants.{MOST_SCHEMAS};
-ghost use Rattle.schema_registry.specs.Accepting.{registry_after};
+ghost use Rattle.schema_registry.specs.Accepting.{id_for, registry_after};
 ghost use Rattle.schema_registry.specs.Answer.{Gives, IsAnswer};
 ghost use Rattle.schema_registry.specs.Answers.{GivesId, Grows, answer_to};
 ghost use Rattle.schema_registry.specs.Command.{IsQuestion, RegisterCommand, SetLevelCommand, command_of, subject_in};
-ghost use Rattle.schema_registry.specs.Keeping.{IsDecision, MayAdd};
+ghost use Rattle.schema_registry.specs.Keeping.{IsDecision, KeptLevel, KeptRegistration, MayAdd, MayFail};
 ghost use Rattle.schema_registry.specs.Reply.{LevelReply};
 ghost use Rattle.schema_registry.specs.Tables.{AsksToRegister};
 
@@ -17,6 +17,7 @@ use crate::keeper::{KeepFault, Keeper};
 use crate::level::Level;
 use crate::refusal::Refusal;
 use crate::registry::Registry;
+use crate::registry::registering::schema_for;
 use crate::reply::Reply;
 use std::marker::Model;
 
@@ -78,6 +79,29 @@ impl<K: Keeper> KeptRegistry<K> {
         &self.registry
     }
 
+    /// Does or answers what a command asks, or refuses it; then no command changes. At `Ok` it is kept, where it changed
+    /// something. `NotStored` where it would be accepted, and the keeper failed.
+    pub fn apply(&mut self, command: Command) -> Result<Reply, Refusal>
+        ensures answer { IfOk result (λ reply. Gives (answer_to (registry_after self.old.registry)
+            (command_of command)) (Ok reply)) }
+        ensures refused { IfErr result (λ e. e ≢ Refusal.NotStored
+            → Gives (answer_to (registry_after self.old.registry) (command_of command)) (Err e)) }
+        ensures unstored { IfErr result (λ e. e ≡ Refusal.NotStored → MayFail K.fails (registry_after self.old.registry)
+            (command_of command) self.old.keeper self.new.keeper) }
+        ensures ok { OnOk result (self.new.registry ≡ self.old.registry ++ command_of command ∷ []) }
+        ensures err { OnErr result (self.new.registry ≡ self.old.registry) }
+    {
+        match command {
+            Command::Register { subject, text } => {
+                let alloc = self.registry.alloc();
+                let schema = Candidate::new(alloc, schema_for(alloc, &subject, &text)?);
+                Ok(Reply::Id(self.register(subject, text, &schema)?))
+            }
+            Command::SetLevel { subject, level } => self.set_level(subject, level),
+            question => self.ask(question),
+        }
+    }
+
     /// Registers the schema of a text, which was parsed from it, for a subject, and returns its id. At `Ok` it is kept.
     /// `NotStored` where it would be accepted, and the keeper failed; else it is refused as a registry refuses it. A
     /// refusal changes no command.
@@ -96,7 +120,9 @@ impl<K: Keeper> KeptRegistry<K> {
             → GivesId (registry_after self.old.registry) (string_bytes subject) schema.now (Err e)) }
         ensures unstored { IfErr result (λ e. e ≡ Refusal.NotStored
             → MayAdd (registry_after self.old.registry) (string_bytes subject) schema.now
-            × K.fails self.old.keeper self.new.keeper) }
+            × K.fails self.old.keeper self.new.keeper (KeptRegistration
+            (id_for schema.now (registry_after self.old.registry).schemas) (string_bytes subject)
+            (string_bytes text))) }
         ensures ok { OnOk result (self.new.registry ≡ self.old.registry
             ++ RegisterCommand (string_bytes subject) (string_bytes text) ∷ []) }
         ensures err { OnErr result (self.new.registry ≡ self.old.registry) }
@@ -123,7 +149,8 @@ impl<K: Keeper> KeptRegistry<K> {
             schema.now (Ok id)) }
         ensures known { IfOk result (λ id. (0 < id) × (id ≤ MOST_SCHEMAS)) }
         ensures refused { IfErr result (λ e. e ≢ Refusal.NotStored → e ≡ Refusal.NoMemory) }
-        ensures unstored { IfErr result (λ e. e ≡ Refusal.NotStored → K.fails self.old.keeper self.new.keeper) }
+        ensures unstored { IfErr result (λ e. e ≡ Refusal.NotStored → K.fails self.old.keeper self.new.keeper
+            (KeptRegistration id (string_bytes subject) (string_bytes text))) }
         ensures ok { OnOk result (self.new.registry ≡ self.old.registry
             ++ RegisterCommand (string_bytes subject) (string_bytes text) ∷ []) }
         ensures err { OnErr result (self.new.registry ≡ self.old.registry) }
@@ -179,7 +206,8 @@ impl<K: Keeper> KeptRegistry<K> {
         ensures unstored { IfErr result (λ e. e ≡ Refusal.NotStored
             → IsAnswer (answer_to (registry_after self.old.registry)
             (SetLevelCommand (option_map string_bytes subject) level)) (Ok (LevelReply level))
-            × (K.fails self.old.keeper self.new.keeper ⊎ (option_map string_bytes subject ≡ None))) }
+            × (K.fails self.old.keeper self.new.keeper (KeptLevel (option_map string_bytes subject) level)
+            ⊎ (option_map string_bytes subject ≡ None))) }
         ensures memory { IfErr result (λ e. e ≡ Refusal.NoMemory → Grows (registry_after self.old.registry)
             (SetLevelCommand (option_map string_bytes subject) level)) }
         ensures ok { OnOk result (self.new.registry ≡ self.old.registry
@@ -200,7 +228,8 @@ impl<K: Keeper> KeptRegistry<K> {
             (SetLevelCommand (option_map string_bytes subject) level)) (Ok reply)) }
         ensures refused { IfErr result (λ e. e ≢ Refusal.NotStored → e ≡ Refusal.NoMemory) }
         ensures unstored { IfErr result (λ e. e ≡ Refusal.NotStored
-            → K.fails self.old.keeper self.new.keeper ⊎ (option_map string_bytes subject ≡ None)) }
+            → K.fails self.old.keeper self.new.keeper (KeptLevel (option_map string_bytes subject) level)
+            ⊎ (option_map string_bytes subject ≡ None)) }
         ensures memory { IfErr result (λ e. e ≡ Refusal.NoMemory → Grows (registry_after self.old.registry)
             (SetLevelCommand (option_map string_bytes subject) level)) }
         ensures ok { OnOk result (self.new.registry ≡ self.old.registry

@@ -70,6 +70,11 @@ impl Registry {
         }
     }
 
+    /// Returns the allocator of what it holds.
+    pub(crate) fn alloc(&self) -> Global {
+        self.alloc
+    }
+
     /// Does or answers what a command asks, or refuses it; then nothing changes.
     pub fn apply(&mut self, command: Command) -> Result<Reply, Refusal>
         ensures answer { Gives (answer_to (registry_after self.old) (command_of command)) result }

@@ -34,6 +34,7 @@ pub(crate) fn parse_schema(alloc: Global, text: &str) -> Result<Schema, Refusal>
         (λ e. e ≢ Refusal.NoMemory
         → (f : SchemaError) × (e ≡ Refusal.BadSchema f) × (declaration_of text.now ≡ Err f)) }
     ensures memory { IfErr result (λ e. e ≡ Refusal.NoMemory → length text.now ≤ MOST_TEXT) }
+    ensures stored { IfErr result (λ e. e ≢ Refusal.NotStored) }
 {
     match Schema::parse(alloc, text) {
         Ok(schema) => Ok(schema),
@@ -49,6 +50,7 @@ pub(crate) fn schema_for(alloc: Global, subject: &str, text: &str) -> Result<Sch
         → IsAnswer (where_declared subject.now text.now answer) (Err e)) }
     ensures memory { IfErr result (λ e. e ≡ Refusal.NoMemory
         → (is_subject subject.now ≡ true) × (length text.now ≤ MOST_TEXT)) }
+    ensures stored { IfErr result (λ e. e ≢ Refusal.NotStored) }
 {
     if !is_subject(subject) {
         return Err(Refusal::BadSubject);

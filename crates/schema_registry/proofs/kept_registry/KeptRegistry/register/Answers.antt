@@ -13,4 +13,4 @@ register_new-requires-clause-decided g c = rw (← c.self.view_is) (rw (c.in-New
 pub returns-in-New-clause-unstored : goal.returns-in-New-clause-unstored
 returns-in-New-clause-unstored g c =
     let decided = rw (c.in-New.is, c.deref.ensures) at c.in_ok-known.ensures.ok in
-    beside _ _ c.register_new.result (rw (← c.self.view_is) decided.0) c.register_new.ensures.unstored
+    beside _ _ c.register_new.result (rw (← c.self.view_is) decided.0) (rw (← c.self.view_is) (rw (← c.self.view_is, decided.1) at c.register_new.ensures.unstored))
