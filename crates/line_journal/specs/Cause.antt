@@ -13,9 +13,18 @@ abbrev pub IsDisksFault : {D : Type 0} → (D → Bool) → (D → ℕ) → D �
 IsDisksFault is_mixing faults old new = MoreFaults (faults old) (faults new) ⊎ (is_mixing new ≡ false)
 
 -- why this line was refused, by the journal before and after
-abbrev pub HasCause : {D : Type 0} → (D → Bool) → (D → Bool) → (D → ℕ) → Journal D → Journal D → Line → AppendError → Type 0
+abbrev pub HasCause : {D : Type 0} → (D → Bool) → (D → Bool) → (D → ℕ)
+    → Journal D → Journal D → Line → AppendError → Type 0
 HasCause is_usable is_mixing faults old new line NoMemory = Unit {0}
 HasCause is_usable is_mixing faults old new line Closed = takes_lines is_usable old ≡ false
 HasCause is_usable is_mixing faults old new line TooLong = LONGEST < length line
 HasCause is_usable is_mixing faults old new line HasNewline = ¬ IsLine line
 HasCause is_usable is_mixing faults old new line (Failed error) = IsDisksFault is_mixing faults old.disk new.disk
+
+-- the refusal may close the journal: any other leaves it open or closed, as it was
+abbrev pub MayClose : AppendError → Type 0
+MayClose NoMemory = ⊥
+MayClose Closed = ⊥
+MayClose TooLong = ⊥
+MayClose HasNewline = ⊥
+MayClose (Failed error) = Unit {0}

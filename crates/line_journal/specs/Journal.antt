@@ -12,7 +12,8 @@ IsLast last lines = (at : ℕ) → last ≡ Some at → (before : List Line) (li
     → (at ≡ length (flat_map block before)) × (length line ≤ LONGEST)
 
 -- the file has these lines and nothing else, and all of it is on the disk
-pub record IsAtRest {D : Type 0} (seen : D → List ℕ) (may_leave : D → List ℕ → Type 0) (journal : Journal D) (lines : List Line) : Type 0 where
+pub record IsAtRest {D : Type 0} (seen : D → List ℕ) (may_leave : D → List ℕ → Type 0)
+    (journal : Journal D) (lines : List Line) : Type 0 where
   pub file : seen journal.disk ≡ at_rest lines
   pub gate : journal.gate ≡ length (flat_map block lines)
   pub last : IsLast journal.last lines
@@ -20,14 +21,16 @@ pub record IsAtRest {D : Type 0} (seen : D → List ℕ) (may_leave : D → List
   pub durable : Only (seen journal.disk) (may_leave journal.disk)
 
 -- the gate is closed on the disk, whatever comes after it
-pub record IsShut {D : Type 0} (may_leave : D → List ℕ → Type 0) (journal : Journal D) (lines : List Line) : Type 0 where
+pub record IsShut {D : Type 0} (may_leave : D → List ℕ → Type 0)
+    (journal : Journal D) (lines : List Line) : Type 0 where
   pub gate : journal.gate ≡ length (flat_map block lines)
   pub last : IsLast journal.last lines
   pub are_lines : AllByRecursion IsLine lines
   pub left : (c : List ℕ) → may_leave journal.disk c → HasRest lines c
 
 -- one more line is on the disk, and the gate before it is closed
-pub record IsStaged {D : Type 0} (seen : D → List ℕ) (may_leave : D → List ℕ → Type 0) (journal : Journal D) (lines : List Line) (line : Line) : Type 0 where
+pub record IsStaged {D : Type 0} (seen : D → List ℕ) (may_leave : D → List ℕ → Type 0)
+    (journal : Journal D) (lines : List Line) (line : Line) : Type 0 where
   pub file : seen journal.disk ≡ staged lines CLOSED line
   pub gate : journal.gate ≡ length (flat_map block lines)
   pub are_lines : AllByRecursion IsLine lines
@@ -35,7 +38,8 @@ pub record IsStaged {D : Type 0} (seen : D → List ℕ) (may_leave : D → List
   pub durable : Only (seen journal.disk) (may_leave journal.disk)
 
 -- the file is at rest, its last line is this one, and the gate of that line is at this byte
-pub record EndsWith {D : Type 0} (seen : D → List ℕ) (may_leave : D → List ℕ → Type 0) (journal : Journal D) (lines : List Line) (line : Line) (at : ℕ) : Type 0 where
+pub record EndsWith {D : Type 0} (seen : D → List ℕ) (may_leave : D → List ℕ → Type 0)
+    (journal : Journal D) (lines : List Line) (line : Line) (at : ℕ) : Type 0 where
   pub rests : IsAtRest seen may_leave journal (lines ++ line ∷ [])
   pub gate : at ≡ length (flat_map block lines)
   pub few : length line ≤ LONGEST

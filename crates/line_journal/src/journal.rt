@@ -22,7 +22,7 @@ pub struct Journal<D: Disk> {
 
 impl<D: Disk> Journal<D> {
     ghost use Rattle.line_journal.specs.Journal.{IsAtRest, IsShut, IsBeforeOrAfter, takes_lines};
-    ghost use Rattle.line_journal.specs.Cause.{HasCause};
+    ghost use Rattle.line_journal.specs.Cause.{HasCause, MayClose};
 
     /// Returns whether the journal may be asked for one more line: it is open, its disk may be used, and its file is
     /// not too long.
@@ -49,6 +49,7 @@ impl<D: Disk> Journal<D> {
         ensures open { OnOk result ((self.old.is_open ≡ true) × (self.new.is_open ≡ true)) }
         ensures closed { self.old.is_open ≡ false
             → (self.new.is_open ≡ false) × ((c : List ℕ) → D.may_leave self.new.disk c → D.may_leave self.old.disk c) }
+        ensures stays { IfErr result (λ e. (self.new.is_open ≡ self.old.is_open) ⊎ MayClose e) }
         ensures line { OnOk result (IsNewLine line.items) }
         ensures last { OnOk result ((self.new.last ≡ Some self.old.gate) × (self.old.gate < self.new.gate)) }
         ensures why { IfErr result (HasCause D.is_usable D.is_mixing D.faults self.old self.new line.items) }
