@@ -1,10 +1,11 @@
 -- A line says one command.
-use Rattle.std.proofs.Common.{◌≡◌, ◌≢◌, ◌∙◌, ℕ, zero, suc, ◌+◌, ◌<◌, ◌≤◌, ◌^◌, true, eqb, List, [], ◌∷◌, ◌++◌, Option, Some, None, length, get_or, All, sym, refl, ap, arith, codes, length-append, append_assoc}
+use Rattle.std.proofs.Common.{◌≡◌, ◌≢◌, ◌∙◌, ℕ, eqb, List, [], ◌∷◌, ◌++◌, Option, Some, None, get_or, sym, refl, ap, arith, codes}
 use Rattle.std.specs.Prelude.{decimal}
+use Rattle.std.specs.List.{AllByRecursion}
 use Rattle.std.specs.Str.{IsUtf8}
 use Rattle.std.proofs.lemmas.Bool.{false≢true}
 use Rattle.std.proofs.lemmas.Fmt.{decimal_injective}
-use Rattle.std.proofs.lemmas.List.Elements.{All-append, All-cons, All-head, All-nil}
+use Rattle.std.proofs.lemmas.List.Elements.{All-append, All-cons, All-head, All-tail}
 use Rattle.registry_store.proofs.Checks.{checked_injective}
 use Rattle.registry_store.proofs.Fields.{Lacks, Lacks-from_test, check_lacks_newline, decimal_lacks, split_same, text_lacks_newline, word_lacks_newline, word_lacks_space, word_lacks_star}
 use Rattle.registry_store.proofs.Texts.{percent_encode_injective}
@@ -84,9 +85,13 @@ body_lacks_newline (LevelSet subject level) may =
     field_and_rest (codes "level") _ (Lacks-from_test 10 (codes "level") refl)
     (field_and_rest _ _ (subject_lacks_newline subject) (word_lacks_newline level))
 
+by_recursion : (xs : List ℕ) → Lacks 10 xs → AllByRecursion (λ b. b ≢ 10) xs
+by_recursion [] lacks = tt
+by_recursion (x ∷ xs) lacks = (All-head IsNot x xs lacks, by_recursion xs (All-tail IsNot x xs lacks))
+
 -- no line has a newline within it
 pub line_is_one : (s : Stored) → MayBeStored s → IsOneLine (line_of s)
-line_is_one s may = field_and_rest (body_of s) (check_of (body_of s)) (body_lacks_newline s may) (check_lacks_newline (body_of s))
+line_is_one s may = by_recursion (line_of s) (field_and_rest (body_of s) (check_of (body_of s)) (body_lacks_newline s may) (check_lacks_newline (body_of s)))
 
 -- ---- reading a level's subject
 

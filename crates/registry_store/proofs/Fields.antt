@@ -1,10 +1,10 @@
 -- Fields without spaces, and lines without newlines.
-use Rattle.std.proofs.Common.{◌≡◌, ◌≢◌, ◌∙◌, ℕ, zero, suc, ◌+◌, ◌/◌, ◌%◌, ◌<◌, ◌≤◌, ◌^◌, Bool, true, false, not, ◌&&◌, eqb, List, [], ◌∷◌, ◌++◌, length, take, drop, take-append-drop, get_or, All, sym, refl, ap, subst, arith}
+use Rattle.std.proofs.Common.{◌≡◌, ◌≢◌, ◌∙◌, ℕ, zero, suc, ◌+◌, ◌/◌, ◌%◌, ◌<◌, ◌^◌, Bool, true, not, ◌&&◌, eqb, List, [], ◌∷◌, ◌++◌, length, take, drop, take-append-drop, get_or, All, sym, refl, ap, subst, arith}
 use Rattle.std.specs.Prelude.{decimal}
 use Rattle.std.proofs.lemmas.Bool.{and_parts, both_ways, eq-eqb, not-true}
 use Rattle.std.proofs.lemmas.Fmt.{decimal_by_steps}
 use Rattle.std.proofs.lemmas.List.{drop_more}
-use Rattle.std.proofs.lemmas.List.Elements.{All-append, All-cons, All-head, All-nil, All-push, All-tail}
+use Rattle.std.proofs.lemmas.List.Elements.{All-cons, All-head, All-nil, All-push, All-tail}
 use Rattle.hex.specs.Hex.{encode_with, lower_digits}
 use Rattle.percent_encoding.proofs.PercentLemmas.{All-percent_encode, IsEscapeByte}
 use Rattle.percent_encoding.specs.AsciiSet.{should_percent_encode}

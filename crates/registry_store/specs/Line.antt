@@ -1,7 +1,8 @@
 -- A stored command as a line of text, without its newline. This project's own format:
 --     register ID SUBJECT TEXT CHECK
 --     level SUBJECT LEVEL CHECK
-use Rattle.std.specs.Prelude.{◌≡◌, ◌≢◌, ℕ, List, [], ◌∷◌, ◌++◌, Option, Some, None, All, codes, decimal, take}
+use Rattle.std.specs.Prelude.{◌≡◌, ◌≢◌, ℕ, List, ◌∷◌, ◌++◌, Option, Some, None, codes, decimal, take}
+use Rattle.std.specs.List.{AllByRecursion}
 use Rattle.hex.specs.Hex.{encode_lower}
 use Rattle.percent_encoding.specs.Percent.{percent_encode}
 use Rattle.sha2.specs.Sha256.{sha256}
@@ -45,4 +46,4 @@ line_of stored = checked (body_of stored)
 
 -- no newline is within it
 abbrev pub IsOneLine : List ℕ → Type 0
-IsOneLine line = All (λ b. b ≢ NEWLINE) line
+IsOneLine line = AllByRecursion (λ b. b ≢ NEWLINE) line

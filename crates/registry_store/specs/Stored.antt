@@ -1,5 +1,5 @@
 -- The commands that a registry's file holds: those that changed the registry. This project's own.
-use Rattle.std.specs.Prelude.{ℕ, ◌<◌, ◌^◌, List, Option, Some, None, option_map, string_bytes, IfSome}
+use Rattle.std.specs.Prelude.{ℕ, ◌<◌, ◌^◌, List, Option, option_map, string_bytes, IfSome}
 use Rattle.std.specs.Str.{IsUtf8}
 use Rattle.registry_store.specs.declared.stored.StoredCommand.{StoredCommand}
 use Rattle.registry_store.specs.declared.stored.StoredCommand.TheVariants.{Registration, Level}

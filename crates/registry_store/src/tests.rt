@@ -46,18 +46,10 @@ fn reading_of(alloc: Global, line: &[u8]) -> Result<String, AllocError> {
         Ok(StoredCommand::Registration { id, subject, text }) => {
             format!(in alloc; "{id} <{subject}> <{text}>")
         }
-        Ok(
-            StoredCommand::Level {
-                subject: Some(subject),
-                level,
-            },
-        ) => format!(in alloc; "<{subject}> {level}"),
-        Ok(
-            StoredCommand::Level {
-                subject: None,
-                level,
-            },
-        ) => format!(in alloc; "global {level}"),
+        Ok(StoredCommand::Level { subject, level }) => match subject {
+            Some(subject) => format!(in alloc; "<{subject}> {level}"),
+            None => format!(in alloc; "global {level}"),
+        },
         Err(fault) => format!(in alloc; "{fault}"),
     }
 }

@@ -1,4 +1,4 @@
-use Rattle.std.proofs.Common.{◌≡◌, ◌∷◌, ◌++◌, arith, refl, string_bytes}
+use Rattle.std.proofs.Common.{◌≡◌, refl, string_bytes}
 use Rattle.std.proofs.lemmas.Result.{err_from_is_err_and}
 use Rattle.std.specs.Prelude.{option_map}
 use Rattle.registry_store.proofs.Bodies.{subject_lacks_space}

@@ -1,7 +1,7 @@
-use Rattle.std.proofs.Common.{◌≡◌, ◌∙◌, sym, arith, codes}
+use Rattle.std.proofs.Common.{◌≡◌, ◌∙◌, sym, codes}
 use Rattle.std.proofs.lemmas.Bool.Decides.{Decides-eqb}
 use Rattle.std.proofs.lemmas.Slice.Eq.{slice_eq-Decides}
-use Rattle.registry_store.proofs.Bodies.{subject_from_word, subject_is_star}
+use Rattle.registry_store.proofs.Bodies.{subject_is_star}
 use Rattle.registry_store.proofs.reading.read_subject.Goals as goal
 
 pub returns-then-eq-clause-reads : goal.returns-then-eq-clause-reads

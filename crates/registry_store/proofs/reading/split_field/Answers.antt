@@ -1,4 +1,4 @@
-use Rattle.std.proofs.Common.{All, ◌≢◌, ◌∙◌, ◌+◌, ◌-◌, arith, drop, length, length-drop, subst, take}
+use Rattle.std.proofs.Common.{All, ◌≢◌, ◌∙◌, ◌+◌, ◌-◌, arith, drop, length, length-drop, subst}
 use Rattle.registry_store.proofs.Fields.{found_split, no_split}
 use Rattle.std.proofs.lemmas.List.{take_all}
 use Rattle.registry_store.proofs.reading.split_field.Goals as goal
