@@ -32,6 +32,13 @@ impl<D: Disk> Journal<D> {
         self.is_open && self.disk.may_be_used() && self.gate <= LAST_GATE
     }
 
+    /// Gives the disk back, and takes no more lines.
+    pub fn into_disk(self) -> D
+        ensures { result ≡ self.disk }
+    {
+        self.disk
+    }
+
     /// Adds a line. At `Ok` it is on the disk: from then on each crash leaves a file that has it. At `Err` the journal
     /// is as it was, or it is closed and takes no more lines. Whatever is answered, only the line of this call may be
     /// taken back.
