@@ -3,3 +3,5 @@ pub mod Fields
 pub mod Texts
 pub mod Bodies
 pub mod Lengths
+pub mod Stores
+pub mod Causes

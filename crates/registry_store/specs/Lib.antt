@@ -1,3 +1,5 @@
 pub mod Stored
 pub mod Line
 pub mod Reading
+pub mod Store
+pub mod Cause

@@ -1,6 +1,6 @@
 //! A line as a command.
 
-ghost use Rattle.std.specs.Prelude.{◌≡◌, ◌≢◌, ◌^◌, ◌<◌, ◌++◌, ◌∷◌, ℕ, List, Option, All, Err, IfErr, IfOk, IsSomeAnd, codes, decimal, option_map, string_bytes, true};
+ghost use Rattle.std.specs.Prelude.{◌≡◌, ◌≢◌, ◌^◌, ◌<◌, ◌++◌, ◌∷◌, ℕ, List, Option, All, Err, IfErr, IfOk, IfSome, IsSomeAnd, codes, decimal, option_map, string_bytes, true};
 ghost use Rattle.std.specs.Str.{IsUtf8};
 ghost use Rattle.percent_encoding.specs.AsciiSet.{contains};
 ghost use Rattle.percent_encoding.specs.declared.ascii_set.AsciiSet.{AsciiSet};
@@ -19,10 +19,11 @@ use std::alloc::Global;
 use std::str;
 
 /// Reads a line, without its newline, as the command that it says. Only what would be written for the command is read.
-/// `BadCheck`: the line does not end with the check of what is before it. `BadLine`: the check is right, and the line is
-/// that of no command.
+/// `BadCheck`: the line does not end with the check of what is before it. `BadLine`: the check is right, and the line
+/// is that of no command.
 pub fn parse(alloc: Global, line: &[u8]) -> Result<StoredCommand, LineFault>
     ensures value { IfOk result (λ command. line.now ≡ line_of (stored_of command)) }
+    ensures may { IfOk result (λ command. MayBeStored (stored_of command)) }
     ensures bad_check { result ≡ Err LineFault.BadCheck → ¬ (HasCheck line.now) }
     ensures bad_line { result ≡ Err LineFault.BadLine → HasCheck line.now × IsNoCommand line.now }
 {
@@ -40,6 +41,7 @@ pub fn parse(alloc: Global, line: &[u8]) -> Result<StoredCommand, LineFault>
 
 /// Reads a line before its check. What is read is the command, if the line is that of one.
 fn read_body(alloc: Global, body: &[u8]) -> Result<StoredCommand, LineFault>
+    ensures may { IfOk result (λ command. MayBeStored (stored_of command)) }
     ensures reads { (stored : Stored) → MayBeStored stored → body.now ≡ body_of stored
         → ReadsAs result (λ command. stored_of command ≡ stored) }
     ensures check { result ≢ Err LineFault.BadCheck }
@@ -58,6 +60,7 @@ fn read_body(alloc: Global, body: &[u8]) -> Result<StoredCommand, LineFault>
 
 /// Reads the fields of a registration.
 fn read_registration(alloc: Global, fields: &[u8]) -> Result<StoredCommand, LineFault>
+    ensures may { IfOk result (λ command. MayBeStored (stored_of command)) }
     ensures reads { (id : ℕ) (subject text : List ℕ) → MayBeStored (Registered id subject text)
         → fields.now ≡ decimal id ++ SPACE ∷ (word subject ++ SPACE ∷ readable text)
         → ReadsAs result (λ command. stored_of command ≡ Registered id subject text) }
@@ -79,6 +82,7 @@ fn read_registration(alloc: Global, fields: &[u8]) -> Result<StoredCommand, Line
 
 /// Reads the fields of a level.
 fn read_level(alloc: Global, fields: &[u8]) -> Result<StoredCommand, LineFault>
+    ensures may { IfOk result (λ command. MayBeStored (stored_of command)) }
     ensures reads { (subject : Option (List ℕ)) (level : List ℕ) → MayBeStored (LevelSet subject level)
         → fields.now ≡ subject_word subject ++ SPACE ∷ word level
         → ReadsAs result (λ command. stored_of command ≡ LevelSet subject level) }
@@ -107,7 +111,8 @@ fn split_field(bytes: &[u8]) -> Option<(&[u8], &[u8])>
 
 /// Reads an id in decimal.
 fn read_id(digits: &[u8]) -> Option<u32>
-    ensures { (id : ℕ) → id < 2 ^ 32 → digits.now ≡ decimal id → IsSomeAnd result (λ read. read ≡ id) }
+    ensures fits { IfSome result (λ read. read < 2 ^ 32) }
+    ensures reads { (id : ℕ) → id < 2 ^ 32 → digits.now ≡ decimal id → IsSomeAnd result (λ read. read ≡ id) }
 {
     match str::from_utf8(digits) {
         Ok(text) => text.parse().ok(),
@@ -132,6 +137,7 @@ fn read_text(alloc: Global, field: &[u8]) -> Result<String, LineFault>
 
 /// Reads the subject of a level; `None` where it is the global level's `*`.
 fn read_subject(alloc: Global, field: &[u8]) -> Result<Option<String>, LineFault>
+    ensures is_text { IfOk result (λ read. IsSubject (option_map string_bytes read)) }
     ensures reads { (subject : Option (List ℕ)) → IsSubject subject → field.now ≡ subject_word subject
         → ReadsAs result (λ read. option_map string_bytes read ≡ subject) }
     ensures check { result ≢ Err LineFault.BadCheck }

@@ -1,14 +1,14 @@
 //! A command as a line.
 
-ghost use Rattle.std.specs.Prelude.{◌≡◌, ◌++◌, IfOk, OnOk, string_bytes};
+ghost use Rattle.std.specs.Prelude.{◌≡◌, ◌++◌, IfOk, IsOk, OnOk, string_bytes};
 ghost use Rattle.std.specs.Option.{option_copied};
 ghost use Rattle.registry_store.specs.Line.{body_of, line_of, subject_word};
-ghost use Rattle.registry_store.specs.Stored.{LevelSet, Registered, stored_of};
+ghost use Rattle.registry_store.specs.Stored.{IsSubject, LevelSet, Registered, stored_of};
 
 use crate::check::with_check;
 use crate::format::{TEXT_ESCAPES, WORD_ESCAPES};
 use crate::stored::StoredCommand;
-use percent_encoding::utf8_percent_encode;
+use percent_encoding::{percent_encode, utf8_percent_encode};
 use std::alloc::{AllocError, Global};
 
 /// Returns the line of a registration, without a newline: a schema's text got this id under a subject.
@@ -25,7 +25,8 @@ pub fn registration_line(
 
 /// Returns the line of a level that was set, without a newline; no subject is the global level.
 pub fn level_line(alloc: Global, subject: Option<&str>, level: &str) -> Result<Vec<u8>, AllocError>
-    ensures { IfOk result (λ line. line.items ≡ line_of (LevelSet (option_copied subject.entry) level.now)) }
+    ensures line { IfOk result (λ line. line.items ≡ line_of (LevelSet (option_copied subject.entry) level.now)) }
+    ensures is_text { IsOk result → IsSubject (option_copied subject.entry) }
 {
     with_check(level_body(alloc, subject, level)?)
 }
@@ -48,7 +49,8 @@ fn registration_body(
 
 /// Returns a level's line before its check.
 fn level_body(alloc: Global, subject: Option<&str>, level: &str) -> Result<String, AllocError>
-    ensures { IfOk result (λ body. string_bytes body ≡ body_of (LevelSet (option_copied subject.entry) level.now)) }
+    ensures body { IfOk result (λ body. string_bytes body ≡ body_of (LevelSet (option_copied subject.entry) level.now)) }
+    ensures is_text { IsOk result → IsSubject (option_copied subject.entry) }
 {
     let mut body = String::from_str(alloc, "level ")?;
     push_subject(&mut body, subject)?;
@@ -59,11 +61,13 @@ fn level_body(alloc: Global, subject: Option<&str>, level: &str) -> Result<Strin
 
 /// Appends a level's subject as a field, `*` where there is none. An `Err` is want of memory.
 fn push_subject(body: &mut String, subject: Option<&str>) -> Result<(), AllocError>
-    ensures { OnOk result (string_bytes body.new ≡ string_bytes body.old ++ subject_word (option_copied subject.entry)) }
+    ensures is_text { IsSubject (option_copied subject.entry) }
+    ensures field { OnOk result
+        (string_bytes body.new ≡ string_bytes body.old ++ subject_word (option_copied subject.entry)) }
 {
     match subject {
         None => body.push_str("*"),
-        Some(subject) => utf8_percent_encode(subject, WORD_ESCAPES).append_to(body),
+        Some(subject) => percent_encode(subject.as_bytes(), WORD_ESCAPES).append_to(body),
     }
 }
 

@@ -1,4 +1,5 @@
 use Rattle.std.proofs.Common.{◌≡◌, refl, string_bytes}
+use Rattle.std.proofs.lemmas.Str.{IsUtf8-string_bytes}
 use Rattle.std.proofs.lemmas.Result.{err_from_is_err_and}
 use Rattle.std.specs.Prelude.{option_map}
 use Rattle.registry_store.proofs.Bodies.{subject_lacks_space}
@@ -28,3 +29,6 @@ returns-clause-reads c = λ subject level may e.
     let same_subject : option_map string_bytes c.in_ok-subject.subject ≡ subject = c.in_ok-subject.ensures.reads subject may.0 fields.0 in
     let same_level : string_bytes c.in_ok-level.level ≡ level = c.in_ok-level.ensures.reads WORD_ESCAPES level refl may.1 fields.1 in
     cc
+
+pub returns-clause-may : goal.returns-clause-may
+returns-clause-may c = (c.in_ok-subject.ensures.is_text, IsUtf8-string_bytes c.in_ok-level.level)
