@@ -31,6 +31,8 @@ impl<D: Disk> Journal<D> {
             → IsTrue (D.is_clean e.1) → lines_in (D.seen disk) ≡ Err damage) }
         ensures failed { IfErr result (λ e. (error : Error) → e.0 ≡ OpenError.Failed error
             → MoreFaults (D.faults disk) (D.faults e.1)) }
+        ensures clean { IfOk result (λ r. IsTrue (D.is_clean r.0.disk) → IsTrue (D.is_clean disk)) }
+        ensures clean_err { IfErr result (λ e. IsTrue (D.is_clean e.1) → IsTrue (D.is_clean disk)) }
         ensures crash { IfErr result (λ e. IsTrue (D.is_clean e.1) → Only (D.seen disk) (D.may_leave disk)
             → (c : List ℕ) → D.may_leave e.1 c → lines_in c ≡ lines_in (D.seen disk)) }
     {

@@ -43,3 +43,9 @@ abbrev pub LeavesOneOf : {D : Type 0} → (D → List ℕ → Type 0) → (D →
 LeavesOneOf may_leave is_clean store commands command =
     IsTrue (is_clean store.journal.disk) → (file : List ℕ) → may_leave store.journal.disk file
     → HasCommands file commands ⊎ HasCommands file (commands ++ command ∷ [])
+
+-- a crash leaves no file that it did not leave before, and the disk's answers were true if they are
+abbrev pub LeavesNoMore : {D : Type 0} → (D → List ℕ → Type 0) → (D → Bool) → CommandStore D → CommandStore D → Type 0
+LeavesNoMore may_leave is_clean old new =
+    (IsTrue (is_clean new.journal.disk) → IsTrue (is_clean old.journal.disk))
+    × ((file : List ℕ) → may_leave new.journal.disk file → may_leave old.journal.disk file)

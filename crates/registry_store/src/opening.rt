@@ -36,6 +36,8 @@ impl<D: Disk> CommandStore<D> {
             → Keeps D.seen D.may_leave D.is_clean r.0 (commands_of r.1.items)) }
         ensures open { IfOk result (λ r. is_open r.0 ≡ true) }
         ensures why { IfErr result (λ e. HasOpenCause D.seen D.is_clean D.faults disk e.1 e.0) }
+        ensures clean { IfOk result (λ r. IsTrue (D.is_clean r.0.journal.disk) → IsTrue (D.is_clean disk)) }
+        ensures clean_err { IfErr result (λ e. IsTrue (D.is_clean e.1) → IsTrue (D.is_clean disk)) }
         ensures crash { IfErr result (λ e. IsTrue (D.is_clean e.1) → Only (D.seen disk) (D.may_leave disk)
             → (c : List ℕ) → D.may_leave e.1 c → lines_in c ≡ lines_in (D.seen disk)) }
     {

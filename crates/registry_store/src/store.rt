@@ -21,7 +21,7 @@ pub struct CommandStore<D: Disk> {
 
 impl<D: Disk> CommandStore<D> {
     ghost use Rattle.registry_store.specs.Cause.{HasCause};
-    ghost use Rattle.registry_store.specs.Store.{Keeps, Leaves, LeavesOneOf, is_open};
+    ghost use Rattle.registry_store.specs.Store.{Keeps, Leaves, LeavesNoMore, LeavesOneOf, is_open};
 
     /// Adds a registration: a schema's text got this id under a subject. At `Ok` it is on the disk, and each crash
     /// from then on leaves a file that has it. At `Err` the store is as it was, or it is closed.
@@ -45,7 +45,8 @@ impl<D: Disk> CommandStore<D> {
         ensures open { OnOk result ((is_open self.old ≡ true) × (is_open self.new ≡ true)) }
         ensures closed { is_open self.old ≡ false → (is_open self.new ≡ false)
             × ((left : List Stored) → Leaves D.may_leave D.is_clean self.new left
-            → Leaves D.may_leave D.is_clean self.old left) }
+            → Leaves D.may_leave D.is_clean self.old left)
+            × LeavesNoMore D.may_leave D.is_clean self.old self.new }
         ensures why { IfErr result (HasCause D.is_usable D.is_mixing D.faults self.old self.new
             (Registered id subject.now text.now)) }
     {
@@ -71,7 +72,8 @@ impl<D: Disk> CommandStore<D> {
         ensures open { OnOk result ((is_open self.old ≡ true) × (is_open self.new ≡ true)) }
         ensures closed { is_open self.old ≡ false → (is_open self.new ≡ false)
             × ((left : List Stored) → Leaves D.may_leave D.is_clean self.new left
-            → Leaves D.may_leave D.is_clean self.old left) }
+            → Leaves D.may_leave D.is_clean self.old left)
+            × LeavesNoMore D.may_leave D.is_clean self.old self.new }
         ensures why { IfErr result (HasCause D.is_usable D.is_mixing D.faults self.old self.new
             (LevelSet (option_copied subject.entry) level.now)) }
     {
@@ -94,7 +96,8 @@ impl<D: Disk> CommandStore<D> {
         ensures open { OnOk result ((is_open self.old ≡ true) × (is_open self.new ≡ true)) }
         ensures closed { is_open self.old ≡ false → (is_open self.new ≡ false)
             × ((left : List Stored) → Leaves D.may_leave D.is_clean self.new left
-            → Leaves D.may_leave D.is_clean self.old left) }
+            → Leaves D.may_leave D.is_clean self.old left)
+            × LeavesNoMore D.may_leave D.is_clean self.old self.new }
         ensures why { IfErr result (λ fault. (command : Stored) → line.items ≡ line_of command
             → HasCause D.is_usable D.is_mixing D.faults self.old self.new command fault) }
     {

@@ -17,3 +17,4 @@ pub mod SameIds
 pub mod KeptAgain
 pub mod Restarts
 pub mod Replays
+pub mod KeptStores

@@ -71,44 +71,67 @@ module _ (old : List Command) (subject text : List ℕ) (schema : Declaration) (
 pub one_text : (s t u v : List ℕ) → RegisterCommand s t ≡ RegisterCommand u v → t ≡ v
 one_text s t u v same = cc
 
-module _ {K : Type 0} (keeps leaves : K → List KeptCommand → Type 0) (is_open : K → Bool) where
-  failed_by : (old new : K) (commands : List Command) (extra : List KeptCommand) (b : Bool) → is_open old ≡ b → IsKept keeps leaves is_open old commands
-      → (is_open new ≡ true → (ks : List KeptCommand) → keeps old ks → keeps new ks)
-      → ((ks : List KeptCommand) → keeps old ks → (left : List KeptCommand) → leaves new left → (left ≡ ks) ⊎ (left ≡ ks ++ extra))
-      → (is_open old ≡ false → (is_open new ≡ false) × ((left : List KeptCommand) → leaves new left → leaves old left))
+module _ {K : Type 0} (keeps leaves : K → List KeptCommand → Type 0) (spoils : K → Type 0) (is_open : K → Bool) where
+  -- what a call that kept nothing says
+  pub record Failed (old new : K) (extra : List KeptCommand) : Type 0 where
+    pub refused : is_open new ≡ true → (ks : List KeptCommand) → keeps old ks → keeps new ks
+    pub crash : (ks : List KeptCommand) → keeps old ks → (left : List KeptCommand) → leaves new left → (left ≡ ks) ⊎ (left ≡ ks ++ extra)
+    pub readable : (ks : List KeptCommand) → keeps old ks → spoils new → ⊥
+    pub closed : is_open old ≡ false → (is_open new ≡ false) × ((left : List KeptCommand) → leaves new left → leaves old left) × (spoils new → spoils old)
+
+  failed_by : (old new : K) (commands : List Command) (extra : List KeptCommand) (b : Bool) → is_open old ≡ b → IsKept keeps leaves spoils is_open old commands
+      → Failed old new extra
       → ((left : List KeptCommand) → (left ≡ kept_in commands) ⊎ (left ≡ kept_in commands ++ extra) → IsLeft commands left)
-      → IsKept keeps leaves is_open new commands
-  failed_by old new commands extra true is kept refused crash closed more =
-      record { whole = λ o. refused o (kept_in commands) (kept.whole is); crash = λ left may. more left (crash (kept_in commands) (kept.whole is) left may) }
-  failed_by old new commands extra false is kept refused crash closed more =
-      record { whole = λ o. let never : ⊥ = cc (o, (closed is).0) in absurd never; crash = λ left may. kept.crash left ((closed is).1 left may) }
+      → IsKept keeps leaves spoils is_open new commands
+  failed_by old new commands extra true is kept failed more =
+      record {
+        whole = λ o. failed.refused o (kept_in commands) (kept.whole is);
+        crash = λ left may. more left (failed.crash (kept_in commands) (kept.whole is) left may);
+        readable = failed.readable (kept_in commands) (kept.whole is);
+      }
+  failed_by old new commands extra false is kept failed more =
+      let shut = failed.closed is in
+      record {
+        whole = λ o. let never : ⊥ = cc (o, shut.0) in absurd never;
+        crash = λ left may. kept.crash left (shut.1 left may);
+        readable = λ spoilt. kept.readable (shut.2 spoilt);
+      }
 
   -- it was not kept
-  pub kept_failed : (old new : K) (commands : List Command) (extra : List KeptCommand) → IsKept keeps leaves is_open old commands
-      → (is_open new ≡ true → (ks : List KeptCommand) → keeps old ks → keeps new ks)
-      → ((ks : List KeptCommand) → keeps old ks → (left : List KeptCommand) → leaves new left → (left ≡ ks) ⊎ (left ≡ ks ++ extra))
-      → (is_open old ≡ false → (is_open new ≡ false) × ((left : List KeptCommand) → leaves new left → leaves old left))
+  pub kept_failed : (old new : K) (commands : List Command) (extra : List KeptCommand) → IsKept keeps leaves spoils is_open old commands → Failed old new extra
       → ((left : List KeptCommand) → (left ≡ kept_in commands) ⊎ (left ≡ kept_in commands ++ extra) → IsLeft commands left)
-      → IsKept keeps leaves is_open new commands
+      → IsKept keeps leaves spoils is_open new commands
   kept_failed old new commands extra = failed_by old new commands extra (is_open old) refl
 
   -- it was kept
-  pub kept_done : (new : K) (commands : List Command) → keeps new (kept_in commands) → ((ks left : List KeptCommand) → keeps new ks → leaves new left → left ≡ ks) → IsKept keeps leaves is_open new commands
-  kept_done new commands has only = record { whole = λ _. has; crash = λ left may. inl (only (kept_in commands) left has may) }
+  pub kept_done : (new : K) (commands : List Command) → keeps new (kept_in commands) → ((ks left : List KeptCommand) → keeps new ks → leaves new left → left ≡ ks)
+      → ((ks : List KeptCommand) → keeps new ks → spoils new → ⊥) → IsKept keeps leaves spoils is_open new commands
+  kept_done new commands has only readable =
+      record { whole = λ _. has; crash = λ left may. inl (only (kept_in commands) left has may); readable = readable (kept_in commands) has }
 
   -- nothing was to be kept
-  pub kept_same : (keeper : K) (old new : List Command) → kept_in new ≡ kept_in old → IsKept keeps leaves is_open keeper old → IsKept keeps leaves is_open keeper new
+  pub kept_same : (keeper : K) (old new : List Command) → kept_in new ≡ kept_in old → IsKept keeps leaves spoils is_open keeper old
+      → IsKept keeps leaves spoils is_open keeper new
   kept_same keeper old new same kept =
-      record { whole = λ o. subst (keeps keeper) (sym same) (kept.whole o); crash = λ left may. left_alike old new left same (kept.crash left may) }
+      record {
+        whole = λ o. subst (keeps keeper) (sym same) (kept.whole o);
+        crash = λ left may. left_alike old new left same (kept.crash left may);
+        readable = kept.readable;
+      }
 
   -- it was taken back
   pub kept_back : (old new : K) (commands : List Command) (k : KeptCommand) → keeps old (kept_in commands ++ k ∷ [])
       → (is_open new ≡ true → (ks : List KeptCommand) (j : KeptCommand) → keeps old (ks ++ j ∷ []) → keeps new ks)
       → ((ks : List KeptCommand) (j : KeptCommand) → keeps old (ks ++ j ∷ []) → (left : List KeptCommand) → leaves new left → (left ≡ ks) ⊎ (left ≡ ks ++ j ∷ []))
+      → ((ks : List KeptCommand) (j : KeptCommand) → keeps old (ks ++ j ∷ []) → spoils new → ⊥)
       → ((left : List KeptCommand) → (left ≡ kept_in commands) ⊎ (left ≡ kept_in commands ++ k ∷ []) → IsLeft commands left)
-      → IsKept keeps leaves is_open new commands
-  kept_back old new commands k has taken crash more =
-      record { whole = λ o. taken o (kept_in commands) k has; crash = λ left may. more left (crash (kept_in commands) k has left may) }
+      → IsKept keeps leaves spoils is_open new commands
+  kept_back old new commands k has taken crash readable more =
+      record {
+        whole = λ o. taken o (kept_in commands) k has;
+        crash = λ left may. more left (crash (kept_in commands) k has left may);
+        readable = readable (kept_in commands) k has;
+      }
 
 -- a level that is set is kept
 pub level_after : (old : List Command) (subject : Option (List ℕ)) (level : Level) → kept_in (old ++ SetLevelCommand subject level ∷ []) ≡ kept_in old ++ KeptLevel subject level ∷ []
@@ -140,16 +163,16 @@ pub level_set : (r : Option Refusal) (answer : Answer) (level : Level) → answe
 level_set None answer level is none = subst (λ (a : Answer). IsAnswer a (Ok (LevelReply level))) (sym is) refl
 level_set (Some e) answer level is none = absurd (none e refl)
 
-pub kept_asked : {T E K : Type 0} (keeps leaves : K → List KeptCommand → Type 0) (is_open : K → Bool) (r : Result T E) (keeper : K) (old new : List Command) (c : Command) → IsQuestion c
-    → OnOk r (new ≡ old ++ c ∷ []) → OnErr r (new ≡ old) → IsKept keeps leaves is_open keeper old → IsKept keeps leaves is_open keeper new
-kept_asked keeps leaves is_open (Ok x) keeper old new c asks more same kept = kept_same keeps leaves is_open keeper old new (ap kept_in more ∙ question_after old c asks) kept
-kept_asked keeps leaves is_open (Err e) keeper old new c asks more same kept = kept_same keeps leaves is_open keeper old new (ap kept_in same) kept
+pub kept_asked : {T E K : Type 0} (keeps leaves : K → List KeptCommand → Type 0) (spoils : K → Type 0) (is_open : K → Bool) (r : Result T E) (keeper : K) (old new : List Command) (c : Command) → IsQuestion c
+    → OnOk r (new ≡ old ++ c ∷ []) → OnErr r (new ≡ old) → IsKept keeps leaves spoils is_open keeper old → IsKept keeps leaves spoils is_open keeper new
+kept_asked keeps leaves spoils is_open (Ok x) keeper old new c asks more same kept = kept_same keeps leaves spoils is_open keeper old new (ap kept_in more ∙ question_after old c asks) kept
+kept_asked keeps leaves spoils is_open (Err e) keeper old new c asks more same kept = kept_same keeps leaves spoils is_open keeper old new (ap kept_in same) kept
 
 -- nothing is kept of it
-pub kept_quiet : {T E K : Type 0} (keeps leaves : K → List KeptCommand → Type 0) (is_open : K → Bool) (r : Result T E) (keeper : K) (old new : List Command) (c : Command) → kept_in (old ++ c ∷ []) ≡ kept_in old
-    → OnOk r (new ≡ old ++ c ∷ []) → OnErr r (new ≡ old) → IsKept keeps leaves is_open keeper old → IsKept keeps leaves is_open keeper new
-kept_quiet keeps leaves is_open (Ok x) keeper old new c quiet more same kept = kept_same keeps leaves is_open keeper old new (ap kept_in more ∙ quiet) kept
-kept_quiet keeps leaves is_open (Err e) keeper old new c quiet more same kept = kept_same keeps leaves is_open keeper old new (ap kept_in same) kept
+pub kept_quiet : {T E K : Type 0} (keeps leaves : K → List KeptCommand → Type 0) (spoils : K → Type 0) (is_open : K → Bool) (r : Result T E) (keeper : K) (old new : List Command) (c : Command) → kept_in (old ++ c ∷ []) ≡ kept_in old
+    → OnOk r (new ≡ old ++ c ∷ []) → OnErr r (new ≡ old) → IsKept keeps leaves spoils is_open keeper old → IsKept keeps leaves spoils is_open keeper new
+kept_quiet keeps leaves spoils is_open (Ok x) keeper old new c quiet more same kept = kept_same keeps leaves spoils is_open keeper old new (ap kept_in more ∙ quiet) kept
+kept_quiet keeps leaves spoils is_open (Err e) keeper old new c quiet more same kept = kept_same keeps leaves spoils is_open keeper old new (ap kept_in same) kept
 
 -- nothing is kept of a registration that is known
 pub quiet_again : (old : List Command) (c : Command) (schema : Declaration) (decision : Decision) → AsksToRegister c (subject_in c) schema

@@ -79,11 +79,13 @@ IsLeft commands left =
     (left ≡ kept_in commands) ⊎ ((c : Command) × (reply : Reply) × IsAnswer (answer_to (registry_after commands) c) (Ok reply)
     × (left ≡ kept_in commands ++ kept_of (registry_after commands) c))
 
--- A keeper has what is to be kept of these commands, while it takes more; and a crash leaves that, or one command more.
-pub record IsKept {K : Type 0} (keeps leaves : K → List KeptCommand → Type 0) (is_open : K → Bool) (keeper : K)
-    (commands : List Command) : Type 0 where
+-- A keeper has what is to be kept of these commands, while it takes more; and a crash leaves that, or one command more,
+-- and nothing that is of no commands.
+pub record IsKept {K : Type 0} (keeps leaves : K → List KeptCommand → Type 0) (spoils : K → Type 0) (is_open : K → Bool)
+    (keeper : K) (commands : List Command) : Type 0 where
   pub whole : is_open keeper ≡ true → keeps keeper (kept_in commands)
   pub crash : (left : List KeptCommand) → leaves keeper left → IsLeft commands left
+  pub readable : ¬ (spoils keeper)
 
 -- the commands that a registry has accepted, beside their keeper
 pub record WithKeeper (K : Type 0) : Type 0 where
@@ -108,14 +110,10 @@ KeepsIfSome keeps keeper ks = MatchOption keeper ⊤ (λ k. keeps k ks)
 abbrev pub LeavesIfSome : {K : Type 0} → (K → List KeptCommand → Type 0) → Option K → List KeptCommand → Type 0
 LeavesIfSome leaves keeper left = MatchOption keeper ⊥ (λ k. leaves k left)
 
+-- a crash may spoil what it has; of none it spoils nothing
+abbrev pub SpoilsIfSome : {K : Type 0} → (K → Type 0) → Option K → Type 0
+SpoilsIfSome spoils keeper = MatchOption keeper ⊥ spoils
+
 -- a call failed to keep a command, which it does only where there is one
 abbrev pub FailsIfSome : {K : Type 0} → (K → K → KeptCommand → Type 0) → Option K → Option K → KeptCommand → Type 0
 FailsIfSome fails old new k = MatchOption old ⊥ (λ o. MatchOption new ⊥ (λ n. fails o n k))
-
--- the law that each crash leaves what it has
-pub only_of_some : {K : Type 0} (keeps leaves : K → List KeptCommand → Type 0)
-    → ((k : K) (ks left : List KeptCommand) → keeps k ks → leaves k left → left ≡ ks)
-    → (keeper : Option K) (ks left : List KeptCommand) → KeepsIfSome keeps keeper ks → LeavesIfSome leaves keeper left
-    → left ≡ ks
-only_of_some keeps leaves only (Some k) ks left has may = only k ks left has may
-only_of_some keeps leaves only None ks left has may = absurd may

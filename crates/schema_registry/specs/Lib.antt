@@ -16,3 +16,4 @@ pub mod Receipt
 pub mod Shared
 pub mod Keeping
 pub mod Replaying
+pub mod Storing

@@ -22,6 +22,9 @@ pub trait Keeper {
     /// A crash at this moment may leave these.
     ghost leaves: { Self → List KeptCommand → Type 0 };
 
+    /// A crash at this moment may leave what is of no commands.
+    ghost spoils: { Self → Type 0 };
+
     /// It takes more.
     ghost is_open: { Self → Bool };
 
@@ -38,8 +41,10 @@ pub trait Keeper {
         ensures crash { (ks : List KeptCommand) → keeps self.old ks → (left : List KeptCommand) → leaves self.new left
             → (left ≡ ks) ⊎ (left ≡ ks ++ KeptRegistration id subject.now text.now ∷ []) }
         ensures open { OnOk result (is_open self.old ≡ true) }
+        ensures readable { (ks : List KeptCommand) → keeps self.old ks → ¬ (spoils self.new) }
         ensures closed { is_open self.old ≡ false → (is_open self.new ≡ false)
-            × ((left : List KeptCommand) → leaves self.new left → leaves self.old left) }
+            × ((left : List KeptCommand) → leaves self.new left → leaves self.old left)
+            × (spoils self.new → spoils self.old) }
         ensures why { IfErr result (λ e. e ≡ KeepFault.NotStored
             → fails self.old self.new (KeptRegistration id subject.now text.now)) };
 
@@ -53,8 +58,10 @@ pub trait Keeper {
         ensures crash { (ks : List KeptCommand) → keeps self.old ks → (left : List KeptCommand) → leaves self.new left
             → (left ≡ ks) ⊎ (left ≡ ks ++ KeptLevel (option_map string_bytes subject.now) level ∷ []) }
         ensures open { OnOk result (is_open self.old ≡ true) }
+        ensures readable { (ks : List KeptCommand) → keeps self.old ks → ¬ (spoils self.new) }
         ensures closed { is_open self.old ≡ false → (is_open self.new ≡ false)
-            × ((left : List KeptCommand) → leaves self.new left → leaves self.old left) }
+            × ((left : List KeptCommand) → leaves self.new left → leaves self.old left)
+            × (spoils self.new → spoils self.old) }
         ensures why { IfErr result (λ e. e ≡ KeepFault.NotStored
             → fails self.old self.new (KeptLevel (option_map string_bytes subject.now) level)) };
 
@@ -63,21 +70,27 @@ pub trait Keeper {
         ensures taken { is_open self.new ≡ true → (ks : List KeptCommand) → (k : KeptCommand)
             → keeps self.old (ks ++ k ∷ []) → keeps self.new ks }
         ensures crash { (ks : List KeptCommand) → (k : KeptCommand) → keeps self.old (ks ++ k ∷ [])
-            → (left : List KeptCommand) → leaves self.new left → (left ≡ ks) ⊎ (left ≡ ks ++ k ∷ []) };
+            → (left : List KeptCommand) → leaves self.new left → (left ≡ ks) ⊎ (left ≡ ks ++ k ∷ []) }
+        ensures readable { (ks : List KeptCommand) → (k : KeptCommand) → keeps self.old (ks ++ k ∷ [])
+            → ¬ (spoils self.new) };
 
-    /// Each crash leaves what it has.
-    ghost only_these: { (keeper : Self) (ks left : List KeptCommand) → keeps keeper ks → leaves keeper left → left ≡ ks };
+    /// The law that each crash leaves what it has.
+    fn leaves_what_it_has(&self)
+        ensures crash { (ks left : List KeptCommand) → keeps self.now ks → leaves self.now left → left ≡ ks }
+        ensures readable { (ks : List KeptCommand) → keeps self.now ks → ¬ (spoils self.now) };
 }
 
 /// Keeps what its keeper keeps; or nothing, for a registry that ends with its process.
 impl<K: Keeper> Keeper for Option<K> {
     ghost use Rattle.std.specs.Prelude.{true};
     ghost use Rattle.std.specs.Option.{option_map_or};
-    ghost use Rattle.schema_registry.specs.Keeping.{FailsIfSome, KeepsIfSome, LeavesIfSome, only_of_some};
+    ghost use Rattle.schema_registry.specs.Keeping.{FailsIfSome, KeepsIfSome, LeavesIfSome, SpoilsIfSome};
 
     ghost keeps = { KeepsIfSome K.keeps };
 
     ghost leaves = { LeavesIfSome K.leaves };
+
+    ghost spoils = { SpoilsIfSome K.spoils };
 
     ghost is_open = { λ keeper. option_map_or K.is_open keeper true };
 
@@ -103,40 +116,9 @@ impl<K: Keeper> Keeper for Option<K> {
         }
     }
 
-    ghost only_these = { only_of_some K.keeps K.leaves K.only_these };
-}
-
-#[derive(Drop)]
-pub struct Unkept;
-
-pub type FileKeeper = Unkept;
-
-impl Keeper for Unkept {
-    ghost use Rattle.std.specs.Prelude.{true, List};
-    ghost use Rattle.schema_registry.specs.Keeping.{KeptCommand};
-
-    ghost keeps = { λ _ _. Unit {0} };
-
-    ghost leaves = { λ _ _. ⊥ };
-
-    ghost is_open = { λ _. true };
-
-    ghost fails = { λ _ _ _. ⊥ };
-
-    fn keep_registration(
-        &mut self,
-        _id: u32,
-        _subject: &str,
-        _text: &str,
-    ) -> Result<(), KeepFault> {
-        Ok(())
+    fn leaves_what_it_has(&self) {
+        if let Some(keeper) = self {
+            keeper.leaves_what_it_has(); // law
+        }
     }
-
-    fn keep_level(&mut self, _subject: &Option<String>, _level: Level) -> Result<(), KeepFault> {
-        Ok(())
-    }
-
-    fn take_back(&mut self) {}
-
-    ghost only_these = { λ keeper ks left has leaves. absurd leaves };
 }

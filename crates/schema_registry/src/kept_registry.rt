@@ -10,6 +10,9 @@ ghost use Rattle.schema_registry.specs.Keeping.{IsDecision, KeptLevel, KeptRegis
 ghost use Rattle.schema_registry.specs.Reply.{LevelReply};
 ghost use Rattle.schema_registry.specs.Tables.{AsksToRegister};
 
+mod crashing;
+mod opening;
+
 use crate::candidate::Candidate;
 use crate::command::Command;
 use crate::decision::Decision;
@@ -19,6 +22,8 @@ use crate::refusal::Refusal;
 use crate::registry::Registry;
 use crate::registry::registering::schema_for;
 use crate::reply::Reply;
+pub use crashing::Aftermath;
+pub use opening::StartFault;
 use std::marker::Model;
 
 /// Returns why a level is not set that was not kept. A registry wants no memory for the level of all, so that memory
@@ -50,7 +55,7 @@ impl<K: Keeper> Model for KeptRegistry<K> {
 
     ghost view = { λ r. record { registry = r.registry; keeper = r.keeper } };
 
-    ghost invariant = { λ r. IsKept K.keeps K.leaves K.is_open r.keeper r.registry };
+    ghost invariant = { λ r. IsKept K.keeps K.leaves K.spoils K.is_open r.keeper r.registry };
 }
 
 impl<K: Keeper> KeptRegistry<K> {
@@ -62,12 +67,13 @@ impl<K: Keeper> KeptRegistry<K> {
         ensures registry { result.registry ≡ registry }
         ensures keeper { result.keeper ≡ keeper }
     {
+        keeper.leaves_what_it_has(); // law
         KeptRegistry { registry, keeper }
     }
 
     /// The law of what the keeper has of the registry's commands, and what a crash leaves of them.
     pub fn is_kept(&self)
-        ensures { IsKept K.keeps K.leaves K.is_open self.now.keeper self.now.registry }
+        ensures { IsKept K.keeps K.leaves K.spoils K.is_open self.now.keeper self.now.registry }
     {
         let _opened = &self.registry; // read for the proof
     }
@@ -161,7 +167,10 @@ impl<K: Keeper> KeptRegistry<K> {
             .registry
             .register_decided(Decision::New(id), command, schema)
         {
-            Ok(id) => Ok(id),
+            Ok(id) => {
+                self.keeper.leaves_what_it_has(); // law
+                Ok(id)
+            }
             Err(refusal) => {
                 self.keeper.take_back();
                 Err(refusal)
@@ -240,7 +249,10 @@ impl<K: Keeper> KeptRegistry<K> {
             return Err(level_refusal(fault, &subject));
         }
         match self.registry.apply(Command::SetLevel { subject, level }) {
-            Ok(reply) => Ok(reply),
+            Ok(reply) => {
+                self.keeper.leaves_what_it_has(); // law
+                Ok(reply)
+            }
             Err(refusal) => {
                 self.keeper.take_back();
                 Err(refusal)

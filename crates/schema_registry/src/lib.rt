@@ -5,6 +5,7 @@
 
 mod candidate;
 mod command;
+mod command_keeper;
 mod compatible;
 mod decision;
 mod history;
@@ -27,7 +28,7 @@ mod subject;
 pub use command::{Command, Version};
 pub use keeper::{KeepFault, Keeper};
 pub use kept_receipt::KeptReceipt;
-pub use kept_registry::KeptRegistry;
+pub use kept_registry::{Aftermath, KeptRegistry, StartFault};
 pub use laws::{
     an_id_names_one_schema, kept_commands_are_accepted_again, kept_commands_make_the_registry,
     memory_is_no_bad_schema,
@@ -37,7 +38,7 @@ pub use limits::{
     LONGEST_SUBJECT, MOST_LEVELS, MOST_SCHEMAS, MOST_SUBJECTS, MOST_VERSION, limits_are_these,
 };
 pub use refusal::Refusal;
-pub use registry::{Registry, ReplayFault, UnreplayedLine};
+pub use registry::{Progress, Registry, ReplayFault, UnreplayedLine, Unwatched};
 pub use reply::Reply;
 pub use shared::{Receipt, Registered, SharedRegistry};
 pub use subject::{is_subject, is_version};

@@ -109,8 +109,23 @@ impl Registry {
     }
 }
 
+/// Is told how far a start has come.
+pub trait Progress {
+    /// This many commands of all are done again.
+    fn done(&mut self, number: usize, all: usize);
+}
+
+/// Is told, and does nothing.
+#[derive(Drop)]
+pub struct Unwatched;
+
+impl Progress for Unwatched {
+    fn done(&mut self, _number: usize, _all: usize) {}
+}
+
 /// A command that was stored is not done again: which one, and why.
-#[derive(Clone, Copy, Debug, PartialEq, Eq)]
+#[derive(Clone, Copy, Debug, PartialEq, Eq, Error)]
+#[error("line {number}: {fault}")]
 pub struct UnreplayedLine {
     /// Its number in the order in which the commands were stored, from 1.
     pub number: usize,
@@ -118,9 +133,10 @@ pub struct UnreplayedLine {
 }
 
 /// Returns a registry that has done again what was stored, in its order; or the first command that is not done again.
-pub(crate) fn replayed(
+pub(crate) fn replayed<P: Progress>(
     alloc: Global,
     commands: Vec<StoredCommand>,
+    progress: &mut P,
 ) -> Result<Registry, UnreplayedLine>
     ensures kept { IfOk result (λ registry. stored_in registry ≡ stored_all commands.items) }
     ensures number { IfErr result (λ line. (1 ≤ line.number) × (line.number ≤ vec_len commands)) }
@@ -128,12 +144,14 @@ pub(crate) fn replayed(
         → AreOfNoRegistry (stored_all commands.items)) }
 {
     let mut registry = Registry::new(alloc);
+    let all = commands.len();
     let mut number = 0;
     for command in commands {
         number += 1;
         if let Err(fault) = registry.replay(command) {
             return Err(UnreplayedLine { number, fault });
         }
+        progress.done(number, all);
     }
     Ok(registry)
 }

@@ -14,8 +14,8 @@ returns-in_err-register-in-Register-clause-refused g c =
     let t = string_bytes c.in-Register.text in
     let ok = rw (c.deref.ensures, c.deref-in-Register.ensures, ← c.new-schema.ensures) at c.in_ok-schema_for-in-Register.ensures.ok in
     rw (p.1, p.2, c.in-Register.is) (λ stored known.
-      registered-refusal (registry_after c.args.self.now.registry) s t c.new-schema.result ok.0 ok.1 c.in_err-register-in-Register.field-0.0
-      (c.in_err-register-in-Register.ensures.refused stored known))
+    registered-refusal (registry_after c.args.self.now.registry) s t c.new-schema.result ok.0 ok.1 c.in_err-register-in-Register.field-0.0
+    (c.in_err-register-in-Register.ensures.refused stored known))
 
 pub returns-in_err-register-in-Register-clause-unstored : goal.returns-in_err-register-in-Register-clause-unstored
 returns-in_err-register-in-Register-clause-unstored g c =

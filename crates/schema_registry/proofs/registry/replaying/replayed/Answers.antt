@@ -6,7 +6,7 @@ use Rattle.schema_registry.proofs.Replays.{of-none}
 use Rattle.schema_registry.proofs.registry.replaying.replayed.Goals as goal
 
 pub returns-in-Err-clause-why : goal.returns-in-Err-clause-why
-returns-in-Err-clause-why c known commands accepted same =
+returns-in-Err-clause-why g c known commands accepted same =
     let steps = c.in-Some.ensures.steps in
     let left = c.next.new.self.rest.items in
     let are = ap (λ (l : List StoredCommand). stored_in c.loop-command.registry ++ stored_all l) (sym steps.0) ∙ c.loop-command.invariant.stored in

@@ -1,0 +1,44 @@
+//! What a start finds after a crash, as a theorem over a whole run.
+
+ghost use Rattle.std.specs.Prelude.{◌++◌, [], ◌∷◌, IfErr, IfOk, IsTrue, OnErr, OnOk};
+ghost use Rattle.schema_registry.specs.Command.{command_of};
+ghost use Rattle.schema_registry.specs.Storing.{IsFoundAfter, IsOfFile};
+
+use super::KeptRegistry;
+use super::opening::StartFault;
+use crate::command::Command;
+use crate::refusal::Refusal;
+use crate::registry::Unwatched;
+use crate::reply::Reply;
+use registry_store::CommandStore;
+use sqlite_disk::Crash;
+use std::alloc::Global;
+
+/// What was answered to a command, and what a start found after a crash.
+pub struct Aftermath<D: Crash> {
+    pub answer: Result<Reply, Refusal>,
+    pub found: Result<KeptRegistry<CommandStore<D>>, (StartFault, D)>,
+}
+
+impl<D: Crash> KeptRegistry<CommandStore<D>> {
+    /// Does or answers a command; then the machine crashes, and a registry starts from the file. Over a `Fuse` the
+    /// machine stops before any call of the disk that the fuse names. The start finds each command that was accepted
+    /// before, and the command where that was answered, with the ids that were answered, and at most one command more;
+    /// and it names no fault of the file.
+    pub fn apply_and_crash(self, alloc: Global, command: Command) -> Aftermath<D>
+        ensures answered { OnOk result.answer (IfOk result.found (λ r. IsTrue (D.Disk.is_clean r.keeper.journal.disk)
+            → IsFoundAfter (self.registry ++ command_of command ∷ []) r.registry)) }
+        ensures refused { OnErr result.answer (IfOk result.found (λ r. IsTrue (D.Disk.is_clean r.keeper.journal.disk)
+            → IsFoundAfter self.registry r.registry)) }
+        ensures whole { IfErr result.found (λ e. IsTrue (D.Disk.is_clean e.1) → ¬ (IsOfFile e.0)) }
+    {
+        let mut kept = self;
+        let answer = kept.apply(command);
+        kept.is_kept(); // law
+        kept.registry().is_accepted(); // law
+        let mut disk = kept.keeper.into_disk();
+        disk.crash();
+        let found = KeptRegistry::open(alloc, disk, &mut Unwatched);
+        Aftermath { answer, found }
+    }
+}
