@@ -1,12 +1,10 @@
 -- What is left of a session with a seat.
-use Rattle.std.proofs.Common.{◌≡◌, ◌≢◌, ◌⊎◌, ℕ, None, inl, inr, sym, ◌∙◌}
+use Rattle.std.proofs.Common.{inl, inr, sym, ◌∙◌}
 use Rattle.std.proofs.lemmas.Bool.Decides.{eqb_tells}
-use Rattle.session_pool_slots.specs.Known.{pass_of}
-use Rattle.session_pool_slots.specs.Seats.{knows}
 use Rattle.session_pool.specs.declared.pool.ClientSeat.{ClientSeat}
 use Rattle.session_pool.specs.Pass.{Pass}
-use Rattle.session_pool.specs.Seats.{IsGone, KeepsAll, KeepsOthers}
-use Rattle.gateway.specs.Stopping.{IsGivenUp, LetsGo, StaysBusy}
+use Rattle.session_pool.specs.Seats.{IsGone, KeepsOthers}
+use Rattle.gateway.specs.Stopping.{IsGivenUp, LetsGo}
 
 -- the other passes are as they were, after two calls with one
 pub others_on : (first before after : ClientSeat) (pass : Pass) → KeepsOthers first pass before → KeepsOthers before pass after

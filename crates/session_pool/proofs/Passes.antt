@@ -1,7 +1,6 @@
 -- A pass after a call.
-use Rattle.std.proofs.Common.{◌≡◌, ◌<◌, ℕ, ◌+◌, List, [], ◌∷◌, ◌++◌, Some, refl, sym, ap, ◌∙◌, inl, subst, ⊎_elim, arith}
+use Rattle.std.proofs.Common.{◌≡◌, ◌<◌, ℕ, ◌+◌, List, [], ◌∷◌, ◌++◌, Some, refl, sym, ap, ◌∙◌, inl, subst, arith}
 use Rattle.isa.specs.Program.{Program}
-use Rattle.session_state.specs.Rows.{TakesRows}
 use Rattle.session_state.specs.Session.{Session}
 use Rattle.session_pool_rule.specs.Results.{Finds, GaveBack, HasIn, HasOut, Others, TookOut}
 use Rattle.session_pool_rule.specs.Steps.{handing, pass_in, pass_out}
