@@ -13,7 +13,6 @@ use Rattle.registry_store.specs.declared.fault.LineFault.TheVariants as lines
 use Rattle.registry_store.specs.declared.store.CommandStore.{CommandStore}
 use Rattle.registry_store.specs.declared.store_fault.OpenFault.{OpenFault}
 use Rattle.registry_store.specs.declared.store_fault.OpenFault.TheVariants as opening
-use Rattle.registry_store.proofs.Stores.{ok_same}
 use Rattle.schema_registry.specs.declared.kept_registry.opening.StartFault.TheVariants.{File}
 use Rattle.schema_registry.specs.Accepting.{registry_after}
 use Rattle.schema_registry.specs.Command.{Command}
@@ -46,6 +45,12 @@ module _ {D : Type 0} (may_leave : D → List ℕ → Type 0) (is_clean : D → 
 
 -- ---- a file that is not opened is that of no registry
 
+ok-same : (read : Result (List Line) Damage) (xs ys : List Line) → read ≡ Ok xs → read ≡ Ok ys → xs ≡ ys
+ok-same read xs ys a b = let e : Read (Ok xs) (Ok ys) = sym a ∙ b in cc
+  where
+    Read : Result (List Line) Damage → Result (List Line) Damage → Type 0
+    Read one other = one ≡ other
+
 -- each line of a file of commands is that of one of them
 line-in : (cs : List Stored) → AllByRecursion MayBeStored cs → (before : List Line) (bytes : Line) (after : List Line) → lines_for cs ≡ before ++ bytes ∷ after
     → (s : Stored) × MayBeStored s × (bytes ≡ line_of s)
@@ -69,14 +74,14 @@ module _ {D : Type 0} (seen : D → List ℕ) (is_clean : D → Bool) (faults : 
   no-registry opening.NoMemory why of_file clean = absurd of_file
   no-registry (opening.Failed error) why of_file clean = absurd of_file
   no-registry (opening.Damaged damage) why of_file clean = λ commands accepted has.
-    let e : Read (Ok (lines_for (stored_in commands))) (Err damage) = sym has.lines ∙ why clean in cc
+      let e : Read (Ok (lines_for (stored_in commands))) (Err damage) = sym has.lines ∙ why clean in cc
     where
       Read : Result (List Line) Damage → Result (List Line) Damage → Type 0
       Read one other = one ≡ other
   no-registry (opening.BadLine number fault) why of_file clean = λ commands accepted has.
-    let found = why clean in
-    let same = ok_same (lines_in (seen old)) found.0 (lines_for (stored_in commands)) found.1 has.lines in
-    no-bad-line (stored_in commands) has.may number fault (subst (λ (ls : List Line). IsBadLine ls number fault) same found.2)
+      let found = why clean in
+      let same = ok-same (lines_in (seen old)) found.0 (lines_for (stored_in commands)) found.1 has.lines in
+      no-bad-line (stored_in commands) has.may number fault (subst (λ (ls : List Line). IsBadLine ls number fault) same found.2)
 
 -- ---- what a start finds
 

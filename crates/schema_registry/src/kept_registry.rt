@@ -1,6 +1,6 @@
 //! A registry whose commands are kept, so that they are there after a restart.
 
-ghost use Rattle.std.specs.Prelude.{◌≡◌, ◌≢◌, ◌<◌, ◌≤◌, ◌⊎◌, ◌++◌, [], ◌∷◌, ℕ, IfErr, IfOk, None, Ok, Err, OnOk, OnErr, option_map, string_bytes};
+ghost use Rattle.std.specs.Prelude.{◌≡◌, ◌≢◌, ◌<◌, ◌≤◌, ◌⊎◌, ◌++◌, [], ◌∷◌, ℕ, IfErr, IfOk, Some, None, Ok, Err, OnOk, OnErr, option_map, string_bytes};
 ghost use Rattle.schema_registry.specs.declared.limits.TheConstants.{MOST_SCHEMAS};
 ghost use Rattle.schema_registry.specs.Accepting.{id_for, registry_after};
 ghost use Rattle.schema_registry.specs.Answer.{Gives, IsAnswer};
@@ -69,6 +69,17 @@ impl<K: Keeper> KeptRegistry<K> {
     {
         keeper.leaves_what_it_has(); // law
         KeptRegistry { registry, keeper }
+    }
+
+    /// Returns it as one that may have no keeper.
+    pub fn into_optional(self) -> KeptRegistry<Option<K>>
+        ensures registry { result.registry ≡ self.registry }
+        ensures keeper { result.keeper ≡ Some self.keeper }
+    {
+        KeptRegistry {
+            registry: self.registry,
+            keeper: Some(self.keeper),
+        }
     }
 
     /// The law of what the keeper has of the registry's commands, and what a crash leaves of them.
