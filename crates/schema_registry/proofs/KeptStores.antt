@@ -1,25 +1,28 @@
 -- What a store of commands keeps of a registry, and what a crash leaves of it.
-use Rattle.std.proofs.Common.{◌≡◌, ◌⊎◌, inl, inr, ℕ, Bool, IsTrue, List, [], ◌∷◌, ◌++◌, map, Result, Ok, Err, sym, ◌∙◌, ap, subst}
+use Rattle.std.proofs.Common.{◌≡◌, ◌⊎◌, inl, inr, ℕ, Bool, IsTrue, List, [], ◌∷◌, ◌++◌, map, Result, Ok, Err, IfOk, IfErr, sym, ◌∙◌, ap, subst}
 use Rattle.std.specs.List.{AllByRecursion}
 use Rattle.std.proofs.lemmas.List.{map-append}
 use Rattle.line_journal.specs.Lines.{Line, lines_in}
 use Rattle.line_journal.specs.declared.error.Damage.{Damage}
 use Rattle.registry_store.specs.Cause.{HasOpenCause, IsBadLine, IsRefused}
 use Rattle.registry_store.specs.Line.{body_of, line_of}
-use Rattle.registry_store.specs.Store.{HasCommands, LeavesNoMore, LeavesOneOf, lines_for}
+use Rattle.registry_store.specs.Store.{HasCommands, LeavesNoMore, LeavesOneOf, is_open, lines_for}
 use Rattle.registry_store.specs.Stored.{MayBeStored, Stored}
 use Rattle.registry_store.specs.declared.fault.LineFault.{LineFault}
 use Rattle.registry_store.specs.declared.fault.LineFault.TheVariants as lines
 use Rattle.registry_store.specs.declared.store.CommandStore.{CommandStore}
 use Rattle.registry_store.specs.declared.store_fault.OpenFault.{OpenFault}
 use Rattle.registry_store.specs.declared.store_fault.OpenFault.TheVariants as opening
+use Rattle.schema_registry.specs.declared.kept_registry.opening.StartFault.{StartFault}
 use Rattle.schema_registry.specs.declared.kept_registry.opening.StartFault.TheVariants.{File}
+use Rattle.schema_registry.specs.declared.kept_registry.opening.Started.{Started}
 use Rattle.schema_registry.specs.Accepting.{registry_after}
+use Rattle.schema_registry.specs.Answers.{AreAccepted, one_more}
 use Rattle.schema_registry.specs.Command.{Command}
-use Rattle.schema_registry.specs.Keeping.{IsLeft, KeptCommand, kept_in, kept_of}
+use Rattle.schema_registry.specs.Keeping.{IsKept, IsLeft, KeptCommand, kept_in, kept_of}
 use Rattle.schema_registry.specs.Lists.{no_lists}
 use Rattle.schema_registry.specs.Replaying.{stored_as, stored_in}
-use Rattle.schema_registry.specs.Storing.{IsFoundAfter, IsOfFile, IsOfNoRegistry, Spoils}
+use Rattle.schema_registry.specs.Storing.{IsFoundAfter, IsOfFile, IsOfNoRegistry, KeepsStored, LeavesStored, Spoils}
 use Rattle.schema_registry.proofs.Replayed.{kept-more}
 use Rattle.schema_registry.proofs.Replays.{kept-are}
 use Rattle.schema_registry.proofs.Restarts.{same_kept}
@@ -89,3 +92,33 @@ pub found-after : (commands found : List Command) → IsLeft commands (kept_in f
 found-after commands found (inl same) = inl (same_kept commands found same)
 found-after commands found (inr (c, reply, accepted, is)) =
     inr (c, reply, accepted, same_kept (commands ++ c ∷ []) found (is ∙ sym (kept-more no_lists commands c)))
+
+module _ {D : Type 0} (seen : D → List ℕ) (may_leave : D → List ℕ → Type 0) (is_clean : D → Bool) (keeper : CommandStore D) (commands : List Command)
+    (kept : IsKept (KeepsStored seen may_leave is_clean) (LeavesStored may_leave is_clean) (Spoils may_leave is_clean) is_open keeper commands)
+    (file : List ℕ) (left : may_leave keeper.journal.disk file) where
+  -- the commands of the registry that starts are those, or with one more
+  found-in : IsTrue (is_clean keeper.journal.disk) → (found : List Command) → HasCommands file (stored_in found) → IsFoundAfter commands found
+  found-in clean found has = found-after commands found (kept.crash (kept_in found) (record { clean = clean; file = file; left = left; has = has }))
+
+  pub after-crash : (crashed : D) → (IsTrue (is_clean crashed) → IsTrue (is_clean keeper.journal.disk)) → (r : Result (Started D) (StartFault × D))
+      → IfOk r (λ started. IsTrue (is_clean started.store.journal.disk) → HasCommands file (stored_in started.registry))
+      → IfOk r (λ started. IsTrue (is_clean started.store.journal.disk) → IsTrue (is_clean crashed))
+      → IfOk r (λ started. IsTrue (is_clean started.store.journal.disk) → IsFoundAfter commands started.registry)
+  after-crash crashed before (Ok started) has clean = λ is. found-in (before (clean is)) started.registry (has is)
+  after-crash crashed before (Err e) has clean = tt
+
+  -- the file is that of accepted commands
+  whole-file : IsTrue (is_clean keeper.journal.disk) → AreAccepted commands → IsOfNoRegistry file → ⊥
+  whole-file clean accepted none = kept.readable (record { clean = clean; file = file; left = left; none = λ ks has. of ks has (kept.crash ks (record { clean = clean; file = file; left = left; has = has })) })
+    where
+      of : (ks : List KeptCommand) → HasCommands file (map stored_as ks) → IsLeft commands ks → ⊥
+      of ks has (inl same) = none commands accepted (subst (λ (js : List KeptCommand). HasCommands file (map stored_as js)) same has)
+      of ks has (inr (c, reply, answer, is)) =
+          none (commands ++ c ∷ []) (one_more commands c reply accepted answer)
+          (subst (λ (js : List KeptCommand). HasCommands file (map stored_as js)) (is ∙ sym (kept-more no_lists commands c)) has)
+
+  pub no-fault-named : (crashed : D) → (IsTrue (is_clean crashed) → IsTrue (is_clean keeper.journal.disk)) → AreAccepted commands → (r : Result (Started D) (StartFault × D))
+      → IfErr r (λ e. IsOfFile e.0 → IsTrue (is_clean e.1) → IsOfNoRegistry file) → IfErr r (λ e. IsTrue (is_clean e.1) → IsTrue (is_clean crashed))
+      → IfErr r (λ e. IsTrue (is_clean e.1) → ¬ (IsOfFile e.0))
+  no-fault-named crashed before accepted (Ok started) why clean = tt
+  no-fault-named crashed before accepted (Err e) why clean = λ is of_file. whole-file (before (clean is)) accepted (why of_file is)

@@ -1,5 +1,5 @@
 -- What was stored of accepted commands is done again without a fault.
-use Rattle.std.proofs.Common.{◌≡◌, ◌≢◌, ◌⊎◌, inl, inr, ℕ, List, [], ◌∷◌, ◌++◌, map, Bool, true, false, cond, Option, Some, None, Result, Ok, Err, OnOk, IfErr, refl, sym, ◌∙◌, ap, subst}
+use Rattle.std.proofs.Common.{◌≡◌, ◌≢◌, ◌⊎◌, inl, inr, ℕ, List, [], ◌∷◌, ◌++◌, map, Bool, true, false, cond, Option, Some, None, Result, Ok, Err, OnErr, OnOk, IfErr, refl, sym, ◌∙◌, ap, subst}
 use Rattle.std.specs.Prelude.{find}
 use Rattle.std.specs.Option.{ok_or}
 use Rattle.std.specs.Str.{bytes_eq}
@@ -95,6 +95,10 @@ level-why lists subject word l name fault why k same =
 pub on-ok : {T E : Type 0} (A B : Type 0) → (A → B) → (r : Result T E) → OnOk r A → OnOk r B
 on-ok A B f (Ok t) a = f a
 on-ok A B f (Err e) a = tt
+
+pub on-err : {T E : Type 0} (A B : Type 0) → (A → B) → (r : Result T E) → OnErr r A → OnErr r B
+on-err A B f (Ok t) a = tt
+on-err A B f (Err e) a = f a
 
 pub if-err : {T E : Type 0} (P Q : E → Type 0) → ((e : E) → P e → Q e) → (r : Result T E) → IfErr r P → IfErr r Q
 if-err P Q f (Ok t) p = tt

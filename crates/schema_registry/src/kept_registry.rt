@@ -23,7 +23,7 @@ use crate::registry::Registry;
 use crate::registry::registering::schema_for;
 use crate::reply::Reply;
 pub use crashing::Aftermath;
-pub use opening::StartFault;
+pub use opening::{StartFault, Started};
 use std::marker::Model;
 
 /// Returns why a level is not set that was not kept. A registry wants no memory for the level of all, so that memory

@@ -28,7 +28,7 @@ mod subject;
 pub use command::{Command, Version};
 pub use keeper::{KeepFault, Keeper};
 pub use kept_receipt::KeptReceipt;
-pub use kept_registry::{Aftermath, KeptRegistry, StartFault};
+pub use kept_registry::{Aftermath, KeptRegistry, StartFault, Started};
 pub use laws::{
     an_id_names_one_schema, kept_commands_are_accepted_again, kept_commands_make_the_registry,
     memory_is_no_bad_schema,

@@ -5,7 +5,7 @@ ghost use Rattle.schema_registry.specs.Command.{command_of};
 ghost use Rattle.schema_registry.specs.Storing.{IsFoundAfter, IsOfFile};
 
 use super::KeptRegistry;
-use super::opening::StartFault;
+use super::opening::{StartFault, Started};
 use crate::command::Command;
 use crate::refusal::Refusal;
 use crate::registry::Unwatched;
@@ -17,7 +17,7 @@ use std::alloc::Global;
 /// What was answered to a command, and what a start found after a crash.
 pub struct Aftermath<D: Crash> {
     pub answer: Result<Reply, Refusal>,
-    pub found: Result<KeptRegistry<CommandStore<D>>, (StartFault, D)>,
+    pub found: Result<Started<D>, (StartFault, D)>,
 }
 
 impl<D: Crash> KeptRegistry<CommandStore<D>> {
@@ -26,9 +26,9 @@ impl<D: Crash> KeptRegistry<CommandStore<D>> {
     /// before, and the command where that was answered, with the ids that were answered, and at most one command more;
     /// and it names no fault of the file.
     pub fn apply_and_crash(self, alloc: Global, command: Command) -> Aftermath<D>
-        ensures answered { OnOk result.answer (IfOk result.found (λ r. IsTrue (D.Disk.is_clean r.keeper.journal.disk)
+        ensures answered { OnOk result.answer (IfOk result.found (λ r. IsTrue (D.Disk.is_clean r.store.journal.disk)
             → IsFoundAfter (self.registry ++ command_of command ∷ []) r.registry)) }
-        ensures refused { OnErr result.answer (IfOk result.found (λ r. IsTrue (D.Disk.is_clean r.keeper.journal.disk)
+        ensures refused { OnErr result.answer (IfOk result.found (λ r. IsTrue (D.Disk.is_clean r.store.journal.disk)
             → IsFoundAfter self.registry r.registry)) }
         ensures whole { IfErr result.found (λ e. IsTrue (D.Disk.is_clean e.1) → ¬ (IsOfFile e.0)) }
     {
@@ -38,7 +38,7 @@ impl<D: Crash> KeptRegistry<CommandStore<D>> {
         kept.registry().is_accepted(); // law
         let mut disk = kept.keeper.into_disk();
         disk.crash();
-        let found = KeptRegistry::open(alloc, disk, &mut Unwatched);
+        let found = Started::from_disk(alloc, disk, &mut Unwatched);
         Aftermath { answer, found }
     }
 }

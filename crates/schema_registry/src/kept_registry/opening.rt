@@ -2,9 +2,6 @@
 
 ghost use Rattle.std.specs.Prelude.{◌≡◌, ◌≤◌, [], true, length, List, ℕ, IfErr, IfOk, IsTrue};
 ghost use Rattle.sqlite_disk.specs.Disk.{MoreFaults, Only};
-ghost use Rattle.registry_store.specs.Store.{HasCommands, is_open};
-ghost use Rattle.schema_registry.specs.Replaying.{stored_in};
-ghost use Rattle.schema_registry.specs.Storing.{IsOfFile, IsOfNoRegistry};
 
 use super::KeptRegistry;
 use crate::registry::{Progress, Registry, UnreplayedLine, replayed};
@@ -25,10 +22,53 @@ pub enum StartFault {
     Line(UnreplayedLine),
 }
 
-impl<D: Disk> KeptRegistry<CommandStore<D>> {
+/// A registry that has done again what is in a file, and the store of that file.
+#[derive(Drop)]
+pub struct Started<D: Disk> {
+    pub store: CommandStore<D>,
+    pub registry: Registry,
+}
+
+impl<D: Disk> Started<D> {
+    ghost use Rattle.registry_store.specs.Store.{HasCommands, Keeps, is_open};
+    ghost use Rattle.schema_registry.specs.Replaying.{stored_in};
+    ghost use Rattle.schema_registry.specs.Storing.{IsOfFile, IsOfNoRegistry};
+
     /// Starts from a file that a crash may have left: reads its commands and does each of them again, in their order.
     /// What the file has are then the commands that are kept of the registry's, with the ids that they have in it. At
     /// `Err` the disk is given back. What `progress` is told has no effect.
+    pub fn from_disk<P: Progress>(
+        alloc: Global,
+        disk: D,
+        progress: &mut P,
+    ) -> Result<Started<D>, (StartFault, D)>
+        requires { IsTrue (D.is_usable disk) }
+        ensures commands { IfOk result (λ r. IsTrue (D.is_clean r.store.journal.disk)
+            → HasCommands (D.seen disk) (stored_in r.registry)) }
+        ensures keeps { IfOk result (λ r. Only (D.seen disk) (D.may_leave disk)
+            → Keeps D.seen D.may_leave D.is_clean r.store (stored_in r.registry)) }
+        ensures clean { IfOk result (λ r. IsTrue (D.is_clean r.store.journal.disk) → IsTrue (D.is_clean disk)) }
+        ensures open { IfOk result (λ r. is_open r.store ≡ true) }
+        ensures why { IfErr result (λ e. IsOfFile e.0 → IsTrue (D.is_clean e.1) → IsOfNoRegistry (D.seen disk)) }
+        ensures clean_err { IfErr result (λ e. IsTrue (D.is_clean e.1) → IsTrue (D.is_clean disk)) }
+    {
+        let (store, commands) = match CommandStore::open(alloc, disk) {
+            Ok(found) => found,
+            Err((fault, disk)) => return Err((StartFault::File(fault), disk)),
+        };
+        match replayed(alloc, commands, progress) {
+            Ok(registry) => Ok(Started { store, registry }),
+            Err(line) => Err((StartFault::Line(line), store.into_disk())),
+        }
+    }
+}
+
+impl<D: Disk> KeptRegistry<CommandStore<D>> {
+    ghost use Rattle.registry_store.specs.Store.{HasCommands, is_open};
+    ghost use Rattle.schema_registry.specs.Replaying.{stored_in};
+    ghost use Rattle.schema_registry.specs.Storing.{IsOfFile, IsOfNoRegistry};
+
+    /// Starts from a file that is on the disk as it reads, and goes on in it. At `Err` the disk is given back.
     pub fn open<P: Progress>(
         alloc: Global,
         disk: D,
@@ -38,19 +78,11 @@ impl<D: Disk> KeptRegistry<CommandStore<D>> {
         requires settled { Only (D.seen disk) (D.may_leave disk) }
         ensures commands { IfOk result (λ r. IsTrue (D.is_clean r.keeper.journal.disk)
             → HasCommands (D.seen disk) (stored_in r.registry)) }
-        ensures clean { IfOk result (λ r. IsTrue (D.is_clean r.keeper.journal.disk) → IsTrue (D.is_clean disk)) }
         ensures open { IfOk result (λ r. is_open r.keeper ≡ true) }
         ensures why { IfErr result (λ e. IsOfFile e.0 → IsTrue (D.is_clean e.1) → IsOfNoRegistry (D.seen disk)) }
-        ensures same { IfErr result (λ e. IsTrue (D.is_clean e.1) → IsTrue (D.is_clean disk)) }
     {
-        let (store, commands) = match CommandStore::open(alloc, disk) {
-            Ok(found) => found,
-            Err((fault, disk)) => return Err((StartFault::File(fault), disk)),
-        };
-        match replayed(alloc, commands, progress) {
-            Ok(registry) => Ok(KeptRegistry::over(registry, store)),
-            Err(line) => Err((StartFault::Line(line), store.into_disk())),
-        }
+        let started = Started::from_disk(alloc, disk, progress)?;
+        Ok(KeptRegistry::over(started.registry, started.store))
     }
 
     /// Makes an empty file that of an empty registry. At `Err` the disk is given back.
