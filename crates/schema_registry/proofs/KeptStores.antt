@@ -1,5 +1,5 @@
 -- What a store of commands keeps of a registry, and what a crash leaves of it.
-use Rattle.std.proofs.Common.{◌≡◌, ◌⊎◌, inl, inr, ℕ, Bool, IsTrue, List, [], ◌∷◌, ◌++◌, map, Result, Ok, Err, IfOk, IfErr, sym, ◌∙◌, ap, subst}
+use Rattle.std.proofs.Common.{◌≡◌, ◌⊎◌, inl, inr, ℕ, Bool, IsTrue, List, [], ◌∷◌, ◌++◌, map, Result, Ok, Err, IfOk, IfErr, sym, ◌∙◌, subst}
 use Rattle.std.specs.List.{AllByRecursion}
 use Rattle.std.proofs.lemmas.List.{map-append}
 use Rattle.line_journal.specs.Lines.{Line, lines_in}
@@ -16,10 +16,9 @@ use Rattle.registry_store.specs.declared.store_fault.OpenFault.TheVariants as op
 use Rattle.schema_registry.specs.declared.kept_registry.opening.StartFault.{StartFault}
 use Rattle.schema_registry.specs.declared.kept_registry.opening.StartFault.TheVariants.{File}
 use Rattle.schema_registry.specs.declared.kept_registry.opening.Started.{Started}
-use Rattle.schema_registry.specs.Accepting.{registry_after}
 use Rattle.schema_registry.specs.Answers.{AreAccepted, one_more}
 use Rattle.schema_registry.specs.Command.{Command}
-use Rattle.schema_registry.specs.Keeping.{IsKept, IsLeft, KeptCommand, kept_in, kept_of}
+use Rattle.schema_registry.specs.Keeping.{IsKept, IsLeft, KeptCommand, kept_in}
 use Rattle.schema_registry.specs.Lists.{no_lists}
 use Rattle.schema_registry.specs.Replaying.{stored_as, stored_in}
 use Rattle.schema_registry.specs.Storing.{IsFoundAfter, IsOfFile, IsOfNoRegistry, KeepsStored, LeavesStored, Spoils}

@@ -6,7 +6,7 @@ use Rattle.avro_schema.specs.Schema.{Declaration}
 use Rattle.schema_registry.specs.Command.{Command, RegisterCommand, SetLevelCommand, LookupCommand, CheckCommand, VersionsCommand, VersionCommand, SubjectsCommand, SchemaCommand, LevelCommand}
 use Rattle.schema_registry.specs.Lists.{Lists, no_lists, versions_of, with_text}
 use Rattle.schema_registry.specs.Accepting.{declaration_of, id_for, registered, registry_after, taken, taken_all, with_version}
-use Rattle.schema_registry.specs.Keeping.{KeptCommand, KeptRegistration, KeptLevel, command_for, registration_kept, kept_of, kept_from, kept_in}
+use Rattle.schema_registry.specs.Keeping.{KeptCommand, KeptRegistration, command_for, registration_kept, kept_of, kept_from, kept_in}
 
 taken_all-more : (lists : Lists) (cs ds : List Command) → taken_all lists (cs ++ ds) ≡ taken_all (taken_all lists cs) ds
 taken_all-more lists [] ds = refl

@@ -1,5 +1,5 @@
 -- What a registry and its keeper have of each other.
-use Rattle.std.proofs.Common.{◌≡◌, ◌≢◌, ◌⊎◌, inl, inr, ⊎_elim, ℕ, List, [], ◌∷◌, ◌++◌, map, Bool, true, false, Option, Some, None, IfNone, Result, Ok, Err, IfErr, OnOk, OnErr, refl, sym, ◌∙◌, ap, subst}
+use Rattle.std.proofs.Common.{◌≡◌, ◌≢◌, ◌⊎◌, inl, inr, ℕ, List, [], ◌∷◌, ◌++◌, map, Bool, true, false, Option, Some, None, Result, Ok, Err, IfErr, OnOk, OnErr, refl, sym, ◌∙◌, ap, subst}
 use Rattle.std.proofs.lemmas.List.{append-nil}
 use Rattle.avro_schema.specs.Schema.{Declaration}
 use Rattle.schema_registry.specs.Command.{Command, subject_in, IsQuestion, RegisterCommand, SetLevelCommand, LookupCommand, CheckCommand, VersionsCommand, VersionCommand, SubjectsCommand, SchemaCommand, LevelCommand}
@@ -9,12 +9,12 @@ use Rattle.schema_registry.specs.Reply.{IdReply, LevelReply}
 use Rattle.schema_registry.specs.declared.decision.Decision.{Decision}
 use Rattle.schema_registry.specs.declared.decision.Decision.TheVariants.{Known, New}
 use Rattle.schema_registry.specs.declared.level.Level.{Level}
-use Rattle.schema_registry.specs.Answer.{Answer, IsAnswer, Told, unless_refused}
+use Rattle.schema_registry.specs.Answer.{Answer, IsAnswer, unless_refused}
 use Rattle.schema_registry.specs.declared.refusal.Refusal.{Refusal}
 use Rattle.schema_registry.specs.declared.refusal.Refusal.TheVariants.{NotStored}
 use Rattle.schema_registry.specs.Answers.{answer_to}
 use Rattle.schema_registry.specs.Accepting.{declaration_of, id_for, registry_after}
-use Rattle.schema_registry.specs.Keeping.{HasVersion, IsDecision, MayFail, KeptCommand, KeptRegistration, KeptLevel, IsLeft, IsKept, command_for, registration_kept, kept_of, kept_from, kept_in}
+use Rattle.schema_registry.specs.Keeping.{HasVersion, IsDecision, MayFail, KeptCommand, KeptRegistration, KeptLevel, IsLeft, IsKept, command_for, registration_kept, kept_of, kept_in}
 use Rattle.schema_registry.specs.Tables.{AsksToRegister}
 use Rattle.schema_registry.proofs.Added.{added-answer}
 use Rattle.schema_registry.proofs.Told.{registered-answer}

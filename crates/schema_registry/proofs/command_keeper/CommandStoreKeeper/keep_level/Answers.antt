@@ -1,5 +1,4 @@
-use Rattle.std.proofs.Common.{◌≡◌, List, Option, map, option_map, string_bytes}
-use Rattle.std.specs.Option.{option_copied}
+use Rattle.std.proofs.Common.{map, option_map, string_bytes}
 use Rattle.schema_registry.specs.Keeping.{KeptLevel}
 use Rattle.schema_registry.specs.Replaying.{stored_as}
 use Rattle.schema_registry.proofs.KeptStores.{left-one, not-spoilt}

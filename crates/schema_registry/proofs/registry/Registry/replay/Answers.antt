@@ -1,6 +1,5 @@
-use Rattle.std.proofs.Common.{◌≡◌, Ok, ap, option_map, string_bytes, sym, ◌∙◌}
+use Rattle.std.proofs.Common.{option_map, string_bytes}
 use Rattle.std.proofs.lemmas.Result.{err_from_is_err_and}
-use Rattle.registry_store.specs.Stored.{LevelSet, stored_of}
 use Rattle.schema_registry.specs.Accepting.{registry_after}
 use Rattle.schema_registry.proofs.Replays.{if-err, level-read-of, level-stored, level-why, no-level, on-ok}
 use Rattle.schema_registry.proofs.registry.Registry.replay.Goals as goal

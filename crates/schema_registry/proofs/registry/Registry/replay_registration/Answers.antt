@@ -1,8 +1,7 @@
-use Rattle.std.proofs.Common.{◌≡◌, ◌∙◌, Ok, ap, subst, sym, string_bytes}
+use Rattle.std.proofs.Common.{◌≡◌, ◌∙◌, ap, string_bytes}
 use Rattle.std.proofs.lemmas.Result.{err_from_is_err_and}
-use Rattle.schema_registry.specs.Accepting.{declaration_of, registry_after}
-use Rattle.schema_registry.specs.Keeping.{IsDecision, kept_in}
-use Rattle.schema_registry.specs.declared.decision.Decision.TheVariants.{New}
+use Rattle.schema_registry.specs.Accepting.{registry_after}
+use Rattle.schema_registry.specs.Keeping.{kept_in}
 use Rattle.schema_registry.proofs.Restarts.{decided_kept, new_after, new_kept}
 use Rattle.schema_registry.proofs.Told.{registered-refusal}
 use Rattle.schema_registry.proofs.registry.Registry.replay_registration.Goals as goal

@@ -1,5 +1,5 @@
-use Rattle.std.proofs.Common.{List, sym, subst, ap, ◌++◌, ◌∙◌}
-use Rattle.registry_store.specs.Stored.{Stored, stored_of}
+use Rattle.std.proofs.Common.{List, sym, ap, ◌++◌, ◌∙◌}
+use Rattle.registry_store.specs.Stored.{stored_of}
 use Rattle.registry_store.specs.declared.stored.StoredCommand.{StoredCommand}
 use Rattle.schema_registry.specs.Replaying.{stored_all, stored_in}
 use Rattle.schema_registry.proofs.Replays.{of-none}
