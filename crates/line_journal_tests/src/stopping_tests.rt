@@ -45,12 +45,12 @@ fn lines_at(rt: &HostRuntime, path: &str) -> Result<Vec<u8>, Fail> {
 
 /// Appends `new` to the journal at a path, over a disk that stops after `calls` calls. Returns whether that was
 /// `Ok`, and whether the journal may still be used.
-fn append_until(rt: &HostRuntime, path: &str, calls: u64) -> Result<(bool, bool), Fail> {
+fn append_until(rt: &HostRuntime, path: &str, calls: u32) -> Result<(bool, bool), Fail> {
     let Ok(file) = open(rt, path, Unknown) else {
         return Err(Fail::from("no file"));
     };
     // `open` makes four calls.
-    let fuse = Fuse::new(file, calls + 4);
+    let fuse = Fuse::new(file, calls as u64 + 4);
     if !fuse.may_be_used() {
         return Err(Fail::from("a new disk may be used"));
     }
@@ -64,12 +64,12 @@ fn append_until(rt: &HostRuntime, path: &str, calls: u64) -> Result<(bool, bool)
 
 /// Appends `new` to the journal at a path, and takes it back over a disk that stops after `calls` calls. Returns
 /// whether it was taken back.
-fn take_back_until(rt: &HostRuntime, path: &str, calls: u64) -> Result<bool, Fail> {
+fn take_back_until(rt: &HostRuntime, path: &str, calls: u32) -> Result<bool, Fail> {
     let Ok(file) = open(rt, path, Unknown) else {
         return Err(Fail::from("no file"));
     };
     // `open` and `append` make four calls each.
-    let fuse = Fuse::new(file, calls + 8);
+    let fuse = Fuse::new(file, calls as u64 + 8);
     if !fuse.may_be_used() {
         return Err(Fail::from("a new disk may be used"));
     }
