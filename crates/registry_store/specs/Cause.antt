@@ -11,6 +11,7 @@ use Rattle.line_journal.specs.declared.error.OpenError.TheVariants as journals
 use Rattle.line_journal.specs.declared.layout.TheConstants.{LONGEST}
 use Rattle.registry_store.specs.Line.{HasCheck, line_of}
 use Rattle.registry_store.specs.Reading.{IsNoCommand}
+use Rattle.registry_store.specs.Store.{disk_of}
 use Rattle.registry_store.specs.Stored.{Stored}
 use Rattle.registry_store.specs.declared.fault.LineFault.{LineFault}
 use Rattle.registry_store.specs.declared.fault.LineFault.TheVariants as faults_of_line
@@ -21,11 +22,20 @@ use Rattle.registry_store.specs.declared.store_fault.StoreFault.TheVariants as s
 use Rattle.registry_store.specs.declared.store.CommandStore.{CommandStore}
 
 -- why this command was refused, by the store before and after
-abbrev pub HasCause : {D : Type 0} → (D → Bool) → (D → Bool) → (D → ℕ) → CommandStore D → CommandStore D → Stored → StoreFault → Type 0
+abbrev pub HasCause : {D : Type 0} → (D → Bool) → (D → Bool) → (D → ℕ)
+    → CommandStore D → CommandStore D → Stored → StoreFault → Type 0
 HasCause is_usable is_mixing faults old new command stores.NoMemory = Unit {0}
 HasCause is_usable is_mixing faults old new command stores.Closed = takes_lines is_usable old.journal ≡ false
 HasCause is_usable is_mixing faults old new command stores.TooLong = LONGEST < length (line_of command)
-HasCause is_usable is_mixing faults old new command (stores.Failed error) = IsDisksFault is_mixing faults old.journal.disk new.journal.disk
+HasCause is_usable is_mixing faults old new command (stores.Failed error) =
+    IsDisksFault is_mixing faults (disk_of old) (disk_of new)
+
+-- the refusal may close the store: any other leaves it open or closed, as it was
+abbrev pub MayClose : StoreFault → Type 0
+MayClose stores.NoMemory = ⊥
+MayClose stores.Closed = ⊥
+MayClose stores.TooLong = ⊥
+MayClose (stores.Failed error) = Unit {0}
 
 -- why a line was not read as a command
 abbrev pub IsRefused : Line → LineFault → Type 0
@@ -50,9 +60,11 @@ HasReadCause lines (opens.BadLine number fault) = IsBadLine lines number fault
 HasReadCause lines (opens.Failed error) = ⊥
 
 -- why a file was not opened, by its disk before and after
-abbrev pub HasOpenCause : {D : Type 0} → (D → List ℕ) → (D → Bool) → (D → ℕ) → D → D → OpenFault → Type 0
+abbrev pub HasOpenCause : {D : Type 0} → (D → List ℕ) → (D → Bool) → (D → ℕ)
+    → D → D → OpenFault → Type 0
 HasOpenCause seen is_clean faults old new opens.NoMemory = Unit {0}
-HasOpenCause seen is_clean faults old new (opens.Damaged damage) = IsTrue (is_clean new) → lines_in (seen old) ≡ Err damage
+HasOpenCause seen is_clean faults old new (opens.Damaged damage) =
+    IsTrue (is_clean new) → lines_in (seen old) ≡ Err damage
 HasOpenCause seen is_clean faults old new (opens.BadLine number fault) =
     IsTrue (is_clean new) → (lines : List Line) × (lines_in (seen old) ≡ Ok lines) × IsBadLine lines number fault
 HasOpenCause seen is_clean faults old new (opens.Failed error) = MoreFaults (faults old) (faults new)

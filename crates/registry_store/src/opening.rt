@@ -20,7 +20,7 @@ use std::io;
 
 impl<D: Disk> CommandStore<D> {
     ghost use Rattle.registry_store.specs.Cause.{HasOpenCause};
-    ghost use Rattle.registry_store.specs.Store.{HasCommands, Keeps, is_open};
+    ghost use Rattle.registry_store.specs.Store.{HasCommands, Keeps, disk_of, is_open};
 
     /// Opens a file that a crash may have left, and returns the store and the commands. A crash meanwhile leaves a file
     /// of the lines that it had. An `Err` gives the disk back.
@@ -29,7 +29,7 @@ impl<D: Disk> CommandStore<D> {
         disk: D,
     ) -> Result<(CommandStore<D>, Vec<StoredCommand>), (OpenFault, D)>
         requires { IsTrue (D.is_usable disk) }
-        ensures commands { IfOk result (λ r. IsTrue (D.is_clean r.0.journal.disk)
+        ensures commands { IfOk result (λ r. IsTrue (D.is_clean (disk_of r.0))
             → HasCommands (D.seen disk) (commands_of r.1.items)) }
         // After a restart, what is read is what is on the disk.
         ensures keeps { IfOk result (λ r. Only (D.seen disk) (D.may_leave disk)

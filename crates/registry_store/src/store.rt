@@ -1,6 +1,6 @@
 //! A registry's file, open for more commands.
 
-ghost use Rattle.std.specs.Prelude.{◌≡◌, ◌≢◌, ◌⊎◌, ◌++◌, [], ◌∷◌, List, ℕ, true, false, IfErr, OnErr, OnOk};
+ghost use Rattle.std.specs.Prelude.{◌≡◌, ◌≢◌, ◌⊎◌, ◌++◌, [], ◌∷◌, List, ℕ, true, false, IsTrue, IfErr, OnErr, OnOk};
 ghost use Rattle.std.specs.Option.{option_copied};
 ghost use Rattle.registry_store.specs.Cause.{SaysSame};
 ghost use Rattle.registry_store.specs.Line.{IsOneLine, line_of};
@@ -20,8 +20,18 @@ pub struct CommandStore<D: Disk> {
 }
 
 impl<D: Disk> CommandStore<D> {
-    ghost use Rattle.registry_store.specs.Cause.{HasCause};
-    ghost use Rattle.registry_store.specs.Store.{Keeps, Leaves, LeavesNoMore, LeavesOneOf, is_open};
+    ghost use Rattle.registry_store.specs.Cause.{HasCause, MayClose};
+    ghost use Rattle.registry_store.specs.Store.{Keeps, Leaves, LeavesNoMore, LeavesOneOf, MayTakeBack, disk_of, is_open};
+    ghost use Rattle.line_journal.specs.Cause.{IsDisksFault};
+    ghost use Rattle.line_journal.specs.Journal.{takes_lines};
+
+    /// Returns whether the store may be asked for one more command: it is open, its disk may be used, and its file is
+    /// not too long.
+    pub fn takes_commands(&self) -> bool
+        ensures { result ≡ takes_lines D.is_usable self.now.journal }
+    {
+        self.journal.takes_lines()
+    }
 
     /// Adds a registration: a schema's text got this id under a subject. At `Ok` it is on the disk, and each crash
     /// from then on leaves a file that has it. At `Err` the store is as it was, or it is closed.
@@ -47,6 +57,9 @@ impl<D: Disk> CommandStore<D> {
             × ((left : List Stored) → Leaves D.may_leave D.is_clean self.new left
             → Leaves D.may_leave D.is_clean self.old left)
             × LeavesNoMore D.may_leave D.is_clean self.old self.new }
+        ensures stays { IfErr result (λ fault. (is_open self.new ≡ is_open self.old) ⊎ MayClose fault) }
+        ensures last { OnOk result (MayTakeBack self.new) }
+        ensures clean { D.is_clean (disk_of self.new) ≡ D.is_clean (disk_of self.old) }
         ensures why { IfErr result (HasCause D.is_usable D.is_mixing D.faults self.old self.new
             (Registered id subject.now text.now)) }
     {
@@ -74,6 +87,9 @@ impl<D: Disk> CommandStore<D> {
             × ((left : List Stored) → Leaves D.may_leave D.is_clean self.new left
             → Leaves D.may_leave D.is_clean self.old left)
             × LeavesNoMore D.may_leave D.is_clean self.old self.new }
+        ensures stays { IfErr result (λ fault. (is_open self.new ≡ is_open self.old) ⊎ MayClose fault) }
+        ensures last { OnOk result (MayTakeBack self.new) }
+        ensures clean { D.is_clean (disk_of self.new) ≡ D.is_clean (disk_of self.old) }
         ensures why { IfErr result (HasCause D.is_usable D.is_mixing D.faults self.old self.new
             (LevelSet (option_copied subject.entry) level.now)) }
     {
@@ -98,6 +114,9 @@ impl<D: Disk> CommandStore<D> {
             × ((left : List Stored) → Leaves D.may_leave D.is_clean self.new left
             → Leaves D.may_leave D.is_clean self.old left)
             × LeavesNoMore D.may_leave D.is_clean self.old self.new }
+        ensures stays { IfErr result (λ fault. (is_open self.new ≡ is_open self.old) ⊎ MayClose fault) }
+        ensures last { OnOk result (MayTakeBack self.new) }
+        ensures clean { D.is_clean (disk_of self.new) ≡ D.is_clean (disk_of self.old) }
         ensures why { IfErr result (λ fault. (command : Stored) → line.items ≡ line_of command
             → HasCause D.is_usable D.is_mixing D.faults self.old self.new command fault) }
     {
@@ -121,13 +140,17 @@ impl<D: Disk> CommandStore<D> {
             → Keeps D.seen D.may_leave D.is_clean self.old (commands ++ command ∷ [])
             → LeavesOneOf D.may_leave D.is_clean self.new commands command }
         ensures open { is_open self.new ≡ true → is_open self.old ≡ true }
+        ensures clean { D.is_clean (disk_of self.new) ≡ D.is_clean (disk_of self.old) }
+        // An open store whose last command may be taken back is closed only by a fault of its disk.
+        ensures why { is_open self.old ≡ true → IsTrue (D.is_usable (disk_of self.old)) → MayTakeBack self.old
+            → is_open self.new ≡ false → IsDisksFault D.is_mixing D.faults (disk_of self.old) (disk_of self.new) }
     {
         self.journal.take_back();
     }
 
     /// Gives the disk back, and takes no more commands.
     pub fn into_disk(self) -> D
-        ensures { result ≡ self.journal.disk }
+        ensures { result ≡ disk_of self }
     {
         self.journal.into_disk()
     }

@@ -13,3 +13,6 @@ returns-clause-crash g c = λ commands command keeps left leaves.
 pub returns-clause-files : goal.returns-clause-files
 returns-clause-files g c =
     files_front g.D.Disk.seen g.D.Disk.may_leave g.D.Disk.is_clean c.args.self.now (record { alloc = c.args.self.now.alloc; journal = c.take_back.new.self }) c.take_back.ensures.clean c.take_back.ensures.crash
+
+pub returns-clause-why : goal.returns-clause-why
+returns-clause-why g c = λ opened usable last closed. c.take_back.ensures.why opened usable last.0 last.1 last.2 closed
