@@ -112,7 +112,7 @@ module _ {D : Type 0} (seen : D → List ℕ) (may_leave : D → List ℕ → Ty
         subst (λ (lines : List Line). IsAtRest seen may_leave old.journal lines) (map_push line_of commands command) (keeps.at_rest (was_clean clean))
 
     -- the journal took its last line back
-    pub keeps_front : ((lines : List Line) (line : Line) → IsAtRest seen may_leave old.journal (lines ++ line ∷ []) → IsAtRest seen may_leave new.journal lines)
+    keeps_front : ((lines : List Line) (line : Line) → IsAtRest seen may_leave old.journal (lines ++ line ∷ []) → IsAtRest seen may_leave new.journal lines)
         → (commands : List Stored) (command : Stored) → Keeps seen may_leave is_clean old (commands ++ command ∷ []) → Keeps seen may_leave is_clean new commands
     keeps_front taken commands command keeps = record {
       may = (may_front commands command keeps.may).0;
@@ -127,3 +127,10 @@ module _ {D : Type 0} (seen : D → List ℕ) (may_leave : D → List ℕ → Ty
         (λ before. inl (record { may = (may_front commands command keeps.may).0; lines = before }))
         (λ after. inr (record { may = keeps.may; lines = after ∙ ap Ok (sym (map_push line_of commands command)) }))
         (crash (lines_for commands) (line_of command) (lines_with commands command keeps clean) file left)
+
+  -- a store whose journal took its last line back, from what the store kept
+  pub keeps_less : (old : CommandStore D) (commands : List Stored) (command : Stored) → Keeps seen may_leave is_clean old (commands ++ command ∷ [])
+      → (new : CommandStore D) → is_clean new.journal.disk ≡ is_clean old.journal.disk
+      → ((lines : List Line) (line : Line) → IsAtRest seen may_leave old.journal (lines ++ line ∷ []) → IsAtRest seen may_leave new.journal lines)
+      → Keeps seen may_leave is_clean new commands
+  keeps_less old commands command keeps new same taken = keeps_front old new same taken commands command keeps
