@@ -1,4 +1,4 @@
-//! Registry; used by the store of the registry.
+//! Registry; the disk that the program gives to `line_journal`.
 //!
 //! One file of the operating system that no other process has open, as a `Disk`, with a record of its calls.
 //!
@@ -30,5 +30,6 @@ pub use sqlite_disk::{Start, Unknown};
 /// A file that held what `S` says when it was opened.
 pub type FileFrom<S> = sqlite_disk::Modelled<Host, S>;
 
-/// A file that held what it held, for `main` to name.
+/// A file as one type without parameters, for the code of a program. Its start names an empty file: a theorem about a
+/// file that was there is one over any `S: Start` or any `D: Disk`.
 pub type JournalFile = FileFrom<Unknown>;

@@ -59,6 +59,7 @@ impl<D: Disk> Journal<D> {
         ensures stays { IfErr result (λ e. (self.new.is_open ≡ self.old.is_open) ⊎ MayClose e) }
         ensures line { OnOk result (IsNewLine line.items) }
         ensures last { OnOk result ((self.new.last ≡ Some self.old.gate) × (self.old.gate < self.new.gate)) }
+        ensures no_last { OnErr result (self.new.last ≡ None) }
         ensures why { IfErr result (HasCause D.is_usable D.is_mixing D.faults self.old self.new line.items) }
         ensures clean { D.is_clean self.new.disk ≡ D.is_clean self.old.disk }
     {
@@ -88,6 +89,7 @@ impl<D: Disk> Journal<D> {
         requires room { self.old.gate + 1 < 2 ^ 64 }
         ensures clean { D.is_clean self.new.disk ≡ D.is_clean self.old.disk }
         ensures faults { D.faults self.old.disk ≤ D.faults self.new.disk }
+        ensures last { self.new.last ≡ self.old.last }
         ensures mended { self.new.is_open ≡ true → (lines : List Line)
             → IsShut D.may_leave self.old lines
             → IsAtRest D.seen D.may_leave self.new lines }

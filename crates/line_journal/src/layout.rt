@@ -1,5 +1,7 @@
 //! The layout of the file: `+` before each line that counts, and `-` after the last one.
 
+ghost use Rattle.std.specs.Prelude.{◌≡◌, ◌^◌};
+
 /// The gate before a line that counts.
 pub const OPEN: u8 = b'+';
 
@@ -14,3 +16,12 @@ pub const LONGEST: usize = 1 << 20;
 
 /// The last byte at which a line may be added.
 pub(crate) const LAST_GATE: usize = 1 << 62;
+
+/// The law of what the bytes of the layout and its limits are.
+pub fn limits_are_these()
+    ensures open { OPEN ≡ 43 }
+    ensures closed { CLOSED ≡ 45 }
+    ensures newline { NEWLINE ≡ 10 }
+    ensures longest { LONGEST ≡ 1048576 }
+    ensures last_gate { LAST_GATE ≡ 2 ^ 62 }
+{}

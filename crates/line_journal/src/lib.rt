@@ -1,4 +1,4 @@
-//! Registry; used by the store of the registry.
+//! Registry; used by `registry_store`.
 //!
 //! A file of lines that outlives a crash. A line is on the disk before `append` answers `Ok`. After a crash the file
 //! reads as the lines that it had, with at most one more, of which nothing was answered.
@@ -18,5 +18,5 @@ mod writing;
 pub use crashing::Aftermath;
 pub use error::{AppendError, Damage, OpenError, ReadError};
 pub use journal::Journal;
-pub use layout::{CLOSED, LONGEST, NEWLINE, OPEN};
+pub use layout::{CLOSED, LONGEST, NEWLINE, OPEN, limits_are_these};
 pub use reading::{Found, read_lines};

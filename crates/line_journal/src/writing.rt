@@ -40,6 +40,7 @@ impl<D: Disk> Journal<D> {
         requires usable { IsTrue (D.is_usable self.old.disk) }
         requires room { self.old.gate + 1 < 2 ^ 64 }
         ensures open { self.new.is_open ≡ self.old.is_open }
+        ensures stays { OnErr result (self.new.last ≡ self.old.last) }
         ensures next { OnOk result ((self.new.gate ≡ next) × (self.new.last ≡ Some self.old.gate)) }
         ensures clean { D.is_clean self.new.disk ≡ D.is_clean self.old.disk }
         ensures why { OnErr result (IsDisksFault D.is_mixing D.faults self.old.disk self.new.disk) }
