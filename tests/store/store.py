@@ -300,13 +300,10 @@ def start_of(data, store):
 
 def changed_bytes():
     store, data = small_store()
-    tried = [(at, data[at] ^ (1 << bit)) for at in range(len(data)) for bit in range(8)]
-    if SHORT:
-        tried = random.sample(tried, 150)
-    for at, byte in tried:
+    for at, byte in [(at, data[at] ^ (1 << bit)) for at in range(len(data)) for bit in range(8)]:
         server = start_of(data[:at] + bytes([byte]) + data[at + 1 :], store)
         assert server.status == 3 and re.search(r"byte \d+, in line \d+|line \d+", server.refused), (at, byte, server.refused)
-    for length in random.sample(range(1, len(data)), 40 if SHORT else len(data) - 1):
+    for length in range(1, len(data)):
         server = start_of(data[:length], store)
         assert server.status == 3 and "byte %d, in line" % length in server.refused, (length, server.refused)
     # a torn end: the gate is closed, and what comes after it is not a line
@@ -370,7 +367,7 @@ def small_store_again(place):
 def syncs_before_the_answer():
     store = os.path.join(folder("traced"), "registry")
     trace = os.path.join(ROOT, "trace")
-    server = Server(store, before=["strace", "-f", "-o", trace, "-e", "trace=pwrite64,fdatasync,fsync,ftruncate,write,sendto,sendmsg"])
+    server = Server(store, before=["strace", "-D", "-f", "-o", trace, "-e", "trace=pwrite64,fdatasync,fsync,ftruncate,write,sendto,sendmsg"])
     if server.refused is not None:
         say("the syncs before the answer (left out: strace cannot trace here)")
         return
@@ -393,6 +390,45 @@ def syncs_before_the_answer():
     at = kinds.index("line")
     problem = None if kinds[at : at + 5] == ["line", "sync", "gate", "sync", "answer"] else kinds
     say("line, sync, gate, sync, and then the answer", problem)
+
+
+def failing_calls():
+    """Each call on the file fails in turn, and all of its kind from then on, by strace: what was answered is there after a
+    start without it, and at most one command more; reads go on."""
+    count = 0
+    for call in ("pwrite64", "fdatasync", "ftruncate"):
+        for when in range(1, 9):
+            for error, last in (("EIO", "+"), ("ENOSPC", ""), ("EIO", "")):
+                place = folder("fails-%s-%d-%d" % (call, when, count))
+                store = os.path.join(place, "registry")
+                inject = "inject=%s:error=%s:when=%d%s" % (call, error, when, last)
+                server = Server(store, before=["strace", "-D", "-f", "-o", "/dev/null", "-e", "trace=" + call, "-e", inject])
+                count += 1
+                answered, asked = [], 0
+                if server.refused is None:
+                    for number in range(3):
+                        status, answer = server.register("s%d" % number, enum(number))
+                        asked += 1
+                        assert status == 200 or (status, answer["error_code"]) == (503, 50304), (inject, status, answer)
+                        if status == 200:
+                            answered.append((answer["id"], compact(enum(number))))
+                    for number, schema in answered:
+                        assert server.schema(number) == schema, (inject, number)
+                    server.kill()
+                else:
+                    assert server.status == 3, (inject, server.status, server.refused)
+                if os.path.exists(store) and os.path.getsize(store) == 0:
+                    assert not answered, inject
+                    os.remove(store)
+                server = Server(store)
+                assert not server.refused, (inject, server.refused)
+                for number, schema in answered:
+                    assert server.schema(number) == schema, (inject, number)
+                more = sum(1 for number in range(1, 5) if server.schema(number) is not None) - len(answered)
+                assert 0 <= more <= 1, (inject, more)
+                server.kill()
+                shutil.rmtree(place)
+    say("each call on the file fails in turn: %d runs" % count)
 
 
 def exported_and_imported():
@@ -496,9 +532,10 @@ try:
     tried(two_processes, "a second process is refused")
     tried(refused_files)
     tried(changed_bytes, "each changed byte and each prefix is refused with its place, and a torn end is cut off")
-    tried(full_disk, "a file that may not grow: 50304, and what was answered before is kept")
+    tried(full_disk, "a file that may not grow: 50304, and what was answered before is kept, and goes on in its order")
     tried(full_device)
     tried(syncs_before_the_answer)
+    tried(failing_calls)
     tried(exported_and_imported, "export and import")
     tried(moved, "a registry is moved by tools/from_confluent.py")
     tried(long_start)
