@@ -90,7 +90,9 @@ each "$folder/pair" compile --image
 each "$folder/debug" debug
 { "$program" compile <"$folder/pair"; printf 'end\n02|3606|666f6f02|00\n0206666f6f\n0g\n'; } >"$folder/run"
 each "$folder/run" run
-if PYTHONDONTWRITEBYTECODE=1 python3 tests/allocations/serve.py "$program" "$folder/refuse.so" "$folder"; then count ok; else count bad 'avrogate serve: see above'; fi
+for store in '' store; do
+  if PYTHONDONTWRITEBYTECODE=1 python3 tests/allocations/serve.py "$program" "$folder/refuse.so" "$folder" $store; then count ok; else count bad "avrogate serve${store:+ --store}: see above"; fi
+done
 
 # ask_again CRATE TEST ..: tests that ask again for what was refused, in the test program of their crate
 ask_again() {

@@ -1,11 +1,14 @@
 """`avrogate serve` with each of its allocations refused in turn, one a run: it ends before it serves, with status 4; or each
 request is answered as it should be, or 50301, or closed where its connection or that answer finds no memory, and asked
 once more it is answered.
-Usage: serve.py PROGRAM REFUSE.so FOLDER   (with SHORT=1 in the environment at distances that grow)"""
-import json, os, socket, subprocess, sys
+With a store the service begins with a schema in its file, and after each run one starts again from the file, with no
+allocation refused, and finds what was answered.
+Usage: serve.py PROGRAM REFUSE.so FOLDER [store]   (with SHORT=1 in the environment at distances that grow)"""
+import hashlib, json, os, socket, subprocess, sys
 
-PROGRAM, LIBRARY, FOLDER = sys.argv[1:]
+PROGRAM, LIBRARY, FOLDER, *STORE = sys.argv[1:]
 PATIENCE = 300
+WANTS = (b'"error_code":50301', b'"error_code":50304') if STORE else (b'"error_code":50301',)  # the level of all is "not stored"
 WRITER = json.dumps({"type": "record", "name": "T", "fields": [{"name": "a", "type": "long"}, {"name": "b", "type": "string"}]})
 READER = json.dumps({"type": "record", "name": "T", "fields": [{"name": "b", "type": "string"}, {"name": "c", "type": "int", "default": 7}]})
 
@@ -26,9 +29,16 @@ def message(size):
     return b"\0\0\0\0\1" + number(1) + text(size), b"\0\0\0\0\2" + text(size) + number(7)
 
 
+def stored(body):
+    return b"+" + body + b" " + hashlib.sha256(body).hexdigest()[:16].encode() + b"\n"
+
+
 # a request, and the body of its answer
 def requests():
     yield "POST", "/subjects/t/versions", json.dumps({"schema": WRITER}).encode(), b'{"id":1}'
+    if STORE:
+        yield "PUT", "/config", b'{"compatibility":"FORWARD"}', b'{"compatibility":"FORWARD"}'
+        yield "PUT", "/config/t", b'{"compatibility":"NONE"}', b'{"compatibility":"NONE"}'
     yield "POST", "/subjects/t/versions", json.dumps({"schema": READER}).encode(), b'{"id":2}'
     yield "GET", "/subjects/t/versions", b"", b"[1,2]"
     for size in 3, 100_000, 1_000_000:
@@ -55,7 +65,7 @@ def served(port):
             got = exchange(port, method, path, body)
             if got == want:
                 break
-            if attempt == 1 or got is not None and b'"error_code":50301' not in got:
+            if attempt == 1 or got is not None and not any(code in got for code in WANTS):
                 return "%s %s: %.100r" % (method, path, got)
     return None
 
@@ -78,7 +88,10 @@ def run(at):
     if os.path.exists(mark):
         os.remove(mark)
     environment = {**os.environ, "REFUSE": str(at), "REFUSED": mark, "LD_PRELOAD": LIBRARY}
-    server = subprocess.Popen([PROGRAM, "serve", "--port", "0", "--clients", "1", "--workers", "1"], env=environment, stdout=subprocess.PIPE)
+    if STORE:
+        with open(FOLDER + "/registry", "wb") as file:
+            file.write(stored(b"register 1 t " + WRITER.encode()) + b"-")
+    server = subprocess.Popen(COMMAND, env=environment, stdout=subprocess.PIPE)
     try:
         told = server.stdout.readline().split()
         wrong = served_by(server, int(told[1])) if told[:1] == [b"listening"] else None
@@ -87,9 +100,27 @@ def run(at):
     finally:
         server.kill()
         server.wait()
-    return os.path.exists(mark), wrong
+    return os.path.exists(mark), wrong or (STORE and told[:1] == [b"listening"] and found_again())
 
 
+def found_again():
+    """What is wrong with what a start finds after all requests were answered, or None."""
+    server = subprocess.Popen(COMMAND, stdout=subprocess.PIPE)
+    try:
+        told = server.stdout.readline().split()
+        if told[:1] != [b"listening"]:
+            return "the store after it: %r" % told
+        for path, want in (("/subjects/t/versions", b"[1,2]"), ("/config", b'{"compatibilityLevel":"FORWARD"}'), ("/config/t", b'{"compatibilityLevel":"NONE"}')):
+            got = exchange(int(told[1]), "GET", path, b"")
+            if got != want:
+                return "the store after it: %s %r" % (path, got)
+    finally:
+        server.kill()
+        server.wait()
+    return None
+
+
+COMMAND = [PROGRAM, "serve", "--port", "0", "--clients", "1", "--workers", "1"] + (["--store", FOLDER + "/registry"] if STORE else [])
 at, runs, failed = 1, 0, []
 while True:
     was_refused, wrong = run(at)
@@ -101,5 +132,5 @@ while True:
     at += 1 + (at // 5 if os.environ.get("SHORT") else 0)
 for line in failed:
     print(line)
-print("avrogate serve: %d allocations refused in turn" % runs)
+print("avrogate serve%s: %d allocations refused in turn" % (" --store" if STORE else "", runs))
 sys.exit(1 if failed or runs == 0 else 0)
