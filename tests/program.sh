@@ -35,6 +35,24 @@ for subcommand in transcode compile run debug replay; do
     echo "the example of $subcommand's help"; failed=$((failed + 1))
   fi
 done
+# The two that make and read a store do so in a folder, one after the other.
+for subcommand in import export; do
+  "$program" "$subcommand" --help </dev/null >"$out" 2>"$err"; want "help of $subcommand" 0 some none
+  sed -n '/^Example:/,$s/^  //p' "$out" >"$folder/example"
+  if [ "$(cd "$folder" && eval "$(head -n 1 "$folder/example")")" = "$(tail -n +2 "$folder/example")" ] && [ "$(wc -l <"$folder/example")" -gt 1 ]; then
+    passed=$((passed + 1))
+  else
+    echo "the example of $subcommand's help"; failed=$((failed + 1))
+  fi
+done
+cmp -s "$folder/registry.store" "$folder/copy.store" || { echo "a store that was exported and imported differs"; failed=$((failed + 1)); }
+"$program" import </dev/null >"$out" 2>"$err"; want 'import without a file' 2 none some
+"$program" import --store "$folder/registry.store" </dev/null >"$out" 2>"$err"; want 'import into a file that is there' 3 some none
+"$program" export </dev/null >"$out" 2>"$err"; want 'export of no bytes' 3 some none
+printf -- '-' | "$program" export >"$out" 2>"$err"; want 'export of an empty store' 0 none none
+"$program" export <"$folder/registry.store" >/dev/full 2>"$err"; status=$?; : >"$out"; (exit $status); want 'export to a full device' 3 none none
+printf 'level * NOTHING\n' | "$program" import --store "$folder/a" >"$out" 2>"$err"; want 'import of a bad level' 3 some none
+"$program" serve --port 0 --store "$folder" </dev/null >"$out" 2>"$err"; want 'a folder as a store' 3 some none
 printf '%s03\n' "$schemas" | "$program" transcode >/dev/full 2>"$err"; status=$?; : >"$out"; (exit $status); want 'full device' 3 none none
 "$program" transcode <&- >"$out" 2>"$err"; want 'closed input' 3 none none
 printf '%s' "$schemas" | "$program" transcode >"$out" 2>"$err"; want 'no payload' 0 none none
