@@ -55,8 +55,30 @@ pub(crate) const SERVE: &str =
     "Answers HTTP: the routes of the schema registry, and POST /transcode/ID. There is neither TLS nor
 authorisation, so an address that others reach wants a proxy before it.
 Prints `listening P`, and `served N` at the end; or `cannot listen on ADDRESS: WHY`, and ends with 3.
+With --store what was answered to a registration or a change of a level is in the file, and is there after a
+restart; a file that is not taken is told by a line `cannot open the store FILE: WHY` or
+`the store FILE: WHY`, with 3, and is left as it is.
 With --log each answer is a line on standard error: METHOD PATH STATUS RECEIVED SENT MICROSECONDS.
 
 Example:
   avrogate serve --port 8081 &
   curl localhost:8081/subjects";
+
+/// The lines of `export`.
+pub(crate) const EXPORT: &str =
+    "Reads the file of a store. Writes a line of `replay` for each command that it holds, in their order:
+`register SUBJECT TEXT` or `level SUBJECT LEVEL`. A damaged file is told by a line, with 3.
+
+Example:
+  avrogate export < registry.store | avrogate import --store copy.store
+  imported 2";
+
+/// The lines of `import`.
+pub(crate) const IMPORT: &str =
+    "Reads lines of `replay`: `register SUBJECT TEXT` and `level SUBJECT LEVEL`; an empty line, and one
+that begins with `#`, says nothing. Makes a store of them in a new file, and writes `imported N`.
+A line that is not taken is told by its number, with 3.
+
+Example:
+  printf '%s\\n' 'register s \"int\"' 'level s FULL' | avrogate import --store registry.store
+  imported 2";

@@ -94,6 +94,15 @@ fn address<'a>(alloc: Global) -> Arg<'a> {
         .help("The address that it listens on")
 }
 
+/// Returns the word with the path of a store.
+fn store<'a>(alloc: Global, help: &'a str) -> Arg<'a> {
+    Arg::new(alloc, "store")
+        .long("store")
+        .value_name("FILE")
+        .action(ArgAction::Set)
+        .help(help)
+}
+
 /// Whether a service logs its answers.
 fn log<'a>(alloc: Global) -> Arg<'a> {
     Arg::new(alloc, "log")
@@ -111,6 +120,7 @@ fn serve<'a>(alloc: Global) -> Result<Command<'a>, AllocError> {
     let connections = "How many connections of each client may be open at once";
     let head = "How many seconds the head of a request may take to come";
     let request = "How many seconds a request may take to come, and its answer to go";
+    let kept = "Keeps the registry in this file, which is made where there is none";
     Command::new(alloc, "serve")
         .about("Serves the schema registry's API over HTTP, and rewrites messages")
         .after_help(help::SERVE)
@@ -129,7 +139,17 @@ fn serve<'a>(alloc: Global) -> Result<Command<'a>, AllocError> {
         ))?
         .arg(numbered(alloc, "head-timeout", 1, MOST_TIMEOUT, "5", head))?
         .arg(numbered(alloc, "request-timeout", 1, MOST_TIMEOUT, "10", request))?
+        .arg(store(alloc, kept))?
         .arg(log(alloc))
+}
+
+/// Returns the subcommand that makes a store, with its file.
+fn import<'a>(alloc: Global) -> Result<Command<'a>, AllocError> {
+    let file = store(alloc, "The file of the store, which is not to be there").required(true);
+    Command::new(alloc, "import")
+        .about("Makes a new store of the lines of `replay` on standard input")
+        .after_help(help::IMPORT)
+        .arg(file)
 }
 
 /// A subcommand without flags, what it does and what lines it reads and writes.
@@ -142,6 +162,7 @@ pub fn cli<'a>(alloc: Global) -> Result<Command<'a>, AllocError> {
     let transcode = "Transcodes payloads from a writer's schema to a reader's";
     let debug = "Obeys the commands of a debugger on a payload, between two schemas";
     let replay = "Replies to events of a registry and of sessions, one after another";
+    let export = "Prints the lines of `replay` that make the registry of a store again";
     Command::new(alloc, "avrogate")
         .about("Transcodes Avro data, and serves the schemas that it goes by")
         .version(VERSION)
@@ -151,7 +172,9 @@ pub fn cli<'a>(alloc: Global) -> Result<Command<'a>, AllocError> {
         .subcommand(run(alloc)?)?
         .subcommand(of_lines(alloc, "debug", debug, help::DEBUG))?
         .subcommand(of_lines(alloc, "replay", replay, help::REPLAY))?
-        .subcommand(serve(alloc)?)
+        .subcommand(serve(alloc)?)?
+        .subcommand(of_lines(alloc, "export", export, help::EXPORT))?
+        .subcommand(import(alloc)?)
 }
 
 /// Returns a number of the words that were read. `None` where it is not there.
@@ -161,8 +184,9 @@ fn number_of(words: &ArgMatches<'_>, name: &str) -> Option<u32> {
 }
 
 /// Returns what the words that were read ask of a service. `None` where the address is none.
-fn serve_words_of(words: &ArgMatches<'_>) -> Option<ServeWords> {
+fn serve_words_of<'w>(words: &ArgMatches<'w>) -> Option<ServeWords<'w>> {
     Some(ServeWords {
+        store: words.get_str("store"),
         address: words.get_one("address")?,
         port: u16::try_from(number_of(words, "port")?).ok()?,
         clients: number_of(words, "clients")?,
@@ -176,9 +200,11 @@ fn serve_words_of(words: &ArgMatches<'_>) -> Option<ServeWords> {
 }
 
 /// Returns what the words that were read ask for. `None` where the address of a service is none.
-pub fn task_of(matches: &ArgMatches<'_>) -> Option<Task> {
+pub fn task_of<'w>(matches: &ArgMatches<'w>) -> Option<Task<'w>> {
     match matches.subcommand() {
         Some(("serve", words)) => Some(Task::Serve(serve_words_of(words)?)),
+        Some(("export", _)) => Some(Task::Export),
+        Some(("import", words)) => Some(Task::Import(words.get_str("store")?)),
         _ => Some(Task::Lines(verb_of(matches)?)),
     }
 }

@@ -5,16 +5,22 @@ use std::net::IpAddr;
 
 /// What the words of the command line ask for.
 #[derive(Clone, Copy, Debug, PartialEq, Eq)]
-pub enum Task {
+pub enum Task<'w> {
     /// To answer the lines of standard input.
     Lines(Verb),
     /// To serve HTTP.
-    Serve(ServeWords),
+    Serve(ServeWords<'w>),
+    /// To print the lines of `replay` that make the registry of a store again, whose file is the standard input.
+    Export,
+    /// To make a store of the lines of `replay` on standard input, in a new file at this path.
+    Import(&'w str),
 }
 
 /// How a service is to run.
 #[derive(Clone, Copy, Debug, PartialEq, Eq)]
-pub struct ServeWords {
+pub struct ServeWords<'w> {
+    /// The path of the file that the registry is kept in. `None` where it ends with its process.
+    pub store: Option<&'w str>,
     /// The address that it listens on.
     pub address: IpAddr,
     /// The port, or 0 for any that is free.

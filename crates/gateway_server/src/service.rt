@@ -62,34 +62,18 @@ fn sets_of(
     Ok(sets)
 }
 
-/// Prints a line, and then serves over a new registry and a new pool: how many requests were answered.
-fn serve_after<R: Threads + Wait + Clock + Sync, W: Write>(
-    rt: &R,
+/// Appends to what a writer has a word and a number, in a line.
+fn write_number<W: Write>(
     alloc: Global,
-    sets: &mut Vec<Connections>,
-    options: &ServeOptions,
     writer: &mut W,
-    line: &str,
-) -> Result<u64, RunError>
-    requires { IsWithin options.now }
-{
-    let registry = SharedRegistry::new(alloc)?;
-    let cache = ProgramCache::new(alloc, &registry)?;
-    let clients = options.clients as usize;
-    let workers = clients + options.workers as usize;
-    let (pool, mut seats, mut helpers) = SessionPool::new(alloc, &cache, clients, workers)?;
-    let signals = Signals::new();
-    let shared = Shared {
-        alloc,
-        registry: &registry,
-        pool: &pool,
-        signals: &signals,
-    };
-    write_whole(writer, line.as_bytes())?;
-    Ok(run_threads(rt, &shared, &mut seats, &mut helpers, sets)?)
+    word: &str,
+    number: u64,
+) -> Result<(), RunError> {
+    let line = format!(in alloc; "{word} {number}\n")?;
+    write_whole(writer, line.as_bytes())
 }
 
-/// Serves on a listener, which is made non-blocking, over a new registry, until each client has accepted as many
+/// Serves a registry on a listener, which is made non-blocking, over a new pool, until each client has accepted as many
 /// connections as the options say, and all are closed. It prints `listening P`, with the port, before the first, and
 /// `served N`, the number of answers that were sent whole, after the last.
 ///
@@ -100,6 +84,7 @@ pub fn serve_on<R: Net + Threads + Wait + Clock + Sync, W: Write>(
     alloc: Global,
     listener: &TcpListener,
     options: &ServeOptions,
+    registry: &SharedRegistry,
     writer: &mut W,
 ) -> Result<(), RunError>
     requires { IsWithin options.now }
@@ -107,10 +92,19 @@ pub fn serve_on<R: Net + Threads + Wait + Clock + Sync, W: Write>(
     let Ok(address) = listener.local_addr() else {
         return Err(RunError::Read);
     };
-    let port = address.port();
-    let line = format!(in alloc; "listening {port}\n")?;
     let mut sets = sets_of(rt, alloc, listener, options)?;
-    let answered = serve_after(rt, alloc, &mut sets, options, writer, line.as_str())?;
-    let line = format!(in alloc; "served {answered}\n")?;
-    write_whole(writer, line.as_bytes())
+    let cache = ProgramCache::new(alloc, registry)?;
+    let clients = options.clients as usize;
+    let workers = clients + options.workers as usize;
+    let (pool, mut seats, mut helpers) = SessionPool::new(alloc, &cache, clients, workers)?;
+    let signals = Signals::new();
+    let shared = Shared {
+        alloc,
+        registry,
+        pool: &pool,
+        signals: &signals,
+    };
+    write_number(alloc, writer, "listening", u64::from(address.port()))?;
+    let answered = run_threads(rt, &shared, &mut seats, &mut helpers, &mut sets)?;
+    write_number(alloc, writer, "served", answered)
 }

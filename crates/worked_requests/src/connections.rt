@@ -3,6 +3,7 @@
 use crate::printing::push_answer;
 use crate::row::Row;
 use gateway_server::{RunError, ServeOptions, serve_on};
+use schema_registry::SharedRegistry;
 use std::alloc::Global;
 use std::io::{ErrorKind, Read, Write};
 use std::net::{Net, Shutdown, SocketAddr, TcpListener, TcpStream};
@@ -143,7 +144,8 @@ fn printed<R: Net + Threads + Wait + Clock + Sync>(
         is_logged: false,
     };
     let mut lines = Vec::new(alloc);
-    serve_on(rt, alloc, listener, &options, &mut lines)?;
+    let registry = SharedRegistry::new(alloc)?;
+    serve_on(rt, alloc, listener, &options, &registry, &mut lines)?;
     Ok(lines)
 }
 
