@@ -1,0 +1,19 @@
+//! Edge: lines and commands; used by `avrogate`.
+//!
+//! The registry of a file: it is opened for a service, its commands are printed as lines of `replay`, and it is made of
+//! such lines.
+#![tactic(auto)]
+
+mod exporting;
+mod importing;
+mod importing_lines;
+mod opening;
+mod progress;
+mod refusal;
+
+pub use exporting::{ExportFault, export};
+pub use importing::{ImportFault, import};
+pub use importing_lines::{LineTrouble, UntakenLine, import_lines};
+pub use opening::open_registry;
+pub use progress::TimedProgress;
+pub use refusal::{FileTrouble, StoreRefusal};

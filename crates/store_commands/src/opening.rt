@@ -1,0 +1,57 @@
+//! The registry of a file, for a service.
+
+use crate::progress::TimedProgress;
+use crate::refusal::{StoreRefusal, failed_refusal, file_refusal, start_refusal};
+use journal_file::{FileError, JournalFile, Unknown, make, open};
+use registry_store::CommandStore;
+use schema_registry::{KeptRegistry, SharedRegistry};
+use std::alloc::Global;
+
+/// A registry whose commands are kept in a file.
+pub(crate) type FileRegistry = KeptRegistry<CommandStore<JournalFile>>;
+
+/// Starts from a file that was opened.
+fn started<'p>(
+    rt: &HostRuntime,
+    alloc: Global,
+    path: &'p str,
+    file: JournalFile,
+) -> Result<FileRegistry, StoreRefusal<'p>> {
+    let mut progress = TimedProgress::new(rt);
+    match KeptRegistry::open(alloc, file, &mut progress) {
+        Ok(kept) => Ok(kept),
+        Err((fault, _file)) => Err(start_refusal(path, fault)),
+    }
+}
+
+/// Makes a file at a path where there is nothing, with an empty registry.
+pub(crate) fn made<'p>(
+    rt: &HostRuntime,
+    alloc: Global,
+    path: &'p str,
+) -> Result<FileRegistry, StoreRefusal<'p>> {
+    let file: JournalFile = match make(rt, path, Unknown) {
+        Ok(file) => file,
+        Err(error) => return Err(file_refusal(path, error)),
+    };
+    match KeptRegistry::create(alloc, file) {
+        Ok(kept) => Ok(kept),
+        Err((error, _file)) => Err(failed_refusal(path, error)),
+    }
+}
+
+/// Opens the file of a store for this process alone, and returns its registry, in which each command that is answered
+/// is kept. Where there is no file it makes one, of an empty registry. The refusal says why not; a file that was there
+/// is then as it was.
+pub fn open_registry<'p>(
+    rt: &HostRuntime,
+    alloc: Global,
+    path: &'p str,
+) -> Result<SharedRegistry, StoreRefusal<'p>> {
+    let kept = match open(rt, path, Unknown) {
+        Ok(file) => started(rt, alloc, path, file)?,
+        Err(FileError::Missing) => made(rt, alloc, path)?,
+        Err(error) => return Err(file_refusal(path, error)),
+    };
+    Ok(SharedRegistry::over(alloc, kept.into_optional())?)
+}

@@ -1,0 +1,90 @@
+//! Why a store is not opened or not made.
+
+use journal_file::FileError;
+use registry_store::OpenFault;
+use schema_registry::{Refusal, ReplayFault, StartFault};
+use std::alloc::AllocError;
+use std::io;
+use thiserror::Error;
+
+/// Why the file of a store is not opened or not made.
+#[derive(Clone, Copy, Debug, Error)]
+pub enum FileTrouble {
+    #[error("there is no such file")]
+    Missing,
+    #[error("it is there already")]
+    Exists,
+    #[error("it is a link, a folder or a device")]
+    NotAFile,
+    #[error("it has a second name")]
+    TwoNames,
+    #[error("it is empty")]
+    Empty,
+    #[error("another process has it open")]
+    Busy,
+    #[error("{0}")]
+    Failed(io::Error),
+}
+
+/// Why a store is not opened or not made. It names the path of its file.
+#[derive(Clone, Copy, Debug, Error)]
+pub enum StoreRefusal<'p> {
+    #[error("out of memory")]
+    NoMemory,
+    /// The file is not opened or not made.
+    #[error("cannot open the store {path}: {trouble}")]
+    File {
+        path: &'p str,
+        trouble: FileTrouble,
+    },
+    /// What the file holds is no registry, or was not read.
+    #[error("the store {path}: {fault}")]
+    Contents { path: &'p str, fault: StartFault },
+}
+
+impl<'p> From<AllocError> for StoreRefusal<'p> {
+    fn from(_error: AllocError) -> StoreRefusal<'p> {
+        StoreRefusal::NoMemory
+    }
+}
+
+/// Returns why a file that the system refused is not opened or not made.
+fn trouble_of(error: FileError) -> FileTrouble {
+    match error {
+        FileError::Missing => FileTrouble::Missing,
+        FileError::Exists => FileTrouble::Exists,
+        FileError::NotAFile => FileTrouble::NotAFile,
+        FileError::TwoNames => FileTrouble::TwoNames,
+        FileError::Empty => FileTrouble::Empty,
+        FileError::Busy => FileTrouble::Busy,
+        FileError::Io(error) => FileTrouble::Failed(error),
+    }
+}
+
+/// Returns the refusal of a store whose file is not opened or not made.
+pub(crate) fn file_refusal(path: &str, error: FileError) -> StoreRefusal<'_> {
+    match trouble_of(error) {
+        FileTrouble::Failed(error) => failed_refusal(path, error),
+        trouble => StoreRefusal::File { path, trouble },
+    }
+}
+
+/// Returns the refusal of a store at whose file a call failed.
+pub(crate) fn failed_refusal(path: &str, error: io::Error) -> StoreRefusal<'_> {
+    if error.kind() == io::ErrorKind::OutOfMemory {
+        return StoreRefusal::NoMemory;
+    }
+    let trouble = FileTrouble::Failed(error);
+    StoreRefusal::File { path, trouble }
+}
+
+/// Returns the refusal of a store whose file was opened, and from which no registry starts.
+pub(crate) fn start_refusal(path: &str, fault: StartFault) -> StoreRefusal<'_> {
+    match fault {
+        StartFault::File(OpenFault::NoMemory) => StoreRefusal::NoMemory,
+        StartFault::Line(line) if line.fault == ReplayFault::Refused(Refusal::NoMemory) => {
+            StoreRefusal::NoMemory
+        }
+        fault => StoreRefusal::Contents { path, fault },
+    }
+}
