@@ -55,9 +55,8 @@ pub(crate) const SERVE: &str =
     "Answers HTTP: the routes of the schema registry, and POST /transcode/ID. There is neither TLS nor
 authorisation, so an address that others reach wants a proxy before it.
 Prints `listening P`, and `served N` at the end; or `cannot listen on ADDRESS: WHY`, and ends with 3.
-With --store what was answered to a registration or a change of a level is in the file, and is there after a
-restart; a file that is not taken is told by a line `cannot open the store FILE: WHY` or
-`the store FILE: WHY`, with 3, and is left as it is.
+With --store each schema and each level that was answered is in the file, and is there after a restart.
+A file that cannot be opened, or is no store, is told by a line with its name, and ends it with 3.
 With --log each answer is a line on standard error: METHOD PATH STATUS RECEIVED SENT MICROSECONDS.
 
 Example:

@@ -7,6 +7,7 @@
 mod exporting;
 mod importing;
 mod importing_lines;
+mod listing;
 mod opening;
 mod progress;
 mod refusal;

@@ -1,7 +1,7 @@
 //! The registry of a file, for a service.
 
 use crate::progress::TimedProgress;
-use crate::refusal::{StoreRefusal, failed_refusal, file_refusal, start_refusal};
+use crate::refusal::{StoreRefusal, make_refusal, open_refusal, start_refusal};
 use journal_file::{FileError, JournalFile, Unknown, make, open};
 use registry_store::CommandStore;
 use schema_registry::{KeptRegistry, SharedRegistry};
@@ -32,17 +32,17 @@ pub(crate) fn made<'p>(
 ) -> Result<FileRegistry, StoreRefusal<'p>> {
     let file: JournalFile = match make(rt, path, Unknown) {
         Ok(file) => file,
-        Err(error) => return Err(file_refusal(path, error)),
+        Err(error) => return Err(make_refusal(path, error)),
     };
     match KeptRegistry::create(alloc, file) {
         Ok(kept) => Ok(kept),
-        Err((error, _file)) => Err(failed_refusal(path, error)),
+        Err((error, _file)) => Err(make_refusal(path, FileError::Io(error))),
     }
 }
 
 /// Opens the file of a store for this process alone, and returns its registry, in which each command that is answered
 /// is kept. Where there is no file it makes one, of an empty registry. The refusal says why not; a file that was there
-/// is then as it was.
+/// has then the lines that it had.
 pub fn open_registry<'p>(
     rt: &HostRuntime,
     alloc: Global,
@@ -51,7 +51,7 @@ pub fn open_registry<'p>(
     let kept = match open(rt, path, Unknown) {
         Ok(file) => started(rt, alloc, path, file)?,
         Err(FileError::Missing) => made(rt, alloc, path)?,
-        Err(error) => return Err(file_refusal(path, error)),
+        Err(error) => return Err(open_refusal(path, error)),
     };
     Ok(SharedRegistry::over(alloc, kept.into_optional())?)
 }

@@ -5,6 +5,7 @@ use registry_store::OpenFault;
 use schema_registry::{Refusal, ReplayFault, StartFault};
 use std::alloc::AllocError;
 use std::io;
+use std::io::ErrorKind;
 use thiserror::Error;
 
 /// Why the file of a store is not opened or not made.
@@ -31,9 +32,15 @@ pub enum FileTrouble {
 pub enum StoreRefusal<'p> {
     #[error("out of memory")]
     NoMemory,
-    /// The file is not opened or not made.
+    /// The file that is there is not opened.
     #[error("cannot open the store {path}: {trouble}")]
-    File {
+    Open {
+        path: &'p str,
+        trouble: FileTrouble,
+    },
+    /// No file is made.
+    #[error("cannot make the store {path}: {trouble}")]
+    Make {
         path: &'p str,
         trouble: FileTrouble,
     },
@@ -61,21 +68,24 @@ fn trouble_of(error: FileError) -> FileTrouble {
     }
 }
 
-/// Returns the refusal of a store whose file is not opened or not made.
-pub(crate) fn file_refusal(path: &str, error: FileError) -> StoreRefusal<'_> {
+/// Returns the refusal of a store whose file is not opened.
+pub(crate) fn open_refusal(path: &str, error: FileError) -> StoreRefusal<'_> {
     match trouble_of(error) {
-        FileTrouble::Failed(error) => failed_refusal(path, error),
-        trouble => StoreRefusal::File { path, trouble },
+        FileTrouble::Failed(error) if error.kind() == ErrorKind::OutOfMemory => {
+            StoreRefusal::NoMemory
+        }
+        trouble => StoreRefusal::Open { path, trouble },
     }
 }
 
-/// Returns the refusal of a store at whose file a call failed.
-pub(crate) fn failed_refusal(path: &str, error: io::Error) -> StoreRefusal<'_> {
-    if error.kind() == io::ErrorKind::OutOfMemory {
-        return StoreRefusal::NoMemory;
+/// Returns the refusal of a store whose file is not made.
+pub(crate) fn make_refusal(path: &str, error: FileError) -> StoreRefusal<'_> {
+    match trouble_of(error) {
+        FileTrouble::Failed(error) if error.kind() == ErrorKind::OutOfMemory => {
+            StoreRefusal::NoMemory
+        }
+        trouble => StoreRefusal::Make { path, trouble },
     }
-    let trouble = FileTrouble::Failed(error);
-    StoreRefusal::File { path, trouble }
 }
 
 /// Returns the refusal of a store whose file was opened, and from which no registry starts.
