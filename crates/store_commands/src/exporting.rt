@@ -1,5 +1,15 @@
 //! The commands of a store's file, printed as lines of `replay`.
 
+ghost use Rattle.std.specs.Prelude.{◌≡◌, List, ℕ, Err, IfErr, IfOk, IfSome, OnErr, OnOk};
+ghost use Rattle.std.specs.Io.KnownBytes.{Appends};
+ghost use Rattle.std.specs.List.{AllByRecursion};
+ghost use Rattle.command_io.specs.Traffic.{Begins};
+ghost use Rattle.line_journal.specs.Lines.{lines_in, lines_of};
+ghost use Rattle.registry_store.specs.Cause.{HasReadCause, bad_line};
+ghost use Rattle.registry_store.specs.Store.{commands_of, lines_for};
+ghost use Rattle.registry_store.specs.Stored.{MayBeStored};
+ghost use Rattle.store_commands.specs.Listing.{AreItsLines};
+
 use crate::listing::{ListingFault, listing_of};
 use command_io::{RunError, read_all, write_whole};
 use line_journal::{ReadError, read_lines};
@@ -56,7 +66,9 @@ impl From<ListingFault> for ExportFault {
 }
 
 /// Returns what is said of a store whose line of this number, from 1, was not read.
-fn bad_line(number: usize, fault: LineFault) -> OpenFault {
+fn bad_line(number: usize, fault: LineFault) -> OpenFault
+    ensures { result ≡ bad_line number fault }
+{
     match fault {
         LineFault::NoMemory => OpenFault::NoMemory,
         LineFault::BadCheck | LineFault::BadLine => OpenFault::BadLine { number, fault },
@@ -64,7 +76,11 @@ fn bad_line(number: usize, fault: LineFault) -> OpenFault {
 }
 
 /// Reads the lines of a store as commands, in their order.
-fn read_commands(alloc: Global, lines: &[Vec<u8>]) -> Result<Vec<StoredCommand>, OpenFault> {
+fn read_commands(alloc: Global, lines: &[Vec<u8>]) -> Result<Vec<StoredCommand>, OpenFault>
+    ensures value { IfOk result (λ commands. lines_of lines.now ≡ lines_for (commands_of commands.items)) }
+    ensures may { IfOk result (λ commands. AllByRecursion MayBeStored (commands_of commands.items)) }
+    ensures why { IfErr result (HasReadCause (lines_of lines.now)) }
+{
     let mut commands = Vec::new(alloc);
     for (at, line) in lines.iter().enumerate() {
         match parse(alloc, line) {
@@ -77,7 +93,9 @@ fn read_commands(alloc: Global, lines: &[Vec<u8>]) -> Result<Vec<StoredCommand>,
 
 /// Returns the lines of `replay` of the commands in the bytes of a store's file, in their order. What is after its
 /// closed gate is not read.
-fn exported(alloc: Global, file: &[u8]) -> Result<Vec<u8>, ExportFault> {
+fn exported(alloc: Global, file: &[u8]) -> Result<Vec<u8>, ExportFault>
+    ensures { IfOk result (λ output. AreItsLines file.now output.items) }
+{
     let found = read_lines(alloc, file)?;
     let commands = read_commands(alloc, &found.lines)?;
     Ok(listing_of(alloc, &commands)?)
@@ -89,7 +107,10 @@ pub fn export<R: Read, W: Write>(
     alloc: Global,
     reader: &mut R,
     writer: &mut W,
-) -> Result<(), ExportFault> {
+) -> Result<(), ExportFault>
+    ensures output { OnOk result (IfSome (R.remaining reader.old) (λ file. (output : List ℕ)
+        × AreItsLines file output × Appends (W.contents writer.old) (W.contents writer.new) output)) }
+{
     let file = read_all(alloc, reader)?;
     let output = exported(alloc, &file)?;
     Ok(write_whole(writer, &output)?)

@@ -1,12 +1,20 @@
 //! Commands of a store as lines of `replay`.
 
+ghost use Rattle.std.specs.Prelude.{◌≡◌, ◌++◌, ◌∷◌, [], map, IfOk, OnOk};
+ghost use Rattle.std.specs.Option.{option_copied};
+ghost use Rattle.registry_store.specs.Store.{commands_of};
+ghost use Rattle.registry_store.specs.Stored.{LevelSet, Registered, stored_of};
+ghost use Rattle.store_commands.specs.Listing.{one_line_byte, replay_line, replay_lines};
+
 use registry_store::StoredCommand;
 use schema_registry::{Level, is_subject};
 use std::alloc::{AllocError, Global};
 
 /// Returns the byte that is written for a byte of a schema's text: a space for the end of a line, for which JSON has no
 /// other use than a space.
-fn one_line_byte(byte: u8) -> u8 {
+fn one_line_byte(byte: u8) -> u8
+    ensures { result ≡ one_line_byte byte }
+{
     match byte {
         b'\n' | b'\r' => b' ',
         other => other,
@@ -14,7 +22,9 @@ fn one_line_byte(byte: u8) -> u8 {
 }
 
 /// Appends a schema's text in one line.
-fn push_text(output: &mut Vec<u8>, text: &[u8]) -> Result<(), AllocError> {
+fn push_text(output: &mut Vec<u8>, text: &[u8]) -> Result<(), AllocError>
+    ensures { OnOk result (output.new.items ≡ output.old.items ++ map one_line_byte text.now) }
+{
     for byte in text {
         output.push(one_line_byte(*byte))?;
     }
@@ -22,7 +32,9 @@ fn push_text(output: &mut Vec<u8>, text: &[u8]) -> Result<(), AllocError> {
 }
 
 /// Appends the line of `replay` of a registration, with its newline.
-fn push_registration(output: &mut Vec<u8>, subject: &str, text: &str) -> Result<(), AllocError> {
+fn push_registration(output: &mut Vec<u8>, subject: &str, text: &str) -> Result<(), AllocError>
+    ensures { OnOk result (output.new.items ≡ output.old.items ++ replay_line (Registered 0 subject.now text.now)) }
+{
     output.extend_from_slice(b"register ")?;
     output.extend_from_slice(subject.as_bytes())?;
     output.push(b' ')?;
@@ -36,7 +48,10 @@ fn push_level(
     output: &mut Vec<u8>,
     subject: Option<&str>,
     level: &str,
-) -> Result<(), AllocError> {
+) -> Result<(), AllocError>
+    ensures { OnOk result (output.new.items
+        ≡ output.old.items ++ replay_line (LevelSet (option_copied subject.entry) level.now)) }
+{
     output.extend_from_slice(b"level ")?;
     output.extend_from_slice(subject.unwrap_or("*").as_bytes())?;
     output.push(b' ')?;
@@ -56,7 +71,9 @@ fn is_accepted(command: &StoredCommand) -> bool {
 }
 
 /// Appends the line of `replay` of a command, with its newline.
-fn push_command(output: &mut Vec<u8>, command: &StoredCommand) -> Result<(), AllocError> {
+fn push_command(output: &mut Vec<u8>, command: &StoredCommand) -> Result<(), AllocError>
+    ensures { OnOk result (output.new.items ≡ output.old.items ++ replay_line (stored_of command.now)) }
+{
     match command {
         StoredCommand::Registration { subject, text, .. } => {
             push_registration(output, subject, text)
@@ -83,7 +100,9 @@ impl From<AllocError> for ListingFault {
 pub(crate) fn listing_of(
     alloc: Global,
     commands: &[StoredCommand],
-) -> Result<Vec<u8>, ListingFault> {
+) -> Result<Vec<u8>, ListingFault>
+    ensures { IfOk result (λ output. output.items ≡ replay_lines (commands_of commands.now)) }
+{
     let mut output = Vec::new(alloc);
     for (at, command) in commands.iter().enumerate() {
         if !is_accepted(command) {
