@@ -1,13 +1,13 @@
 //! The commands of a store's file, printed as lines of `replay`.
 
-ghost use Rattle.std.specs.Prelude.{◌≡◌, List, ℕ, Err, IfErr, IfOk, IfSome, OnErr, OnOk};
+ghost use Rattle.std.specs.Prelude.{◌≡◌, ℕ, List, IfErr, IfOk, IfSome, OnOk};
 ghost use Rattle.std.specs.Io.KnownBytes.{Appends};
 ghost use Rattle.std.specs.List.{AllByRecursion};
-ghost use Rattle.command_io.specs.Traffic.{Begins};
 ghost use Rattle.line_journal.specs.Lines.{lines_in, lines_of};
 ghost use Rattle.registry_store.specs.Cause.{HasReadCause, bad_line};
 ghost use Rattle.registry_store.specs.Store.{commands_of, lines_for};
 ghost use Rattle.registry_store.specs.Stored.{MayBeStored};
+ghost use Rattle.store_commands.specs.Cause.{HasExportCause, IsOfStore};
 ghost use Rattle.store_commands.specs.Listing.{AreItsLines};
 
 use crate::listing::{ListingFault, listing_of};
@@ -33,12 +33,21 @@ pub enum ExportFault {
 }
 
 impl From<RunError> for ExportFault {
+    ghost use Rattle.std.specs.Prelude.{◌≡◌};
+    ghost use Rattle.store_commands.specs.declared.exporting.ExportFault.TheVariants.{Traffic};
+
+    ghost from_gives = { λ error fault. fault ≡ Traffic error };
+
     fn from(error: RunError) -> ExportFault {
         ExportFault::Traffic(error)
     }
 }
 
 impl From<ReadError> for ExportFault {
+    ghost use Rattle.store_commands.specs.Cause.{IsOfRead};
+
+    ghost from_gives = { IsOfRead };
+
     fn from(error: ReadError) -> ExportFault {
         match error {
             ReadError::NoMemory => ExportFault::Traffic(RunError::NoMemory),
@@ -48,6 +57,10 @@ impl From<ReadError> for ExportFault {
 }
 
 impl From<OpenFault> for ExportFault {
+    ghost use Rattle.store_commands.specs.Cause.{IsOfOpen};
+
+    ghost from_gives = { IsOfOpen };
+
     fn from(fault: OpenFault) -> ExportFault {
         match fault {
             OpenFault::NoMemory => ExportFault::Traffic(RunError::NoMemory),
@@ -57,6 +70,10 @@ impl From<OpenFault> for ExportFault {
 }
 
 impl From<ListingFault> for ExportFault {
+    ghost use Rattle.store_commands.specs.Cause.{IsOfListing};
+
+    ghost from_gives = { IsOfListing };
+
     fn from(fault: ListingFault) -> ExportFault {
         match fault {
             ListingFault::NoMemory => ExportFault::Traffic(RunError::NoMemory),
@@ -94,7 +111,8 @@ fn read_commands(alloc: Global, lines: &[Vec<u8>]) -> Result<Vec<StoredCommand>,
 /// Returns the lines of `replay` of the commands in the bytes of a store's file, in their order. What is after its
 /// closed gate is not read.
 fn exported(alloc: Global, file: &[u8]) -> Result<Vec<u8>, ExportFault>
-    ensures { IfOk result (λ output. AreItsLines file.now output.items) }
+    ensures lines { IfOk result (λ output. AreItsLines file.now output.items) }
+    ensures why { IfErr result (HasExportCause file.now) }
 {
     let found = read_lines(alloc, file)?;
     let commands = read_commands(alloc, &found.lines)?;
@@ -110,6 +128,8 @@ pub fn export<R: Read, W: Write>(
 ) -> Result<(), ExportFault>
     ensures output { OnOk result (IfSome (R.remaining reader.old) (λ file. (output : List ℕ)
         × AreItsLines file output × Appends (W.contents writer.old) (W.contents writer.new) output)) }
+    ensures why { IfErr result (λ fault. IfSome (R.remaining reader.old) (λ file. HasExportCause file fault)) }
+    ensures unwritten { IfErr result (λ fault. IsOfStore fault → W.contents writer.new ≡ W.contents writer.old) }
 {
     let file = read_all(alloc, reader)?;
     let output = exported(alloc, &file)?;

@@ -1,10 +1,12 @@
 //! Commands of a store as lines of `replay`.
 
-ghost use Rattle.std.specs.Prelude.{◌≡◌, ◌++◌, ◌∷◌, [], map, IfOk, OnOk};
+ghost use Rattle.std.specs.Prelude.{◌≡◌, ◌↔◌, ◌++◌, map, IfErr, IfOk, IsTrue, OnOk};
+ghost use Rattle.std.specs.List.{AllByRecursion};
 ghost use Rattle.std.specs.Option.{option_copied};
 ghost use Rattle.registry_store.specs.Store.{commands_of};
 ghost use Rattle.registry_store.specs.Stored.{LevelSet, Registered, stored_of};
-ghost use Rattle.store_commands.specs.Listing.{one_line_byte, replay_line, replay_lines};
+ghost use Rattle.store_commands.specs.Cause.{HasListingCause};
+ghost use Rattle.store_commands.specs.Listing.{HasNames, one_line_byte, replay_line, replay_lines};
 
 use registry_store::StoredCommand;
 use schema_registry::{Level, is_subject};
@@ -61,7 +63,9 @@ fn push_level(
 }
 
 /// Returns whether a registry may have accepted a command: its subject and its level have such names.
-fn is_accepted(command: &StoredCommand) -> bool {
+fn is_accepted(command: &StoredCommand) -> bool
+    ensures { IsTrue result ↔ HasNames (stored_of command.now) }
+{
     match command {
         StoredCommand::Registration { subject, .. } => is_subject(subject),
         StoredCommand::Level { subject, level } => {
@@ -91,6 +95,10 @@ pub(crate) enum ListingFault {
 }
 
 impl From<AllocError> for ListingFault {
+    ghost use Rattle.store_commands.specs.declared.listing.ListingFault.TheVariants.{NoMemory};
+
+    ghost from_gives = { λ _ fault. fault ≡ NoMemory };
+
     fn from(_error: AllocError) -> ListingFault {
         ListingFault::NoMemory
     }
@@ -101,7 +109,9 @@ pub(crate) fn listing_of(
     alloc: Global,
     commands: &[StoredCommand],
 ) -> Result<Vec<u8>, ListingFault>
-    ensures { IfOk result (λ output. output.items ≡ replay_lines (commands_of commands.now)) }
+    ensures lines { IfOk result (λ output. output.items ≡ replay_lines (commands_of commands.now)) }
+    ensures named { IfOk result (λ output. AllByRecursion HasNames (commands_of commands.now)) }
+    ensures why { IfErr result (HasListingCause (commands_of commands.now)) }
 {
     let mut output = Vec::new(alloc);
     for (at, command) in commands.iter().enumerate() {
