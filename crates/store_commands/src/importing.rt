@@ -2,7 +2,7 @@
 
 use crate::importing_lines::{LineTrouble, UntakenLine, import_lines};
 use crate::opening::made;
-use crate::refusal::StoreRefusal;
+use crate::refusal::{StoreRefusal, make_refusal};
 use command_io::{RunError, read_all, write_whole};
 use schema_registry::Refusal;
 use std::alloc::{AllocError, Global};
@@ -63,7 +63,10 @@ pub fn import<'p, R: Read, W: Write>(
     writer: &mut W,
 ) -> Result<(), ImportFault<'p>> {
     let input = read_all(alloc, reader)?;
-    let mut kept = made(rt, alloc, path)?;
+    let mut kept = match made(rt, alloc, path) {
+        Ok(kept) => kept,
+        Err(error) => return Err(make_refusal(path, error).into()),
+    };
     match import_lines(alloc, &mut kept, &input) {
         Ok(count) => {
             let line = format!(in alloc; "imported {count}\n")?;

@@ -1,8 +1,14 @@
 //! Lines of `replay` that make a registry.
 
+ghost use Rattle.std.specs.Prelude.{◌≡◌, ◌++◌, ◌∷◌, [], IfErr, IfOk, List, OnErr, OnOk, Some, length};
+ghost use Rattle.command_io.specs.Lines.{lines};
+ghost use Rattle.command_parser.specs.Reading.{replay_line};
+ghost use Rattle.schema_registry.specs.Command.{Command as Asked, command_of};
+ghost use Rattle.store_commands.specs.Import.{AreBefore, Say, command_in, is_silent, said_in};
+
 use command_io::split_line;
 use command_parser::{Request, read_replay_line};
-use schema_registry::{Command, KeptRegistry, Keeper, Refusal};
+use schema_registry::{Command, Keeper, KeptRegistry, Refusal};
 use session_core::Event;
 use std::alloc::{AllocError, Global};
 use thiserror::Error;
@@ -41,7 +47,9 @@ pub struct UntakenLine {
 
 /// Returns the command that a line of `replay` says. `BadLine` where it says none that changes a registry, `Refused`
 /// where the level has no name, or memory ran out.
-fn command_in(alloc: Global, line: &[u8]) -> Result<Command, LineTrouble> {
+fn command_in(alloc: Global, line: &[u8]) -> Result<Command, LineTrouble>
+    ensures { IfOk result (λ command. command_in (replay_line line.now) ≡ Some (command_of command)) }
+{
     match read_replay_line(alloc, line)? {
         Some(Request::Event(Event::Register { subject, text })) => {
             Ok(Command::Register { subject, text })
@@ -55,24 +63,31 @@ fn command_in(alloc: Global, line: &[u8]) -> Result<Command, LineTrouble> {
 }
 
 /// Returns whether a line says nothing: it is empty, or begins with `#`.
-fn is_silent(line: &[u8]) -> bool {
+fn is_silent(line: &[u8]) -> bool
+    ensures { result ≡ is_silent line.now }
+{
     match line.first() {
         Some(byte) => *byte == b'#',
         None => true,
     }
 }
 
-/// Does what a line says, and returns whether it says a command.
+/// Does what a line says, and returns how many commands it says: none or one.
 fn import_line<K: Keeper>(
     alloc: Global,
     kept: &mut KeptRegistry<K>,
     line: &[u8],
-) -> Result<bool, LineTrouble> {
+) -> Result<usize, LineTrouble>
+    ensures done { IfOk result (λ count. (said : List Asked) × (said_in line.now ≡ Some said) × (count ≡ length said)
+        × (kept.new.registry ≡ kept.old.registry ++ said)) }
+    ensures few { IfOk result (λ count. count ≤ 1) }
+    ensures err { OnErr result (kept.new.registry ≡ kept.old.registry) }
+{
     if is_silent(line) {
-        return Ok(false);
+        return Ok(0);
     }
     kept.apply(command_in(alloc, line)?)?;
-    Ok(true)
+    Ok(1)
 }
 
 /// Does what lines say, one after another, and returns how many commands they say. The error is the first line that is
@@ -81,15 +96,19 @@ pub fn import_lines<K: Keeper>(
     alloc: Global,
     kept: &mut KeptRegistry<K>,
     input: &[u8],
-) -> Result<usize, UntakenLine> {
+) -> Result<usize, UntakenLine>
+    ensures done { IfOk result (λ count. (said : List Asked) × Say (lines input.now) said × (count ≡ length said)
+        × (kept.new.registry ≡ kept.old.registry ++ said)) }
+    ensures err { IfErr result (λ line. (said : List Asked) × AreBefore (lines input.now) line.number said
+        × (kept.new.registry ≡ kept.old.registry ++ said)) }
+{
     let mut rest = input;
     let mut number = 0;
     let mut count = 0;
     while let Some((line, later)) = split_line(rest) {
         number += 1;
         match import_line(alloc, kept, line) {
-            Ok(true) => count += 1,
-            Ok(false) => {}
+            Ok(said) => count += said,
             Err(trouble) => return Err(UntakenLine { number, trouble }),
         }
         rest = later;

@@ -46,11 +46,7 @@ fn push_registration(output: &mut Vec<u8>, subject: &str, text: &str) -> Result<
 }
 
 /// Appends the line of `replay` of a level that was set, with its newline; no subject is the global level.
-fn push_level(
-    output: &mut Vec<u8>,
-    subject: Option<&str>,
-    level: &str,
-) -> Result<(), AllocError>
+fn push_level(output: &mut Vec<u8>, subject: Option<&str>, level: &str) -> Result<(), AllocError>
     ensures { OnOk result (output.new.items
         ≡ output.old.items ++ replay_line (LevelSet (option_copied subject.entry) level.now)) }
 {
@@ -69,7 +65,8 @@ fn is_accepted(command: &StoredCommand) -> bool
     match command {
         StoredCommand::Registration { subject, .. } => is_subject(subject),
         StoredCommand::Level { subject, level } => {
-            subject.as_deref().is_none_or(|subject| is_subject(subject)) && Level::parse(level).is_ok()
+            subject.as_deref().is_none_or(|subject| is_subject(subject))
+                && Level::parse(level).is_ok()
         }
     }
 }
@@ -105,10 +102,7 @@ impl From<AllocError> for ListingFault {
 }
 
 /// Returns the lines of `replay` of commands, in their order.
-pub(crate) fn listing_of(
-    alloc: Global,
-    commands: &[StoredCommand],
-) -> Result<Vec<u8>, ListingFault>
+pub(crate) fn listing_of(alloc: Global, commands: &[StoredCommand]) -> Result<Vec<u8>, ListingFault>
     ensures lines { IfOk result (λ output. output.items ≡ replay_lines (commands_of commands.now)) }
     ensures named { IfOk result (λ output. AllByRecursion HasNames (commands_of commands.now)) }
     ensures why { IfErr result (HasListingCause (commands_of commands.now)) }

@@ -1,7 +1,7 @@
 //! The registry of a file, for a service.
 
 use crate::progress::TimedProgress;
-use crate::refusal::{StoreRefusal, make_refusal, open_refusal, start_refusal};
+use crate::refusal::{StoreRefusal, open_refusal, start_refusal};
 use journal_file::{FileError, JournalFile, Unknown, make, open};
 use registry_store::CommandStore;
 use schema_registry::{KeptRegistry, SharedRegistry};
@@ -24,19 +24,13 @@ fn started<'p>(
     }
 }
 
-/// Makes a file at a path where there is nothing, with an empty registry.
-pub(crate) fn made<'p>(
-    rt: &HostRuntime,
-    alloc: Global,
-    path: &'p str,
-) -> Result<FileRegistry, StoreRefusal<'p>> {
-    let file: JournalFile = match make(rt, path, Unknown) {
-        Ok(file) => file,
-        Err(error) => return Err(make_refusal(path, error)),
-    };
+/// Makes a file at a path where there is nothing, with an empty registry. Where it fails, a file without a command may
+/// be left.
+pub(crate) fn made(rt: &HostRuntime, alloc: Global, path: &str) -> Result<FileRegistry, FileError> {
+    let file: JournalFile = make(rt, path, Unknown)?;
     match KeptRegistry::create(alloc, file) {
         Ok(kept) => Ok(kept),
-        Err((error, _file)) => Err(make_refusal(path, FileError::Io(error))),
+        Err((error, _file)) => Err(FileError::Io(error)),
     }
 }
 
@@ -50,7 +44,10 @@ pub fn open_registry<'p>(
 ) -> Result<SharedRegistry, StoreRefusal<'p>> {
     let kept = match open(rt, path, Unknown) {
         Ok(file) => started(rt, alloc, path, file)?,
-        Err(FileError::Missing) => made(rt, alloc, path)?,
+        Err(FileError::Missing) => match made(rt, alloc, path) {
+            Ok(kept) => kept,
+            Err(error) => return Err(open_refusal(path, error)),
+        },
         Err(error) => return Err(open_refusal(path, error)),
     };
     Ok(SharedRegistry::over(alloc, kept.into_optional())?)

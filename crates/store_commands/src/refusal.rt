@@ -32,18 +32,12 @@ pub enum FileTrouble {
 pub enum StoreRefusal<'p> {
     #[error("out of memory")]
     NoMemory,
-    /// The file that is there is not opened.
+    /// The file is not opened, or there is none and none is made.
     #[error("cannot open the store {path}: {trouble}")]
-    Open {
-        path: &'p str,
-        trouble: FileTrouble,
-    },
-    /// No file is made.
+    Open { path: &'p str, trouble: FileTrouble },
+    /// No new file is made.
     #[error("cannot make the store {path}: {trouble}")]
-    Make {
-        path: &'p str,
-        trouble: FileTrouble,
-    },
+    Make { path: &'p str, trouble: FileTrouble },
     /// What the file holds is no registry, or was not read.
     #[error("the store {path}: {fault}")]
     Contents { path: &'p str, fault: StartFault },
