@@ -1,6 +1,6 @@
 //! Lines of `replay` that make a registry.
 
-ghost use Rattle.std.specs.Prelude.{◌≡◌, ◌++◌, ◌∷◌, [], IfErr, IfOk, List, OnErr, OnOk, Some, length};
+ghost use Rattle.std.specs.Prelude.{◌≡◌, ◌≤◌, ◌++◌, List, IfErr, IfOk, OnErr, Some, length};
 ghost use Rattle.command_io.specs.Lines.{lines};
 ghost use Rattle.command_parser.specs.Reading.{replay_line};
 ghost use Rattle.schema_registry.specs.Command.{Command as Asked, command_of};

@@ -10,16 +10,20 @@ use std::alloc::Global;
 /// A registry whose commands are kept in a file.
 pub(crate) type FileRegistry = KeptRegistry<CommandStore<JournalFile>>;
 
-/// Starts from a file that was opened.
+/// Opens the file that is there, and starts from it. `None` where there is no file.
 fn started<'p>(
     rt: &HostRuntime,
     alloc: Global,
     path: &'p str,
-    file: JournalFile,
-) -> Result<FileRegistry, StoreRefusal<'p>> {
+) -> Result<Option<FileRegistry>, StoreRefusal<'p>> {
+    let file = match open(rt, path, Unknown) {
+        Ok(file) => file,
+        Err(FileError::Missing) => return Ok(None),
+        Err(error) => return Err(open_refusal(path, error)),
+    };
     let mut progress = TimedProgress::new(rt);
     match KeptRegistry::open(alloc, file, &mut progress) {
-        Ok(kept) => Ok(kept),
+        Ok(kept) => Ok(Some(kept)),
         Err((fault, _file)) => Err(start_refusal(path, fault)),
     }
 }
@@ -42,13 +46,12 @@ pub fn open_registry<'p>(
     alloc: Global,
     path: &'p str,
 ) -> Result<SharedRegistry, StoreRefusal<'p>> {
-    let kept = match open(rt, path, Unknown) {
-        Ok(file) => started(rt, alloc, path, file)?,
-        Err(FileError::Missing) => match made(rt, alloc, path) {
+    let kept = match started(rt, alloc, path)? {
+        Some(kept) => kept,
+        None => match made(rt, alloc, path) {
             Ok(kept) => kept,
             Err(error) => return Err(open_refusal(path, error)),
         },
-        Err(error) => return Err(open_refusal(path, error)),
     };
     Ok(SharedRegistry::over(alloc, kept.into_optional())?)
 }
