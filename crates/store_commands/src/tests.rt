@@ -19,6 +19,7 @@ const LINES: &str =
     "register orders {\"type\":\"record\",\"name\":\"Order\",\"fields\":[{\"name\":\"id\",\"type\":\"long\"}]}\nlevel * FULL\n";
 
 /// A writer that takes nothing.
+#[derive(Drop)]
 struct Broken;
 
 impl Write for Broken {

@@ -11,13 +11,16 @@ loop-line-preserved g c =
     let (first, is, counted, changed) = c.in-Ok.ensures.done in
     let (next, shorter) = c.in-Some.ensures.lines in
     let longer = length-append front (c.in-Some.line.now ∷ []) in
-    let more = length-append said first in
-    ((
-      front ++ c.in-Some.line.now ∷ [],
-      said ++ first,
-      whole ∙ ap (λ (x : List (List ℕ)). front ++ x) next ∙ sym (append_assoc front (c.in-Some.line.now ∷ []) (lines c.in-Some.later.now)),
-      say_more front said c.in-Some.line.now first say is,
-      omega (arith, longer, number),
-      omega (arith, more, count, counted),
-      changed ∙ ap (λ (x : List Command). x ++ first) registry ∙ append_assoc _ said first,
-    ), omega (arith, bound, shorter), omega (arith, few, c.in-Ok.ensures.few))
+    let more = length-append said first in (
+      (
+        front ++ c.in-Some.line.now ∷ [],
+        said ++ first,
+        whole ∙ ap (λ (x : List (List ℕ)). front ++ x) next ∙ sym (append_assoc front (c.in-Some.line.now ∷ []) (lines c.in-Some.later.now)),
+        say_more front said c.in-Some.line.now first say is,
+        omega (arith, longer, number),
+        omega (arith, more, count, counted),
+        changed ∙ ap (λ (x : List Command). x ++ first) registry ∙ append_assoc _ said first,
+      ),
+      omega (arith, bound, shorter),
+      omega (arith, few, c.in-Ok.ensures.few),
+    )
