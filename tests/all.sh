@@ -76,6 +76,7 @@ try_library() {
 }
 try tests/map.sh
 try_built tests/program.sh
+try_built tests/pages.sh
 try_built tests/clients.sh
 try_built tests/hostile.sh
 try_built tests/registry_lock.sh
