@@ -1,13 +1,14 @@
 """Runs the shell sessions of pages: the work of tests/pages.sh.
 
-A session is a block of lines with four spaces before them whose first begins with `$ `. Each line with `$ ` is a command,
-with the lines after it while the one before ends in a backslash, and those that begin with `> `; the lines up to the next
-command are what it has to print, on standard output or standard error. Of a command that ends in `&` they are waited for.
-A cell of a table that is code and begins with `$ ` is a command too: what it prints has to have the text of the row's first
-cell in it.
+A session is a block of lines with four spaces before them whose first begins with `$ `. Each line with `$ ` is a
+command, with the lines after it while the one before ends in a backslash, and those that begin with `> `; the lines up
+to the next command are what it has to print, on standard output or standard error. Of a command that ends in `&` they
+are waited for. A cell of a table that is code and begins with `$ ` is a command too: what it prints has to have the
+text of the row's first cell in it.
 
-A page runs in a folder of its own, in which `avrogate` and `crates/avrogate/out/avrogate` are the program. There /tmp is
-the folder's own, and a port of a page, 8081 to 8089, is another one that is free, in commands and in what they print.
+A page runs in a folder of its own, in which `avrogate` and `crates/avrogate/out/avrogate` are the program. There /tmp
+is the folder's own, and a port of a page, 8081 to 8089, is another one that is free, in commands and in what they
+print.
 
 Usage: pages.py PROGRAM PAGE .."""
 import os, random, re, shutil, signal, socket, subprocess, sys, tempfile, time
@@ -91,13 +92,13 @@ class Session:
         self.out = open(os.path.join(self.folder, "out"), "ab")
         self.read_at = 0
         taken, commands = os.pipe()
-        self.statuses, told = os.pipe()
+        self.statuses, answered = os.pipe()
         self.commands = commands
         environment = dict(os.environ, PATH=bin + ":" + os.environ["PATH"], LC_ALL="C.UTF-8")
-        self.shell = subprocess.Popen(["bash", "-c", SHELL % (taken, taken, told, told)], cwd=work, env=environment, pass_fds=(taken, told),
+        self.shell = subprocess.Popen(["bash", "-c", SHELL % (taken, taken, answered, answered)], cwd=work, env=environment, pass_fds=(taken, answered),
                                       stdin=subprocess.DEVNULL, stdout=self.out, stderr=self.out, start_new_session=True)
         os.close(taken)
-        os.close(told)
+        os.close(answered)
 
     def own(self, text):
         """A text of the page with the ports and the folder of this session."""
