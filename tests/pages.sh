@@ -1,8 +1,8 @@
 #!/usr/bin/env bash
 # Runs what README.md and the pages for operators and users show as shell sessions, and compares what is printed with
 # what the page shows. A block whose first line begins with four spaces and `$ ` is such a session; all blocks of a page
-# run one after another in one shell, in a folder of their own. What is missing of the commands is installed with apt-
-# get, which needs root. The gate runs it.
+# run one after another in one shell, in a folder of their own. What is missing of the commands is installed with
+# apt-get, which needs root. The gate runs it.
 # Usage: tests/pages.sh [PROGRAM [PAGE ..]]   (crates/avrogate/out/avrogate and all these pages if they are left out)
 set -euo pipefail
 here=$(dirname "$(realpath "$0")")

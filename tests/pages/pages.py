@@ -165,4 +165,5 @@ def main(program, pages):
     return failed != 0
 
 
+signal.signal(signal.SIGTERM, lambda *_: sys.exit(1))  # so that what runs is ended then too
 sys.exit(main(sys.argv[1], sys.argv[2:]))
