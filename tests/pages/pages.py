@@ -165,5 +165,11 @@ def main(program, pages):
     return failed != 0
 
 
-signal.signal(signal.SIGTERM, lambda *_: sys.exit(1))  # so that what runs is ended then too
+def stopped(*_):
+    """Ends the script on TERM by way of `finally`, so that what a page has left running is ended too."""
+    signal.signal(signal.SIGTERM, signal.SIG_IGN)
+    sys.exit(1)
+
+
+signal.signal(signal.SIGTERM, stopped)
 sys.exit(main(sys.argv[1], sys.argv[2:]))
