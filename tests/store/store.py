@@ -163,19 +163,28 @@ def client(server, number, wanted, told, stop):
                     told.append(("id", answer["id"], compact(schema)))
 
 
+def started_again(store, names, levels, most):
+    """A server on the store, which finds the levels and at most that many of the ids, taken at random."""
+    server = Server(store)
+    assert not server.refused, server.refused
+    for number, schema in random.sample(sorted(names.items()), min(most, len(names))):
+        assert server.schema(number) == schema, number
+    for number, allowed in levels.items():
+        assert server.level("s%d" % number) in allowed, (number, allowed)
+    return server
+
+
 def killed_at_random_moments():
-    store = os.path.join(folder("killed"), "registry")
-    names, levels, lines = {}, {}, 0
+    place, stores, found = folder("killed"), 1, 0
+    store, names, levels = os.path.join(place, "registry1"), {}, {}
     for turn in range(ROUNDS):
-        server = Server(store)
-        assert not server.refused, (turn, server.refused)
-        for number, schema in names.items() if turn % 10 == 0 or turn == ROUNDS - 1 else random.sample(sorted(names.items()), min(20, len(names))):
-            assert server.schema(number) == schema, (turn, number)
-        for number, allowed in levels.items():
-            assert server.level("s%d" % number) in allowed, (turn, number, allowed)
-        if len(names) > 3900:
+        server = started_again(store, names, levels, 20 if turn % 10 else len(names))
+        if len(names) > 3900:  # a registry has at most 4,096 schemas, so another store goes on
             server.kill()
-            break
+            started_again(store, names, levels, len(names)).kill()
+            stores, found = stores + 1, found + len(names)
+            store, names, levels = os.path.join(place, "registry%d" % stores), {}, {}
+            server = started_again(store, names, levels, 0)
         told = [[] for _ in range(CLIENTS)]
         wanted, stop = {}, threading.Event()
         threads = [threading.Thread(target=client, args=(server, n, wanted, told[n], stop)) for n in range(CLIENTS)]
@@ -196,9 +205,10 @@ def killed_at_random_moments():
             for kind, number, schema in (t for t in told[n] if t[0] == "id"):
                 assert names.get(number, schema) == schema, (turn, number)
                 names[number] = schema
-        lines = len(names)
-    assert lines > turn, "%d ids in %d rounds" % (lines, turn + 1)
-    say("kill -9 in %d rounds under %d clients: %d ids that were answered, each found again" % (turn + 1, CLIENTS, lines))
+    started_again(store, names, levels, len(names)).kill()
+    found += len(names)
+    assert found > ROUNDS, "%d ids in %d rounds" % (found, ROUNDS)
+    say("kill -9 in %d rounds under %d clients: %d ids that were answered, each found again" % (ROUNDS, CLIENTS, found))
 
 
 def two_processes():
