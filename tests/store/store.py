@@ -541,7 +541,7 @@ try:
     tried(stops_and_starts, "what was answered is there after each start, in a file that a start leaves as it was")
     tried(two_processes, "a second process is refused")
     tried(refused_files)
-    tried(changed_bytes, "each changed byte, but + that became -, and each prefix is refused with its place, and a torn end is cut off")
+    tried(changed_bytes, "each changed bit and each prefix is refused with its place, and a torn end is cut off")
     tried(full_disk, "a file that may not grow: 50304, and what was answered before is kept, and goes on in its order")
     tried(full_device)
     tried(syncs_before_the_answer)
