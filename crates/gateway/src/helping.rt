@@ -7,8 +7,8 @@ use gateway_core::{Gate, Place};
 use session_pool::{SessionPool, Turn, WorkerSeat};
 
 /// The number of rows that a client's turn takes at most. Ours: what a plan finds is used where all its rows are within
-/// one turn, so a message of 16 MiB should be; rows that are found ahead take some milliseconds a million, and those that
-/// are taken one by one up to a tenth of a second.
+/// one turn, so a message of 16 MiB should be; rows that are found ahead take some milliseconds a million, and those
+/// that are taken one by one up to a tenth of a second.
 pub const SLICE: u64 = 10_000_000;
 
 /// A gate that takes a turn each time it is asked. It always says yes.

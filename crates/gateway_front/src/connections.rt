@@ -394,7 +394,8 @@ impl Connections {
         let _ = self.ready.push_back(key);
     }
 
-    /// Makes way where no connection can be accepted, as where no more files can be open: one is closed, or time passes.
+    /// Makes way where no connection can be accepted, as where no more files can be open: one is closed, or time
+    /// passes.
     fn make_way<R: Clock>(&mut self, rt: &R) {
         if self.open.is_empty() {
             thread::sleep(rt, Duration::from_millis(PAUSE));
@@ -403,8 +404,9 @@ impl Connections {
         }
     }
 
-    /// Takes what the system reports, and begins a round of all that is ready. Where nothing is ready yet it waits, until
-    /// time is up. What has come before a connection is late is still taken: it is closed only after one more look.
+    /// Takes what the system reports, and begins a round of all that is ready. Where nothing is ready yet it waits,
+    /// until time is up. What has come before a connection is late is still taken: it is closed only after one more
+    /// look.
     fn wait<R: Clock>(&mut self, rt: &R) {
         if let Some(late) = self.late {
             self.late = None;

@@ -23,8 +23,8 @@ pub(crate) struct Client<'a, 'p> {
     ghost helps: { RestsWorker shared.now.pool.now helper },
 }
 
-/// Answers the requests of the gate's connections, until no more are accepted and all are closed. A request whose answer
-/// finds no memory is closed without one.
+/// Answers the requests of the gate's connections, until no more are accepted and all are closed. A request whose
+/// answer finds no memory is closed without one.
 fn serve_requests<'p, R: Wait + Clock>(
     rt: &R,
     app: &App<'_, 'p>,

@@ -1,11 +1,11 @@
 -- How blocks are read.
-use Rattle.std.proofs.Common.{◌≡◌, ◌≢◌, ℕ, ◌+◌, ◌≤◌, ◌==◌, nat_le, Bool, true, false, List, [], ◌∷◌, ◌++◌, length, take, drop, Option, Some, None, Result, Ok, refl, sym, ◌∙◌, ap, arith, append_assoc, length-append}
+use Rattle.std.proofs.Common.{◌≡◌, ◌≢◌, inl, inr, ℕ, ◌+◌, ◌≤◌, ◌==◌, nat_le, true, false, List, [], ◌∷◌, ◌++◌, length, take, drop, Some, None, Result, Ok, refl, sym, ◌∙◌, ap, arith, append_assoc, length-append}
 use Rattle.std.specs.List.{flat_map, AllByRecursion}
 use Rattle.std.proofs.lemmas.List.{append-nil}
 use Rattle.std.proofs.lemmas.Bool.Decides.{nat_tests}
-use Rattle.line_journal.specs.Lines.{Line, IsLine, block, with_line, read_from, lines_in}
+use Rattle.line_journal.specs.Lines.{Line, IsLine, block, closed_gate, IsHalf, is_last_line, line_and_gate, opens, staged, with_line, read_from, lines_in}
 use Rattle.line_journal.specs.declared.error.Damage.{Damage}
-use Rattle.line_journal.specs.declared.layout.TheConstants.{OPEN, CLOSED, NEWLINE, LONGEST}
+use Rattle.line_journal.specs.declared.layout.TheConstants.{CLOSED, NEWLINE, LONGEST}
 
 -- a line up to its newline
 pub read_line : (at n : ℕ) (so_far line rest : List ℕ) → AllByRecursion (λ b. b ≢ NEWLINE) line → n ≡ at + length line + 1
@@ -31,7 +31,7 @@ with_lines-ok (line ∷ lines) more = ap (with_line line) (with_lines-ok lines m
 pub read_block : (at n : ℕ) (line rest : List ℕ) → AllByRecursion (λ b. b ≢ NEWLINE) line → n ≡ at + length (block line)
     → read_from at None (block line ++ rest) ≡ with_line line (read_from n None rest)
 read_block at n line rest clean is =
-    rw (append_assoc line (NEWLINE ∷ []) rest) (read_line (at + 1) n [] line rest clean (omega (arith, length-append line (NEWLINE ∷ []))))
+    rw (append_assoc line (NEWLINE ∷ []) rest) (read_line (at + 2) n [] line rest clean (omega (arith, length-append line (NEWLINE ∷ []))))
 
 -- the blocks of some lines
 pub read_blocks : (at n : ℕ) (lines : List Line) (rest : List ℕ) → AllByRecursion IsLine lines → n ≡ at + length (flat_map block lines)
@@ -43,35 +43,49 @@ read_blocks at n (line ∷ lines) rest are is =
     ∙ ap (with_line line) (read_blocks (at + length (block line)) n lines rest are.1 (omega (arith, length-append (block line) (flat_map block lines))))
 
 -- after a closed gate there is no line
-pub read_closed : (at : ℕ) (rest : List ℕ) → length rest ≤ LONGEST + 2 → read_from at None (CLOSED ∷ rest) ≡ Ok []
+pub read_closed : (at : ℕ) (rest : List ℕ) → length rest ≤ LONGEST + 3 → read_from at None (CLOSED ∷ CLOSED ∷ rest) ≡ Ok []
 read_closed at rest few =
-    let fits : nat_le (length rest) (LONGEST + 2) ≡ true = grind (arith, nat_tests) in
+    let fits : nat_le (length rest) (LONGEST + 3) ≡ true = grind (arith, nat_tests) in
     rw fits
 
 -- a file at rest, and after it what one line leaves
-pub lines_with_rest : (lines : List Line) (rest : List ℕ) → AllByRecursion IsLine lines → length rest ≤ LONGEST + 2
-    → lines_in (flat_map block lines ++ CLOSED ∷ rest) ≡ Ok lines
+pub lines_with_rest : (lines : List Line) (rest : List ℕ) → AllByRecursion IsLine lines → length rest ≤ LONGEST + 3
+    → lines_in (flat_map block lines ++ CLOSED ∷ CLOSED ∷ rest) ≡ Ok lines
 lines_with_rest lines rest are few =
     let all : List Line → Result (List Line) Damage = λ ls. Ok ls in
-    read_blocks 0 (0 + length (flat_map block lines)) lines (CLOSED ∷ rest) are refl
+    read_blocks 0 (0 + length (flat_map block lines)) lines (CLOSED ∷ CLOSED ∷ rest) are refl
     ∙ ap (with_lines lines) (read_closed (0 + length (flat_map block lines)) rest few)
     ∙ with_lines-ok lines []
     ∙ ap all (append-nil lines)
 
--- what is read of a line, if one is being read
-abbrev pub line_so_far : Bool → Line → Option Line
-line_so_far true line = Some line
-line_so_far false line = None
+-- the last line of a file, up to the closed gate
+pub last_line : (line : Line) → IsLine line → is_last_line (line_and_gate line) ≡ true
+last_line [] is = refl
+last_line (b ∷ line) is =
+    let not_end : (b == NEWLINE) ≡ false = grind (arith, nat_tests, is.0) in
+    rw not_end (last_line line is.1)
 
--- the bytes of the block that is being read
-abbrev pub block_so_far : Bool → Line → List ℕ
-block_so_far true line = OPEN ∷ line
-block_so_far false line = []
+-- a half open gate before the last line counts
+half_opens : (a b : ℕ) (rest : List ℕ) → IsHalf a b → is_last_line rest ≡ true → opens a b rest ≡ true
+half_opens a b rest (inl half) last = rw (half.0, half.1, last) refl
+half_opens a b rest (inr half) last = rw (half.0, half.1, last) refl
 
--- the file was read up to this byte: these lines, and this much of the next one
-pub record Reads (file : List ℕ) (at : ℕ) (lines : List Line) (inside : Bool) (line : Line) : Type 0 where
-  pub read : with_lines lines (read_from at (line_so_far inside line) (drop at file)) ≡ lines_in file
-  pub front : flat_map block lines ++ block_so_far inside line ≡ take at file
+pub read_half : (at a b : ℕ) (line : Line) → IsLine line → IsHalf a b → read_from at None (a ∷ b ∷ line_and_gate line) ≡ Ok (line ∷ [])
+read_half at a b line is half =
+    let opened = half_opens a b (line_and_gate line) half (last_line line is) in
+    rw opened (read_line (at + 2) (at + 2 + length line + 1) [] line closed_gate is refl ∙ ap (with_line line) (read_closed (at + 2 + length line + 1) [] (omega arith)))
+
+-- a file whose last gate is half open
+pub lines_half_open : (lines : List Line) (a b : ℕ) (line : Line) → AllByRecursion IsLine lines → IsLine line → IsHalf a b
+    → lines_in (staged lines a b line) ≡ Ok (lines ++ line ∷ [])
+lines_half_open lines a b line are is half =
+    read_blocks 0 (0 + length (flat_map block lines)) lines (a ∷ b ∷ line_and_gate line) are refl
+    ∙ ap (with_lines lines) (read_half (0 + length (flat_map block lines)) a b line is half)
+    ∙ with_lines-ok lines (line ∷ [])
+
+-- the file was read as these lines up to this byte, where a gate comes next
+pub record Reads (file : List ℕ) (at : ℕ) (lines : List Line) : Type 0 where
+  pub read : with_lines lines (read_from at None (drop at file)) ≡ lines_in file
+  pub front : flat_map block lines ≡ take at file
   pub are : AllByRecursion IsLine lines
-  pub is : IsLine line
-  pub none : inside ≡ false → line ≡ []
+  pub within : at ≤ length file

@@ -1,16 +1,17 @@
--- How a file is read byte by byte.
-use Rattle.std.proofs.Common.{◌≡◌, ◌≢◌, ◌⊎◌, inl, inr, ℕ, ◌+◌, ◌-◌, ◌<◌, ◌≤◌, ◌==◌, ◌&&◌, nat_le, Bool, true, false, List, [], ◌∷◌, ◌++◌, length, take, drop, get_or, Some, None, Result, Ok, Err, Vec, refl, sym, ◌∙◌, ap, arith, append_assoc, length-take, length-drop, take-append-drop}
-use Rattle.std.specs.List.{flat_map}
+-- How a file is read line by line.
+use Rattle.std.proofs.Common.{◌≡◌, ℕ, ◌+◌, ◌-◌, List, [], ◌∷◌, ◌++◌, length, take, drop, Option, Some, None, Result, Ok, Err, Vec, refl, sym, ◌∙◌, ap, arith, append_assoc, length-append, length-take, length-drop, take-append-drop}
+use Rattle.std.specs.List.{flat_map, slice_range, AllByRecursion}
 use Rattle.std.specs.Global.{Global}
-use Rattle.std.proofs.lemmas.List.{append-nil, length-map, drop_more, take_more, drop_all}
-use Rattle.std.proofs.lemmas.Bool.Decides.{nat_tests}
-use Rattle.line_journal.specs.Lines.{Line, IsLine, HasRest, block, with_line, read_from, lines_in, lines_of, damage_at}
+use Rattle.std.proofs.lemmas.List.{append-nil, length-map, take_at}
+use Rattle.line_journal.specs.Lines.{Line, IsLine, IsLeft, block, closed_gate, staged, with_line, read_from, lines_in, lines_of, damage_at}
+use Rattle.line_journal.specs.Reading.{IsNext}
+use Rattle.line_journal.specs.declared.reading.Next.TheVariants as nexts
 use Rattle.line_journal.specs.declared.error.Damage.{Damage}
 use Rattle.line_journal.specs.declared.error.ReadError.{ReadError}
 use Rattle.line_journal.specs.declared.error.ReadError.TheVariants.{Damaged}
-use Rattle.line_journal.specs.declared.layout.TheConstants.{OPEN, CLOSED, NEWLINE, LONGEST}
-use Rattle.line_journal.proofs.Blocks.{with_lines, with_lines-ok, read_closed, Reads}
-use Rattle.line_journal.proofs.Crash.{blocks-more, are-more}
+use Rattle.line_journal.specs.declared.layout.TheConstants.{OPEN, CLOSED, NEWLINE}
+use Rattle.line_journal.proofs.Blocks.{with_lines, with_lines-ok, read_block, read_closed, lines_half_open, Reads}
+use Rattle.line_journal.proofs.Crash.{blocks-more, are-more, length-block_more}
 
 with_lines-more : (lines : List Line) (line : Line) (r : Result (List Line) Damage) → with_lines (lines ++ line ∷ []) r ≡ with_lines lines (with_line line r)
 with_lines-more [] line r = refl
@@ -37,110 +38,80 @@ damage-found vs at n read error damage is gives counted found =
     let failed : Damage → Result (List Line) Damage = λ d. Err d in
     is ∙ ap failed (ap place long ∙ same)
 
-is-more : (line : Line) (b : ℕ) → IsLine line → b ≢ NEWLINE → IsLine (line ++ b ∷ [])
-is-more [] b is not_end = (not_end, tt)
-is-more (x ∷ line) b is not_end = (is.0, is-more line b is.1 not_end)
-
--- the file has these lines, and its closed gate is at this byte
-pub record Closes (file : List ℕ) (at : ℕ) (lines : List Line) : Type 0 where
+-- the file has these lines, its closed gate is at this byte, and this is left of one more line or of a crash
+pub record Ends (file : List ℕ) (gate : ℕ) (half_open : Option ℕ) (lines : List Line) : Type 0 where
   pub reads_as : lines_in file ≡ Ok lines
-  pub gate : at ≡ length (flat_map block lines)
-  pub has_rest : HasRest lines file
+  pub at : gate ≡ length (flat_map block lines)
+  pub are : AllByRecursion IsLine lines
+  pub left : IsLeft lines half_open file
 
 pub lines_of-more : (vs : List (Vec ℕ Global)) (v : Vec ℕ Global) → lines_of (vs ++ v ∷ []) ≡ lines_of vs ++ v.items ∷ []
 lines_of-more [] v = refl
 lines_of-more (x ∷ vs) v = ap (λ (l : List Line). x.items ∷ l) (lines_of-more vs v)
 
-pub reads_alike : (file : List ℕ) (at : ℕ) (lines lines' : List Line) (inside inside' : Bool) (line line' : Line) → lines' ≡ lines → inside' ≡ inside → line' ≡ line
-    → Reads file at lines inside line → Reads file at lines' inside' line'
-reads_alike file at lines lines' inside inside' line line' e f g reads = rw (e, f, g) reads
+-- the bytes up to a byte, where these come after it
+front_of : (file front rest : List ℕ) (n : ℕ) → file ≡ front ++ rest → n ≡ length front → front ≡ take n file
+front_of file front rest n split long = sym (ap (take n) split ∙ ap (λ (k : ℕ). take k (front ++ rest)) long ∙ take_at front rest (length front) refl)
 
-module _ (file : List ℕ) (at : ℕ) (lines : List Line) (line : Line) (within : at < length file) where
-  abbrev byte : ℕ
-  byte = get_or file at 0
+module _ (file : List ℕ) (at : ℕ) (lines : List Line) (reads : Reads file at lines) where
+  whole : file ≡ flat_map block lines ++ drop at file
+  whole = sym (take-append-drop at file) ∙ ap (λ (l : List ℕ). l ++ drop at file) (sym reads.front)
 
-  next : drop at file ≡ byte ∷ drop (at + 1) file
-  next = drop_more file at 0 within
+  here : at ≡ length (flat_map block lines)
+  here = omega (arith, ap length reads.front, length-take at file, reads.within)
 
-  one_more : take (at + 1) file ≡ take at file ++ byte ∷ []
-  one_more = take_more file at 0 within
+  read_on : (bytes : List ℕ) → drop at file ≡ bytes → lines_in file ≡ with_lines lines (read_from at None bytes)
+  read_on bytes is = sym reads.read ∙ ap (λ (l : List ℕ). with_lines lines (read_from at None l)) is
 
-  pub reads_newline : Reads file at lines true line → byte ≡ NEWLINE → Reads file (at + 1) (lines ++ line ∷ []) false []
-  reads_newline reads end =
-      let bytes : drop at file ≡ NEWLINE ∷ drop (at + 1) file = next ∙ ap (λ (b : ℕ). b ∷ drop (at + 1) file) end in
+  -- a line and its gate
+  pub reads_line : (end : ℕ) → IsNext file at (nexts.Line end) → Reads file (end + 1) (lines ++ slice_range file (at + 2) end ∷ [])
+  reads_line end next =
+      let line = slice_range file (at + 2) end in
+      let rest = drop (end + 1) file in
+      let long : length line ≡ end - (at + 2) = omega (arith, length-take (end - (at + 2)) (drop (at + 2) file), length-drop (at + 2) file, next.1.forward, next.1.within) in
+      let bytes : drop at file ≡ block line ++ rest = next.0 ∙ ap (λ (l : List ℕ). OPEN ∷ OPEN ∷ l) (next.1.bytes ∙ sym (append_assoc line (NEWLINE ∷ []) rest)) in
+      let split : file ≡ flat_map block (lines ++ line ∷ []) ++ rest =
+      whole ∙ ap (λ (l : List ℕ). flat_map block lines ++ l) bytes ∙ sym (append_assoc (flat_map block lines) (block line) rest) ∙ sym (blocks-more lines line rest) in
       record {
-        read = with_lines-more lines line (read_from (at + 1) None (drop (at + 1) file))
-            ∙ sym (ap (λ (l : List ℕ). with_lines lines (read_from at (Some line) l)) bytes) ∙ reads.read;
-        front = blocks-more lines line [] ∙ append-nil (flat_map block lines ++ block line)
-            ∙ sym (append_assoc (flat_map block lines) (OPEN ∷ line) (NEWLINE ∷ [])) ∙ ap (λ (l : List ℕ). l ++ NEWLINE ∷ []) reads.front
-            ∙ sym (one_more ∙ ap (λ (b : ℕ). take at file ++ b ∷ []) end);
-        are = are-more lines line reads.are reads.is;
-        is = tt;
-        none = λ _. refl;
+        read = with_lines-more lines line (read_from (end + 1) None rest)
+            ∙ ap (with_lines lines) (sym (read_block at (end + 1) line rest next.1.is_line (omega (arith, long, next.1.forward, length-append line (NEWLINE ∷ [])))))
+            ∙ sym (read_on (block line ++ rest) bytes);
+        front = front_of file (flat_map block (lines ++ line ∷ [])) rest (end + 1) split (omega (arith, long, here, next.1.forward, length-block_more lines line));
+        are = are-more lines line reads.are next.1.is_line;
+        within = omega (arith, next.1.within);
       }
 
-  pub reads_byte : Reads file at lines true line → byte ≢ NEWLINE → Reads file (at + 1) lines true (line ++ byte ∷ [])
-  reads_byte reads not_end =
-      let no : (byte == NEWLINE) ≡ false = grind (arith, nat_tests, not_end) in
-      let step : read_from at (Some line) (byte ∷ drop (at + 1) file) ≡ read_from (at + 1) (Some (line ++ byte ∷ [])) (drop (at + 1) file) = rw no in
+  -- a line whose gate is half open
+  pub reads_last : (end : ℕ) → IsNext file at (nexts.LastLine end) → Ends file (end + 1) (Some at) (lines ++ slice_range file (at + 2) end ∷ [])
+  reads_last end next =
+      let line = slice_range file (at + 2) end in
+      let long : length line ≡ end - (at + 2) = omega (arith, length-take (end - (at + 2)) (drop (at + 2) file), length-drop (at + 2) file, next.line.forward, next.line.within) in
+      let split : file ≡ staged lines next.first next.second line =
+      whole ∙ ap (λ (l : List ℕ). flat_map block lines ++ l) (next.gate ∙ ap (λ (l : List ℕ). next.first ∷ next.second ∷ l) next.line.bytes) in
       record {
-        read = sym (ap (with_lines lines) (ap (read_from at (Some line)) next ∙ step)) ∙ reads.read;
-        front = sym (append_assoc (flat_map block lines) (OPEN ∷ line) (byte ∷ [])) ∙ ap (λ (l : List ℕ). l ++ byte ∷ []) reads.front ∙ sym one_more;
+        reads_as = ap lines_in split ∙ lines_half_open lines next.first next.second line reads.are next.line.is_line next.half;
+        at = omega (arith, long, here, next.line.forward, length-block_more lines line);
+        are = are-more lines line reads.are next.line.is_line;
+        left = record { before = lines; last = line; first = next.first; second = next.second; are = refl; half = next.half; here = here; split = split };
+      }
+
+  -- the closed gate
+  pub reads_end : IsNext file at nexts.End → Ends file at None lines
+  reads_end next =
+      let rest = drop (at + 2) file in
+      record {
+        reads_as = read_on (CLOSED ∷ CLOSED ∷ rest) next.0 ∙ ap (with_lines lines) (read_closed at rest next.1) ∙ with_lines-ok lines [] ∙ ap all (append-nil lines);
+        at = here;
         are = reads.are;
-        is = is-more line byte reads.is not_end;
-        none = λ never. absurd (cc never);
-      }
-
-  pub reads_open : Reads file at lines false line → byte ≡ OPEN → Reads file (at + 1) lines true line
-  reads_open reads is_open =
-      let bytes : drop at file ≡ OPEN ∷ drop (at + 1) file = next ∙ ap (λ (b : ℕ). b ∷ drop (at + 1) file) is_open in
-      let nothing = reads.none refl in
-      record {
-        read = ap (λ (l : Line). with_lines lines (read_from (at + 1) (Some l) (drop (at + 1) file))) nothing
-            ∙ sym (ap (λ (l : List ℕ). with_lines lines (read_from at None l)) bytes) ∙ reads.read;
-        front = ap (λ (l : Line). flat_map block lines ++ OPEN ∷ l) nothing
-            ∙ ap (λ (l : List ℕ). l ++ OPEN ∷ []) (sym (append-nil (flat_map block lines)) ∙ reads.front)
-            ∙ sym (one_more ∙ ap (λ (b : ℕ). take at file ++ b ∷ []) is_open);
-        are = reads.are;
-        is = reads.is;
-        none = λ never. absurd (cc never);
-      }
-
-  pub reads_closed : Reads file at lines false line → byte ≡ CLOSED → length file - at ≤ LONGEST + 3 → Closes file at lines
-  reads_closed reads is_closed few =
-      let rest = drop (at + 1) file in
-      let bytes : drop at file ≡ CLOSED ∷ rest = next ∙ ap (λ (b : ℕ). b ∷ rest) is_closed in
-      let short : length rest ≤ LONGEST + 2 = omega (arith, length-drop (at + 1) file) in
-      let before : flat_map block lines ≡ take at file = sym (append-nil (flat_map block lines)) ∙ reads.front in
-      record {
-        reads_as = sym reads.read ∙ ap (λ (l : List ℕ). with_lines lines (read_from at None l)) bytes ∙ ap (with_lines lines) (read_closed at rest short)
-            ∙ with_lines-ok lines [] ∙ ap all (append-nil lines);
-        gate = omega (arith, ap length before, length-take at file);
-        has_rest = record {
+        left = record {
           rest = rest;
-          split = sym (take-append-drop at file) ∙ ap (λ (l : List ℕ). l ++ drop at file) (sym before) ∙ ap (λ (l : List ℕ). flat_map block lines ++ l) bytes
-              ∙ sym (append_assoc (flat_map block lines) (CLOSED ∷ []) rest);
-          few = short;
+          split = whole ∙ ap (λ (l : List ℕ). flat_map block lines ++ l) next.0 ∙ sym (append_assoc (flat_map block lines) closed_gate rest);
+          few = next.1;
         };
       }
     where
       all : List Line → Result (List Line) Damage
       all ls = Ok ls
 
-  pub reads_damaged : Reads file at lines false line → byte ≢ OPEN → (byte ≢ CLOSED) ⊎ (LONGEST + 3 < length file - at) → lines_in file ≡ Err (damage_after lines at)
-  reads_damaged reads not_open (inl not_closed) =
-      let no : (byte == OPEN) ≡ false = grind (arith, nat_tests, not_open) in
-      let nor : (byte == CLOSED) ≡ false = grind (arith, nat_tests, not_closed) in
-      let step : read_from at None (byte ∷ drop (at + 1) file) ≡ Err (damage_at at) = rw (no, nor) in
-      sym reads.read ∙ ap (with_lines lines) (ap (read_from at None) next ∙ step) ∙ with_lines-err lines at
-  reads_damaged reads not_open (inr many) =
-      let no : (byte == OPEN) ≡ false = grind (arith, nat_tests, not_open) in
-      let nor : ((byte == CLOSED) && nat_le (length (drop (at + 1) file)) (LONGEST + 2)) ≡ false = grind (arith, nat_tests, length-drop (at + 1) file) in
-      let step : read_from at None (byte ∷ drop (at + 1) file) ≡ Err (damage_at at) = rw (no, nor) in
-      sym reads.read ∙ ap (with_lines lines) (ap (read_from at None) next ∙ step) ∙ with_lines-err lines at
-
-pub reads_end : (file : List ℕ) (lines : List Line) (inside : Bool) (line : Line) → Reads file (length file) lines inside line → lines_in file ≡ Err (damage_after lines (length file))
-reads_end file lines true line reads =
-    sym reads.read ∙ ap (λ (l : List ℕ). with_lines lines (read_from (length file) (Some line) l)) (drop_all (length file) file (omega arith)) ∙ with_lines-err lines (length file)
-reads_end file lines false line reads =
-    sym reads.read ∙ ap (λ (l : List ℕ). with_lines lines (read_from (length file) None l)) (drop_all (length file) file (omega arith)) ∙ with_lines-err lines (length file)
+  pub reads_damaged : (place : ℕ) → IsNext file at (nexts.Damaged place) → lines_in file ≡ Err (damage_after lines place)
+  reads_damaged place next = sym reads.read ∙ ap (with_lines lines) next ∙ with_lines-err lines place

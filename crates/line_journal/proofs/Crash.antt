@@ -1,13 +1,11 @@
 -- Files with one more line after a closed gate or an open one.
-use Rattle.std.proofs.Common.{◌≡◌, ◌⊎◌, inl, inr, ⊎_elim, ℕ, ◌+◌, List, [], ◌∷◌, ◌++◌, length, slice_index, Ok, refl, sym, ◌∙◌, ap, arith, append_assoc, length-append}
+use Rattle.std.proofs.Common.{◌≡◌, ◌⊎◌, inl, inr, ℕ, ◌+◌, List, [], ◌∷◌, ◌++◌, length, Ok, refl, sym, ◌∙◌, ap, arith, append_assoc, length-append}
 use Rattle.std.specs.List.{flat_map, AllByRecursion}
 use Rattle.std.proofs.lemmas.List.{append-nil}
-use Rattle.std.proofs.Math.Seq.{get_or-append_seam}
-use Rattle.sqlite_disk.specs.Disk.{Holds, Torn, Mixed}
-use Rattle.line_journal.specs.Lines.{Line, IsLine, IsNewLine, block, at_rest, lines_in, line_and_gate, staged, HasRest}
+use Rattle.line_journal.specs.Lines.{Line, IsLine, IsNewLine, block, closed_gate, at_rest, lines_in, line_and_gate, staged, HasRest}
+use Rattle.line_journal.specs.Journal.{IsBeforeOrAfter}
 use Rattle.line_journal.specs.declared.layout.TheConstants.{OPEN, CLOSED, NEWLINE}
-use Rattle.line_journal.proofs.Blocks.{lines_with_rest}
-use Rattle.line_journal.proofs.Writes.{torn_byte}
+use Rattle.line_journal.proofs.Blocks.{lines_with_rest, lines_half_open}
 
 -- a list of lines with one more
 pub are-more : (lines : List Line) (line : Line) → AllByRecursion IsLine lines → IsLine line → AllByRecursion IsLine (lines ++ line ∷ [])
@@ -38,12 +36,12 @@ blocks-more (l ∷ lines) line rest =
     ∙ sym (append_assoc (block l) (flat_map block lines) (block line ++ rest)) ∙ sym (append_assoc (block l ++ flat_map block lines) (block line) rest)
 
 -- with an open gate, it is the file at rest that has the line too
-pub staged_open : (lines : List Line) (line : Line) → staged lines OPEN line ≡ at_rest (lines ++ line ∷ [])
+pub staged_open : (lines : List Line) (line : Line) → staged lines OPEN OPEN line ≡ at_rest (lines ++ line ∷ [])
 staged_open lines line =
-    sym (blocks-more lines line (CLOSED ∷ []) ∙ append_assoc (flat_map block lines) (block line) (CLOSED ∷ [])
-    ∙ ap (λ (t : List ℕ). flat_map block lines ++ OPEN ∷ t) (append_assoc line (NEWLINE ∷ []) (CLOSED ∷ [])))
+    sym (blocks-more lines line closed_gate ∙ append_assoc (flat_map block lines) (block line) closed_gate
+    ∙ ap (λ (t : List ℕ). flat_map block lines ++ OPEN ∷ OPEN ∷ t) (append_assoc line (NEWLINE ∷ []) closed_gate))
 
-pub length-block_more : (lines : List Line) (line : Line) → length (flat_map block (lines ++ line ∷ [])) ≡ length (flat_map block lines) + (length line + 2)
+pub length-block_more : (lines : List Line) (line : Line) → length (flat_map block (lines ++ line ∷ [])) ≡ length (flat_map block lines) + (length line + 3)
 length-block_more lines line =
     omega (
       arith,
@@ -52,43 +50,39 @@ length-block_more lines line =
       length-append line (NEWLINE ∷ []),
     )
 
-pub length-at_rest : (lines : List Line) → length (at_rest lines) ≡ length (flat_map block lines) + 1
-length-at_rest lines = length-append (flat_map block lines) (CLOSED ∷ [])
+pub length-at_rest : (lines : List Line) → length (at_rest lines) ≡ length (flat_map block lines) + 2
+length-at_rest lines = length-append (flat_map block lines) closed_gate
 
--- while the gate is written over, it is the old one or the new one
-pub torn_gate : (lines : List Line) (line : Line) (old new : ℕ) (c : List ℕ) → Mixed (length (flat_map block lines)) (new ∷ []) (staged lines old line) c
-    → (c ≡ staged lines old line) ⊎ (c ≡ staged lines new line)
-torn_gate lines line old new c mixed =
-    let front = flat_map block lines in
-    let whole : c ≡ staged lines (slice_index c (length front)) line = torn_byte front old (line_and_gate line) c mixed.torn in
-    let here : length front + 0 ≡ length front = omega arith in
-    let seam : slice_index (staged lines old line) (length front) ≡ old = get_or-append_seam front old (line_and_gate line) 0 in
-    let either_byte = rw here at (mixed.each 0 (omega arith) (omega (arith, length-append front (old ∷ line_and_gate line)))) in
-    ⊎_elim (λ is_old. inl (whole ∙ ap (λ (g : ℕ). staged lines g line) (is_old ∙ seam)))
-    (λ is_new. inr (whole ∙ ap (λ (g : ℕ). staged lines g line) is_new)) either_byte
+module _ (lines : List Line) (line : Line) (are : AllByRecursion IsLine lines) where
+  pub length-line_and_gate : length (line_and_gate line) ≡ length line + 3
+  length-line_and_gate = length-append line (NEWLINE ∷ closed_gate)
 
--- once the gate is written over
-pub written_gate : (lines : List Line) (line : Line) (old new : ℕ) (c : List ℕ) → Torn (length (flat_map block lines)) 1 (staged lines old line) c
-    → Holds c (length (flat_map block lines)) (new ∷ []) → c ≡ staged lines new line
-written_gate lines line old new c torn holds =
-    let front = flat_map block lines in
-    let whole : c ≡ staged lines (slice_index c (length front)) line = torn_byte front old (line_and_gate line) c torn in
-    let here : length front + 0 ≡ length front = omega arith in
-    whole ∙ ap (λ (g : ℕ). staged lines g line) (rw here at (holds.each 0 (omega arith)))
+  pub staged_closed : IsNewLine line → lines_in (staged lines CLOSED CLOSED line) ≡ Ok lines
+  staged_closed is = lines_with_rest lines (line_and_gate line) are (omega (arith, length-line_and_gate, is.1))
 
-module _ (lines : List Line) (line : Line) (are : AllByRecursion IsLine lines) (is : IsNewLine line) where
-  length-line_and_gate : length (line_and_gate line) ≡ length line + 2
-  length-line_and_gate = length-append line (NEWLINE ∷ CLOSED ∷ [])
-
-  pub staged_closed : lines_in (staged lines CLOSED line) ≡ Ok lines
-  staged_closed = lines_with_rest lines (line_and_gate line) are (omega (arith, length-line_and_gate, is.1))
-
-  pub staged_rest : HasRest lines (staged lines CLOSED line)
-  staged_rest = record {
+  pub staged_rest : IsNewLine line → HasRest lines (staged lines CLOSED CLOSED line)
+  staged_rest is = record {
     rest = line_and_gate line;
-    split = sym (append_assoc (flat_map block lines) (CLOSED ∷ []) (line_and_gate line));
+    split = sym (append_assoc (flat_map block lines) closed_gate (line_and_gate line));
     few = omega (arith, length-line_and_gate, is.1);
   }
 
-  pub staged_counts : lines_in (staged lines OPEN line) ≡ Ok (lines ++ line ∷ [])
-  staged_counts = ap lines_in (staged_open lines line) ∙ lines_with_rest (lines ++ line ∷ []) [] (are-more lines line are is.0) (omega arith)
+  pub staged_counts : IsLine line → lines_in (staged lines OPEN OPEN line) ≡ Ok (lines ++ line ∷ [])
+  staged_counts is = ap lines_in (staged_open lines line) ∙ lines_with_rest (lines ++ line ∷ []) [] (are-more lines line are is) (omega arith)
+
+  -- a byte of a gate
+  abbrev pub IsGateByte : ℕ → Type 0
+  IsGateByte b = (b ≡ CLOSED) ⊎ (b ≡ OPEN)
+
+  -- with an open byte in its gate, the last line counts
+  pub one_open : IsLine line → (a b : ℕ) → ((a ≡ OPEN) × IsGateByte b) ⊎ ((b ≡ OPEN) × IsGateByte a) → lines_in (staged lines a b line) ≡ Ok (lines ++ line ∷ [])
+  one_open is a b (inl (first, inl second)) = lines_half_open lines a b line are is (inl (first, second))
+  one_open is a b (inl (first, inr second)) = rw (first, second) (staged_counts is)
+  one_open is a b (inr (second, inl first)) = lines_half_open lines a b line are is (inr (first, second))
+  one_open is a b (inr (second, inr first)) = rw (first, second) (staged_counts is)
+
+  -- whatever the gate, the file reads as the lines without the last one or with it
+  pub any_gate : IsNewLine line → (a b : ℕ) → IsGateByte a → IsGateByte b → IsBeforeOrAfter lines line (staged lines a b line)
+  any_gate is a b (inl first) (inl second) = inl (rw (first, second) (staged_closed is))
+  any_gate is a b (inr first) second = inr (one_open is.0 a b (inl (first, second)))
+  any_gate is a b (inl first) (inr second) = inr (one_open is.0 a b (inr (second, inl first)))

@@ -1,8 +1,8 @@
 -- Where the last line of a journal begins.
 use Rattle.std.proofs.Common.{◌≡◌, ℕ, ◌≤◌, List, [], ◌∷◌, ◌++◌, length, Option, Some, None, refl, sym, ◌∙◌, ap, subst}
 use Rattle.std.specs.List.{flat_map}
-use Rattle.line_journal.specs.Lines.{Line, block, HasRest}
-use Rattle.line_journal.specs.Journal.{IsLast, IsAtRest, IsShut, IsStaged}
+use Rattle.line_journal.specs.Lines.{Line, block, HasRest, IsLeft}
+use Rattle.line_journal.specs.Journal.{IsLast, IsAtRest, IsShut, IsTorn, IsStaged}
 use Rattle.line_journal.specs.declared.journal.Journal.{Journal}
 use Rattle.line_journal.specs.declared.layout.TheConstants.{LONGEST}
 use Rattle.line_journal.proofs.Crash.{more-same, staged_rest}
@@ -39,4 +39,14 @@ staged-shut seen may_leave journal lines line none staged = record {
   last = none-last journal.last lines none;
   are_lines = staged.are_lines;
   left = λ file may. subst (HasRest lines) (sym (staged.durable file may ∙ staged.file)) (staged_rest lines line staged.are_lines staged.is_line);
+}
+
+-- what is left of a line, by another word for where
+pub torn_alike : {D : Type 0} (may_leave : D → List ℕ → Type 0) (half_open half_open' : Option ℕ) (journal : Journal D) (lines : List Line)
+    → half_open ≡ half_open' → IsTorn may_leave half_open journal lines → IsTorn may_leave half_open' journal lines
+torn_alike may_leave half_open half_open' journal lines same torn = record {
+  gate = torn.gate;
+  last = torn.last;
+  are_lines = torn.are_lines;
+  left = λ file may. subst (λ (o : Option ℕ). IsLeft lines o file) same (torn.left file may);
 }

@@ -1,8 +1,10 @@
 -- What a write and a cut leave of a file, as lists.
-use Rattle.std.proofs.Common.{◌≡◌, ℕ, ◌+◌, ◌<◌, ◌≤◌, List, [], ◌∷◌, ◌++◌, length, take, drop, slice_index, refl, sym, ◌∙◌, ap, arith, append_assoc, length-append, length-take, length-drop, take-append-drop}
+use Rattle.std.proofs.Common.{◌≡◌, inl, inr, ⊎_elim, subst, ℕ, ◌+◌, ◌<◌, ◌≤◌, List, [], ◌∷◌, ◌++◌, length, take, drop, slice_index, refl, sym, ◌∙◌, ap, arith, append_assoc, length-append, length-take, length-drop, take-append-drop}
 use Rattle.std.proofs.lemmas.List.{take_at, drop_at, drop_more, take_all, get_or-take, get_or-drop}
 use Rattle.std.proofs.lemmas.Grind.{same_number_lists}
-use Rattle.sqlite_disk.specs.Disk.{Holds, Torn, Cut}
+use Rattle.std.proofs.Math.Seq.{get_or-append_seam}
+use Rattle.sqlite_disk.specs.Disk.{Holds, Torn, Mixed, Cut}
+use Rattle.line_journal.specs.Journal.{IsGateWrite}
 
 same_front : (n : ℕ) (old new : List ℕ) → n ≤ length old → n ≤ length new → ((i : ℕ) → i < n → slice_index new i ≡ slice_index old i) → take n new ≡ take n old
 same_front n old new in_old in_new same =
@@ -33,20 +35,61 @@ written_past old new bytes torn holds =
     get_or-drop (length old) new k 0 ∙ holds.each k (omega (arith, torn_end.1))) in
     torn_end.0 ∙ ap (λ (l : List ℕ). old ++ l) end
 
--- a write over one byte, however it is torn
-pub torn_byte : (front : List ℕ) (gate : ℕ) (rest new : List ℕ) → Torn (length front) 1 (front ++ gate ∷ rest) new → new ≡ front ++ slice_index new (length front) ∷ rest
-torn_byte front gate rest new torn =
-    let old : List ℕ = front ++ gate ∷ rest in
-    let size : length old ≡ length front + (1 + length rest) = omega (arith, length-append front (gate ∷ rest)) in
+-- a write over two bytes, however it is torn
+pub torn_pair : (front : List ℕ) (a b : ℕ) (rest new : List ℕ) → Torn (length front) 2 (front ++ a ∷ b ∷ rest) new
+    → new ≡ front ++ slice_index new (length front) ∷ slice_index new (length front + 1) ∷ rest
+torn_pair front a b rest new torn =
+    let old : List ℕ = front ++ a ∷ b ∷ rest in
+    let size : length old ≡ length front + (2 + length rest) = omega (arith, length-append front (a ∷ b ∷ rest)) in
     let long : length new ≡ length old = omega (arith, torn.no_shorter, torn.no_longer) in
     let before : take (length front) new ≡ front =
-    same_front (length front) old new (omega arith) (omega arith) (λ i below. torn.below i (omega arith) below) ∙ take_at front (gate ∷ rest) (length front) refl in
-    let split : old ≡ (front ++ gate ∷ []) ++ rest = sym (append_assoc front (gate ∷ []) rest) in
-    let after : drop (length front + 1) new ≡ rest =
-    same_back (length front + 1) old new long (λ i below past. torn.above i below past)
-    ∙ ap (λ (l : List ℕ). drop (length front + 1) l) split ∙ drop_at (front ++ gate ∷ []) rest (length front + 1) (length-append front (gate ∷ [])) in
+    same_front (length front) old new (omega arith) (omega arith) (λ i below. torn.below i (omega arith) below) ∙ take_at front (a ∷ b ∷ rest) (length front) refl in
+    let split : old ≡ (front ++ a ∷ b ∷ []) ++ rest = sym (append_assoc front (a ∷ b ∷ []) rest) in
+    let after : drop (length front + 2) new ≡ rest =
+    same_back (length front + 2) old new long (λ i below past. torn.above i below past)
+    ∙ ap (λ (l : List ℕ). drop (length front + 2) l) split ∙ drop_at (front ++ a ∷ b ∷ []) rest (length front + 2) (length-append front (a ∷ b ∷ [])) in
+    let second : drop (length front + 1) new ≡ slice_index new (length front + 1) ∷ rest =
+    drop_more new (length front + 1) 0 (omega arith) ∙ ap (λ (l : List ℕ). slice_index new (length front + 1) ∷ l) (again ∙ after) in
     sym (take-append-drop (length front) new) ∙ ap (λ (l : List ℕ). l ++ drop (length front) new) before
-    ∙ ap (λ (l : List ℕ). front ++ l) (drop_more new (length front) 0 (omega arith) ∙ ap (λ (l : List ℕ). slice_index new (length front) ∷ l) after)
+    ∙ ap (λ (l : List ℕ). front ++ l) (drop_more new (length front) 0 (omega arith) ∙ ap (λ (l : List ℕ). slice_index new (length front) ∷ l) second)
+  where
+    again : drop (length front + 1 + 1) new ≡ drop (length front + 2) new
+    again = let e : length front + 1 + 1 ≡ length front + 2 = omega arith in ap (λ (n : ℕ). drop n new) e
+
+-- a gate written over, where a crash may leave some of its bytes as they were
+pub mixed_gate : (at new : ℕ) (old c : List ℕ) → Mixed at (new ∷ new ∷ []) old c → IsGateWrite at new old c
+mixed_gate at new old c mixed front rest a b here file =
+    let there = subst (λ (n : ℕ). Mixed n (new ∷ new ∷ []) (front ++ a ∷ b ∷ rest) c) here (subst (λ (d : List ℕ). Mixed at (new ∷ new ∷ []) d c) file mixed) in
+    let size = length-append front (a ∷ b ∷ rest) in
+    let first : length front + 0 ≡ length front = omega arith in
+    let one : slice_index (front ++ a ∷ b ∷ rest) (length front) ≡ a = get_or-append_seam front a (b ∷ rest) 0 in
+    let two : slice_index (front ++ a ∷ b ∷ rest) (length front + 1) ≡ b =
+    ap (λ (l : List ℕ). slice_index l (length front + 1)) (sym (append_assoc front (a ∷ []) (b ∷ rest)))
+    ∙ ap (λ (n : ℕ). slice_index ((front ++ a ∷ []) ++ b ∷ rest) n) (sym (length-append front (a ∷ []))) ∙ get_or-append_seam (front ++ a ∷ []) b rest 0 in
+    let either_first = rw first at (there.each 0 (omega arith) (omega (arith, size))) in
+    let either_second = there.each 1 (omega arith) (omega (arith, size)) in
+    record {
+      first = slice_index c (length front);
+      second = slice_index c (length front + 1);
+      is_first = ⊎_elim (λ is_old. inl (is_old ∙ one)) (λ is_new. inr is_new) either_first;
+      is_second = ⊎_elim (λ is_old. inl (is_old ∙ two)) (λ is_new. inr is_new) either_second;
+      split = torn_pair front a b rest c there.torn;
+    }
+
+-- once the gate is written over
+pub written_gate : (at new : ℕ) (old c : List ℕ) → Torn at 2 old c → Holds c at (new ∷ new ∷ []) → (front rest : List ℕ) (a b : ℕ) → at ≡ length front
+    → old ≡ front ++ a ∷ b ∷ rest → c ≡ front ++ new ∷ new ∷ rest
+written_gate at new old c torn holds front rest a b here file =
+    let torn_there = subst (λ (n : ℕ). Torn n 2 (front ++ a ∷ b ∷ rest) c) here (subst (λ (d : List ℕ). Torn at 2 d c) file torn) in
+    let holds_there = subst (λ (n : ℕ). Holds c n (new ∷ new ∷ [])) here holds in
+    let first : length front + 0 ≡ length front = omega arith in
+    let one : slice_index c (length front) ≡ new = rw first at (holds_there.each 0 (omega arith)) in
+    let two : slice_index c (length front + 1) ≡ new = holds_there.each 1 (omega arith) in
+    torn_pair front a b rest c torn_there ∙ ap (λ (x : ℕ). front ++ x ∷ slice_index c (length front + 1) ∷ rest) one ∙ ap (λ (y : ℕ). front ++ new ∷ y ∷ rest) two
+
+-- a gate that was not written over
+pub gate_stays : (at new : ℕ) (file : List ℕ) → IsGateWrite at new file file
+gate_stays at new file front rest a b here split = record { first = a; second = b; is_first = inl refl; is_second = inl refl; split = split }
 
 -- a cut after some bytes
 pub cut_past : (front rest new : List ℕ) → Cut (length front) (front ++ rest) new → (new ≡ front ++ drop (length front) new) × (length (drop (length front) new) ≤ length rest)

@@ -4,7 +4,7 @@ ghost use Rattle.std.specs.Prelude.{◌≡◌, ◌⊎◌, ◌++◌, ◌+◌, ◌
 ghost use Rattle.line_journal.specs.Lines.{Line, IsLine, IsNewLine, line_and_gate};
 
 use crate::error::AppendError;
-use crate::layout::{CLOSED, LAST_GATE, LONGEST, NEWLINE};
+use crate::layout::{CLOSED, GATE, LAST_GATE, LONGEST, NEWLINE};
 use sqlite_disk::Disk;
 use std::alloc::AllocError;
 
@@ -12,9 +12,9 @@ use std::alloc::AllocError;
 #[derive(Drop)]
 pub struct Journal<D: Disk> {
     pub(crate) disk: D,
-    /// The byte of the closed gate.
+    /// The first byte of the closed gate.
     pub(crate) gate: usize,
-    /// The byte of the gate before the line that was appended last, where that may be taken back.
+    /// The first byte of the gate before the line that was appended last, where that may be taken back.
     pub(crate) last: Option<usize>,
     /// No write was left in doubt.
     pub(crate) is_open: bool,
@@ -58,7 +58,7 @@ impl<D: Disk> Journal<D> {
             → (self.new.is_open ≡ false) × ((c : List ℕ) → D.may_leave self.new.disk c → D.may_leave self.old.disk c) }
         ensures stays { IfErr result (λ e. (self.new.is_open ≡ self.old.is_open) ⊎ MayClose e) }
         ensures line { OnOk result (IsNewLine line.items) }
-        ensures last { OnOk result ((self.new.last ≡ Some self.old.gate) × (self.old.gate < self.new.gate)) }
+        ensures last { OnOk result ((self.new.last ≡ Some self.old.gate) × (self.old.gate + 2 < self.new.gate)) }
         ensures no_last { OnErr result (self.new.last ≡ None) }
         ensures why { IfErr result (HasCause D.is_usable D.is_mixing D.faults self.old self.new line.items) }
         ensures clean { D.is_clean self.new.disk ≡ D.is_clean self.old.disk }
@@ -70,7 +70,7 @@ impl<D: Disk> Journal<D> {
         if let Err(error) = check_line(&line) {
             return Err(error);
         }
-        let next = self.gate + line.len() + 2;
+        let next = self.gate + GATE + line.len() + 1;
         let bytes = with_gate(line)?;
         if let Err(error) = self.stage(&bytes) {
             self.unstage();
@@ -86,7 +86,7 @@ impl<D: Disk> Journal<D> {
     /// Cuts off a line that was not written to its end. Where that fails too, the journal is closed.
     fn unstage(&mut self)
         requires open { self.old.is_open ≡ true }
-        requires room { self.old.gate + 1 < 2 ^ 64 }
+        requires room { self.old.gate + 2 < 2 ^ 64 }
         ensures clean { D.is_clean self.new.disk ≡ D.is_clean self.old.disk }
         ensures faults { D.faults self.old.disk ≤ D.faults self.new.disk }
         ensures last { self.new.last ≡ self.old.last }
@@ -128,6 +128,6 @@ fn with_gate(line: Vec<u8>) -> Result<Vec<u8>, AllocError>
 {
     let mut bytes = line;
     bytes.push(NEWLINE)?;
-    bytes.push(CLOSED)?;
+    bytes.extend_from_slice(&[CLOSED, CLOSED])?;
     Ok(bytes)
 }

@@ -1,12 +1,15 @@
-//! The layout of the file: `+` before each line that counts, and `-` after the last one.
+//! The layout of the file: `++` before each line that counts, and `--` after the last one.
 
 ghost use Rattle.std.specs.Prelude.{◌≡◌, ◌^◌};
 
-/// The gate before a line that counts.
+/// Both bytes of the gate before a line that counts.
 pub const OPEN: u8 = b'+';
 
-/// The gate after the last line that counts.
+/// Both bytes of the gate after the last line that counts.
 pub const CLOSED: u8 = b'-';
+
+/// The bytes of a gate. That there are two is why no one changed byte closes a gate.
+pub const GATE: usize = 2;
 
 /// Ends a line.
 pub const NEWLINE: u8 = b'\n';
@@ -21,6 +24,7 @@ pub(crate) const LAST_GATE: usize = 1 << 62;
 pub fn limits_are_these()
     ensures open { OPEN ≡ 43 }
     ensures closed { CLOSED ≡ 45 }
+    ensures gate { GATE ≡ 2 }
     ensures newline { NEWLINE ≡ 10 }
     ensures longest { LONGEST ≡ 1048576 }
     ensures last_gate { LAST_GATE ≡ 2 ^ 62 }

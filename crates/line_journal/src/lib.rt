@@ -11,12 +11,10 @@ mod layout;
 mod opening;
 mod reading;
 mod taking_back;
-#[cfg(test)]
-mod tests;
 mod writing;
 
 pub use crashing::Aftermath;
 pub use error::{AppendError, Damage, OpenError, ReadError};
 pub use journal::Journal;
-pub use layout::{CLOSED, LONGEST, NEWLINE, OPEN, limits_are_these};
+pub use layout::{CLOSED, GATE, LONGEST, NEWLINE, OPEN, limits_are_these};
 pub use reading::{Found, read_lines};

@@ -16,9 +16,11 @@ use std::io;
 
 impl<D: Disk> Journal<D> {
     ghost use Rattle.line_journal.specs.Journal.{IsAtRest};
+    ghost use Rattle.line_journal.specs.Cause.{IsDisksFault};
 
-    /// Opens a file that a crash may have left, cuts off the rest of a line after its closed gate, and returns the
-    /// journal and the lines. A crash meanwhile leaves a file of the lines that it had. An `Err` gives the disk back.
+    /// Opens a file that a crash may have left, repairs it, and returns the journal and the lines: a half open gate of
+    /// the last line is opened, and the rest of a line after the closed gate is cut off. A crash meanwhile leaves a
+    /// file of the lines that it had. An `Err` gives the disk back.
     pub fn open(alloc: Global, disk: D) -> Result<(Journal<D>, Vec<Vec<u8>>), (OpenError, D)>
         requires { IsTrue (D.is_usable disk) }
         // After a restart, what is read is what is on the disk.
@@ -30,7 +32,7 @@ impl<D: Disk> Journal<D> {
         ensures damaged { IfErr result (λ e. (damage : DamageIn) → e.0 ≡ OpenError.Damaged damage
             → IsTrue (D.is_clean e.1) → lines_in (D.seen disk) ≡ Err damage) }
         ensures failed { IfErr result (λ e. (error : Error) → e.0 ≡ OpenError.Failed error
-            → MoreFaults (D.faults disk) (D.faults e.1)) }
+            → IsDisksFault D.is_mixing D.faults disk e.1) }
         ensures clean { IfOk result (λ r. IsTrue (D.is_clean r.0.disk) → IsTrue (D.is_clean disk)) }
         ensures clean_err { IfErr result (λ e. IsTrue (D.is_clean e.1) → IsTrue (D.is_clean disk)) }
         ensures crash { IfErr result (λ e. IsTrue (D.is_clean e.1) → Only (D.seen disk) (D.may_leave disk)
@@ -52,24 +54,24 @@ impl<D: Disk> Journal<D> {
             last: None,
             is_open: true,
         };
-        if let Err(error) = journal.cut_rest() {
+        if let Err(error) = journal.repair(found.half_open) {
             return Err((OpenError::Failed(error), journal.disk));
         }
         Ok((journal, found.lines))
     }
 
-    /// Makes an empty file one of no lines. A crash meanwhile leaves at most one byte, and no line. An `Err` gives the
-    /// disk back.
+    /// Makes an empty file one of no lines. A crash meanwhile leaves at most a gate of some bytes, and no line. An
+    /// `Err` gives the disk back.
     pub fn create(disk: D) -> Result<Journal<D>, (io::Error, D)>
         requires { IsTrue (D.is_usable disk) }
         ensures at_rest { IfOk result (λ journal. D.seen disk ≡ [] → IsAtRest D.seen D.may_leave journal []) }
         ensures open { IfOk result (λ journal. journal.is_open ≡ true) }
         ensures failed { IfErr result (λ e. MoreFaults (D.faults disk) (D.faults e.1)) }
         ensures crash { IfErr result (λ e. D.seen disk ≡ [] → Only (D.seen disk) (D.may_leave disk)
-            → (c : List ℕ) → D.may_leave e.1 c → length c ≤ 1) }
+            → (c : List ℕ) → D.may_leave e.1 c → length c ≤ 2) }
     {
         let mut disk = disk;
-        if let Err(error) = disk.write_at(0, &[CLOSED]) {
+        if let Err(error) = disk.write_at(0, &[CLOSED, CLOSED]) {
             return Err((error, disk));
         }
         if let Err(error) = disk.sync() {

@@ -4,6 +4,7 @@ ghost use Rattle.std.specs.Prelude.{◌≡◌, ◌⊎◌, ◌++◌, ◌+◌, ◌
 ghost use Rattle.line_journal.specs.Lines.{Line};
 
 use crate::journal::Journal;
+use crate::layout::GATE;
 use sqlite_disk::Disk;
 use std::io;
 
@@ -24,7 +25,7 @@ impl<D: Disk> Journal<D> {
         ensures open { self.new.is_open ≡ true → self.old.is_open ≡ true }
         // An open journal whose last line may be taken back is closed only by a fault of its disk.
         ensures why { self.old.is_open ≡ true → IsTrue (D.is_usable self.old.disk)
-            → (at : ℕ) → self.old.last ≡ Some at → at < self.old.gate
+            → (at : ℕ) → self.old.last ≡ Some at → at + 2 < self.old.gate
             → self.new.is_open ≡ false → IsDisksFault D.is_mixing D.faults self.old.disk self.new.disk }
         ensures clean { D.is_clean self.new.disk ≡ D.is_clean self.old.disk }
     {
@@ -37,7 +38,7 @@ impl<D: Disk> Journal<D> {
         let Some(at) = last else {
             return;
         };
-        if at >= self.gate {
+        if self.gate.saturating_sub(at) <= GATE {
             return;
         }
         let cut = self.cut_last(at);
@@ -47,7 +48,7 @@ impl<D: Disk> Journal<D> {
     /// Closes the gate at byte `at`, which is that of the last line, and cuts that line off.
     fn cut_last(&mut self, at: usize) -> io::Result<()>
         requires usable { IsTrue (D.is_usable self.old.disk) }
-        requires room { at + 1 < 2 ^ 64 }
+        requires room { at + 2 < 2 ^ 64 }
         requires last { self.old.last ≡ None }
         ensures last { self.new.last ≡ None }
         ensures clean { D.is_clean self.new.disk ≡ D.is_clean self.old.disk }

@@ -158,8 +158,54 @@ fn lines_are_kept_and_taken_back_over_restarts(rt: HostRuntime) -> Result<(), Fa
     drop(journal);
     assert_eq!(rt;
         fs::read(&rt, PATH)?.as_slice(),
-        b"+old\n+new\n-".as_slice()
+        b"++old\n++new\n--".as_slice()
     );
     fs::remove_dir_all(&rt, FOLDER)?;
+    Ok(())
+}
+
+#[test]
+fn a_half_open_gate_is_opened(rt: HostRuntime) -> Result<(), Fail> {
+    const FOLDER: &str = "line_journal_half_open";
+    const PATH: &str = "line_journal_half_open/lines";
+    let _ = fs::remove_dir_all(&rt, FOLDER);
+    for half_open in [
+        b"++old\n+-new\n--".as_slice(),
+        b"++old\n-+new\n--".as_slice(),
+    ] {
+        fs::create_dir(&rt, FOLDER)?;
+        make_journal(&rt, PATH)?;
+        fs::write(&rt, PATH, half_open)?;
+        let text = lines_at(&rt, PATH)?;
+        assert_eq!(rt; text.as_slice(), b"old|new|".as_slice());
+        assert_eq!(rt;
+            fs::read(&rt, PATH)?.as_slice(),
+            b"++old\n++new\n--".as_slice()
+        );
+        fs::remove_dir_all(&rt, FOLDER)?;
+    }
+    Ok(())
+}
+
+#[test]
+fn a_half_open_gate_whose_repair_stops_at_each_call(rt: HostRuntime) -> Result<(), Fail> {
+    const FOLDER: &str = "line_journal_repair";
+    const PATH: &str = "line_journal_repair/lines";
+    let _ = fs::remove_dir_all(&rt, FOLDER);
+    for calls in 0..=4 {
+        fs::create_dir(&rt, FOLDER)?;
+        make_journal(&rt, PATH)?;
+        fs::write(&rt, PATH, b"+-old\n--".as_slice())?;
+        let Ok(file) = open(&rt, PATH, Unknown) else {
+            return Err(Fail::from("no file"));
+        };
+        let fuse = Fuse::new(file, calls);
+        assert!(rt; fuse.may_be_used());
+        let is_ok = Journal::open(rt.alloc(), fuse).is_ok();
+        assert_eq!(rt; is_ok, calls == 4, "after {calls} calls");
+        let text = lines_at(&rt, PATH)?;
+        assert_eq!(rt; text.as_slice(), b"old|".as_slice(), "after {calls} calls");
+        fs::remove_dir_all(&rt, FOLDER)?;
+    }
     Ok(())
 }

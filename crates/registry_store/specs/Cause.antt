@@ -60,14 +60,14 @@ HasReadCause lines (opens.BadLine number fault) = IsBadLine lines number fault
 HasReadCause lines (opens.Failed error) = ⊥
 
 -- why a file was not opened, by its disk before and after
-abbrev pub HasOpenCause : {D : Type 0} → (D → List ℕ) → (D → Bool) → (D → ℕ)
+abbrev pub HasOpenCause : {D : Type 0} → (D → List ℕ) → (D → Bool) → (D → Bool) → (D → ℕ)
     → D → D → OpenFault → Type 0
-HasOpenCause seen is_clean faults old new opens.NoMemory = Unit {0}
-HasOpenCause seen is_clean faults old new (opens.Damaged damage) =
+HasOpenCause seen is_clean is_mixing faults old new opens.NoMemory = Unit {0}
+HasOpenCause seen is_clean is_mixing faults old new (opens.Damaged damage) =
     IsTrue (is_clean new) → lines_in (seen old) ≡ Err damage
-HasOpenCause seen is_clean faults old new (opens.BadLine number fault) =
+HasOpenCause seen is_clean is_mixing faults old new (opens.BadLine number fault) =
     IsTrue (is_clean new) → (lines : List Line) × (lines_in (seen old) ≡ Ok lines) × IsBadLine lines number fault
-HasOpenCause seen is_clean faults old new (opens.Failed error) = MoreFaults (faults old) (faults new)
+HasOpenCause seen is_clean is_mixing faults old new (opens.Failed error) = IsDisksFault is_mixing faults old new
 
 -- the store says what its journal said; a command's line never has a newline
 abbrev pub SaysSame : AppendError → StoreFault → Type 0

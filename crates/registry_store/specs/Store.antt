@@ -1,5 +1,5 @@
 -- How a store and its file go together. This project's own.
-use Rattle.std.specs.Prelude.{◌≡◌, ◌⊎◌, ◌++◌, ◌∷◌, ◌<◌, [], ℕ, Bool, IsTrue, List, map, Some, Ok}
+use Rattle.std.specs.Prelude.{◌≡◌, ◌⊎◌, ◌++◌, ◌∷◌, ◌<◌, [], ℕ, Bool, IsTrue, List, map, Some, Ok, ◌+◌}
 use Rattle.std.specs.List.{AllByRecursion}
 use Rattle.line_journal.specs.Journal.{IsAtRest}
 use Rattle.line_journal.specs.Lines.{Line, lines_in}
@@ -26,7 +26,7 @@ disk_of store = store.journal.disk
 
 -- the command that was added last may be taken back
 abbrev pub MayTakeBack : {D : Type 0} → CommandStore D → Type 0
-MayTakeBack store = (at : ℕ) × (store.journal.last ≡ Some at) × (at < store.journal.gate)
+MayTakeBack store = (at : ℕ) × (store.journal.last ≡ Some at) × (at + 2 < store.journal.gate)
 
 -- The file has the lines of exactly these commands, and all of it is on the disk. It is said of a disk whose answers
 -- were true (`is_clean`), since no file is known by others.

@@ -1,4 +1,4 @@
-//! Registry; used by `avrogate`.
+//! Registry; used by `schema_registry` and `store_commands`.
 //!
 //! The commands that changed a registry, as lines of a text file that outlives a crash.
 #![tactic(auto)]
@@ -12,8 +12,6 @@ mod reading;
 mod store;
 mod store_fault;
 mod stored;
-#[cfg(test)]
-mod tests;
 mod writing;
 
 pub use fault::LineFault;

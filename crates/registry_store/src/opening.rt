@@ -35,7 +35,7 @@ impl<D: Disk> CommandStore<D> {
         ensures keeps { IfOk result (λ r. Only (D.seen disk) (D.may_leave disk)
             → Keeps D.seen D.may_leave D.is_clean r.0 (commands_of r.1.items)) }
         ensures open { IfOk result (λ r. is_open r.0 ≡ true) }
-        ensures why { IfErr result (λ e. HasOpenCause D.seen D.is_clean D.faults disk e.1 e.0) }
+        ensures why { IfErr result (λ e. HasOpenCause D.seen D.is_clean D.is_mixing D.faults disk e.1 e.0) }
         ensures clean { IfOk result (λ r. IsTrue (D.is_clean r.0.journal.disk) → IsTrue (D.is_clean disk)) }
         ensures clean_err { IfErr result (λ e. IsTrue (D.is_clean e.1) → IsTrue (D.is_clean disk)) }
         ensures crash { IfErr result (λ e. IsTrue (D.is_clean e.1) → Only (D.seen disk) (D.may_leave disk)
@@ -51,7 +51,8 @@ impl<D: Disk> CommandStore<D> {
         }
     }
 
-    /// Makes an empty file one of no commands. A crash meanwhile leaves at most one byte. An `Err` gives the disk back.
+    /// Makes an empty file one of no commands. A crash meanwhile leaves at most two bytes. An `Err` gives the disk
+    /// back.
     pub fn create(alloc: Global, disk: D) -> Result<CommandStore<D>, (io::Error, D)>
         requires { IsTrue (D.is_usable disk) }
         ensures keeps { IfOk result (λ store. D.seen disk ≡ []
@@ -59,7 +60,7 @@ impl<D: Disk> CommandStore<D> {
         ensures open { IfOk result (λ store. is_open store ≡ true) }
         ensures failed { IfErr result (λ e. MoreFaults (D.faults disk) (D.faults e.1)) }
         ensures crash { IfErr result (λ e. D.seen disk ≡ [] → Only (D.seen disk) (D.may_leave disk)
-            → (c : List ℕ) → D.may_leave e.1 c → length c ≤ 1) }
+            → (c : List ℕ) → D.may_leave e.1 c → length c ≤ 2) }
     {
         match Journal::create(disk) {
             Ok(journal) => Ok(CommandStore { alloc, journal }),

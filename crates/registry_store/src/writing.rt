@@ -49,7 +49,8 @@ fn registration_body(
 
 /// Returns a level's line before its check.
 fn level_body(alloc: Global, subject: Option<&str>, level: &str) -> Result<String, AllocError>
-    ensures body { IfOk result (λ body. string_bytes body ≡ body_of (LevelSet (option_copied subject.entry) level.now)) }
+    ensures body { IfOk result (λ body. string_bytes body
+        ≡ body_of (LevelSet (option_copied subject.entry) level.now)) }
     ensures is_text { IsOk result → IsSubject (option_copied subject.entry) }
 {
     let mut body = String::from_str(alloc, "level ")?;

@@ -7,10 +7,10 @@ use std::test::Fail;
 
 /// What `make_store` leaves, and then a level and a registration, with checks that `sha256sum` gave.
 const THREE_COMMANDS: &str = "\
-+register 1 orders \"int\" 22b20c4a80590a42
-+level * FULL 4026cada239cc4ff
-+register 2 a%20%2A \"long\" cf5d6a24a3c1f0da
--";
+++register 1 orders \"int\" 22b20c4a80590a42
+++level * FULL 4026cada239cc4ff
+++register 2 a%20%2A \"long\" cf5d6a24a3c1f0da
+--";
 
 #[test]
 fn a_file_is_lines(rt: HostRuntime) -> Result<(), Fail> {
@@ -85,18 +85,18 @@ fn a_line_that_does_not_fit(rt: HostRuntime) -> Result<(), Fail> {
 const REFUSED: [(&str, &str); 5] = [
     ("no journal", "the file is damaged at byte 0, in line 1"),
     (
-        "+register 1 orders \"int\" 22b20c4a80590a42\n+level",
-        "the file is damaged at byte 48, in line 2",
+        "++register 1 orders \"int\" 22b20c4a80590a42\n++level",
+        "the file is damaged at byte 50, in line 2",
     ),
     (
-        "+register 1 orders \"int\" 22b20c4a80590a40\n-",
+        "++register 1 orders \"int\" 22b20c4a80590a40\n--",
         "line 1: the check at the end of the line is not that of the line",
     ),
     (
-        "+level * FULL 4026cada239cc4ff\n+levels * FULL 727a9868f1d3cb78\n-",
+        "++level * FULL 4026cada239cc4ff\n++levels * FULL 727a9868f1d3cb78\n--",
         "line 2: no command is written as this line",
     ),
-    ("-", ""),
+    ("--", ""),
 ];
 
 #[test]

@@ -1,10 +1,13 @@
 //! Tests and bench; run by `rt ci`.
 //!
-//! Tests of `registry_store` over a real file of `journal_file`: what a person reads in it, and a disk that stops.
+//! Tests of `registry_store`: lines as a person reads them, and stores in a real file of `journal_file`, whose disk
+//! stops.
 #![tactic(auto)]
 
 #[cfg(test)]
 mod file_tests;
+#[cfg(test)]
+mod line_tests;
 #[cfg(test)]
 mod stopping_tests;
 #[cfg(test)]

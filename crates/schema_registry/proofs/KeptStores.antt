@@ -71,8 +71,8 @@ no-bad-line cs may number fault bad =
     let it = line-in cs may bad.before bad.bytes bad.after bad.whole in
     not-refused it.0 bad.bytes fault it.1 it.2 bad.refused
 
-module _ {D : Type 0} (seen : D → List ℕ) (is_clean : D → Bool) (faults : D → ℕ) (old new : D) where
-  pub no-registry : (fault : OpenFault) → HasOpenCause seen is_clean faults old new fault → IsOfFile (File fault) → IsTrue (is_clean new) → IsOfNoRegistry (seen old)
+module _ {D : Type 0} (seen : D → List ℕ) (is_clean is_mixing : D → Bool) (faults : D → ℕ) (old new : D) where
+  pub no-registry : (fault : OpenFault) → HasOpenCause seen is_clean is_mixing faults old new fault → IsOfFile (File fault) → IsTrue (is_clean new) → IsOfNoRegistry (seen old)
   no-registry opening.NoMemory why of_file clean = absurd of_file
   no-registry (opening.Failed error) why of_file clean = absurd of_file
   no-registry (opening.Damaged damage) why of_file clean = λ commands accepted has.

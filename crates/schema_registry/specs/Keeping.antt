@@ -24,7 +24,8 @@ pub record MayAdd (lists : Lists) (subject : List ℕ) (schema : Declaration) : 
 -- a version of the subject has the schema, under this id
 pub record HasVersion (lists : Lists) (subject : List ℕ) (schema : Declaration) (id : ℕ) : Type 0 where
   pub number : ℕ
-  pub found : with_text schema.text lists.schemas (versions_of subject lists.entries) ≡ Some (entry_of subject number id)
+  pub found : with_text schema.text lists.schemas (versions_of subject lists.entries)
+      ≡ Some (entry_of subject number id)
 
 -- the subject has the schema under the id; or it may be added, and the id is the one that it then has
 abbrev pub IsDecision : Lists → List ℕ → Declaration → Decision → Type 0
@@ -76,7 +77,8 @@ kept_in commands = kept_from no_lists commands
 -- what is kept of these commands, or of one more that would have been accepted
 abbrev pub IsLeft : List Command → List KeptCommand → Type 0
 IsLeft commands left =
-    (left ≡ kept_in commands) ⊎ ((c : Command) × (reply : Reply) × IsAnswer (answer_to (registry_after commands) c) (Ok reply)
+    (left ≡ kept_in commands) ⊎ ((c : Command) × (reply : Reply)
+    × IsAnswer (answer_to (registry_after commands) c) (Ok reply)
     × (left ≡ kept_in commands ++ kept_of (registry_after commands) c))
 
 -- A keeper has what is to be kept of these commands, while it takes more; and a crash leaves that, or one command more,
@@ -93,7 +95,8 @@ pub record WithKeeper (K : Type 0) : Type 0 where
   pub keeper : K
 
 -- a command would be accepted, and the keeper failed, or memory ran out for what is kept of the level of all
-pub record MayFail {K : Type 0} (fails : K → K → KeptCommand → Type 0) (lists : Lists) (c : Command) (old new : K) : Type 0 where
+pub record MayFail {K : Type 0} (fails : K → K → KeptCommand → Type 0)
+    (lists : Lists) (c : Command) (old new : K) : Type 0 where
   pub reply : Reply
   pub accepted : IsAnswer (answer_to lists c) (Ok reply)
   pub changes : ¬ (IsQuestion c)

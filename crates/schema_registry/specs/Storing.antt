@@ -20,7 +20,8 @@ use Rattle.schema_registry.specs.Reply.{Reply}
 
 module _ {D : Type 0} where
   -- its file has these commands, and nothing else
-  abbrev pub KeepsStored : (D → List ℕ) → (D → List ℕ → Type 0) → (D → Bool) → CommandStore D → List KeptCommand → Type 0
+  abbrev pub KeepsStored : (D → List ℕ) → (D → List ℕ → Type 0) → (D → Bool)
+      → CommandStore D → List KeptCommand → Type 0
   KeepsStored seen may_leave is_clean store ks = Keeps seen may_leave is_clean store (map stored_as ks)
 
   -- a crash may leave a file of these

@@ -31,8 +31,8 @@ pub trait Keeper {
     /// A call that took the first and left the second could not keep this command.
     ghost fails: { Self → Self → KeptCommand → Type 0 };
 
-    /// Keeps a registration, with the id that is answered. At `Ok` each crash leaves it. At `Err` the keeper has what it
-    /// had, or takes no more.
+    /// Keeps a registration, with the id that is answered. At `Ok` each crash leaves it. At `Err` the keeper has what
+    /// it had, or takes no more.
     fn keep_registration(&mut self, id: u32, subject: &str, text: &str) -> Result<(), KeepFault>
         ensures kept { OnOk result ((ks : List KeptCommand) → keeps self.old ks
             → keeps self.new (ks ++ KeptRegistration id subject.now text.now ∷ [])) }
@@ -48,8 +48,8 @@ pub trait Keeper {
         ensures why { IfErr result (λ e. e ≡ KeepFault.NotStored
             → fails self.old self.new (KeptRegistration id subject.now text.now)) };
 
-    /// Keeps a level that is set for a subject, or for all. At `Ok` each crash leaves it. At `Err` the keeper has what it
-    /// had, or takes no more.
+    /// Keeps a level that is set for a subject, or for all. At `Ok` each crash leaves it. At `Err` the keeper has what
+    /// it had, or takes no more.
     fn keep_level(&mut self, subject: &Option<String>, level: Level) -> Result<(), KeepFault>
         ensures kept { OnOk result ((ks : List KeptCommand) → keeps self.old ks
             → keeps self.new (ks ++ KeptLevel (option_map string_bytes subject.now) level ∷ [])) }

@@ -96,8 +96,8 @@ impl<K: Keeper> KeptRegistry<K> {
         &self.registry
     }
 
-    /// Does or answers what a command asks, or refuses it; then no command changes. At `Ok` it is kept, where it changed
-    /// something. `NotStored` where it would be accepted, and the keeper failed.
+    /// Does or answers what a command asks, or refuses it; then no command changes. At `Ok` it is kept, where it
+    /// changed something. `NotStored` where it would be accepted, and the keeper failed.
     pub fn apply(&mut self, command: Command) -> Result<Reply, Refusal>
         ensures answer { IfOk result (λ reply. Gives (answer_to (registry_after self.old.registry)
             (command_of command)) (Ok reply)) }

@@ -49,14 +49,16 @@ HasListingCause commands (listings.NotAccepted number) = LacksNames commands num
 abbrev pub IsWhyNoStore : List ℕ → OpenFault → Type 0
 IsWhyNoStore file stores.NoMemory = ⊥
 IsWhyNoStore file (stores.Damaged damage) = lines_in file ≡ Err damage
-IsWhyNoStore file (stores.BadLine number fault) = (lines : List Line) × (lines_in file ≡ Ok lines) × IsBadLine lines number fault
+IsWhyNoStore file (stores.BadLine number fault) =
+    (lines : List Line) × (lines_in file ≡ Ok lines) × IsBadLine lines number fault
 IsWhyNoStore file (stores.Failed error) = ⊥
 
 -- what was against printing the commands of a file
 abbrev pub HasExportCause : List ℕ → ExportFault → Type 0
 HasExportCause file (Traffic error) = Unit {0}
 HasExportCause file (Store fault) = IsWhyNoStore file fault
-HasExportCause file (NotAccepted number) = (commands : List Stored) × HasCommands file commands × LacksNames commands number
+HasExportCause file (NotAccepted number) =
+    (commands : List Stored) × HasCommands file commands × LacksNames commands number
 
 -- it is not the input, the output or memory
 abbrev pub IsOfStore : ExportFault → Type 0

@@ -24,7 +24,8 @@ said_in line = if is_silent line then Some [] else option_map (λ c. c ∷ []) (
 abbrev pub Say : List (List ℕ) → List Command → Type 0
 Say [] commands = commands ≡ []
 Say (line ∷ lines) commands =
-    (first : List Command) × (rest : List Command) × (said_in line ≡ Some first) × Say lines rest × (commands ≡ first ++ rest)
+    (first : List Command) × (rest : List Command) × (said_in line ≡ Some first) × Say lines rest
+    × (commands ≡ first ++ rest)
 
 -- the lines before the one of this number, from 1, are taken, and say this
 pub record AreBefore (lines : List (List ℕ)) (number : ℕ) (commands : List Command) : Type 0 where

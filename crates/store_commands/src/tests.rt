@@ -12,7 +12,7 @@ use std::{fs, io};
 
 /// A store of two commands, with what a torn write left after its gate.
 const STORE: &str =
-    "+register 1 orders {\"type\":\"record\",\"name\":\"Order\",\"fields\":[{\"name\":\"id\",\"type\":\"long\"}]} b40d8a6f924a9af0\n+level * FULL 4026cada239cc4ff\n-register 2 or";
+    "++register 1 orders {\"type\":\"record\",\"name\":\"Order\",\"fields\":[{\"name\":\"id\",\"type\":\"long\"}]} b40d8a6f924a9af0\n++level * FULL 4026cada239cc4ff\n--register 2 or";
 
 /// What it is exported as.
 const LINES: &str =
@@ -47,30 +47,30 @@ fn stores_are_exported(rt: HostRuntime) -> Result<(), Fail> {
     let alloc = rt.alloc();
     for (store, want) in [
         (STORE, LINES),
-        ("-", ""),
+        ("--", ""),
         (
-            "+register 2 a-b [%0A \"null\",%0D%0A\"int\"] 6f3a44eebdc8c39b\n-",
+            "++register 2 a-b [%0A \"null\",%0D%0A\"int\"] 6f3a44eebdc8c39b\n--",
             "register a-b [  \"null\",  \"int\"]\n",
         ),
         ("", "the file is damaged at byte 0, in line 1"),
         (
-            "+level * FULL 4026cada239cc4ff\nX",
-            "the file is damaged at byte 31, in line 2",
+            "++level * FULL 4026cada239cc4ff\nX",
+            "the file is damaged at byte 32, in line 2",
         ),
         (
-            "+level * FULL 4026cada239cc4fe\n-",
+            "++level * FULL 4026cada239cc4fe\n--",
             "line 1: the check at the end of the line is not that of the line",
         ),
         (
-            "+levels * FULL 727a9868f1d3cb78\n-",
+            "++levels * FULL 727a9868f1d3cb78\n--",
             "line 1: no command is written as this line",
         ),
         (
-            "+level * FULL 4026cada239cc4ff\n+register 12 a%20b \"int\" 950fd821b3c37766\n-",
+            "++level * FULL 4026cada239cc4ff\n++register 12 a%20b \"int\" 950fd821b3c37766\n--",
             "line 2: no registry accepts the command",
         ),
         (
-            "+level %2A NONE b7f97e69baac46f9\n-",
+            "++level %2A NONE b7f97e69baac46f9\n--",
             "line 1: no registry accepts the command",
         ),
     ] {

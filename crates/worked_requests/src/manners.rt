@@ -56,8 +56,8 @@ fn is_right(served: &Served, at_once: &Served) -> bool {
     served.status == at_once.status && served.bytes.as_slice() == at_once.bytes.as_slice()
 }
 
-/// Answers a request in a manner, as a whole and in parts, and appends a line where that differs. Whether a device of the
-/// first failed.
+/// Answers a request in a manner, as a whole and in parts, and appends a line where that differs. Whether a device of
+/// the first failed.
 fn try_manner<R: Wait>(
     rt: &R,
     alloc: Global,

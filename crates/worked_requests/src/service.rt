@@ -82,7 +82,8 @@ impl<'a, 'p> Service<'a, 'p> {
         }
     }
 
-    /// Answers a request by a reader and a writer that behave so, part by part, as over a connection that does not block.
+    /// Answers a request by a reader and a writer that behave so, part by part, as over a connection that does not
+    /// block.
     pub(crate) fn serve_in_parts<R: Wait>(
         &mut self,
         rt: &R,

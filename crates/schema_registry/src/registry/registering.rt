@@ -133,7 +133,8 @@ impl Registry {
         Ok(id)
     }
 
-    /// Decides what becomes of a schema that is to be a version of a subject, or why it may not be one. Nothing changes.
+    /// Decides what becomes of a schema that is to be a version of a subject, or why it may not be one. Nothing
+    /// changes.
     pub(crate) fn decide(&self, subject: &str, schema: &Candidate<'_>) -> Result<Decision, Refusal>
         ensures ok { IfOk result (IsDecision (registry_after self.now) subject.now schema.now) }
         ensures err { IfErr result (λ e. GivesId (registry_after self.now) subject.now schema.now (Err e)) }

@@ -6,7 +6,7 @@ use Rattle.schema_registry.proofs.kept_registry.opening.Started.from_disk.Goals 
 
 pub returns-in-Err-clause-why : goal.returns-in-Err-clause-why
 returns-in-Err-clause-why g c =
-    no-registry g.D.Disk.seen g.D.Disk.is_clean g.D.Disk.faults c.args.disk c.in-Err.disk c.in-Err.fault c.in-Err.ensures.why
+    no-registry g.D.Disk.seen g.D.Disk.is_clean g.D.Disk.is_mixing g.D.Disk.faults c.args.disk c.in-Err.disk c.in-Err.fault c.in-Err.ensures.why
 
 pub returns-in-Err-replayed-clause-why : goal.returns-in-Err-replayed-clause-why
 returns-in-Err-replayed-clause-why g c known clean commands accepted has =

@@ -1,6 +1,6 @@
 //! Lines as a person reads them, with checks that `sha256sum` gave.
 
-use crate::{LineFault, StoredCommand, level_line, parse, registration_line};
+use registry_store::{LineFault, StoredCommand, level_line, parse, registration_line};
 use std::alloc::{AllocError, Global};
 use std::test::Fail;
 
