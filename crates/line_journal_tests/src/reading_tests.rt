@@ -102,7 +102,11 @@ fn half_open_gates_that_do_not_count(rt: HostRuntime) -> Result<(), Fail> {
         (b"++a\n-+".as_slice(), 4, 2),
         (b"++a\n+-b\n++c\n--".as_slice(), 4, 2),
     ] {
-        assert_eq!(rt; damage_in(rt.alloc(), bytes), Some(Damage { at, line }), "at {at}");
+        assert_eq!(rt;
+            damage_in(rt.alloc(), bytes),
+            Some(Damage { at, line }),
+            "at {at}"
+        );
     }
     Ok(())
 }
@@ -113,6 +117,9 @@ fn a_rest_that_is_longer_than_one_line_leaves(rt: HostRuntime) -> Result<(), Fai
     bytes.resize(LONGEST + 9, 0)?;
     assert_eq!(rt; found_in(rt.alloc(), &bytes)?.as_slice(), b"a|".as_slice());
     bytes.push(0)?;
-    assert_eq!(rt; damage_in(rt.alloc(), &bytes), Some(Damage { at: 4, line: 2 }));
+    assert_eq!(rt;
+        damage_in(rt.alloc(), &bytes),
+        Some(Damage { at: 4, line: 2 })
+    );
     Ok(())
 }
