@@ -49,7 +49,7 @@ cmp -s "$folder/registry.store" "$folder/copy.store" || { echo "a store that was
 "$program" import </dev/null >"$out" 2>"$err"; want 'import without a file' 2 none some
 "$program" import --store "$folder/registry.store" </dev/null >"$out" 2>"$err"; want 'import into a file that is there' 3 some none
 "$program" export </dev/null >"$out" 2>"$err"; want 'export of no bytes' 3 some none
-printf -- '-' | "$program" export >"$out" 2>"$err"; want 'export of an empty store' 0 none none
+printf -- '--' | "$program" export >"$out" 2>"$err"; want 'export of an empty store' 0 none none
 "$program" export <"$folder/registry.store" >/dev/full 2>"$err"; status=$?; : >"$out"; (exit $status); want 'export to a full device' 3 none none
 printf 'level * NOTHING\n' | "$program" import --store "$folder/a" >"$out" 2>"$err"; want 'import of a bad level' 3 some none
 "$program" serve --port 0 --store "$folder" </dev/null >"$out" 2>"$err"; want 'a folder as a store' 3 some none

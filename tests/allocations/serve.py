@@ -30,7 +30,7 @@ def message(size):
 
 
 def stored(body):
-    return b"+" + body + b" " + hashlib.sha256(body).hexdigest()[:16].encode() + b"\n"
+    return b"++" + body + b" " + hashlib.sha256(body).hexdigest()[:16].encode() + b"\n"
 
 
 # a request, and the body of its answer
@@ -91,7 +91,7 @@ def run(at):
     environment = {**os.environ, "REFUSE": str(at), "REFUSED": mark, "LD_PRELOAD": LIBRARY}
     if STORE:
         with open(FOLDER + "/registry", "wb") as file:
-            file.write(stored(b"register 1 t " + WRITER.encode()) + b"-")
+            file.write(stored(b"register 1 t " + WRITER.encode()) + b"--")
     answered = set()
     server = subprocess.Popen(COMMAND, env=environment, stdout=subprocess.PIPE)
     try:

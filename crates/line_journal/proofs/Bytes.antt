@@ -21,7 +21,7 @@ with_lines-more (l ∷ lines) line r = ap (with_line l) (with_lines-more lines l
 abbrev pub damage_after : List Line → ℕ → Damage
 damage_after lines at = record { at = at; line = length lines + 1 }
 
-with_lines-err : (lines : List Line) (at : ℕ) → with_lines lines (Err (damage_at at)) ≡ Err (damage_after lines at)
+pub with_lines-err : (lines : List Line) (at : ℕ) → with_lines lines (Err (damage_at at)) ≡ Err (damage_after lines at)
 with_lines-err [] at = refl
 with_lines-err (l ∷ lines) at =
     let counted : length lines + 1 + 1 ≡ length (l ∷ lines) + 1 = omega arith in

@@ -87,7 +87,7 @@ no_last_line (b ∷ l) is =
     rw not_end (no_last_line l is.1)
 
 -- a line is the last one by what comes after its newline
-last_line_by : (line rest : List ℕ) → IsLine line → is_last_line (line ++ NEWLINE ∷ rest) ≡ is_closed_gate rest
+pub last_line_by : (line rest : List ℕ) → IsLine line → is_last_line (line ++ NEWLINE ∷ rest) ≡ is_closed_gate rest
 last_line_by [] rest is = refl
 last_line_by (b ∷ line) rest is =
     let not_end : (b == NEWLINE) ≡ false = grind (arith, nat_tests, is.0) in

@@ -5,3 +5,4 @@ pub mod Steps
 pub mod Gates
 pub mod Bytes
 pub mod LastLine
+pub mod Changes

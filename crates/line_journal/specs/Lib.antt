@@ -1,4 +1,5 @@
 pub mod Lines
 pub mod Reading
+pub mod Changes
 pub mod Journal
 pub mod Cause

@@ -7,6 +7,7 @@
 mod crashing;
 mod error;
 mod journal;
+mod laws;
 mod layout;
 mod opening;
 mod reading;
@@ -16,5 +17,6 @@ mod writing;
 pub use crashing::Aftermath;
 pub use error::{AppendError, Damage, OpenError, ReadError};
 pub use journal::Journal;
+pub use laws::a_changed_gate_is_found;
 pub use layout::{CLOSED, GATE, LONGEST, NEWLINE, OPEN, limits_are_these};
 pub use reading::{Found, read_lines};

@@ -5,6 +5,8 @@
 #![tactic(auto)]
 
 #[cfg(test)]
+mod changed_tests;
+#[cfg(test)]
 mod file_tests;
 #[cfg(test)]
 mod line_tests;
