@@ -1,8 +1,8 @@
 -- What is added by one step after another.
-use Rattle.std.proofs.Common.{◌≡◌, ◌⊎◌, inl, inr, ℕ, zero, suc, ◌+◌, List, [], ◌∷◌, ◌++◌, length, Option, Some, None, Result, Ok, Err, OnOk, slice_get, refl, sym, ap, ◌∙◌, subst, append_assoc, arith}
+use Rattle.std.proofs.Common.{◌≡◌, ◌⊎◌, inl, inr, ℕ, zero, suc, List, [], ◌∷◌, ◌++◌, Some, Result, Ok, Err, OnOk, slice_get, refl, sym, ap, ◌∙◌, append_assoc}
 use Rattle.std.specs.List.{AllByRecursion}
 use Rattle.avro_schema_paths.specs.Places.{Path}
-use Rattle.avro_schema_paths.specs.Adds.{IsAmong, IsThis, Lists, Adds}
+use Rattle.avro_schema_paths.specs.Adds.{IsAmong, IsThis, Adds}
 use Rattle.avro_schema_paths.specs.declared.entries.NodePath.{NodePath}
 
 pub on_ok : {A E P Q : Type 0} (r : Result A E) → (P → Q) → OnOk r P → OnOk r Q

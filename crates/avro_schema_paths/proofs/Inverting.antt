@@ -1,23 +1,19 @@
 -- What is declared in a value is declared in it itself or in one of its parts.
-use Rattle.std.proofs.Common.{◌≡◌, ◌⊎◌, inl, inr, ℕ, zero, suc, ◌+◌, ◌<◌, ◌≤◌, Bool, true, false, List, [], ◌∷◌, ◌++◌, length, Option, Some, None, option_map, slice_get, get_or, is_some, refl, sym, ap, ◌∙◌, subst, codes, map, arith}
-use Rattle.serde_json.specs.Data.{Data, null, boolean, number, string, array, object, Items, no_items, item, Members}
+use Rattle.std.proofs.Common.{◌≡◌, ◌⊎◌, inl, inr, ℕ, zero, suc, ◌<◌, ◌≤◌, true, List, [], ◌∷◌, ◌++◌, length, Option, Some, None, slice_get, get_or, is_some, refl, sym, ap, ◌∙◌, subst, codes, map, arith}
+use Rattle.serde_json.specs.Data.{Data, string, array, object, Items, Members}
 use Rattle.serde_json.specs.Find.{as_array, get, get_item}
 use Rattle.std.specs.List.{AllByRecursion}
 use Rattle.std.specs.Prelude.{IfSome}
 use Rattle.avro_types.specs.declared.kind.Field.{Field}
-use Rattle.serde_json.specs.View.{view, items_view, number_view}
-use Rattle.serde_json.specs.declared.number.Number.{Number}
-use Rattle.serde_json.specs.declared.value.Value as json
-use Rattle.serde_json.specs.declared.value.Value.{Value, the_lemmas}
-use Rattle.std.proofs.Common.{rules}
-use Rattle.avro_types.specs.Node.{Node, FieldNode, fields_of, ArrayNode, MapNode, UnionNode, RecordNode}
-use Rattle.avro_schema_names.specs.Word.{form_of, leaf_of, word_of}
+use Rattle.serde_json.specs.View.{view, items_view}
+use Rattle.serde_json.specs.declared.value.Value.{Value}
+use Rattle.avro_types.specs.Node.{Node, FieldNode, fields_of}
+use Rattle.avro_schema_names.specs.Word.{leaf_of, word_of}
 use Rattle.avro_schema_names.specs.declared.word.Form.{Form}
 use Rattle.avro_schema_names.specs.declared.word.Form.TheVariants as forms
-use Rattle.avro_schema_paths.specs.Parts.{type_in, member_steps, field_steps, InWrapper, InField, InFields, InForm, InHeld, InMember, InObject}
+use Rattle.avro_schema_paths.specs.Parts.{type_in, member_steps, field_steps, InWrapper, InForm, InHeld, InMember, InObject}
 use Rattle.avro_schema_paths.specs.Places.{Path, Places, item_at, value_at, a_type, a_union, a_word, declares, form_at, in_wrapper, in_array, in_map, in_record, in_union, members_at, types_at}
 use Rattle.avro_schema_paths.specs.Adds.{IsThis}
-use Rattle.avro_schema_paths.specs.declared.step.Step.{Step}
 use Rattle.avro_schema_paths.specs.declared.step.Step.TheVariants as steps
 
 pub below_items : (vs : List Value) (i : ℕ) (d : Data) → get_item i (items_view vs) ≡ Some d → i < length vs

@@ -1,12 +1,9 @@
 -- Each path leads through the value to what declares the node.
-use Rattle.std.proofs.Common.{◌≡◌, ℕ, List, [], ◌∷◌, ◌++◌, Option, Some, None, option_and_then, refl, sym, ap, ◌∙◌, codes}
-use Rattle.serde_json.specs.Data.{Data, string, array, object, Items, Members}
-use Rattle.serde_json.specs.Find.{get, get_item}
+use Rattle.std.proofs.Common.{◌≡◌, ℕ, List, [], ◌∷◌, ◌++◌, Option, Some, None, option_and_then, refl, ap, ◌∙◌}
+use Rattle.serde_json.specs.Data.{Data, string, array, object}
 use Rattle.avro_types.specs.Node.{Node}
-use Rattle.avro_schema_names.specs.declared.word.Form.TheVariants as forms
 use Rattle.avro_schema_paths.specs.Following.{LeadsToDeclaration, PathsLeadThere, Wraps, a_list, an_object, a_text, follow, itself, step_in, wrapped}
-use Rattle.avro_schema_paths.specs.Places.{IsPathOf, Path, Places, a_type, a_union, a_word, form_at, in_wrapper, in_array, in_map, in_record, in_union}
-use Rattle.avro_schema_paths.specs.declared.step.Step.{Step}
+use Rattle.avro_schema_paths.specs.Places.{Path, Places, a_type, a_union, a_word, in_wrapper, in_array, in_map, in_record, in_union}
 use Rattle.avro_schema_paths.specs.declared.step.Step.TheVariants as steps
 
 follow_more : (p more : Path) (root d : Data) → follow p root ≡ Some d → follow (p ++ more) root ≡ follow more d

@@ -3,6 +3,7 @@ pub mod ByNumber
 pub mod HavePaths
 pub mod Inverting
 pub mod Leading
+pub mod OnePath
 pub mod Parting
 pub mod Pointing
 pub mod Reading

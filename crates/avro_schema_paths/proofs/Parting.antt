@@ -1,8 +1,8 @@
 -- What parts declare is what the whole declares.
-use Rattle.std.proofs.Common.{rules, ◌≡◌, ◌≢◌, ◌⊎◌, inl, inr, ℕ, zero, suc, ◌+◌, ◌<◌, Bool, List, [], ◌∷◌, ◌++◌, length, Option, Some, None, option_map, slice_get, get_or, refl, sym, ap, ◌∙◌, subst, codes, arith}
+use Rattle.std.proofs.Common.{rules, ◌≡◌, ◌⊎◌, inl, inr, ℕ, ◌+◌, Bool, List, [], ◌∷◌, ◌++◌, length, Option, Some, slice_get, sym, ◌∙◌, subst, codes, arith}
 use Rattle.std.proofs.lemmas.Bool.{cases_lt}
-use Rattle.serde_json.specs.Data.{Data, null, boolean, number, string, array, object, Items, Members}
-use Rattle.serde_json.specs.Find.{as_array, get, get_item}
+use Rattle.serde_json.specs.Data.{Data, null, boolean, number, array, object, Items, Members}
+use Rattle.serde_json.specs.Find.{get, get_item}
 use Rattle.serde_json.specs.View.{view, items_view, number_view}
 use Rattle.serde_json.specs.declared.number.Number.{Number}
 use Rattle.serde_json.specs.declared.value.Value as json
@@ -42,14 +42,14 @@ module _ (nodes : List Node) where
       (λ m q p. (let below = p.below in record { i = p.i; below = omega (arith, below); held = p.held }))
       (λ m q p. record { i = i; below = omega arith; held = subst (λ (x : Option Data). InHeld nodes x (slice_get ns i) (path ++ member_steps i) m q) (sym value) (subst (λ (x : Option ℕ). InHeld nodes o x (path ++ member_steps i) m q) (sym node) p) })
       (λ m q p. back m q p) t u where
-    back : (m : ℕ) (q : Path) → InMember nodes (i + 1) ds ns path m q → InMember nodes i ds ns path m q ⊎ InHeld nodes o k (path ++ member_steps i) m q
-    back m q p = elim (cases_lt p.i i) [
-      | inl h ↦ inl (record { i = p.i; below = h; held = p.held })
-      | inr h ↦ inr (
-        let below = p.below in
-        let same : p.i ≡ i = omega (arith, h, below) in
-        subst (λ (x : Option ℕ). InHeld nodes o x (path ++ member_steps i) m q) node (subst (λ (x : Option Data). InHeld nodes x (slice_get ns i) (path ++ member_steps i) m q) value (subst (λ (j : ℕ). InHeld nodes (get_item j ds) (slice_get ns j) (path ++ member_steps j) m q) same p.held)))
-    ]
+        back : (m : ℕ) (q : Path) → InMember nodes (i + 1) ds ns path m q → InMember nodes i ds ns path m q ⊎ InHeld nodes o k (path ++ member_steps i) m q
+        back m q p = elim (cases_lt p.i i) [
+          | inl h ↦ inl (record { i = p.i; below = h; held = p.held })
+          | inr h ↦ inr (
+              let below = p.below in
+              let same : p.i ≡ i = omega (arith, h, below) in
+              subst (λ (x : Option ℕ). InHeld nodes o x (path ++ member_steps i) m q) node (subst (λ (x : Option Data). InHeld nodes x (slice_get ns i) (path ++ member_steps i) m q) value (subst (λ (j : ℕ). InHeld nodes (get_item j ds) (slice_get ns j) (path ++ member_steps j) m q) same p.held)))
+        ]
 
   pub no_fields : (ds : Items) (ns : List ℕ) (path : Path) (a : List NodePath) → Adds (InField nodes 0 ds ns path) a a
   no_fields ds ns path a = adds_none (InField nodes 0 ds ns path) a (λ m q p. (let lt = p.below in absurd (omega (arith, lt))))
@@ -60,14 +60,14 @@ module _ (nodes : List Node) where
       (λ m q p. (let below = p.below in record { i = p.i; below = omega (arith, below); held = p.held }))
       (λ m q p. record { i = i; below = omega arith; held = subst (λ (x : Option Data). InHeld nodes x (slice_get ns i) (path ++ field_steps i) m q) (sym value) (subst (λ (x : Option ℕ). InHeld nodes o x (path ++ field_steps i) m q) (sym node) p) })
       (λ m q p. back m q p) t u where
-    back : (m : ℕ) (q : Path) → InField nodes (i + 1) ds ns path m q → InField nodes i ds ns path m q ⊎ InHeld nodes o k (path ++ field_steps i) m q
-    back m q p = elim (cases_lt p.i i) [
-      | inl h ↦ inl (record { i = p.i; below = h; held = p.held })
-      | inr h ↦ inr (
-        let below = p.below in
-        let same : p.i ≡ i = omega (arith, h, below) in
-        subst (λ (x : Option ℕ). InHeld nodes o x (path ++ field_steps i) m q) node (subst (λ (x : Option Data). InHeld nodes x (slice_get ns i) (path ++ field_steps i) m q) value (subst (λ (j : ℕ). InHeld nodes (type_in (get_item j ds)) (slice_get ns j) (path ++ field_steps j) m q) same p.held)))
-    ]
+        back : (m : ℕ) (q : Path) → InField nodes (i + 1) ds ns path m q → InField nodes i ds ns path m q ⊎ InHeld nodes o k (path ++ field_steps i) m q
+        back m q p = elim (cases_lt p.i i) [
+          | inl h ↦ inl (record { i = p.i; below = h; held = p.held })
+          | inr h ↦ inr (
+              let below = p.below in
+              let same : p.i ≡ i = omega (arith, h, below) in
+              subst (λ (x : Option ℕ). InHeld nodes o x (path ++ field_steps i) m q) node (subst (λ (x : Option Data). InHeld nodes x (slice_get ns i) (path ++ field_steps i) m q) value (subst (λ (j : ℕ). InHeld nodes (type_in (get_item j ds)) (slice_get ns j) (path ++ field_steps j) m q) same p.held)))
+        ]
 
   pub fields_added : (o : Option Data) (vs : List Value) (ns : List ℕ) (path : Path) (a b : List NodePath) → o ≡ Some (array (items_view vs)) → Adds (InField nodes (length vs) (items_view vs) ns path) a b → Adds (InFields nodes o ns path) a b
   fields_added o vs ns path a b e t = adds_same (InField nodes (length vs) (items_view vs) ns path) (InFields nodes o ns path) a b (λ m q p. record { ds = items_view vs; is = e; count = length vs; field = p }) (λ m q p. back m q p) t where

@@ -1,20 +1,19 @@
 -- The pointer of a path leads where the path does: each part of the text is one step.
-use Rattle.std.proofs.Common.{◌≡◌, ◌≢◌, ℕ, zero, suc, ◌+◌, ◌^◌, ◌<◌, ◌≤◌, subst, ◌==◌, ◌||◌, Bool, true, false, not, List, [], ◌∷◌, ◌++◌, length, get_or, slice_index, Option, Some, None, option_and_then, codes, decimal, refl, sym, ap, ◌∙◌, arith, append-nil, append_assoc, lt-ltb, eq-eqb, ne_eqb}
+use Rattle.std.proofs.Common.{◌≡◌, ℕ, zero, suc, ◌^◌, ◌<◌, ◌≤◌, subst, ◌==◌, ◌||◌, true, false, not, List, [], ◌∷◌, ◌++◌, length, slice_index, Option, Some, None, option_and_then, codes, decimal, refl, sym, ap, ◌∙◌, arith, append-nil, lt-ltb, eq-eqb, ne_eqb}
 use Rattle.std.proofs.lemmas.Bool.{or_left, or_right}
 use Rattle.std.proofs.lemmas.Fmt.{decimal_is_IsNumeral, decimal_nonempty, first_decimal, length-decimal-le_succ}
 use Rattle.std.specs.Prelude.{⊤}
 use Rattle.std.specs.Char.{digit_value}
-use Rattle.std.specs.List.{AllByRecursion, flat_map}
+use Rattle.std.specs.List.{AllByRecursion}
 use Rattle.std.specs.Str.Parse.{AllDigits}
-use Rattle.fast_float.specs.Text.{Parts, IsWellFormed, digits_of, scan, text_of}
+use Rattle.fast_float.specs.Text.{Parts, IsWellFormed, digits_of, scan}
 use Rattle.fast_float.proofs.Writing.{scan-text_of}
-use Rattle.serde_json.specs.Data.{Data, null, boolean, number, string, array, object}
-use Rattle.serde_json.specs.Find.{at, get, get_item, get_member, index_of, pointer, step, unescape, walk}
+use Rattle.serde_json.specs.Data.{Data, array, object}
+use Rattle.serde_json.specs.Find.{at, get, get_item, get_member, index_of, step, walk}
 use Rattle.serde_json.proofs.Paths.{Lacks, unescape_plain, walk_last, walk_part}
-use Rattle.serde_json.specs.Read.{is_integer}
 use Rattle.avro_schema_paths.specs.Following.{follow, step_in}
 use Rattle.avro_schema_paths.specs.Places.{Path}
-use Rattle.avro_schema_paths.specs.Pointers.{HasShortPosition, PointersLeadThere, pointer_of, segment, word}
+use Rattle.avro_schema_paths.specs.Pointers.{HasShortPosition, PointersLeadThere, pointer_of, word}
 use Rattle.avro_schema_paths.specs.declared.step.Step.{Step}
 use Rattle.avro_schema_paths.specs.declared.step.Step.TheVariants as steps
 
@@ -125,5 +124,5 @@ walk_leads s (t ∷ path) d x h a e =
     walk_part (word s) rest d (word_lacks_slash s h) ∙ ap (option_and_then (walk [] rest)) (word_leads s d b.y h b.first) ∙ walk_leads t path b.y x a.0 a.1 b.then
 
 pub pointers_lead : PointersLeadThere
-pointers_lead [] root found a e = e
-pointers_lead (s ∷ path) root found a e = walk_leads s path root found a.0 a.1 e
+pointers_lead [] a = λ root found e. e
+pointers_lead (s ∷ path) a = λ root found e. walk_leads s path root found a.0 a.1 e

@@ -1,5 +1,5 @@
 -- Where the steps of a path lead in a JSON value, as those of a JSON Pointer (RFC 6901) do.
-use Rattle.std.specs.Prelude.{◌≡◌, ℕ, List, [], ◌∷◌, true, Option, Some, None, option_and_then, codes}
+use Rattle.std.specs.Prelude.{◌≡◌, ℕ, List, [], ◌∷◌, true, Option, Some, option_and_then, codes}
 use Rattle.serde_json.specs.Data.{Data, string, array, object, Items, Members}
 use Rattle.serde_json.specs.Find.{at, get}
 use Rattle.avro_types.specs.Node.{Node}
@@ -44,4 +44,5 @@ pub record LeadsToDeclaration (root : Data) (q : Path) : Type 0 where
 
 -- each path of a node does
 abbrev pub PathsLeadThere : Type 0
-PathsLeadThere = (nodes : List Node) (value : Data) (k : ℕ) (q : Path) → IsPathOf nodes value k q → LeadsToDeclaration value q
+PathsLeadThere = (nodes : List Node) (value : Data) (k : ℕ) (q : Path) → IsPathOf nodes value k q
+    → LeadsToDeclaration value q

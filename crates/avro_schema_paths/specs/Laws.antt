@@ -21,6 +21,16 @@ abbrev pub EachNodeHasPath : Type 0
 EachNodeHasPath = (value : Data) (drafts : List Draft) (nodes : List Node) → Declares value null_namespace [] 0 drafts
     → AreNodesOf drafts drafts nodes → (k : ℕ) → k < length nodes → (q : Path) × IsPathOf nodes value k q
 
+-- and no other
+abbrev pub EachNodeHasOnePath : Type 0
+EachNodeHasOnePath = (value : Data) (nodes : List Node) → AreDeclared value nodes → (k : ℕ) (q r : Path)
+    → IsPathOf nodes value k q → IsPathOf nodes value k r → q ≡ r
+
+-- what has a path is a node
+abbrev pub OnlyNodesHavePaths : Type 0
+OnlyNodesHavePaths = (value : Data) (nodes : List Node) → AreDeclared value nodes → (k : ℕ) (q : Path)
+    → IsPathOf nodes value k q → k < length nodes
+
 -- the text of a schema reads as one value, and that value declares the schema's nodes
 abbrev pub ReadValueIsDeclared : Type 0
 ReadValueIsDeclared = (text : List ℕ) (nodes : List Node) (value : Data) → ReadsAsSchema text nodes

@@ -61,9 +61,11 @@ module _ (nodes : List Node) where
   InForm forms.Enum d n outer path m q = IsThis n outer m q
   InForm forms.Fixed d n outer path m q = IsThis n outer m q
   InForm forms.Array d n outer path m q =
-      IsThis n outer m q ⊎ InHeld (get (codes "items") d) (item_at (slice_get nodes n)) (path ++ steps.Items ∷ []) m q
+      IsThis n outer m q
+      ⊎ InHeld (get (codes "items") d) (item_at (slice_get nodes n)) (path ++ steps.Items ∷ []) m q
   InForm forms.Map d n outer path m q =
-      IsThis n outer m q ⊎ InHeld (get (codes "values") d) (value_at (slice_get nodes n)) (path ++ steps.Values ∷ []) m q
+      IsThis n outer m q
+      ⊎ InHeld (get (codes "values") d) (value_at (slice_get nodes n)) (path ++ steps.Values ∷ []) m q
   InForm forms.Error d n outer path m q = ⊥
   InForm forms.Other d n outer path m q = InWrapper (get (codes "type") d) n outer path m q
 

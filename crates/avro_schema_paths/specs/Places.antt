@@ -1,5 +1,5 @@
 -- Where each node of a schema is declared in its JSON value (Avro 1.11 Specification, "Schema Declaration").
-use Rattle.std.specs.Prelude.{◌≡◌, ℕ, ◌<◌, Bool, true, false, List, [], ◌∷◌, ◌++◌, map, Option, Some, None, slice_get, codes}
+use Rattle.std.specs.Prelude.{◌≡◌, ℕ, Bool, true, false, List, [], ◌∷◌, ◌++◌, map, Option, Some, None, slice_get, codes}
 use Rattle.serde_json.specs.Data.{Data, string, array, object, Items, Members}
 use Rattle.serde_json.specs.Find.{get, get_item}
 use Rattle.avro_types.specs.Node.{Node, ArrayNode, MapNode, UnionNode, RecordNode}

@@ -29,7 +29,10 @@ abbrev pub HasShortPosition : Step → Type 0
 HasShortPosition (steps.At i) = i < 2 ^ 64
 HasShortPosition _ = ⊤
 
--- the pointer of a path leads where the path does
+-- read as a JSON Pointer, the text leads in each value where the path does
+abbrev pub LeadsAsPath : List ℕ → Path → Type 0
+LeadsAsPath text path = (root found : Data) → follow path root ≡ Some found → pointer text root ≡ Some found
+
+-- the pointer of a path does
 abbrev pub PointersLeadThere : Type 0
-PointersLeadThere = (path : Path) (root found : Data) → AllByRecursion HasShortPosition path
-    → follow path root ≡ Some found → pointer (pointer_of path) root ≡ Some found
+PointersLeadThere = (path : Path) → AllByRecursion HasShortPosition path → LeadsAsPath (pointer_of path) path

@@ -25,7 +25,10 @@ pub struct Place<'a> {
 pub(crate) fn longer(alloc: Global, path: &[Step], more: &[Step]) -> Result<Vec<Step>, AllocError>
     ensures { IfOk result (λ steps. steps.items ≡ path.now ++ more.now) }
 {
-    path.iter().copied().chain(more.iter().copied()).collect(alloc)
+    path.iter()
+        .copied()
+        .chain(more.iter().copied())
+        .collect(alloc)
 }
 
 /// Adds a node with its path.

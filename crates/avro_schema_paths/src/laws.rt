@@ -1,12 +1,18 @@
 //! The laws of paths. They do nothing when they run.
 
 ghost use Rattle.avro_schema_paths.specs.Following.{PathsLeadThere};
-ghost use Rattle.avro_schema_paths.specs.Laws.{EachNodeHasPath, ReadValueIsDeclared};
+ghost use Rattle.avro_schema_paths.specs.Laws.{EachNodeHasOnePath, EachNodeHasPath, OnlyNodesHavePaths, ReadValueIsDeclared};
 ghost use Rattle.avro_schema_paths.specs.Pointers.{PointersLeadThere};
 
 /// The law that each node that a schema's value declares has a path in that value.
 pub fn each_node_has_path()
     ensures { EachNodeHasPath }
+{}
+
+/// The law that each node has no more than one path in the value that declares it, and that nothing else has one.
+pub fn each_node_has_one_path()
+    ensures one { EachNodeHasOnePath }
+    ensures nodes { OnlyNodesHavePaths }
 {}
 
 /// The law that each path of a node leads to a value that declares a type, or that wraps one which does.

@@ -16,7 +16,8 @@ mod tests;
 
 pub use entries::{NodePath, Place};
 pub use laws::{
-    each_node_has_path, paths_lead_there, pointers_lead_there, read_value_is_declared,
+    each_node_has_one_path, each_node_has_path, paths_lead_there, pointers_lead_there,
+    read_value_is_declared,
 };
 pub use paths::paths_of;
 pub use placing::add_places;

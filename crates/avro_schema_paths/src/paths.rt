@@ -1,13 +1,13 @@
 //! The path of each node of a schema.
 
-ghost use Rattle.std.specs.Prelude.{◌≡◌, ◌<◌, ℕ, length, IfOk};
+ghost use Rattle.std.specs.Prelude.{◌≡◌, length, IfOk};
 ghost use Rattle.serde_json.specs.View.{view};
-ghost use Rattle.avro_schema_paths.specs.Adds.{ArePaths, IsNodeAmong};
+ghost use Rattle.avro_schema_paths.specs.Adds.{ArePaths};
 ghost use Rattle.avro_schema_paths.specs.ByNumber.{AreByNumber};
 ghost use Rattle.avro_schema_paths.specs.Laws.{AreDeclared};
 
-use crate::laws::each_node_has_path;
 use crate::entries::{NodePath, Place};
+use crate::laws::each_node_has_path;
 use crate::placing::add_places;
 use crate::step::Step;
 use avro_types::Nodes;
@@ -50,11 +50,7 @@ fn by_number(
 ///
 /// A name that is referred to declares nothing. A node whose declaration is wrapped, as in
 /// `{"type": {"type": "array", "items": "int"}}`, has the path of the outermost wrapper.
-pub fn paths_of(
-    alloc: Global,
-    nodes: &Nodes,
-    value: &Value,
-) -> Result<Vec<Vec<Step>>, AllocError>
+pub fn paths_of(alloc: Global, nodes: &Nodes, value: &Value) -> Result<Vec<Vec<Step>>, AllocError>
     requires { AreDeclared (view value.now) nodes.now }
     ensures { IfOk result (λ paths. ArePaths nodes.now (view value.now) (length nodes.now) paths.items) }
 {

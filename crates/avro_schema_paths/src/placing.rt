@@ -20,7 +20,7 @@ use avro_types::{Field, Nodes};
 use serde_json::Value;
 use std::alloc::{AllocError, Global};
 
-/// Answers whether a text is a primitive type's name.
+/// Returns whether a text is a primitive type's name.
 fn is_leaf(text: &str) -> bool
     ensures { result ≡ is_some (leaf_of (word_of text.now)) }
 {
@@ -47,7 +47,8 @@ fn add_word(
 
 /// Adds the nodes that are declared in a value, each with its path (Avro 1.11 Specification, "Schema Declaration").
 ///
-/// The value is a node itself, which may be declared elsewhere. Entries that are there stay as they are.
+/// The value is the node `node`, which it may also name where it is declared elsewhere. Entries that are there stay as
+/// they are. This recurses as deep as the value nests, which `serde_json` bounds for each value that it reads.
 #[cycle(places)]
 pub fn add_places(
     alloc: Global,
@@ -238,7 +239,10 @@ fn add_wrapped(
         None => Ok(()),
         Some(value) => {
             let path = longer(alloc, place.path, &[Step::Type])?;
-            let inside = Place { outer: place.outer, path: &path };
+            let inside = Place {
+                outer: place.outer,
+                path: &path,
+            };
             add_places(alloc, nodes, value, node, &inside, out)
         }
     }

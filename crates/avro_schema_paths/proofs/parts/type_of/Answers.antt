@@ -1,5 +1,5 @@
 -- The field at the position, or none past the last.
-use Rattle.std.proofs.Common.{◌≡◌, ◌≤◌, length, sym, arith}
+use Rattle.std.proofs.Common.{sym, arith}
 use Rattle.avro_schema_paths.proofs.Inverting.{type_none, type_some}
 use Rattle.avro_schema_paths.proofs.parts.type_of.Goals as goal
 

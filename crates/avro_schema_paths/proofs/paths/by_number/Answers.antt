@@ -1,5 +1,5 @@
 -- One entry more: its path is put at its node's number, where that is counted.
-use Rattle.std.proofs.Common.{◌≡◌, ◌<◌, ◌≤◌, length, arith}
+use Rattle.std.proofs.Common.{arith}
 use Rattle.avro_schema_paths.proofs.ByNumber.{one_left_out, one_put}
 use Rattle.avro_schema_paths.proofs.paths.by_number.Goals as goal
 

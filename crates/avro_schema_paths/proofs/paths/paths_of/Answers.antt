@@ -1,5 +1,5 @@
 -- Each entry has a path of its node, and each node has an entry.
-use Rattle.std.proofs.Common.{◌≡◌, ◌<◌, ℕ, [], Vec, length, subst}
+use Rattle.std.proofs.Common.{◌<◌, ℕ, [], length, subst}
 use Rattle.std.proofs.lemmas.Result.{IfOk-weaker}
 use Rattle.serde_json.specs.View.{view}
 use Rattle.avro_schema_paths.specs.Places.{Places}

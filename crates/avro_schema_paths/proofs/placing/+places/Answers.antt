@@ -1,13 +1,13 @@
-use Rattle.std.proofs.Common.{rules, ◌≡◌, ◌<◌, ◌≤◌, ◌∙◌, ◌⊎◌, ◌++◌, ◌∷◌, [], sym, ap, subst, codes, option_map, arith, inl, inr, length, map, slice_get, List, OnOk, Some}
+use Rattle.std.proofs.Common.{◌≡◌, ◌≤◌, ◌∙◌, ◌++◌, ◌∷◌, [], sym, ap, subst, codes, option_map, arith, inl, inr, map, slice_get, List, Some}
 use Rattle.serde_json.specs.Data.{array, depth, items_depth}
 use Rattle.serde_json.specs.View.{view, items_view}
-use Rattle.serde_json.proofs.Views.{view-Array, view-Object}
+use Rattle.serde_json.proofs.Views.{view-Object}
 use Rattle.avro_schema_drafts.proofs.Depths.{found-depth, item-depth}
 use Rattle.avro_types.specs.Node.{fields_of}
 use Rattle.avro_schema_drafts.specs.Draft.{data_at}
 use Rattle.serde_json.specs.declared.value.Value.{Value}
-use Rattle.avro_schema_paths.specs.Parts.{InFields, InForm, InHeld, field_steps, member_steps, type_in}
-use Rattle.avro_schema_paths.specs.Places.{Path, Places, types_at, item_at, value_at}
+use Rattle.avro_schema_paths.specs.Parts.{InForm, InHeld, field_steps, member_steps, type_in}
+use Rattle.avro_schema_paths.specs.Places.{Path, types_at, item_at, value_at}
 use Rattle.avro_schema_names.specs.Word.{form_of}
 use Rattle.avro_schema_names.specs.declared.word.Form.TheVariants as forms
 use Rattle.avro_schema_paths.specs.declared.step.Step.{Step}

@@ -1,5 +1,5 @@
 -- Each level of the value takes eight steps: an element, its object, a record, its list of fields, an attribute.
-use Rattle.std.proofs.Common.{◌≡◌, ◌+◌, ◌*◌, ◌≤◌, length, map}
+use Rattle.std.proofs.Common.{◌+◌, ◌*◌, map}
 use Rattle.serde_json.specs.Data.{depth, items_depth}
 use Rattle.serde_json.specs.View.{view, items_view}
 use Rattle.avro_types.specs.Node.{fields_of}
