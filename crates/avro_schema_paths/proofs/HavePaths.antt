@@ -181,4 +181,4 @@ module _ (nodes : List Node) (all : List Draft) (are : AreNodesOf all all nodes)
     ]
 
 pub each_has_path : EachNodeHasPath
-each_has_path value drafts nodes says are k lt = path_in nodes drafts are says [] (sym (append-nil drafts)) k (omega arith) (omega (arith, lt, count_same drafts drafts nodes are)) [] []
+each_has_path value nodes a k lt = path_in nodes a.drafts a.defaults a.declares [] (sym (append-nil a.drafts)) k (omega arith) (omega (arith, lt, count_same a.drafts a.drafts nodes a.defaults)) [] []

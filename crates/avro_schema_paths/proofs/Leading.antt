@@ -20,9 +20,9 @@ wraps_on a b c (wrapped {d = d} is at rest) s = wrapped is at (wraps_on d b c re
 module _ (nodes : List Node) (root : Data) where
   -- a value that is there, and the nodes that it declares
   pub leads : (d : Data) (n : ℕ) (outer path : Path) (m : ℕ) (q : Path) → Places nodes d n outer path m q → (t : Data) → follow outer root ≡ Some t → Wraps t d → follow path root ≡ Some d → LeadsToDeclaration root q
-  leads d n outer path m q (a_word {s = s} is) t at around there = record { t = t; d = string s; at = at; wraps = around; declares = a_text is }
-  leads d n outer path m q (a_union {ds = ds}) t at around there = record { t = t; d = array ds; at = at; wraps = around; declares = a_list }
-  leads d n outer path m q (a_type {ms = ms} is) t at around there = record { t = t; d = object ms; at = at; wraps = around; declares = an_object is }
+  leads d n outer path m q (a_word {s = s} is) t at around there = record { found = t; declaration = string s; at = at; wraps = around; declares = a_text is }
+  leads d n outer path m q (a_union {ds = ds}) t at around there = record { found = t; declaration = array ds; at = at; wraps = around; declares = a_list }
+  leads d n outer path m q (a_type {ms = ms} is) t at around there = record { found = t; declaration = object ms; at = at; wraps = around; declares = an_object is }
   leads d n outer path m q (in_union {ds = ds} {m = k} {q = r} {d = x} {k = j} i node value p) t at around there =
       let here = follow_more path (steps.At i ∷ []) root (array ds) there ∙ ap (λ (o : Option Data). option_and_then (follow []) o) value in
       leads x j (path ++ steps.At i ∷ []) (path ++ steps.At i ∷ []) k r p x here itself here

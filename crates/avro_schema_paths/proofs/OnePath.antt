@@ -267,10 +267,10 @@ module _ (nodes : List Node) where
           fields_one rest more (spans-rest before added later more all e) (λ z. at (suc z)) m q r i g d k j b c l v t n w u o p s
 
 pub one_path : EachNodeHasOnePath
-one_path value nodes a k q r h i = one nodes a.drafts a.nodes_of a.declares [] (sym (append-nil a.drafts)) [] [] k q r h i
+one_path value nodes a k q r h i = one nodes a.drafts a.defaults a.declares [] (sym (append-nil a.drafts)) [] [] k q r h i
 
 pub only_nodes : OnlyNodesHavePaths
 only_nodes value nodes a k q h =
-    let r = in_range nodes a.drafts a.nodes_of a.declares [] (sym (append-nil a.drafts)) [] [] k q h in
-    let count = count_same a.drafts a.drafts nodes a.nodes_of in
+    let r = in_range nodes a.drafts a.defaults a.declares [] (sym (append-nil a.drafts)) [] [] k q h in
+    let count = count_same a.drafts a.drafts nodes a.defaults in
     omega (arith, r.1, count)

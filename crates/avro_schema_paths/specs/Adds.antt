@@ -29,7 +29,7 @@ pub record Adds (P : ℕ → Path → Type 0) (old new : List NodePath) : Type 0
 
 -- the node n, with this path
 abbrev pub IsThis : ℕ → Path → ℕ → Path → Type 0
-IsThis n outer m q = (n ≡ m) × (outer ≡ q)
+IsThis n path m q = (n ≡ m) × (path ≡ q)
 
 -- one of these is that node
 abbrev pub IsNodeAmong : List NodePath → ℕ → Type 0

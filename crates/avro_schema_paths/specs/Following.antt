@@ -36,11 +36,11 @@ pub data IsDeclaration : Data → Type 0 where
 
 -- the path leads to a declaration, or to an object that wraps one
 pub record LeadsToDeclaration (root : Data) (q : Path) : Type 0 where
-  pub t : Data
-  pub d : Data
-  pub at : follow q root ≡ Some t
-  pub wraps : Wraps t d
-  pub declares : IsDeclaration d
+  pub found : Data
+  pub declaration : Data
+  pub at : follow q root ≡ Some found
+  pub wraps : Wraps found declaration
+  pub declares : IsDeclaration declaration
 
 -- each path of a node does
 abbrev pub PathsLeadThere : Type 0

@@ -17,14 +17,15 @@ word steps.Values = codes "values"
 word steps.Fields = codes "fields"
 word (steps.At i) = decimal i
 
+-- a slash before it
 abbrev pub segment : Step → List ℕ
 segment s = codes "/" ++ word s
 
--- the text of a path: of the root's it is empty
+-- the text of a path, which is empty for that of the root
 abbrev pub pointer_of : Path → List ℕ
 pointer_of path = flat_map segment path
 
--- a position, where the step is one, has 64 bits
+-- a position, where the step is one, fits in 64 bits
 abbrev pub HasShortPosition : Step → Type 0
 HasShortPosition (steps.At i) = i < 2 ^ 64
 HasShortPosition _ = ⊤

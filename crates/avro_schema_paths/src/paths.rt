@@ -2,9 +2,9 @@
 
 ghost use Rattle.std.specs.Prelude.{◌≡◌, length, IfOk};
 ghost use Rattle.serde_json.specs.View.{view};
+ghost use Rattle.avro_schema.specs.SchemaLaw.{DeclaresSchema};
 ghost use Rattle.avro_schema_paths.specs.Adds.{ArePaths};
 ghost use Rattle.avro_schema_paths.specs.ByNumber.{AreByNumber};
-ghost use Rattle.avro_schema_paths.specs.Laws.{AreDeclared};
 
 use crate::entries::{NodePath, Place};
 use crate::laws::each_node_has_path;
@@ -27,7 +27,7 @@ fn empty_paths(alloc: Global, count: usize) -> Result<Vec<Vec<Step>>, AllocError
 
 /// Returns the paths of the nodes below a count, each at the position that is its node's number.
 ///
-/// They are filled in, in one pass over the entries.
+/// Each is put there in one pass over the entries.
 fn by_number(
     alloc: Global,
     count: usize,
@@ -51,7 +51,7 @@ fn by_number(
 /// A name that is referred to declares nothing. A node whose declaration is wrapped, as in
 /// `{"type": {"type": "array", "items": "int"}}`, has the path of the outermost wrapper.
 pub fn paths_of(alloc: Global, nodes: &Nodes, value: &Value) -> Result<Vec<Vec<Step>>, AllocError>
-    requires { AreDeclared (view value.now) nodes.now }
+    requires { DeclaresSchema (view value.now) nodes.now }
     ensures { IfOk result (λ paths. ArePaths nodes.now (view value.now) (length nodes.now) paths.items) }
 {
     nodes.is_well_formed(); // law

@@ -13,7 +13,7 @@ returns c =
     let value = view c.args.value.now in
     let entries = c.add_places.new.out.items in
     let none = c.new-entries.result.items in
-    let has_path = λ (k : ℕ) (lt : k < length nodes). c.each_node_has_path.ensures value c.requires.drafts nodes c.requires.declares c.requires.nodes_of k lt in
+    let has_path = λ (k : ℕ) (lt : k < length nodes). c.each_node_has_path.ensures value nodes c.requires k lt in
     IfOk-weaker c.by_number.result _ _ (λ paths b. paths_filled nodes value entries paths.items
     (subst (λ (n : ℕ). AreByNumber entries n paths.items) c.len.ensures b)
     (λ m q a. path_new (Places nodes value 0 [] []) none entries m q c.in_ok-add_places.ensures c.new-entries.ensures.items a)
