@@ -1,0 +1,9 @@
+pub mod Lacking
+pub mod BadKinds
+pub mod Amid
+pub mod Marked
+pub mod Walked
+pub mod BadOnes
+pub mod Parented
+pub mod Onward
+pub mod Mismatched

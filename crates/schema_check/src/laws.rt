@@ -1,0 +1,14 @@
+//! Laws of bad pairs. They do nothing when they run.
+
+ghost use Rattle.schema_check.specs.BadKinds.{BadPairsHaveKinds};
+ghost use Rattle.schema_check.specs.Mismatches.{MismatchesHaveBadPairs};
+
+/// The law that a pair is bad just where it is by some kind.
+pub fn bad_pair_has_a_kind()
+    ensures { BadPairsHaveKinds }
+{}
+
+/// The law that each mismatch of a writer's datum, but of bytes, is at a bad pair that is reached.
+pub fn mismatch_is_at_a_bad_pair()
+    ensures { MismatchesHaveBadPairs }
+{}
