@@ -1,6 +1,6 @@
 -- The kind that is computed is the one by which the pair is bad.
 use Rattle.std.proofs.Common.{◌≡◌, ℕ, Bool, true, false, List, slice_get, Option, Some, None, refl, sym, ap, subst, ◌∙◌, inl, inr, ◌⊎◌}
-use Rattle.avro_types.specs.Node.{Node, EnumNode, FieldNode, UnionNode}
+use Rattle.avro_types.specs.Node.{Node, EnumNode, UnionNode}
 use Rattle.avro_types.specs.WellFormed.{is_union}
 use Rattle.outcome.specs.declared.mismatch.MismatchKind.{MismatchKind}
 use Rattle.outcome.specs.declared.mismatch.MismatchKind.TheVariants.{NoMatch, NoBranch, NoSymbol, NoDefault}
@@ -10,7 +10,7 @@ use Rattle.resolver_matching.specs.Matching.{place}
 use Rattle.resolver_matching.proofs.Fitting.{is_a_union}
 use Rattle.schema_check.specs.BadKinds.{BadPairsHaveKinds, IsBadBy, kind_from, kind_of, no_branch, no_default, no_match, no_symbol, placed_kind, straight_kind}
 use Rattle.resolver.specs.NextPairs.{lacks_field, lacks_symbol}
-use Rattle.resolver.specs.Resolution.{field_lists, lacking, symbol_at}
+use Rattle.resolver.specs.Resolution.{field_lists, symbol_at}
 use Rattle.resolver.specs.Safety as safe
 use Rattle.resolver.specs.Safety.{GoesStraight, IsBad, Pair}
 use Rattle.schema_check.proofs.Lacking.{lack_by, lack_there, missing_by, missing_there}

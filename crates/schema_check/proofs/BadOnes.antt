@@ -1,19 +1,20 @@
 -- The bad ones of the pairs of a walk.
-use Rattle.std.proofs.Common.{◌≡◌, ◌↔◌, ℕ, suc, ◌+◌, ◌<◌, ◌≤◌, List, [], ◌∷◌, ◌++◌, length, take, get_or, slice_get, Option, Some, None, refl, sym, ap, subst, ◌∙◌, inl, inr, arith, append_assoc}
+use Rattle.std.proofs.Common.{◌≡◌, ℕ, suc, ◌+◌, ◌<◌, ◌≤◌, List, [], ◌∷◌, ◌++◌, length, take, get_or, slice_get, Option, Some, None, refl, sym, ap, subst, ◌∙◌, inl, inr, arith, append_assoc}
 use Rattle.std.proofs.lemmas.List.{take-append-le, take_more, length-append, length-take-le}
 use Rattle.std.proofs.Math.Seq.{take-length}
 use Rattle.std.specs.List.{AllByRecursion}
 use Rattle.avro_types.specs.Node.{Node}
 use Rattle.outcome.specs.declared.mismatch.MismatchKind.{MismatchKind}
 use Rattle.resolver.specs.NextPairs.{Among, next_pairs}
-use Rattle.resolver.specs.Safety.{IsBad, IsSafe, Pair, Reached}
+use Rattle.resolver.specs.Pairs as of_nodes
+use Rattle.resolver.specs.Safety.{IsSafe, Pair, Reached}
 use Rattle.schema_check.specs.BadKinds.{IsBadBy, kind_of}
-use Rattle.schema_check.specs.BadPairs.{AreBadPairs, IsBadThere, IsListed, bad_among, bad_pair, entry, pair_of, pairs_of}
+use Rattle.schema_check.specs.BadPairs.{AreBadPairs, AreWithin, IsBadThere, IsListed, bad_among, bad_pair, entry, pair_of, pairs_of}
 use Rattle.schema_check.specs.Pairs.{AreOnce, with_all}
 use Rattle.schema_check.specs.Walk.{AreInOrder, IsWalk}
 use Rattle.schema_check.specs.declared.checking.BadPair.{BadPair}
 use Rattle.schema_check.proofs.BadKinds.{bad_by, by_kind, kind_by, some_kind}
-use Rattle.schema_check.proofs.Walked.{LeadsInto, closed_among, grown, walked}
+use Rattle.schema_check.proofs.Walked.{LeadsInto, closed_among, got, grown, one_of, walked}
 
 module _ (W R : List Node) where
   -- what was there before, and then these
@@ -109,3 +110,10 @@ module _ (W R : List Node) where
       let k = walked W R i ps w in
       let e : i ≡ length ps = omega (arith, k.bound) in
       are_bad_pairs ps bad (subst (λ (n : ℕ). IsWalk W R n ps) e w) (is ∙ ap (bad_among W R 0) (ap (λ (n : ℕ). take n ps) e ∙ take-length ps))
+
+  pub bad_within : (writers readers : ℕ) (ps : List Pair) (bad : List BadPair) → of_nodes.AreWithin writers readers ps → AllByRecursion (IsBadThere W R ps) bad → AreWithin writers readers (length ps) bad
+  bad_within writers readers ps [] a only = tt
+  bad_within writers readers ps (b ∷ bs) a only =
+      let here = got ps b.place (pair_of b) only.0.there in
+      let nodes = one_of (λ p. (p.0 < writers) × (p.1 < readers)) ps a (pair_of b) here.2 in
+      ((nodes.0, nodes.1, here.0), bad_within writers readers ps bs a only.1)

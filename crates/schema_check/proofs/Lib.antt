@@ -6,4 +6,6 @@ pub mod Walked
 pub mod BadOnes
 pub mod Parented
 pub mod Onward
+pub mod Named
 pub mod Mismatched
+pub mod Detailed

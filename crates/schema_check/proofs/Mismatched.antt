@@ -5,7 +5,7 @@ use Rattle.avro_types.specs.Node.{Node, FieldNode, NullNode, BooleanNode, IntNod
 use Rattle.avro_types.specs.WellFormed.{IsMember, IsWellFormed, is_union}
 use Rattle.avro_types.specs.Datum.{Datum, Data, Pairs, NullDatum, BooleanDatum, IntDatum, LongDatum, BytesDatum, TextDatum, FixedDatum, EnumDatum, ArrayDatum, MapDatum, UnionDatum, RecordDatum, no_more, more, no_pairs, pair}
 use Rattle.avro_types.specs.Conforming.{Conforms, ConformAll, ConformPairs}
-use Rattle.outcome.specs.declared.mismatch.MismatchKind.TheVariants.{NoMatch, NoBranch, NoSymbol, NoDefault, BytesNotText}
+use Rattle.outcome.specs.declared.mismatch.MismatchKind.TheVariants.{NoMatch, NoSymbol, BytesNotText}
 use Rattle.resolver_matching.specs.declared.pairing.Partner.{Partner}
 use Rattle.resolver_matching.specs.declared.pairing.Route.{Route}
 use Rattle.resolver_matching.specs.declared.place.Destination.{Destination}

@@ -1,11 +1,11 @@
 -- Which pairs are reached and bad, by which kind, in the order in which they are reached first.
-use Rattle.std.specs.Prelude.{◌≡◌, ◌↔◌, ℕ, suc, List, [], ◌∷◌, ◌++◌, Option, Some, None, slice_get}
+use Rattle.std.specs.Prelude.{◌≡◌, ◌↔◌, ◌<◌, ℕ, suc, List, [], ◌∷◌, ◌++◌, length, Option, Some, None, slice_get}
 use Rattle.std.specs.List.{AllByRecursion}
 use Rattle.avro_types.specs.Node.{Node}
 use Rattle.outcome.specs.declared.mismatch.MismatchKind.{MismatchKind}
 use Rattle.resolver.specs.Safety.{IsSafe, Pair, Reached}
 use Rattle.schema_check.specs.BadKinds.{IsBadBy, kind_of}
-use Rattle.schema_check.specs.Pairs.{AreOnce}
+use Rattle.schema_check.specs.Pairs.{AreBelow, AreOnce, pairs_at}
 use Rattle.schema_check.specs.Walk.{AreInOrder}
 use Rattle.schema_check.specs.Ways.{AreParents}
 use Rattle.schema_check.specs.declared.checking.BadPair.{BadPair}
@@ -61,5 +61,11 @@ module _ (W R : List Node) where
     pub among : bad ≡ bad_among 0 pairs
 
   pub record IsCheck (c : Check) : Type 0 where
-    pub bad : AreBadPairs c.pairs.items c.bad.items
-    pub parents : AreParents W R c.pairs.items c.parents.items
+    pub bad : AreBadPairs (pairs_at c.pairs.items) c.bad.items
+    pub parents : AreParents W R (pairs_at c.pairs.items) c.parents.items
+    pub below : AreBelow (length W) (length R) c.pairs.items
+
+-- what a caller may look up of each bad pair: its nodes in schemas with these numbers of nodes, its place among pairs
+abbrev pub AreWithin : ℕ → ℕ → ℕ → List BadPair → Type 0
+AreWithin writers readers pairs bad =
+    AllByRecursion (λ b. (b.writer_node < writers) × (b.reader_node < readers) × (b.place < pairs)) bad

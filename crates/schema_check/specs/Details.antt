@@ -1,10 +1,13 @@
 -- What a bad pair is about: all fields that lack, and all symbols that are missing, by their positions.
-use Rattle.std.specs.Prelude.{ℕ, suc, List, [], ◌∷◌, Option, Some, if◌then◌else◌, is_none}
+use Rattle.std.specs.Prelude.{◌≡◌, ℕ, suc, List, [], ◌∷◌, Option, Some, if◌then◌else◌, is_none, slice_get}
 use Rattle.avro_types.specs.Node.{Node, EnumNode, FieldNode}
+use Rattle.outcome.specs.declared.mismatch.MismatchKind.TheVariants.{NoDefault, NoSymbol}
 use Rattle.resolver_matching.specs.Options.{given}
 use Rattle.resolver_matching.specs.Partners.{routes}
 use Rattle.resolver_matching.specs.declared.pairing.Route.{Route}
 use Rattle.resolver.specs.Resolution.{field_lists, lacks, symbol_in}
+use Rattle.resolver.specs.Safety.{Pair}
+use Rattle.schema_check.specs.BadKinds.{IsBadBy}
 
 -- the positions, from j on, of the reader's fields that have neither a partner nor a default
 abbrev pub lacking_positions : List Route → ℕ → List FieldNode → List ℕ
@@ -28,3 +31,9 @@ abbrev pub all_missing : Option Node → Option Node → List ℕ
 all_missing (Some (EnumNode name symbols default)) (Some (EnumNode other theirs fallback)) =
     missing_positions theirs fallback 0 symbols
 all_missing _ _ = []
+
+-- a pair that is bad for want of a default has a field that lacks, and one that is for want of a symbol a missing one
+abbrev pub BadPairsHaveDetails : Type 0
+BadPairsHaveDetails = (W R : List Node) (p : Pair)
+    → (IsBadBy W R NoDefault p → all_lacking (slice_get W p.0) (slice_get R p.1) ≡ [] → ⊥)
+    × (IsBadBy W R NoSymbol p → all_missing (slice_get W p.0) (slice_get R p.1) ≡ [] → ⊥)

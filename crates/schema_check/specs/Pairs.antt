@@ -1,10 +1,28 @@
 -- Pairs in the order in which they came, each once.
-use Rattle.std.specs.Prelude.{◌≡◌, ℕ, ◌+◌, ◌*◌, ◌<◌, ◌==◌, ◌&&◌, ◌||◌, Bool, true, false, if◌then◌else◌, List, [], ◌∷◌, ◌++◌, length, slice_index_or}
+use Rattle.std.specs.Prelude.{◌≡◌, ℕ, ◌+◌, ◌*◌, ◌<◌, ◌==◌, ◌&&◌, ◌||◌, Bool, true, false, if◌then◌else◌, List, [], ◌∷◌, ◌++◌, length, map, slice_index_or}
 use Rattle.std.specs.List.{AllByRecursion}
 use Rattle.resolver.specs.NextPairs.{Among}
 use Rattle.resolver.specs.Pairs.{AreWithin, marks}
 use Rattle.resolver.specs.Safety.{Pair}
+use Rattle.schema_check.specs.declared.pairs.NodePair.{NodePair}
 use Rattle.schema_check.specs.declared.pairs.PairList.TheInside.{Inside}
+
+-- ---- pairs with names for their nodes
+
+abbrev pub pair_at : NodePair → Pair
+pair_at n = (n.writer_node, n.reader_node)
+
+abbrev pub pairs_at : List NodePair → List Pair
+pairs_at ns = map pair_at ns
+
+abbrev pub node_pair : Pair → NodePair
+node_pair p = record { writer_node = p.0; reader_node = p.1 }
+
+-- nodes of schemas with these numbers of nodes
+abbrev pub AreBelow : ℕ → ℕ → List NodePair → Type 0
+AreBelow writers readers ns = AllByRecursion (λ n. (n.writer_node < writers) × (n.reader_node < readers)) ns
+
+-- ---- pairs that are listed
 
 -- the pairs, and how many nodes either schema has
 pub record Listed : Type 0 where

@@ -1,9 +1,9 @@
 //! Which pairs of nodes are reached and bad, in the order in which they are reached first.
 
 ghost use Rattle.std.specs.Prelude.{◌≡◌, ◌≤◌, ◌-◌, ◌++◌, length, replicate, IfOk, OnOk};
-ghost use Rattle.schema_check.specs.BadPairs.{IsCheck, entry};
+ghost use Rattle.schema_check.specs.BadPairs.{AreWithin, IsCheck, entry};
 
-use crate::pairs::PairList;
+use crate::pairs::{NodePair, PairList};
 use crate::reasons::kind_of;
 use crate::steps::next_pairs;
 use avro_types::Nodes;
@@ -23,8 +23,8 @@ pub struct BadPair {
 /// What the roots of a writer's and a reader's schema lead to.
 #[derive(Debug, Drop)]
 pub struct Check {
-    /// A writer's node and a reader's, for each pair that is reached, in the order in which each is reached first.
-    pub pairs: Vec<(usize, usize)>,
+    /// All pairs that are reached, in the order in which each is reached first.
+    pub pairs: Vec<NodePair>,
     /// For each of these the place of a pair before it that leads to it; 0 for the roots, which are the first pair.
     pub parents: Vec<usize>,
     /// Those that are bad, in the order of the pairs.
@@ -67,7 +67,9 @@ fn add_parents(parents: &mut Vec<usize>, len: usize, parent: usize) -> Result<()
 /// which they are reached first. No pair is bad just where the reader can read all that the writer writes, but for
 /// bytes that are no UTF-8. A pair that is bad leads on like any other.
 pub fn check_pair(alloc: Global, writer: &Nodes, reader: &Nodes) -> Result<Check, AllocError>
-    ensures { IfOk result (λ c. IsCheck writer.now reader.now c) }
+    ensures check { IfOk result (λ c. IsCheck writer.now reader.now c) }
+    ensures within { IfOk result (λ c. AreWithin (length writer.now) (length reader.now) (length c.pairs.items)
+        c.bad.items) }
 {
     writer.is_well_formed(); // law
     reader.is_well_formed(); // law
@@ -86,8 +88,9 @@ pub fn check_pair(alloc: Global, writer: &Nodes, reader: &Nodes) -> Result<Check
         add_parents(&mut parents, pairs.len(), place)?;
         place += 1;
     }
+    let pairs = pairs.to_node_pairs(alloc)?;
     Ok(Check {
-        pairs: pairs.into_pairs(),
+        pairs,
         parents,
         bad,
     })

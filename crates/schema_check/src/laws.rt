@@ -1,11 +1,18 @@
 //! Laws of bad pairs. They do nothing when they run.
 
 ghost use Rattle.schema_check.specs.BadKinds.{BadPairsHaveKinds};
+ghost use Rattle.schema_check.specs.Details.{BadPairsHaveDetails};
 ghost use Rattle.schema_check.specs.Mismatches.{MismatchesHaveBadPairs};
 
 /// The law that a pair is bad just where it is by some kind.
 pub fn bad_pair_has_a_kind()
     ensures { BadPairsHaveKinds }
+{}
+
+/// The law that `all_lacking` has a position for each pair that is bad by `NoDefault`, and `all_missing` for each that
+/// is by `NoSymbol`.
+pub fn bad_pair_has_details()
+    ensures { BadPairsHaveDetails }
 {}
 
 /// The law that each mismatch of a writer's datum, but of bytes, is at a bad pair that is reached.

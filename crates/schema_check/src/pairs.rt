@@ -1,12 +1,32 @@
 //! Pairs of nodes, each once.
 
-ghost use Rattle.std.specs.Prelude.{◌≡◌, ◌<◌, ◌≤◌, ◌*◌, [], length, slice_index_or, IfOk, OnOk};
+ghost use Rattle.std.specs.Prelude.{◌≡◌, ◌<◌, ◌≤◌, ◌*◌, [], length, map, slice_index_or, IfOk, OnOk};
 ghost use Rattle.resolver.specs.Pairs.{AreWithin};
-ghost use Rattle.schema_check.specs.Pairs.{with_all, with_one};
+ghost use Rattle.schema_check.specs.Pairs.{AreBelow, node_pair, with_all, with_one};
 
 use avro_types::MOST_NODES;
 use std::alloc::{AllocError, Global};
 use std::marker::Model;
+
+/// A writer's node and a reader's.
+#[derive(Clone, Copy, Debug, PartialEq, Eq)]
+pub struct NodePair {
+    pub writer_node: usize,
+    pub reader_node: usize,
+}
+
+/// Returns the pairs, with names for their nodes.
+fn node_pairs(alloc: Global, pairs: &[(usize, usize)]) -> Result<Vec<NodePair>, AllocError>
+    ensures { IfOk result (λ v. v.items ≡ map node_pair pairs.now) }
+{
+    pairs
+        .iter()
+        .map(|pair| NodePair {
+            writer_node: pair.0,
+            reader_node: pair.1,
+        })
+        .collect(alloc)
+}
 
 /// Pairs of nodes in the order in which they came, each once. Callers see it as a `Listed`.
 #[derive(Drop)]
@@ -91,10 +111,12 @@ impl PairList {
         Ok(())
     }
 
-    /// Returns the pairs alone.
-    pub(crate) fn into_pairs(self) -> Vec<(usize, usize)>
-        ensures { result.items ≡ self.pairs }
+    /// Returns the pairs alone, with names for their nodes.
+    pub(crate) fn to_node_pairs(&self, alloc: Global) -> Result<Vec<NodePair>, AllocError>
+        ensures pairs { IfOk result (λ v. v.items ≡ map node_pair self.now.pairs) }
+        ensures below { IfOk result (λ v. AreBelow self.now.writers self.now.readers v.items) }
     {
-        self.pairs
+        let named = node_pairs(alloc, &self.pairs)?;
+        Ok(named)
     }
 }

@@ -1,14 +1,17 @@
 //! How a pair of nodes is reached from the roots.
 
 ghost use Rattle.std.specs.Prelude.{◌≡◌, ◌<◌, length, reverse, slice_index_or, IfOk};
-ghost use Rattle.schema_check.specs.Ways.{AreParents, IsWay};
+ghost use Rattle.schema_check.specs.BadPairs.{IsCheck};
+ghost use Rattle.schema_check.specs.Pairs.{AreBelow, pairs_at};
+ghost use Rattle.schema_check.specs.Ways.{IsWay};
 
 use crate::checking::Check;
+use crate::pairs::NodePair;
 use avro_types::Nodes;
 use std::alloc::{AllocError, Global};
 
 /// Returns the pairs, the last of them first.
-fn reversed(alloc: Global, pairs: &[(usize, usize)]) -> Result<Vec<(usize, usize)>, AllocError>
+fn reversed(alloc: Global, pairs: &[NodePair]) -> Result<Vec<NodePair>, AllocError>
     ensures { IfOk result (λ v. v.items ≡ reverse pairs.now) }
 {
     pairs.iter().rev().copied().collect(alloc)
@@ -22,11 +25,12 @@ pub fn way_to(
     writer: &Nodes,
     reader: &Nodes,
     place: usize,
-) -> Result<Vec<(usize, usize)>, AllocError>
+) -> Result<Vec<NodePair>, AllocError>
+    requires check { IsCheck writer.now reader.now check.now }
     requires there { place < length check.now.pairs.items }
-    requires parents { AreParents writer.now reader.now check.now.pairs.items check.now.parents.items }
-    ensures { IfOk result (λ v. IsWay writer.now reader.now v.items
-        (slice_index_or check.now.pairs.items place (0, 0))) }
+    ensures way { IfOk result (λ v. IsWay writer.now reader.now (pairs_at v.items)
+        (slice_index_or (pairs_at check.now.pairs.items) place (0, 0))) }
+    ensures below { IfOk result (λ v. AreBelow (length writer.now) (length reader.now) v.items) }
 {
     let mut back = Vec::new(alloc);
     let mut at = place;
@@ -34,7 +38,7 @@ pub fn way_to(
         back.push(check.pairs[at])?;
         at = check.parents[at];
     }
-    back.push((0, 0))?;
+    back.push(check.pairs[0])?;
     let way = reversed(alloc, &back)?;
     Ok(way)
 }

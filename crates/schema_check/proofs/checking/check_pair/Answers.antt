@@ -1,11 +1,13 @@
 -- Each turn is one of the walk, and after the last all that is reached is there.
-use Rattle.std.proofs.Common.{◌≡◌, ◌<◌, ◌≤◌, ◌-◌, ◌++◌, ◌∷◌, [], List, ℕ, Option, length, replicate, arith, ap, ◌∙◌, subst, sym}
+use Rattle.std.proofs.Common.{◌≡◌, ◌<◌, ◌-◌, ◌++◌, ◌∷◌, [], List, ℕ, Option, length, replicate, arith, ap, ◌∙◌, subst, sym}
 use Rattle.outcome.specs.declared.mismatch.MismatchKind.{MismatchKind}
 use Rattle.resolver.specs.NextPairs.{next_pairs}
-use Rattle.schema_check.specs.BadPairs.{entry}
-use Rattle.schema_check.specs.Pairs.{Listed, with_all}
+use Rattle.schema_check.specs.BadPairs.{AreWithin, entry}
+use Rattle.schema_check.specs.Pairs.{Listed, pair_at, pairs_at, with_all}
 use Rattle.schema_check.specs.Ways.{AreParents}
-use Rattle.schema_check.proofs.BadOnes.{bad_on, walk_end}
+use Rattle.std.proofs.lemmas.List.{length-map}
+use Rattle.schema_check.proofs.BadOnes.{bad_on, bad_within, walk_end}
+use Rattle.schema_check.proofs.Named.{below_back, pairs_again}
 use Rattle.schema_check.proofs.Parented.{parents_first, parents_on}
 use Rattle.schema_check.proofs.Walked.{grown_longer, walk_first, walk_on}
 use Rattle.schema_check.proofs.checking.check_pair.Goals as goal
@@ -40,8 +42,17 @@ loop-place-preserved c =
       parents = subst (λ (xs : List ℕ). AreParents c.args.writer.now c.args.reader.now c.add_all.new.self.pairs xs) (ap (λ (n : ℕ). c.loop-place.parents.items ++ replicate (n - length c.loop-place.parents.items) c.loop-place.place) (sym c.len-in-loop-place-2.ensures.len) ∙ sym c.in_ok-add_parents.ensures) (parents_on _ _ c.loop-place.place c.get-wn.result c.loop-place.pairs.pairs c.add_all.new.self.pairs c.loop-place.parents.items c.loop-place.invariant.parents lt c.get-wn.ensures.pair exact);
     }
 
-pub returns : goal.returns
-returns c = record {
-  bad = rw c.into_pairs.ensures (walk_end _ _ _ _ _ c.loop-place.invariant.walk (omega (arith, c.loop-place-test.false, c.len-in-loop-place.ensures.len)) c.loop-place.invariant.bad);
-  parents = rw c.into_pairs.ensures c.loop-place.invariant.parents;
-}
+pub returns-clause-check : goal.returns-clause-check
+returns-clause-check c =
+    let again : pairs_at c.in_ok-pairs-2.pairs.items ≡ c.loop-place.pairs.pairs = ap pairs_at c.in_ok-pairs-2.ensures.pairs ∙ pairs_again c.loop-place.pairs.pairs in
+    record {
+      bad = rw again (walk_end _ _ _ _ _ c.loop-place.invariant.walk (omega (arith, c.loop-place-test.false, c.len-in-loop-place.ensures.len)) c.loop-place.invariant.bad);
+      parents = rw again c.loop-place.invariant.parents;
+      below = rw (c.loop-place.invariant.writers, c.loop-place.invariant.readers) at c.in_ok-pairs-2.ensures.below;
+    }
+
+pub returns-clause-within : goal.returns-clause-within
+returns-clause-within c =
+    let check = returns-clause-check c in
+    subst (λ (n : ℕ). AreWithin (length c.args.writer.now) (length c.args.reader.now) n c.loop-place.bad.items) (length-map c.in_ok-pairs-2.pairs.items pair_at)
+    (bad_within _ _ _ _ (pairs_at c.in_ok-pairs-2.pairs.items) c.loop-place.bad.items (below_back _ _ c.in_ok-pairs-2.pairs.items check.below) check.bad.only)

@@ -1,36 +1,46 @@
 -- A pair more, back to its parent.
-use Rattle.std.proofs.Common.{◌≡◌, ◌<◌, ◌++◌, ◌∷◌, [], List, ℕ, length, get_or, reverse, arith, ap, ◌∙◌, subst, sym}
-use Rattle.std.proofs.lemmas.List.{get_or_default}
-use Rattle.schema_check.specs.Ways.{HasParent, IsWay}
-use Rattle.resolver.specs.Safety.{Pair}
-use Rattle.schema_check.proofs.Onward.{GoesOn, goes_back, goes_first, way_whole}
+use Rattle.std.proofs.Common.{◌≡◌, ◌<◌, ◌++◌, ◌∷◌, [], length, get_or, reverse, arith, ap, ◌∙◌}
+use Rattle.std.proofs.lemmas.List.{get_or_default, length-map, map-append}
+use Rattle.schema_check.specs.Pairs.{pair_at, pairs_at}
+use Rattle.schema_check.proofs.Named.{below_more, below_one, below_reversed, pair_of_place, pairs_reversed}
+use Rattle.schema_check.proofs.Onward.{back_first, back_on, back_whole}
 use Rattle.schema_check.proofs.ways.way_to.Goals as goal
 
 pub loop-at-init : goal.loop-at-init
-loop-at-init c = record {
-  there = c.requires.there;
-  on = rw c.new-back.ensures.items (goes_first c.args.writer.now c.args.reader.now (get_or c.args.check.now.pairs.items c.args.place (0, 0)));
-}
+loop-at-init c =
+    let many : length (pairs_at c.args.check.now.pairs.items) ≡ length c.args.check.now.pairs.items = length-map c.args.check.now.pairs.items pair_at in
+    record {
+      there = c.requires.there;
+      parent = omega (arith, many, c.requires.there, c.requires.check.parents.each);
+      read = back_first _ _ (pairs_at c.args.check.now.pairs.items) c.args.place _ (omega (arith, many, c.requires.there)) (ap pairs_at c.new-back.ensures.items);
+      below = rw c.new-back.ensures.items tt;
+    }
 
 pub loop-at-preserved : goal.loop-at-preserved
 loop-at-preserved c =
     let pos : 0 < c.loop-at.at = omega (arith, c.loop-at-test.true) in
-    let lt : c.loop-at.at < length c.args.check.now.pairs.items = c.loop-at.invariant.there in
-    let few : c.loop-at.at < length c.args.check.now.parents.items = omega (arith, lt, c.requires.parents.each) in
-    let its : HasParent c.args.writer.now c.args.reader.now c.args.check.now.pairs.items c.args.check.now.parents.items c.loop-at.at = c.requires.parents.lead c.loop-at.at pos lt in
-    let parent : c.index-at.result.now ≡ get_or c.args.check.now.parents.items c.loop-at.at 0 = c.index-at.ensures ∙ get_or_default c.args.check.now.parents.items c.loop-at.at c.index-at.result.now 0 few in
-    let pair : c.index.result.now ≡ get_or c.args.check.now.pairs.items c.loop-at.at (0, 0) = c.index.ensures ∙ get_or_default c.args.check.now.pairs.items c.loop-at.at c.index.result.now (0, 0) lt in
-    let target = get_or c.args.check.now.pairs.items c.args.place (0, 0) in
-    let on : GoesOn c.args.writer.now c.args.reader.now (get_or c.args.check.now.pairs.items (get_or c.args.check.now.parents.items c.loop-at.at 0) (0, 0)) (c.loop-at.back.items ++ get_or c.args.check.now.pairs.items c.loop-at.at (0, 0) ∷ []) (get_or c.args.check.now.pairs.items c.args.place (0, 0)) = goes_back c.args.writer.now c.args.reader.now _ _ _ c.loop-at.back.items c.loop-at.invariant.on its.leads in
-    let items : c.push.new.self.items ≡ c.loop-at.back.items ++ get_or c.args.check.now.pairs.items c.loop-at.at (0, 0) ∷ [] = c.in_ok-push.ensures.items ∙ ap (λ (x : Pair). c.loop-at.back.items ++ x ∷ []) pair in
+    let many : length (pairs_at c.args.check.now.pairs.items) ≡ length c.args.check.now.pairs.items = length-map c.args.check.now.pairs.items pair_at in
+    let parent : c.index-at.result.now ≡ get_or c.args.check.now.parents.items c.loop-at.at 0 = c.index-at.ensures ∙ get_or_default c.args.check.now.parents.items c.loop-at.at c.index-at.result.now 0 c.loop-at.invariant.parent in
+    let pair = pair_of_place c.args.check.now.pairs.items c.loop-at.at c.index.result.now c.loop-at.invariant.there c.index.ensures in
+    let longer : pairs_at c.push.new.self.items ≡ pairs_at c.loop-at.back.items ++ pair_at c.index.result.now ∷ [] = ap pairs_at c.in_ok-push.ensures.items ∙ map-append pair_at c.loop-at.back.items (c.index.result.now ∷ []) in
+    let read = back_on _ _ (pairs_at c.args.check.now.pairs.items) c.args.check.now.parents.items _ c.loop-at.at c.index-at.result.now _ (pairs_at c.loop-at.back.items) (pairs_at c.push.new.self.items) c.requires.check.parents pos c.loop-at.invariant.read pair parent longer in
     record {
-      there = omega (arith, parent, its.earlier, lt);
-      on = subst (λ (n : ℕ). GoesOn c.args.writer.now c.args.reader.now (get_or c.args.check.now.pairs.items n (0, 0)) c.push.new.self.items (get_or c.args.check.now.pairs.items c.args.place (0, 0))) (sym parent) (subst (λ (xs : List Pair). GoesOn c.args.writer.now c.args.reader.now (get_or c.args.check.now.pairs.items (get_or c.args.check.now.parents.items c.loop-at.at 0) (0, 0)) xs (get_or c.args.check.now.pairs.items c.args.place (0, 0))) (sym items) on);
+      there = omega (arith, many, read.there);
+      parent = omega (arith, c.requires.check.parents.each, read.there);
+      read = read;
+      below = rw c.in_ok-push.ensures.items (below_more _ _ c.loop-at.back.items (c.index.result.now ∷ []) c.loop-at.invariant.below (below_one _ _ c.args.check.now.pairs.items c.loop-at.at c.index.result.now c.requires.check.below c.loop-at.invariant.there c.index.ensures, tt));
     }
 
-pub returns : goal.returns
-returns c =
-    let zero_at : c.loop-at.at ≡ 0 = omega (arith, c.loop-at-test.false) in
-    let top : get_or c.args.check.now.pairs.items c.loop-at.at (0, 0) ≡ (0, 0) = ap (λ (n : ℕ). get_or c.args.check.now.pairs.items n (0, 0)) zero_at ∙ c.requires.parents.top in
-    let whole = way_whole c.args.writer.now c.args.reader.now (get_or c.args.check.now.pairs.items c.loop-at.at (0, 0)) (get_or c.args.check.now.pairs.items c.args.place (0, 0)) c.loop-at.back.items c.loop-at.invariant.on top in
-    subst (λ (xs : List Pair). IsWay c.args.writer.now c.args.reader.now xs (get_or c.args.check.now.pairs.items c.args.place (0, 0))) (sym (c.in_ok-way.ensures ∙ ap reverse (c.deref.ensures.value ∙ c.in_ok-push-2.ensures.items))) whole
+pub returns-clause-way : goal.returns-clause-way
+returns-clause-way c =
+    let last : c.loop-at.at ≡ 0 = omega (arith, c.loop-at-test.false) in
+    let first : 0 < length c.args.check.now.pairs.items = omega (arith, c.requires.there) in
+    let pair = pair_of_place c.args.check.now.pairs.items 0 c.index-2.result.now first c.index-2.ensures in
+    let longer : pairs_at c.push-2.new.self.items ≡ pairs_at c.loop-at.back.items ++ pair_at c.index-2.result.now ∷ [] = ap pairs_at c.in_ok-push-2.ensures.items ∙ map-append pair_at c.loop-at.back.items (c.index-2.result.now ∷ []) in
+    let whole = back_whole _ _ (pairs_at c.args.check.now.pairs.items) c.args.check.now.parents.items _ _ (pairs_at c.loop-at.back.items) (pairs_at c.push-2.new.self.items) c.requires.check.parents (rw last at c.loop-at.invariant.read) pair longer in
+    rw (ap pairs_at (c.in_ok-way.ensures ∙ ap reverse c.deref.ensures.value) ∙ pairs_reversed c.push-2.new.self.items) whole
+
+pub returns-clause-below : goal.returns-clause-below
+returns-clause-below c =
+    let first : 0 < length c.args.check.now.pairs.items = omega (arith, c.requires.there) in
+    rw (c.in_ok-way.ensures ∙ ap reverse (c.deref.ensures.value ∙ c.in_ok-push-2.ensures.items)) (below_reversed _ _ (c.loop-at.back.items ++ c.index-2.result.now ∷ []) (below_more _ _ c.loop-at.back.items (c.index-2.result.now ∷ []) c.loop-at.invariant.below (below_one _ _ c.args.check.now.pairs.items 0 c.index-2.result.now c.requires.check.below first c.index-2.ensures, tt)))
