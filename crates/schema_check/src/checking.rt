@@ -4,8 +4,7 @@ ghost use Rattle.std.specs.Prelude.{◌≡◌, ◌≤◌, ◌-◌, ◌++◌, len
 ghost use Rattle.schema_check.specs.BadPairs.{AreWithin, IsCheck, entry};
 
 use crate::pairs::{NodePair, PairList};
-use crate::reasons::kind_of;
-use crate::steps::next_pairs;
+use crate::steps::step_of;
 use avro_types::Nodes;
 use outcome::MismatchKind;
 use std::alloc::{AllocError, Global};
@@ -65,7 +64,7 @@ fn add_parents(parents: &mut Vec<usize>, len: usize, parent: usize) -> Result<()
 
 /// Returns all pairs that the roots lead to, for each a pair that leads to it, and those that are bad, in the order in
 /// which they are reached first. No pair is bad just where the reader can read all that the writer writes, but for
-/// bytes that are no UTF-8. A pair that is bad leads on like any other.
+/// bytes that are no UTF-8. Each pair is looked at once, and one that is bad leads on like any other.
 pub fn check_pair(alloc: Global, writer: &Nodes, reader: &Nodes) -> Result<Check, AllocError>
     ensures check { IfOk result (λ c. IsCheck writer.now reader.now c) }
     ensures within { IfOk result (λ c. AreWithin (length writer.now) (length reader.now) (length c.pairs.items)
@@ -81,10 +80,9 @@ pub fn check_pair(alloc: Global, writer: &Nodes, reader: &Nodes) -> Result<Check
     let mut place = 0;
     while place < pairs.len() {
         let (wn, rn) = pairs.get(place);
-        let kind = kind_of(alloc, writer, wn, reader, rn)?;
-        add_bad(&mut bad, kind, place, (wn, rn))?;
-        let next = next_pairs(alloc, writer, wn, reader, rn)?;
-        pairs.add_all(&next)?;
+        let step = step_of(alloc, writer, wn, reader, rn)?;
+        add_bad(&mut bad, step.kind, place, (wn, rn))?;
+        pairs.add_all(&step.next)?;
         add_parents(&mut parents, pairs.len(), place)?;
         place += 1;
     }

@@ -3,32 +3,11 @@
 ghost use Rattle.std.specs.Prelude.{◌≡◌, ◌<◌, ℕ, false, length, slice_get, slice_index_or, IfOk};
 ghost use Rattle.avro_types.specs.Node.{fields_of};
 ghost use Rattle.resolver_matching.specs.Partners.{has_partner};
-ghost use Rattle.resolver.specs.NextPairs.{lacks_field};
 ghost use Rattle.schema_check.specs.Details.{all_lacking, lacking_positions};
 
 use avro_types::{Field, Nodes};
-use resolver::{Route, field_lists, first_lacking, routes};
+use resolver::{Route, field_lists, routes};
 use std::alloc::{AllocError, Global};
-
-/// Returns whether both nodes are records, of which the reader's has a field with neither a partner nor a default.
-pub(crate) fn lacks_field(
-    alloc: Global,
-    w: &Nodes,
-    wn: usize,
-    r: &Nodes,
-    rn: usize,
-) -> Result<bool, AllocError>
-    requires writer { wn < length w.now }
-    requires reader { rn < length r.now }
-    ensures { IfOk result (λ yes. yes ≡ lacks_field (slice_get w.now wn) (slice_get r.now rn)) }
-{
-    let Some((ws, rs)) = field_lists(w, wn, r, rn) else {
-        return Ok(false);
-    };
-    let routes = routes(alloc, ws, rs)?;
-    let lacking = first_lacking(alloc, &routes, rs)?;
-    Ok(lacking.is_some())
-}
 
 /// Returns for each of the reader's fields whether it has a partner.
 fn have_partners(alloc: Global, routes: &[Route], rs: &[Field]) -> Result<Vec<bool>, AllocError>

@@ -8,7 +8,6 @@ mod checking;
 mod fields;
 mod laws;
 mod pairs;
-mod reasons;
 mod steps;
 mod symbols;
 mod ways;

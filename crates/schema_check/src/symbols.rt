@@ -1,7 +1,7 @@
 //! Which of a writer's symbols a reader lacks (Avro 1.11 Specification, "Schema Resolution").
 
 ghost use Rattle.std.specs.Prelude.{◌≡◌, ◌<◌, ◌≤◌, IfOk, length, map, slice_get, string_bytes};
-ghost use Rattle.resolver.specs.NextPairs.{lacks_symbol, some_missing};
+ghost use Rattle.resolver.specs.NextPairs.{some_missing};
 ghost use Rattle.resolver.specs.Resolution.{symbol_in};
 ghost use Rattle.schema_check.specs.Details.{all_missing, missing_positions};
 
@@ -21,7 +21,7 @@ fn symbol_in(symbols: &Symbols, default: Option<u32>, symbol: &str) -> Option<u3
 
 /// Returns whether some of a writer's symbols is not among a reader's, which has no default.
 #[tactic(auto, using(resolver::proofs::SymbolPlace::missing_here))]
-fn some_missing(theirs: &Symbols, default: Option<u32>, symbols: &[String]) -> bool
+pub(crate) fn some_missing(theirs: &Symbols, default: Option<u32>, symbols: &[String]) -> bool
     requires { length (theirs.now) ≤ MOST_SYMBOLS }
     ensures { result ≡ some_missing (theirs.now) default (map string_bytes symbols.now) }
 {
@@ -31,25 +31,6 @@ fn some_missing(theirs: &Symbols, default: Option<u32>, symbols: &[String]) -> b
         }
     }
     false
-}
-
-/// Returns whether both nodes are enums, of which the reader's lacks a symbol of the writer's, and has no default.
-pub(crate) fn lacks_symbol(w: &Nodes, wn: usize, r: &Nodes, rn: usize) -> bool
-    requires writer { wn < length w.now }
-    requires reader { rn < length r.now }
-    ensures { result ≡ lacks_symbol (slice_get w.now wn) (slice_get r.now rn) }
-{
-    match (w.kind(wn), r.kind(rn)) {
-        (
-            Kind::Enum { symbols, .. },
-            Kind::Enum {
-                symbols: theirs,
-                default,
-                ..
-            },
-        ) => some_missing(theirs, *default, symbols.as_slice()),
-        _ => false,
-    }
 }
 
 /// Returns the positions of a writer's symbols that are not among a reader's, which has no default.

@@ -22,23 +22,23 @@ loop-place-init c = record {
 }
 
 pub add_all-requires : goal.add_all-requires
-add_all-requires c = rw (c.deref.ensures.value, c.loop-place.invariant.writers, c.loop-place.invariant.readers) c.in_ok-next.ensures.within
+add_all-requires c = rw (c.deref.ensures.value, c.loop-place.invariant.writers, c.loop-place.invariant.readers) c.in_ok-step.ensures.within
 
 pub add_parents-requires : goal.add_parents-requires
 add_parents-requires c =
-    let exact : c.add_all.new.self.pairs ≡ with_all c.loop-place.pairs.pairs (next_pairs c.args.writer.now c.args.reader.now (c.get-wn.result.0, c.get-wn.result.1)) = rw (c.deref.ensures.value, c.in_ok-next.ensures.pairs) at c.in_ok-add_all.ensures.pairs in
+    let exact : c.add_all.new.self.pairs ≡ with_all c.loop-place.pairs.pairs (next_pairs c.args.writer.now c.args.reader.now (c.get-wn.result.0, c.get-wn.result.1)) = rw (c.deref.ensures.value, c.in_ok-step.ensures.next) at c.in_ok-add_all.ensures.pairs in
     let longer = grown_longer c.args.writer.now c.args.reader.now c.get-wn.result c.loop-place.pairs.pairs c.add_all.new.self.pairs exact in
     omega (arith, longer, c.loop-place.invariant.parents.each, c.len-in-loop-place-2.ensures.len)
 
 pub loop-place-preserved : goal.loop-place-preserved
 loop-place-preserved c =
     let lt : c.loop-place.place < length c.loop-place.pairs.pairs = omega (arith, c.loop-place-test.true, c.len-in-loop-place.ensures.len) in
-    let exact : c.add_all.new.self.pairs ≡ with_all c.loop-place.pairs.pairs (next_pairs c.args.writer.now c.args.reader.now (c.get-wn.result.0, c.get-wn.result.1)) = rw (c.deref.ensures.value, c.in_ok-next.ensures.pairs) at c.in_ok-add_all.ensures.pairs in
+    let exact : c.add_all.new.self.pairs ≡ with_all c.loop-place.pairs.pairs (next_pairs c.args.writer.now c.args.reader.now (c.get-wn.result.0, c.get-wn.result.1)) = rw (c.deref.ensures.value, c.in_ok-step.ensures.next) at c.in_ok-add_all.ensures.pairs in
     record {
       writers = c.in_ok-add_all.ensures.writers ∙ c.loop-place.invariant.writers;
       readers = c.in_ok-add_all.ensures.readers ∙ c.loop-place.invariant.readers;
       walk = walk_on _ _ _ c.get-wn.result _ _ c.loop-place.invariant.walk lt c.get-wn.ensures.pair exact;
-      bad = c.in_ok-add_bad.ensures ∙ ap (λ (k : Option MismatchKind). c.loop-place.bad.items ++ entry k c.loop-place.place c.get-wn.result) c.in_ok-kind.ensures ∙ bad_on _ _ _ c.get-wn.result c.loop-place.pairs.pairs _ c.loop-place.bad.items c.loop-place.invariant.bad lt c.get-wn.ensures.pair exact;
+      bad = c.in_ok-add_bad.ensures ∙ ap (λ (k : Option MismatchKind). c.loop-place.bad.items ++ entry k c.loop-place.place c.get-wn.result) c.in_ok-step.ensures.kind ∙ bad_on _ _ _ c.get-wn.result c.loop-place.pairs.pairs _ c.loop-place.bad.items c.loop-place.invariant.bad lt c.get-wn.ensures.pair exact;
       parents = subst (λ (xs : List ℕ). AreParents c.args.writer.now c.args.reader.now c.add_all.new.self.pairs xs) (ap (λ (n : ℕ). c.loop-place.parents.items ++ replicate (n - length c.loop-place.parents.items) c.loop-place.place) (sym c.len-in-loop-place-2.ensures.len) ∙ sym c.in_ok-add_parents.ensures) (parents_on _ _ c.loop-place.place c.get-wn.result c.loop-place.pairs.pairs c.add_all.new.self.pairs c.loop-place.parents.items c.loop-place.invariant.parents lt c.get-wn.ensures.pair exact);
     }
 

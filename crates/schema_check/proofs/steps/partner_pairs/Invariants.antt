@@ -1,9 +1,7 @@
 -- The pairs so far, before those of the routes that are left.
 use Rattle.std.proofs.Common.{◌≡◌, ◌++◌, drop}
-use Rattle.avro_types.specs.Node.{fields_of}
 use Rattle.resolver.specs.NextPairs.{partner_pairs}
-use Rattle.resolver_matching.specs.Partners.{routes}
 use Rattle.schema_check.proofs.steps.partner_pairs.Given as goal
 
 abbrev pub invariant-loop-route : goal.invariant-loop-route
-invariant-loop-route l = l.pairs.items ++ partner_pairs (drop l.route-index l.route-items) ≡ partner_pairs (routes (fields_of l.ws) (fields_of l.rs))
+invariant-loop-route l = l.pairs.items ++ partner_pairs (drop l.route-index l.routes) ≡ partner_pairs l.routes
