@@ -9,3 +9,5 @@ pub mod Onward
 pub mod Named
 pub mod Mismatched
 pub mod Detailed
+pub mod Bounded
+pub mod OneCheck

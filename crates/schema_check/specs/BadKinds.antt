@@ -23,7 +23,8 @@ module _ (W R : List Node) where
     -- "if the reader's record schema has a field with no default value, and writer's schema does not have a field with
     -- the same name, an error is signalled"
     no_default : {w r : ℕ} (ws rs : List FieldNode) (g : FieldNode) → GoesStraight W R w r
-        → field_lists (slice_get W w) (slice_get R r) ≡ Some (ws, rs) → lacking ws rs ≡ Some g → IsBadBy NoDefault (w, r)
+        → field_lists (slice_get W w) (slice_get R r) ≡ Some (ws, rs) → lacking ws rs ≡ Some g
+        → IsBadBy NoDefault (w, r)
     -- "if the writer's symbol is not present in the reader's enum and the reader has a default value, then that value
     -- is used, otherwise an error is signalled"
     no_symbol : {w r : ℕ} (i : ℕ) (symbol : List ℕ) → GoesStraight W R w r → symbol_at (slice_get W w) i ≡ Some symbol

@@ -4,4 +4,5 @@ pub mod Walk
 pub mod Ways
 pub mod BadPairs
 pub mod Details
+pub mod OneCheck
 pub mod Mismatches

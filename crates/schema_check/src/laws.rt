@@ -3,6 +3,7 @@
 ghost use Rattle.schema_check.specs.BadKinds.{BadPairsHaveKinds};
 ghost use Rattle.schema_check.specs.Details.{BadPairsHaveDetails};
 ghost use Rattle.schema_check.specs.Mismatches.{MismatchesHaveBadPairs};
+ghost use Rattle.schema_check.specs.OneCheck.{OneListIsOfBadPairs, SomeAreBadPairs};
 
 /// The law that a pair is bad just where it is by some kind.
 pub fn bad_pair_has_a_kind()
@@ -13,6 +14,12 @@ pub fn bad_pair_has_a_kind()
 /// is by `NoSymbol`.
 pub fn bad_pair_has_details()
     ensures { BadPairsHaveDetails }
+{}
+
+/// The law that each pair of schemas has a list of its reached pairs and one of the bad ones, and just one of each.
+pub fn pair_has_one_check()
+    ensures some { SomeAreBadPairs }
+    ensures one { OneListIsOfBadPairs }
 {}
 
 /// The law that each mismatch of a writer's datum, but of bytes, is at a bad pair that is reached.
