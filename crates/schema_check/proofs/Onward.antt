@@ -2,43 +2,33 @@
 use Rattle.std.proofs.Common.{◌≡◌, ℕ, ◌<◌, List, [], ◌∷◌, ◌++◌, length, get_or, reverse, sym, ap, subst, ◌∙◌, append_assoc, arith}
 use Rattle.std.proofs.lemmas.List.{reverse-append}
 use Rattle.avro_types.specs.Node.{Node}
-use Rattle.resolver.specs.Safety.{LeadsTo, Pair}
-use Rattle.schema_check.specs.Ways.{AreParents, HasParent, IsWay, at_roots, further}
+use Rattle.resolver.specs.Safety.{Pair}
+use Rattle.schema_check.specs.Ways.{AreParents, HasParent, IsByParents, IsWay, at_place, at_roots, further, of_roots, onward, parent_of}
 use Rattle.schema_check.proofs.Walked.{append_nil}
 
-module _ (W R : List Node) where
-  -- each way to this pair goes on, by the pairs that were read back, to the one from which they were
-  abbrev pub GoesOn : Pair → List Pair → Pair → Type 0
-  GoesOn p back target = (ps : List Pair) → IsWay W R ps p → IsWay W R (ps ++ reverse back) target
+module _ (pairs : List Pair) (parents : List ℕ) where
+  -- each way to this place goes on, by the pairs that were read back, to the one from which they were
+  abbrev pub GoesOn : ℕ → List Pair → ℕ → Type 0
+  GoesOn at back place = (ps : List Pair) → IsByParents pairs parents at ps → IsByParents pairs parents place (ps ++ reverse back)
 
-  pub goes_first : (p : Pair) → GoesOn p [] p
-  goes_first p ps w = subst (λ (x : List Pair). IsWay W R x p) (append_nil ps) w
+  pub goes_first : (place : ℕ) (back : List Pair) → back ≡ [] → GoesOn place back place
+  goes_first place back none ps w = rw none (subst (λ (x : List Pair). IsByParents pairs parents place x) (append_nil ps) w)
 
-  pub goes_back : (p q target : Pair) (back : List Pair) → GoesOn q back target → LeadsTo W R p q → GoesOn p (back ++ q ∷ []) target
-  goes_back p q target back g leads ps w =
-      let e : (ps ++ q ∷ []) ++ reverse back ≡ ps ++ reverse (back ++ q ∷ []) = append_assoc ps (q ∷ []) (reverse back) ∙ ap (λ (x : List Pair). ps ++ x) (sym (reverse-append back (q ∷ []))) in
-      subst (λ (x : List Pair). IsWay W R x target) e (g (ps ++ q ∷ []) (further w leads))
+  goes_back : (at place : ℕ) (back : List Pair) → 0 < at → GoesOn at back place → GoesOn (parent_of parents at) (back ++ at_place pairs at ∷ []) place
+  goes_back at place back pos g ps w =
+      let e : (ps ++ at_place pairs at ∷ []) ++ reverse back ≡ ps ++ reverse (back ++ at_place pairs at ∷ []) = append_assoc ps (at_place pairs at ∷ []) (reverse back) ∙ ap (λ (x : List Pair). ps ++ x) (sym (reverse-append back (at_place pairs at ∷ []))) in
+      subst (λ (x : List Pair). IsByParents pairs parents place x) e (g (ps ++ at_place pairs at ∷ []) (onward pos w))
 
-  pub way_whole : (p target : Pair) (back : List Pair) → GoesOn p back target → p ≡ (0, 0) → IsWay W R (reverse (back ++ (0, 0) ∷ [])) target
-  way_whole p target back g e =
-      let top : IsWay W R ((0, 0) ∷ []) p = rw e at_roots in
-      subst (λ (x : List Pair). IsWay W R x target) (sym (reverse-append back ((0, 0) ∷ []))) (g ((0, 0) ∷ []) top)
+  pub back_on : (at to place : ℕ) (p : Pair) (back new : List Pair) → 0 < at → GoesOn at back place → p ≡ get_or pairs at (0, 0) → to ≡ get_or parents at 0 → new ≡ back ++ p ∷ [] → GoesOn to new place
+  back_on at to place p back new pos g is its longer = rw (its, longer, is) (goes_back at place back pos g)
 
-  -- ---- the loop
+  pub back_whole : (place : ℕ) (p : Pair) (back new : List Pair) → GoesOn 0 back place → p ≡ get_or pairs 0 (0, 0) → new ≡ back ++ p ∷ [] → IsByParents pairs parents place (reverse new)
+  back_whole place p back new g is longer =
+      rw (longer, is) (subst (λ (x : List Pair). IsByParents pairs parents place x) (sym (reverse-append back (at_place pairs 0 ∷ []))) (g (at_place pairs 0 ∷ []) of_roots))
 
-  -- what was read back from a pair, so far that the pair at this place comes next
-  pub record IsReadBack (pairs : List Pair) (target : Pair) (at : ℕ) (back : List Pair) : Type 0 where
-    pub there : at < length pairs
-    pub on : GoesOn (get_or pairs at (0, 0)) back target
-
-  pub back_first : (pairs : List Pair) (place : ℕ) (back : List Pair) → place < length pairs → back ≡ [] → IsReadBack pairs (get_or pairs place (0, 0)) place back
-  back_first pairs place back lt none = record { there = lt; on = rw none (goes_first (get_or pairs place (0, 0))) }
-
-  pub back_on : (pairs : List Pair) (parents : List ℕ) (target : Pair) (at to : ℕ) (p : Pair) (back new : List Pair) → AreParents W R pairs parents → 0 < at → IsReadBack pairs target at back → p ≡ get_or pairs at (0, 0) → to ≡ get_or parents at 0 → new ≡ back ++ p ∷ [] → IsReadBack pairs target to new
-  back_on pairs parents target at to p back new t pos b is its longer =
-      let parent : HasParent W R pairs parents at = t.lead at pos b.there in
-      rw (its, longer, is) (record { there = omega (arith, parent.earlier, b.there); on = goes_back _ _ target back b.on parent.leads })
-
-  pub back_whole : (pairs : List Pair) (parents : List ℕ) (target : Pair) (p : Pair) (back new : List Pair) → AreParents W R pairs parents → IsReadBack pairs target 0 back → p ≡ get_or pairs 0 (0, 0) → new ≡ back ++ p ∷ [] → IsWay W R (reverse new) target
-  back_whole pairs parents target p back new t b is longer =
-      rw (longer, is ∙ t.top) (way_whole (get_or pairs 0 (0, 0)) target back b.on t.top)
+-- by its parents a pair is reached
+pub way_by : (W R : List Node) (pairs : List Pair) (parents : List ℕ) → AreParents W R pairs parents → (k : ℕ) (ps : List Pair) → IsByParents pairs parents k ps → k < length pairs → IsWay W R ps (get_or pairs k (0, 0))
+way_by W R pairs parents t k ps of_roots lt = rw t.top at_roots
+way_by W R pairs parents t k ps (onward {ps = qs} pos w) lt =
+    let h : HasParent W R pairs parents k = t.lead k pos lt in
+    further (way_by W R pairs parents t (parent_of parents k) qs w (omega (arith, h.earlier, lt))) h.leads

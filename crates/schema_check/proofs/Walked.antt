@@ -61,7 +61,7 @@ all_next : (ps more : List Pair) (qs : List Pair) → AllByRecursion (λ q. Amon
 all_next ps more [] a = tt
 all_next ps more (q ∷ qs) a = (among_more q ps more a.0, all_next ps more qs a.1)
 
-among_one : (all ps : List Pair) → AllByRecursion (λ q. Among q all) ps → (q : Pair) → Among q ps → Among q all
+pub among_one : (all ps : List Pair) → AllByRecursion (λ q. Among q all) ps → (q : Pair) → Among q ps → Among q all
 among_one all [] f q a = absurd a
 among_one all (x ∷ ps) f q (inl e) = subst (λ (y : Pair). Among y all) (sym e) f.0
 among_one all (x ∷ ps) f q (inr a) = among_one all ps f.1 q a

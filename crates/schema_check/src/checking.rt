@@ -24,7 +24,7 @@ pub struct BadPair {
 pub struct Check {
     /// All pairs that are reached, in the order in which each is reached first.
     pub pairs: Vec<NodePair>,
-    /// For each of these the place of a pair before it that leads to it; 0 for the roots, which are the first pair.
+    /// For each of these the place of the first pair that leads to it; 0 for the roots, which are the first pair.
     pub parents: Vec<usize>,
     /// Those that are bad, in the order of the pairs.
     pub bad: Vec<BadPair>,
@@ -62,8 +62,8 @@ fn add_parents(parents: &mut Vec<usize>, len: usize, parent: usize) -> Result<()
     Ok(())
 }
 
-/// Returns all pairs that the roots lead to, for each a pair that leads to it, and those that are bad, in the order in
-/// which they are reached first. No pair is bad just where the reader can read all that the writer writes, but for
+/// Returns all pairs that the roots lead to, for each the first that leads to it, and those that are bad, in the order
+/// in which they are reached first. No pair is bad just where the reader can read all that the writer writes, but for
 /// bytes that are no UTF-8. Each pair is looked at once, and one that is bad leads on like any other.
 pub fn check_pair(alloc: Global, writer: &Nodes, reader: &Nodes) -> Result<Check, AllocError>
     ensures check { IfOk result (λ c. IsCheck writer.now reader.now c) }

@@ -1,9 +1,9 @@
 //! How a pair of nodes is reached from the roots.
 
-ghost use Rattle.std.specs.Prelude.{◌≡◌, ◌<◌, length, reverse, slice_index_or, IfOk};
+ghost use Rattle.std.specs.Prelude.{◌≡◌, ◌<◌, length, reverse, IfOk};
 ghost use Rattle.schema_check.specs.BadPairs.{IsCheck};
 ghost use Rattle.schema_check.specs.Pairs.{AreBelow, pairs_at};
-ghost use Rattle.schema_check.specs.Ways.{IsWay};
+ghost use Rattle.schema_check.specs.Ways.{IsByParents, IsWay, at_place};
 
 use crate::checking::Check;
 use crate::pairs::NodePair;
@@ -18,7 +18,7 @@ fn reversed(alloc: Global, pairs: &[NodePair]) -> Result<Vec<NodePair>, AllocErr
 }
 
 /// Returns a way from the roots to the pair at a place of a check: the roots first, that pair last, and between them
-/// pairs that lead from one to the next. The schemas are those of the check.
+/// pairs of which each is the next one's parent. The schemas are those of the check.
 pub fn way_to(
     alloc: Global,
     check: &Check,
@@ -29,7 +29,9 @@ pub fn way_to(
     requires check { IsCheck writer.now reader.now check.now }
     requires there { place < length check.now.pairs.items }
     ensures way { IfOk result (λ v. IsWay writer.now reader.now (pairs_at v.items)
-        (slice_index_or (pairs_at check.now.pairs.items) place (0, 0))) }
+        (at_place (pairs_at check.now.pairs.items) place)) }
+    ensures by_parents { IfOk result (λ v. IsByParents (pairs_at check.now.pairs.items) check.now.parents.items place
+        (pairs_at v.items)) }
     ensures below { IfOk result (λ v. AreBelow (length writer.now) (length reader.now) v.items) }
 {
     let mut back = Vec::new(alloc);

@@ -39,7 +39,7 @@ loop-place-preserved c =
       readers = c.in_ok-add_all.ensures.readers ∙ c.loop-place.invariant.readers;
       walk = walk_on _ _ _ c.get-wn.result _ _ c.loop-place.invariant.walk lt c.get-wn.ensures.pair exact;
       bad = c.in_ok-add_bad.ensures ∙ ap (λ (k : Option MismatchKind). c.loop-place.bad.items ++ entry k c.loop-place.place c.get-wn.result) c.in_ok-step.ensures.kind ∙ bad_on _ _ _ c.get-wn.result c.loop-place.pairs.pairs _ c.loop-place.bad.items c.loop-place.invariant.bad lt c.get-wn.ensures.pair exact;
-      parents = subst (λ (xs : List ℕ). AreParents c.args.writer.now c.args.reader.now c.add_all.new.self.pairs xs) (ap (λ (n : ℕ). c.loop-place.parents.items ++ replicate (n - length c.loop-place.parents.items) c.loop-place.place) (sym c.len-in-loop-place-2.ensures.len) ∙ sym c.in_ok-add_parents.ensures) (parents_on _ _ c.loop-place.place c.get-wn.result c.loop-place.pairs.pairs c.add_all.new.self.pairs c.loop-place.parents.items c.loop-place.invariant.parents lt c.get-wn.ensures.pair exact);
+      parents = subst (λ (xs : List ℕ). AreParents c.args.writer.now c.args.reader.now c.add_all.new.self.pairs xs) (ap (λ (n : ℕ). c.loop-place.parents.items ++ replicate (n - length c.loop-place.parents.items) c.loop-place.place) (sym c.len-in-loop-place-2.ensures.len) ∙ sym c.in_ok-add_parents.ensures) (parents_on _ _ c.loop-place.place c.get-wn.result c.loop-place.pairs.pairs c.add_all.new.self.pairs c.loop-place.parents.items c.loop-place.invariant.walk c.loop-place.invariant.parents lt c.get-wn.ensures.pair exact);
     }
 
 pub returns-clause-check : goal.returns-clause-check
