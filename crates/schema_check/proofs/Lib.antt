@@ -10,4 +10,5 @@ pub mod Named
 pub mod Mismatched
 pub mod Detailed
 pub mod Bounded
+pub mod OneWay
 pub mod OneCheck

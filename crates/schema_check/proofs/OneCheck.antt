@@ -1,5 +1,5 @@
 -- The walk from the roots ends, and with one list.
-use Rattle.std.proofs.Common.{◌≡◌, ℕ, zero, suc, ◌+◌, ◌*◌, ◌<◌, ◌≤◌, List, [], ◌∷◌, length, get_or, slice_get, Some, refl, sym, ap, subst, ◌∙◌, inl, inr, ◌⊎◌, arith}
+use Rattle.std.proofs.Common.{◌≡◌, ℕ, zero, suc, ◌+◌, ◌-◌, ◌*◌, ◌<◌, ◌≤◌, List, [], ◌∷◌, ◌++◌, length, get_or, replicate, slice_get, Some, refl, sym, ap, subst, ◌∙◌, inl, inr, ◌⊎◌, arith}
 use Rattle.std.proofs.lemmas.Bool.{cases_lt}
 use Rattle.std.proofs.lemmas.List.{get_or_default}
 use Rattle.avro_types.specs.Node.{Node}
@@ -7,11 +7,14 @@ use Rattle.avro_types.specs.WellFormed.{IsWellFormed}
 use Rattle.resolver.specs.NextPairs.{next_pairs}
 use Rattle.resolver.specs.Safety.{Pair}
 use Rattle.schema_check.specs.BadPairs.{bad_among}
-use Rattle.schema_check.specs.OneCheck.{OneListIsOfBadPairs, SomeAreBadPairs}
+use Rattle.schema_check.specs.OneCheck.{OneIsFound, SomeAreFound}
+use Rattle.schema_check.specs.Ways.{AreParents}
 use Rattle.schema_check.specs.Pairs.{with_all}
 use Rattle.schema_check.specs.Walk.{AreInOrder, IsWalk, begun, turn}
 use Rattle.schema_check.proofs.BadOnes.{are_bad_pairs}
 use Rattle.schema_check.proofs.Bounded.{all_within, few_pairs}
+use Rattle.schema_check.proofs.OneWay.{one_list_of_parents}
+use Rattle.schema_check.proofs.Parented.{parents_first, parents_on}
 use Rattle.schema_check.proofs.Walked.{at_place, got, walked}
 
 past_end : (ps : List Pair) (p : Pair) → slice_get ps (length ps) ≡ Some p → ⊥
@@ -78,10 +81,11 @@ module _ (W R : List Node) where
     ]
   ]
 
-pub one_list_is_of_bad_pairs : OneListIsOfBadPairs
-one_list_is_of_bad_pairs W R pairs others bad further a b =
-    let same : pairs ≡ others = order_one W R pairs others a.in_order b.in_order in
-    (same, a.among ∙ ap (bad_among W R 0) same ∙ sym b.among)
+pub one_is_found : OneIsFound
+one_is_found W R pairs others parents theirs bad further a b =
+    let same : pairs ≡ others = order_one W R pairs others a.bad_pairs.in_order b.bad_pairs.in_order in
+    let its : AreParents W R pairs theirs = subst (λ (x : List Pair). AreParents W R x theirs) (sym same) b.with_parents in
+    (same, one_list_of_parents W R pairs parents theirs a.with_parents its, a.bad_pairs.among ∙ ap (bad_among W R 0) same ∙ sym b.bad_pairs.among)
 
 -- ---- some list
 
@@ -89,16 +93,28 @@ module _ (W R : List Node) (writer : IsWellFormed W) (reader : IsWellFormed R) w
   few : (i : ℕ) (ps : List Pair) → IsWalk W R i ps → length ps ≤ length W * length R
   few i ps w = let k = walked W R i ps w in few_pairs (length W) (length R) ps k.once (all_within W R writer reader ps k.reached)
 
-  walk_all : (n i : ℕ) (ps : List Pair) → IsWalk W R i ps → length W * length R ≤ i + n → (qs : List Pair) × AreInOrder W R qs
-  walk_all zero i ps w le =
-      let same : i ≡ length ps = omega (arith, (walked W R i ps w).bound, few i ps w, le) in
-      (ps, subst (λ (n : ℕ). IsWalk W R n ps) same w)
-  walk_all (suc n) i ps w le = elim (cases_lt i (length ps)) [
-    | inl lt ↦ walk_all n (suc i) (with_all ps (next_pairs W R (get_or ps i (0, 0)))) (turn w (at_place ps i (get_or ps i (0, 0)) lt (get_or_default ps i (0, 0) (get_or ps i (0, 0)) lt))) (omega (arith, le))
-    | inr ge ↦ (let same : i ≡ length ps = omega (arith, (walked W R i ps w).bound, ge) in (ps, subst (λ (n : ℕ). IsWalk W R n ps) same w))
+  record Ended : Type 0 where
+    pub pairs : List Pair
+    pub parents : List ℕ
+    pub in_order : AreInOrder W R pairs
+    pub with_parents : AreParents W R pairs parents
+
+  at_end : (i : ℕ) (ps : List Pair) (parents : List ℕ) → IsWalk W R i ps → AreParents W R ps parents → length ps ≤ i → Ended
+  at_end i ps parents w t le =
+      let same : i ≡ length ps = omega (arith, (walked W R i ps w).bound, le) in
+      record { pairs = ps; parents = parents; in_order = subst (λ (n : ℕ). IsWalk W R n ps) same w; with_parents = t }
+
+  walk_all : (n i : ℕ) (ps : List Pair) (parents : List ℕ) → IsWalk W R i ps → AreParents W R ps parents → length W * length R ≤ i + n → Ended
+  walk_all zero i ps parents w t le = at_end i ps parents w t (omega (arith, few i ps w, le))
+  walk_all (suc n) i ps parents w t le = elim (cases_lt i (length ps)) [
+    | inl lt ↦ (
+        let at : get_or ps i (0, 0) ≡ get_or ps i (get_or ps i (0, 0)) = get_or_default ps i (0, 0) (get_or ps i (0, 0)) lt in
+        walk_all n (suc i) (with_all ps (next_pairs W R (get_or ps i (0, 0)))) (parents ++ replicate (length (with_all ps (next_pairs W R (get_or ps i (0, 0)))) - length parents) i) (turn w (at_place ps i (get_or ps i (0, 0)) lt at))
+        (parents_on W R i (get_or ps i (0, 0)) ps (with_all ps (next_pairs W R (get_or ps i (0, 0)))) parents w t lt at refl) (omega (arith, le)))
+    | inr ge ↦ at_end i ps parents w t ge
   ]
 
-pub some_are_bad_pairs : SomeAreBadPairs
-some_are_bad_pairs W R writer reader =
-    let f = walk_all W R writer reader (length W * length R) 0 ((0, 0) ∷ []) begun (omega arith) in
-    (f.0, bad_among W R 0 f.0, are_bad_pairs W R f.0 (bad_among W R 0 f.0) f.1 refl)
+pub some_are_found : SomeAreFound
+some_are_found W R writer reader =
+    let f = walk_all W R writer reader (length W * length R) 0 ((0, 0) ∷ []) (0 ∷ []) begun (parents_first W R [] ((0, 0) ∷ []) (0 ∷ []) refl refl refl) (omega arith) in
+    (f.pairs, f.parents, bad_among W R 0 f.pairs, record { bad_pairs = are_bad_pairs W R f.pairs (bad_among W R 0 f.pairs) f.in_order refl; with_parents = f.with_parents })

@@ -60,9 +60,13 @@ module _ (W R : List Node) where
     pub in_order : AreInOrder W R pairs
     pub among : bad ≡ bad_among 0 pairs
 
+  -- what is found of two schemas
+  pub record AreFound (pairs : List Pair) (parents : List ℕ) (bad : List BadPair) : Type 0 where
+    pub bad_pairs : AreBadPairs pairs bad
+    pub with_parents : AreParents W R pairs parents
+
   pub record IsCheck (c : Check) : Type 0 where
-    pub bad : AreBadPairs (pairs_at c.pairs.items) c.bad.items
-    pub parents : AreParents W R (pairs_at c.pairs.items) c.parents.items
+    pub found : AreFound (pairs_at c.pairs.items) c.parents.items c.bad.items
     pub below : AreBelow (length W) (length R) c.pairs.items
 
 -- what a caller may look up of each bad pair: its nodes in schemas with these numbers of nodes, its place among pairs

@@ -3,7 +3,7 @@
 ghost use Rattle.schema_check.specs.BadKinds.{BadPairsHaveKinds};
 ghost use Rattle.schema_check.specs.Details.{BadPairsHaveDetails};
 ghost use Rattle.schema_check.specs.Mismatches.{MismatchesHaveBadPairs};
-ghost use Rattle.schema_check.specs.OneCheck.{OneListIsOfBadPairs, SomeAreBadPairs};
+ghost use Rattle.schema_check.specs.OneCheck.{OneIsFound, OneWayIsByParents, SomeAreFound, SomeWayIsByParents};
 
 /// The law that a pair is bad just where it is by some kind.
 pub fn bad_pair_has_a_kind()
@@ -16,10 +16,16 @@ pub fn bad_pair_has_details()
     ensures { BadPairsHaveDetails }
 {}
 
-/// The law that each pair of schemas has a list of its reached pairs and one of the bad ones, and just one of each.
+/// The law that each pair of schemas has reached pairs with their parents, and bad ones, and just one list of each.
 pub fn pair_has_one_check()
-    ensures some { SomeAreBadPairs }
-    ensures one { OneListIsOfBadPairs }
+    ensures some { SomeAreFound }
+    ensures one { OneIsFound }
+{}
+
+/// The law that each place of a check has a way by the parents, and just one.
+pub fn place_has_one_way()
+    ensures some { SomeWayIsByParents }
+    ensures one { OneWayIsByParents }
 {}
 
 /// The law that each mismatch of a writer's datum, but of bytes, is at a bad pair that is reached.

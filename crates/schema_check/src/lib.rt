@@ -16,6 +16,7 @@ pub use checking::{BadPair, Check, check_pair};
 pub use fields::all_lacking;
 pub use laws::{
     bad_pair_has_a_kind, bad_pair_has_details, mismatch_is_at_a_bad_pair, pair_has_one_check,
+    place_has_one_way,
 };
 pub use outcome::MismatchKind;
 pub use pairs::NodePair;

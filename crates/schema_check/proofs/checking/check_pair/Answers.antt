@@ -46,8 +46,10 @@ pub returns-clause-check : goal.returns-clause-check
 returns-clause-check c =
     let again : pairs_at c.in_ok-pairs-2.pairs.items ≡ c.loop-place.pairs.pairs = ap pairs_at c.in_ok-pairs-2.ensures.pairs ∙ pairs_again c.loop-place.pairs.pairs in
     record {
-      bad = rw again (walk_end _ _ _ _ _ c.loop-place.invariant.walk (omega (arith, c.loop-place-test.false, c.len-in-loop-place.ensures.len)) c.loop-place.invariant.bad);
-      parents = rw again c.loop-place.invariant.parents;
+      found = rw again (record {
+        bad_pairs = walk_end _ _ _ _ _ c.loop-place.invariant.walk (omega (arith, c.loop-place-test.false, c.len-in-loop-place.ensures.len)) c.loop-place.invariant.bad;
+        with_parents = c.loop-place.invariant.parents;
+      });
       below = rw (c.loop-place.invariant.writers, c.loop-place.invariant.readers) at c.in_ok-pairs-2.ensures.below;
     }
 
@@ -55,4 +57,4 @@ pub returns-clause-within : goal.returns-clause-within
 returns-clause-within c =
     let check = returns-clause-check c in
     subst (λ (n : ℕ). AreWithin (length c.args.writer.now) (length c.args.reader.now) n c.loop-place.bad.items) (length-map c.in_ok-pairs-2.pairs.items pair_at)
-    (bad_within _ _ _ _ (pairs_at c.in_ok-pairs-2.pairs.items) c.loop-place.bad.items (below_back _ _ c.in_ok-pairs-2.pairs.items check.below) check.bad.only)
+    (bad_within _ _ _ _ (pairs_at c.in_ok-pairs-2.pairs.items) c.loop-place.bad.items (below_back _ _ c.in_ok-pairs-2.pairs.items check.below) check.found.bad_pairs.only)

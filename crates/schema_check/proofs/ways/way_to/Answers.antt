@@ -11,7 +11,7 @@ loop-at-init c =
     let many : length (pairs_at c.args.check.now.pairs.items) ≡ length c.args.check.now.pairs.items = length-map c.args.check.now.pairs.items pair_at in
     record {
       there = c.requires.there;
-      parent = omega (arith, many, c.requires.there, c.requires.check.parents.each);
+      parent = omega (arith, many, c.requires.there, c.requires.check.found.with_parents.each);
       on = goes_first (pairs_at c.args.check.now.pairs.items) c.args.check.now.parents.items c.args.place _ (ap pairs_at c.new-back.ensures.items);
       below = rw c.new-back.ensures.items tt;
     }
@@ -24,7 +24,7 @@ loop-at-preserved c =
     let pair = pair_of_place c.args.check.now.pairs.items c.loop-at.at c.index.result.now c.loop-at.invariant.there c.index.ensures in
     let longer : pairs_at c.push.new.self.items ≡ pairs_at c.loop-at.back.items ++ pair_at c.index.result.now ∷ [] = ap pairs_at c.in_ok-push.ensures.items ∙ map-append pair_at c.loop-at.back.items (c.index.result.now ∷ []) in
     let few : c.loop-at.at < length (pairs_at c.args.check.now.pairs.items) = omega (arith, many, c.loop-at.invariant.there) in
-    let its = c.requires.check.parents.lead c.loop-at.at pos few in
+    let its = c.requires.check.found.with_parents.lead c.loop-at.at pos few in
     record {
       there = omega (arith, parent, its.earlier, c.loop-at.invariant.there);
       parent = omega (arith, parent, its.earlier, c.loop-at.invariant.parent);
@@ -44,7 +44,7 @@ returns-clause-by_parents c =
 pub returns-clause-way : goal.returns-clause-way
 returns-clause-way c =
     let few : c.args.place < length (pairs_at c.args.check.now.pairs.items) = omega (arith, length-map c.args.check.now.pairs.items pair_at, c.requires.there) in
-    way_by _ _ (pairs_at c.args.check.now.pairs.items) c.args.check.now.parents.items c.requires.check.parents c.args.place (pairs_at c.in_ok-way.way.items) (returns-clause-by_parents c) few
+    way_by _ _ (pairs_at c.args.check.now.pairs.items) c.args.check.now.parents.items c.requires.check.found.with_parents c.args.place (pairs_at c.in_ok-way.way.items) (returns-clause-by_parents c) few
 
 pub returns-clause-below : goal.returns-clause-below
 returns-clause-below c =
