@@ -1,0 +1,14 @@
+pub mod Lacking
+pub mod BadKinds
+pub mod Amid
+pub mod Marked
+pub mod Walked
+pub mod BadOnes
+pub mod Parented
+pub mod Onward
+pub mod Named
+pub mod Mismatched
+pub mod Detailed
+pub mod Bounded
+pub mod OneWay
+pub mod OneCheck
