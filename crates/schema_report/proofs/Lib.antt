@@ -1,0 +1,2 @@
+pub mod SchemaLines
+pub mod Appending

@@ -1,0 +1,10 @@
+//! Resolution; used by `schema_commands`.
+//!
+//! What a person asks of schemas, as text: where their nodes are, and why a reader cannot read all that a writer writes.
+#![tactic(auto)]
+
+mod checking;
+mod listing;
+mod reading;
+mod refusal;
+mod types;
