@@ -33,7 +33,7 @@ module _ (W R : List Node) where
   bad_among place [] = []
   bad_among place (p ∷ ps) = entry (kind_of W R p) place p ++ bad_among (suc place) ps
 
-  -- it is reached, bad by its kind, and at its place among the pairs
+  -- a bad pair is reached, bad by its kind, and at its place among the pairs
   pub record IsBadThere (pairs : List Pair) (b : BadPair) : Type 0 where
     pub reached : Reached W R (pair_of b)
     pub bad : IsBadBy W R b.kind (pair_of b)
@@ -51,6 +51,7 @@ module _ (W R : List Node) where
   pub record AreBadPairs (pairs : List Pair) (bad : List BadPair) : Type 0 where
     -- there is none just where no bad pair is reached
     pub safe : (bad ≡ []) ↔ IsSafe W R
+    -- each that is listed is reached and bad
     pub only : AllByRecursion (IsBadThere pairs) bad
     -- each that is reached and bad is listed
     pub all : (kind : MismatchKind) (p : Pair) → Reached W R p → IsBadBy W R kind p → IsListed bad kind p
@@ -65,6 +66,7 @@ module _ (W R : List Node) where
     pub bad_pairs : AreBadPairs pairs bad
     pub with_parents : AreParents W R pairs parents
 
+  -- and each node is one of its schema
   pub record IsCheck (c : Check) : Type 0 where
     pub found : AreFound (pairs_at c.pairs.items) c.parents.items c.bad.items
     pub below : AreBelow (length W) (length R) c.pairs.items
