@@ -1,0 +1,4 @@
+pub mod Marked
+pub mod Below
+pub mod Few
+pub mod Stacked

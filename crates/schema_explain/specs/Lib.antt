@@ -1,0 +1,5 @@
+pub mod Pairs
+pub mod Arrivals
+pub mod Parts
+pub mod Explanation
+pub mod Bounds

@@ -1,0 +1,17 @@
+//! Resolution; used by `commands`.
+//!
+//! What becomes of every part of a message that is written by one schema and read by another (Avro 1.11 Specification,
+//! "Schema Resolution").
+#![tactic(auto)]
+
+mod arrivals;
+mod entries;
+mod explaining;
+mod fields;
+mod line;
+mod pairs;
+mod parts;
+
+pub use explaining::explain;
+pub use line::{Fate, Line, Part};
+pub use outcome::MismatchKind;
