@@ -1,5 +1,5 @@
 -- A mark more for a pair more.
-use Rattle.std.proofs.Common.{◌≡◌, ℕ, ◌+◌, ◌*◌, ◌<◌, ◌||◌, Bool, true, false, List, [], ◌∷◌, ◌++◌, length, get_or, refl, sym, ap, ◌∙◌, inl, inr, arith}
+use Rattle.std.proofs.Common.{◌≡◌, ℕ, ◌+◌, ◌*◌, ◌<◌, ◌||◌, Bool, true, false, List, [], ◌∷◌, ◌++◌, length, get_or, refl, sym, ap, ◌∙◌, inl, inr, ◌⊎◌, arith}
 use Rattle.std.proofs.Math.ListN.{set}
 use Rattle.std.proofs.lemmas.List.{get_or-set_same, get_or-set_other, length-set}
 use Rattle.std.proofs.lemmas.Bool.{cases_eq}
@@ -16,7 +16,7 @@ or_right true = refl
 or_right false = refl
 
 -- the last pair is among them
-among_last : (q : Pair) (ps : List Pair) → is_among q (ps ++ q ∷ []) ≡ true
+pub among_last : (q : Pair) (ps : List Pair) → is_among q (ps ++ q ∷ []) ≡ true
 among_last q [] = ap (λ (b : Bool). b || false) (same_itself q)
 among_last q (p ∷ ps) = ap (λ (b : Bool). is_same_pair q p || b) (among_last q ps) ∙ or_right (is_same_pair q p)
 
@@ -24,6 +24,37 @@ among_last q (p ∷ ps) = ap (λ (b : Bool). is_same_pair q p || b) (among_last 
 among_other : (p q : Pair) (ps : List Pair) → is_same_pair p q ≡ false → is_among p (ps ++ q ∷ []) ≡ is_among p ps
 among_other p q [] e = ap (λ (b : Bool). b || false) e
 among_other p q (x ∷ ps) e = ap (λ (b : Bool). is_same_pair p x || b) (among_other p q ps e)
+
+or_left : (a b : Bool) → a ≡ true → (a || b) ≡ true
+or_left true b e = refl
+or_left false b e = absurd cc
+
+or_second : (a b : Bool) → b ≡ true → (a || b) ≡ true
+or_second true b e = refl
+or_second false b e = e
+
+either : (a b : Bool) → (a || b) ≡ true → (a ≡ true) ⊎ (b ≡ true)
+either true b e = inl refl
+either false b e = inr e
+
+same_pair : (p q : Pair) → is_same_pair p q ≡ true → p ≡ q
+same_pair p q e = let first : p.0 ≡ q.0 = grind arith in let second : p.1 ≡ q.1 = grind arith in λ i. (first i, second i)
+
+-- those that were among them still are
+pub among_more : (p q : Pair) (ps : List Pair) → is_among p ps ≡ true → is_among p (ps ++ q ∷ []) ≡ true
+among_more p q [] e = absurd cc
+among_more p q (x ∷ ps) e = elim (either (is_same_pair p x) (is_among p ps) e) [
+  | inl same ↦ or_left (is_same_pair p x) (is_among p (ps ++ q ∷ [])) same
+  | inr rest ↦ or_second (is_same_pair p x) (is_among p (ps ++ q ∷ [])) (among_more p q ps rest)
+]
+
+-- and another is the last
+pub one_last : (p q : Pair) (ps : List Pair) → is_among p (ps ++ q ∷ []) ≡ true → (is_among p ps ≡ true) ⊎ (p ≡ q)
+one_last p q [] e = elim (either (is_same_pair p q) false e) [ inl same ↦ inr (same_pair p q same) | inr never ↦ absurd cc ]
+one_last p q (x ∷ ps) e = elim (either (is_same_pair p x) (is_among p (ps ++ q ∷ [])) e) [
+  | inl same ↦ inl (or_left (is_same_pair p x) (is_among p ps) same)
+  | inr rest ↦ elim (one_last p q ps rest) [ inl old ↦ inl (or_second (is_same_pair p x) (is_among p ps) old) | inr last ↦ inr last ]
+]
 
 pub marked_more : (bs : List Bool) (ps now : List Pair) (readers : ℕ) (q : Pair) → q.1 < readers → q.0 * readers + q.1 < length bs → now ≡ ps ++ q ∷ []
     → ((p : Pair) → p.1 < readers → get_or bs (p.0 * readers + p.1) false ≡ is_among p ps)

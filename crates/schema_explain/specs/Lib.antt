@@ -3,3 +3,4 @@ pub mod Arrivals
 pub mod Parts
 pub mod Explanation
 pub mod Bounds
+pub mod Lines

@@ -8,10 +8,12 @@ mod arrivals;
 mod entries;
 mod explaining;
 mod fields;
+mod laws;
 mod line;
 mod pairs;
 mod parts;
 
 pub use explaining::explain;
+pub use laws::each_pair_has_a_line;
 pub use line::{Fate, Line, Part};
 pub use outcome::MismatchKind;
