@@ -99,6 +99,18 @@ source_found j i (r ∷ rs) k route p at has there = by_test (goes_to j r) refl 
   by_test false e zero at rest = let same : r ≡ route = cc in absurd (let clash : true ≡ false = sym (goes_if j r p (ap (λ (x : Route). x.partner) same ∙ has) there) ∙ e in cc)
   by_test false e (suc l) at rest = later (rest l at)
 
+-- what is found is a source
+pub source_is : (j i : ℕ) (rs : List Route) (s : ℕ × ℕ) → source j i rs ≡ Some s → IsSource j i rs (Some s)
+source_is j i [] s e = absurd cc
+source_is j i (r ∷ rs) s e = by_test (goes_to j r) refl e (λ h. source_is j (suc i) rs s h) where
+  by_test : (b : Bool) → goes_to j r ≡ b → cond b (Some (i, r.node)) (source j (suc i) rs) ≡ Some s → (source j (suc i) rs ≡ Some s → IsSource j (suc i) rs (Some s)) → IsSource j i (r ∷ rs) (Some s)
+  by_test true is e rest =
+      let f = goes_there j r is in
+      record { k = 0; route = r; partner = f.0; at = refl; has = f.1; there = f.2; same = sym e ∙ (let none : i ≡ i + 0 = omega arith in ap (λ (n : ℕ). Some (n, r.node)) none) }
+  by_test false is e rest =
+      let f = rest e in
+      record { k = suc f.k; route = f.route; partner = f.partner; at = f.at; has = f.has; there = f.there; same = f.same ∙ (let next : suc i + f.k ≡ i + suc f.k = omega arith in ap (λ (n : ℕ). Some (n, f.route.node)) next) }
+
 -- the partner that a route goes to
 pub record IsPartnerOf (rs : List FieldNode) (ps : List (Option ℕ)) (i : ℕ) (p : Partner) : Type 0 where
   pub at : slice_get ps i ≡ Some (Some p.position)

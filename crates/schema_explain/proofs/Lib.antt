@@ -6,3 +6,9 @@ pub mod Finding
 pub mod Complete
 pub mod Arriving
 pub mod Whole
+pub mod Lacking
+pub mod BadLines
+pub mod GoodParts
+pub mod Sound
+pub mod OneExplanation
+pub mod SafeLines

@@ -28,7 +28,7 @@ distinct_names W formed w R ws rs lists = by_node (slice_get W w) refl R lists w
       let both : (fs, gs) ≡ (ws, rs) = cc in subst HaveDistinctNames (ap (λ (p : List FieldNode × List FieldNode). p.0) both) (formed.each w (RecordNode n fs) at).1
   by_node o at R e = absurd cc
 
-map_lines : (P Q : Line → Type 0) (lines : List Line) → ((line : Line) → P line → Q line) → SomeLine P lines → SomeLine Q lines
+pub map_lines : (P Q : Line → Type 0) (lines : List Line) → ((line : Line) → P line → Q line) → SomeLine P lines → SomeLine Q lines
 map_lines P Q [] f s = s
 map_lines P Q (line ∷ lines) f (inl p) = inl (f line p)
 map_lines P Q (line ∷ lines) f (inr s) = inr (map_lines P Q lines f s)
@@ -38,7 +38,7 @@ module _ (W R : List Node) (formed : IsWellFormed W) (reader_formed : IsWellForm
   accounted p a = elim (c.accounted p a) [ inl none ↦ absurd (let no : ⊥ = cc in no) | inr b ↦ b ]
 
   -- a pair with parts is explained
-  explained_at : (p : Pair) (a : Arrival) → arrival W R p.0 p.1 ≡ a → has_parts a.fate ≡ true → Shown W R lines c.final p → Accounted W R lines c.final (p.0, a.node)
+  pub explained_at : (p : Pair) (a : Arrival) → arrival W R p.0 p.1 ≡ a → has_parts a.fate ≡ true → Shown W R lines c.final p → Accounted W R lines c.final (p.0, a.node)
   explained_at p a is whole h =
       let there = subst (λ (b : Bool). ShownAs W R b lines c.final p) (ap (λ (x : Arrival). has_parts x.fate) is ∙ whole) h in
       accounted (p.0, a.node) (ap (λ (x : Arrival). is_among (p.0, x.node) c.final) (sym is) ∙ there)
