@@ -1,11 +1,12 @@
 //! The schemas of an input, each with the paths of its nodes.
 
-ghost use Rattle.std.specs.Prelude.{◌≡◌, ◌≢◌, Err, Ok, Some, IfErr, IfOk};
+ghost use Rattle.std.specs.Prelude.{◌≡◌, ◌≢◌, length, Err, Ok, Some, IfErr, IfOk};
 ghost use Rattle.serde_json.specs.Read.{read};
 ghost use Rattle.serde_json.specs.View.{view};
 ghost use Rattle.avro_schema.specs.Schema.{schema_of};
+ghost use Rattle.avro_schema_paths.specs.Adds.{ArePaths};
 ghost use Rattle.avro_schema_names.specs.declared.error.SchemaError.TheVariants.{NoMemory};
-ghost use Rattle.schema_report.specs.Reading.{HasPaths, IsBadLine, schema_of_line};
+ghost use Rattle.schema_report.specs.Reading.{IsBadLine, schema_of_line};
 
 use crate::refusal::Refusal;
 use avro_schema::{Schema, SchemaError, parsed_schema_is_declared};
@@ -14,10 +15,11 @@ use avro_types::Nodes;
 use serde_json::Value;
 use std::alloc::{AllocError, Global};
 
-/// A schema, and for each of its nodes the path to where it is declared in the line's JSON value.
+/// A schema, the JSON value of its line, and for each of its nodes the path to where it is declared in that value.
 #[derive(Drop)]
 pub(crate) struct PathedSchema {
     pub(crate) schema: Schema,
+    pub(crate) value: Value,
     pub(crate) paths: Vec<Vec<Step>>,
 }
 
@@ -31,15 +33,15 @@ fn value_of(alloc: Global, text: &[u8]) -> Result<Value, AllocError>
     }
 }
 
-/// Returns the paths of the nodes that a text declares.
-fn paths_in(alloc: Global, text: &[u8], nodes: &Nodes) -> Result<Vec<Vec<Step>>, AllocError>
-    requires { schema_of text.now ≡ Ok nodes.now }
-    ensures { IfOk result (λ paths. HasPaths text.now nodes.now paths.items) }
+/// Returns the paths of the nodes that the value of a text declares.
+fn paths_in(alloc: Global, text: &[u8], value: &Value, nodes: &Nodes) -> Result<Vec<Vec<Step>>, AllocError>
+    requires schema { schema_of text.now ≡ Ok nodes.now }
+    requires value { read text.now ≡ Some (view value.now) }
+    ensures { IfOk result (λ paths. ArePaths nodes.now (view value.now) (length nodes.now) paths.items) }
 {
     parsed_schema_is_declared(); // law
     read_value_is_declared(); // law
-    let value = value_of(alloc, text)?;
-    paths_of(alloc, nodes, &value)
+    paths_of(alloc, nodes, value)
 }
 
 /// Returns the schema of a line, or its first fault: bytes that are no UTF-8 are no JSON.
@@ -72,13 +74,19 @@ impl Refusal {
 /// schema.
 pub(crate) fn read_schema(alloc: Global, line: &[u8], number: u8) -> Result<PathedSchema, Refusal>
     ensures schema { IfOk result (λ s. schema_of_line line.now ≡ Ok s.schema.nodes) }
-    ensures paths { IfOk result (λ s. HasPaths line.now s.schema.nodes s.paths.items) }
+    ensures value { IfOk result (λ s. read line.now ≡ Some (view s.value)) }
+    ensures paths { IfOk result (λ s. ArePaths s.schema.nodes (view s.value) (length s.schema.nodes) s.paths.items) }
     ensures bad { IfErr result (λ e. e ≢ Refusal.NoMemory → IsBadLine line.now number e) }
 {
     let schema = match schema_of_line(alloc, line) {
         Ok(schema) => schema,
         Err(error) => return Err(Refusal::of_schema(number, error)),
     };
-    let paths = paths_in(alloc, line, schema.nodes())?;
-    Ok(PathedSchema { schema, paths })
+    let value = value_of(alloc, line)?;
+    let paths = paths_in(alloc, line, &value, schema.nodes())?;
+    Ok(PathedSchema {
+        schema,
+        value,
+        paths,
+    })
 }

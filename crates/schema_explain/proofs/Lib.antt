@@ -1,0 +1,14 @@
+pub mod Marked
+pub mod Below
+pub mod Few
+pub mod Stacked
+pub mod Finding
+pub mod Complete
+pub mod Arriving
+pub mod Whole
+pub mod Lacking
+pub mod BadLines
+pub mod GoodParts
+pub mod Sound
+pub mod OneExplanation
+pub mod SafeLines

@@ -1,0 +1,6 @@
+pub mod Pairs
+pub mod Arrivals
+pub mod Parts
+pub mod Explanation
+pub mod Bounds
+pub mod Lines
