@@ -1,2 +1,4 @@
 pub mod SchemaLines
 pub mod Appending
+pub mod Refused
+pub mod Answering

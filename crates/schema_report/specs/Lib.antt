@@ -2,3 +2,4 @@ pub mod Types
 pub mod Reading
 pub mod Listing
 pub mod Checking
+pub mod Reports

@@ -34,7 +34,12 @@ fn value_of(alloc: Global, text: &[u8]) -> Result<Value, AllocError>
 }
 
 /// Returns the paths of the nodes that the value of a text declares.
-fn paths_in(alloc: Global, text: &[u8], value: &Value, nodes: &Nodes) -> Result<Vec<Vec<Step>>, AllocError>
+fn paths_in(
+    alloc: Global,
+    text: &[u8],
+    value: &Value,
+    nodes: &Nodes,
+) -> Result<Vec<Vec<Step>>, AllocError>
     requires schema { schema_of text.now ≡ Ok nodes.now }
     requires value { read text.now ≡ Some (view value.now) }
     ensures { IfOk result (λ paths. ArePaths nodes.now (view value.now) (length nodes.now) paths.items) }
