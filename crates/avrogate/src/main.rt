@@ -3,11 +3,13 @@
 //! Avro transcoding, from standard input to standard output or over HTTP, and what is kept of a schema registry.
 #![tactic(auto)]
 
+mod asking;
 mod ending;
 mod serving;
 mod stores;
 mod words;
 
+use crate::asking::{check, explain, list_nodes};
 use crate::ending::status_of;
 use crate::serving::serve;
 use crate::stores::{export_store, import_store};
@@ -47,6 +49,9 @@ fn status<
     match task_in(rt, words.as_slice()) {
         Ok(Task::Lines(verb)) => obey(rt, &verb),
         Ok(Task::Serve(words)) => serve(rt, host, &words).unwrap_or(Status::NoMemory),
+        Ok(Task::Nodes) => list_nodes(rt),
+        Ok(Task::Check(level)) => check(rt, level),
+        Ok(Task::Explain(explanation)) => explain(rt, explanation),
         Ok(Task::Export) => export_store(rt),
         Ok(Task::Import(path)) => import_store(host, path),
         Err(status) => status,

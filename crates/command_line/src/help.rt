@@ -50,6 +50,40 @@ Example:
   printf '%s\\n' 'register s \"int\"' | avrogate replay
   id 1";
 
+/// The lines of `nodes`.
+pub(crate) const NODES: &str =
+    "Reads a schema in one line. Writes a line for each of its nodes: its number, what it is, its full name where
+it has one, and its path in the schema's JSON as a JSON Pointer, `/` for the root.
+A bad schema is one line, with 1: `bad schema 1 KIND`.
+
+Example:
+  echo '{\"type\":\"array\",\"items\":\"long\"}' | avrogate nodes
+  0 array /
+  1 long /items";
+
+/// The lines of `check`.
+pub(crate) const CHECK: &str =
+    "Reads two schemas, a line each: by the level BACKWARD the first writes and the second reads.
+Writes `compatible`, with 0; or, with 1, a line for each pair of nodes that keeps the reader from
+reading all: KIND W R, the path of each node, and what it is about. With FULL each line begins
+with the level that it is of. A bad schema is one line, with 1.
+
+Example:
+  printf '%s\\n' '\"long\"' '\"int\"' | avrogate check
+  NoMatch 0 0 / / long is not read as int";
+
+/// The lines of `explain`.
+pub(crate) const EXPLAIN: &str =
+    "Reads the writer's schema in one line and the reader's in the next. Writes what becomes of every part of a
+message, a line each, below what it is a part of: copied, promoted, renamed, default, dropped, mismatch.
+With --node W R only the pair of a `mismatch KIND W R`, and where its nodes are.
+
+Example:
+  printf '%s\\n' '[\"null\",\"int\"]' '[\"long\",\"null\"]' | avrogate explain
+  message: union
+    branch 0, null: into branch 1, copied, null
+    branch 1, int: into branch 0, promoted, int to long";
+
 /// What `serve` answers and prints.
 pub(crate) const SERVE: &str =
     "Answers HTTP: the routes of the schema registry, and POST /transcode/ID. There is neither TLS nor

@@ -9,7 +9,7 @@ mod verb;
 
 use clap::{Arg, ArgAction, ArgMatches, Command, value_parser};
 use std::alloc::{AllocError, Global};
-pub use task::{ServeWords, Task};
+pub use task::{Explanation, ServeWords, Task};
 pub use verb::Verb;
 
 /// How many rows the run on a payload may take at most.
@@ -152,6 +152,48 @@ fn import<'a>(alloc: Global) -> Result<Command<'a>, AllocError> {
         .arg(file)
 }
 
+/// The levels at which schemas are checked.
+const LEVELS: &[&str] = &["BACKWARD", "FORWARD", "FULL"];
+
+/// The greatest number of a node that may be asked for.
+const MOST_NODE: i64 = 4_294_967_295;
+
+/// Returns the subcommand that checks two schemas, with the level at which it does.
+fn check<'a>(alloc: Global) -> Result<Command<'a>, AllocError> {
+    let level = Arg::new(alloc, "level")
+        .long("level")
+        .value_name("LEVEL")
+        .action(ArgAction::Set)
+        .value_parser(LEVELS)
+        .default_value("BACKWARD")
+        .help("Which reads: BACKWARD the second, FORWARD the first, FULL each");
+    Command::new(alloc, "check")
+        .about("Says why a reader's schema cannot read all that a writer's writes")
+        .after_help(help::CHECK)
+        .arg(level)
+}
+
+/// Returns the subcommand that explains what becomes of messages, with the forms in which it does.
+fn explain<'a>(alloc: Global) -> Result<Command<'a>, AllocError> {
+    let json = Arg::new(alloc, "json")
+        .long("json")
+        .action(ArgAction::SetTrue)
+        .help("Prints one JSON value, in place of a tree");
+    let node = Arg::new(alloc, "node")
+        .long("node")
+        .value_name("W R")
+        .num_args(2)
+        .action(ArgAction::Set)
+        .value_parser(value_parser!(u64).range(0..=MOST_NODE))
+        .conflicts_with("json")?
+        .help("Explains one pair of nodes alone, as a mismatch names them");
+    Command::new(alloc, "explain")
+        .about("Explains what becomes of every part of a message")
+        .after_help(help::EXPLAIN)
+        .arg(json)?
+        .arg(node)
+}
+
 /// A subcommand without flags, what it does and what lines it reads and writes.
 fn of_lines<'a>(alloc: Global, name: &'a str, about: &'a str, lines: &'a str) -> Command<'a> {
     Command::new(alloc, name).about(about).after_help(lines)
@@ -162,6 +204,7 @@ pub fn cli<'a>(alloc: Global) -> Result<Command<'a>, AllocError> {
     let transcode = "Transcodes payloads from a writer's schema to a reader's";
     let debug = "Obeys the commands of a debugger on a payload, between two schemas";
     let replay = "Replies to events of a registry and of sessions, one after another";
+    let nodes = "Lists the nodes of a schema, with their numbers and paths";
     let export = "Prints the lines of `replay` that make the registry of a store again";
     Command::new(alloc, "avrogate")
         .about("Transcodes Avro data, and serves the schemas that it goes by")
@@ -172,6 +215,9 @@ pub fn cli<'a>(alloc: Global) -> Result<Command<'a>, AllocError> {
         .subcommand(run(alloc)?)?
         .subcommand(of_lines(alloc, "debug", debug, help::DEBUG))?
         .subcommand(of_lines(alloc, "replay", replay, help::REPLAY))?
+        .subcommand(of_lines(alloc, "nodes", nodes, help::NODES))?
+        .subcommand(check(alloc)?)?
+        .subcommand(explain(alloc)?)?
         .subcommand(serve(alloc)?)?
         .subcommand(of_lines(alloc, "export", export, help::EXPORT))?
         .subcommand(import(alloc)?)
@@ -199,10 +245,30 @@ fn serve_words_of<'w>(words: &ArgMatches<'w>) -> Option<ServeWords<'w>> {
     })
 }
 
+/// Returns one of the two nodes that are asked for. `None` where they are not there.
+fn node_of(words: &ArgMatches<'_>, position: usize) -> Option<u32> {
+    let text = words.get_strs("node")?.get(position)?;
+    text.parse().ok()
+}
+
+/// Returns how messages are to be explained.
+fn explanation_of(words: &ArgMatches<'_>) -> Explanation {
+    if words.get_flag("json") {
+        return Explanation::Json;
+    }
+    match (node_of(words, 0), node_of(words, 1)) {
+        (Some(writer), Some(reader)) => Explanation::Pair { writer, reader },
+        _ => Explanation::Tree,
+    }
+}
+
 /// Returns what the words that were read ask for. `None` where the address of a service is none.
 pub fn task_of<'w>(matches: &ArgMatches<'w>) -> Option<Task<'w>> {
     match matches.subcommand() {
         Some(("serve", words)) => Some(Task::Serve(serve_words_of(words)?)),
+        Some(("nodes", _)) => Some(Task::Nodes),
+        Some(("check", words)) => Some(Task::Check(words.get_str("level")?)),
+        Some(("explain", words)) => Some(Task::Explain(explanation_of(words))),
         Some(("export", _)) => Some(Task::Export),
         Some(("import", words)) => Some(Task::Import(words.get_str("store")?)),
         _ => Some(Task::Lines(verb_of(matches)?)),

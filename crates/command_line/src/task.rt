@@ -10,10 +10,27 @@ pub enum Task<'w> {
     Lines(Verb),
     /// To serve HTTP.
     Serve(ServeWords<'w>),
+    /// To list the nodes of the schema on standard input.
+    Nodes,
+    /// To check the two schemas on standard input, at the level of this name.
+    Check(&'w str),
+    /// To explain what becomes of messages between the two schemas on standard input.
+    Explain(Explanation),
     /// To print the lines of `replay` that make the registry of a store again, whose file is the standard input.
     Export,
     /// To make a store of the lines of `replay` on standard input, in a new file at this path.
     Import(&'w str),
+}
+
+/// How messages are to be explained.
+#[derive(Clone, Copy, Debug, PartialEq, Eq)]
+pub enum Explanation {
+    /// As a tree of lines.
+    Tree,
+    /// As one JSON value.
+    Json,
+    /// Of one pair of nodes, as a mismatch names them.
+    Pair { writer: u32, reader: u32 },
 }
 
 /// How a service is to run.

@@ -24,7 +24,7 @@ pub enum Level {
 }
 
 /// Returns the report of a refusal: the line of the schema that is none.
-fn refused(alloc: Global, refusal: Refusal) -> Result<Report, AllocError>
+pub(crate) fn refused(alloc: Global, refusal: Refusal) -> Result<Report, AllocError>
     ensures { IfOk result (λ report. IsRefused refusal report) }
 {
     match refusal {

@@ -17,6 +17,6 @@ returns c =
     let nodes = c.in-Ok.read.schema.nodes in
     let paths = c.in-Ok.read.paths.items in
     let text = c.in_ok-text.ensures ∙ ap (λ (ns : List Node). node_lines ns 0 c.deref.result.now) c.nodes.ensures
-        ∙ ap (λ (ps : List (Vec Step Global)). node_lines nodes 0 ps) c.deref.ensures.value in
+    ∙ ap (λ (ps : List (Vec Step Global)). node_lines nodes 0 ps) c.deref.ensures.value in
     subst (λ (t : List ℕ). AnswersNodes c.args.line.now t Yes) (sym text)
     (listed nodes paths (record { schema = c.in-Ok.ensures.schema; value = _; reads = c.in-Ok.ensures.value; are = c.in-Ok.ensures.paths }))
