@@ -12,3 +12,4 @@ pub mod GoodParts
 pub mod Sound
 pub mod OneExplanation
 pub mod SafeLines
+pub mod Mismatched
