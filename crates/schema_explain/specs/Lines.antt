@@ -70,7 +70,8 @@ EachBadPairHasALine W R = (lines : List Line) (p : Pair) → IsExplanation W R l
 -- each line with a mismatch is at a bad pair that the roots lead to
 abbrev pub MismatchesAreAtBadPairs : List Node → List Node → Type 0
 MismatchesAreAtBadPairs W R = (lines : List Line) (i : ℕ) (line : Line) (kind : MismatchKind)
-    → IsExplanation W R lines → slice_get lines i ≡ Some line → line.fate ≡ fates.Mismatch kind → IsAtBadPair W R kind line
+    → IsExplanation W R lines → slice_get lines i ≡ Some line → line.fate ≡ fates.Mismatch kind
+    → IsAtBadPair W R kind line
 
 -- a line with the kind and the nodes of a mismatch, or with its nodes and bytes that may be no text
 pub record ShowsMismatch (m : Mismatch) (line : Line) : Type 0 where
@@ -94,7 +95,8 @@ IsFine line = (kind : MismatchKind) → line.fate ≡ fates.Mismatch kind → �
 
 -- no line has a mismatch just where no bad pair is reached
 abbrev pub SafeWhereNoLineMismatches : List Node → List Node → Type 0
-SafeWhereNoLineMismatches W R = (lines : List Line) → IsExplanation W R lines → AllByRecursion IsFine lines ↔ IsSafe W R
+SafeWhereNoLineMismatches W R = (lines : List Line) → IsExplanation W R lines
+    → AllByRecursion IsFine lines ↔ IsSafe W R
 
 -- two schemas have one explanation
 abbrev pub ThereIsOneExplanation : List Node → List Node → Type 0
