@@ -13,3 +13,4 @@ pub mod Sound
 pub mod OneExplanation
 pub mod SafeLines
 pub mod Mismatched
+pub mod Fated

@@ -1,5 +1,6 @@
 //! Laws of explanations. They do nothing when they run.
 
+ghost use Rattle.schema_explain.specs.Becoming.{FatesAreMet};
 ghost use Rattle.schema_explain.specs.Lines.{EachBadPairHasALine, EachMismatchHasALine, EachPairHasALine, MismatchesAreAtBadPairs, SafeWhereNoLineMismatches, ThereIsOneExplanation};
 
 use avro_types::Nodes;
@@ -47,6 +48,14 @@ pub fn safe_where_no_line_mismatches(writer: &Nodes, reader: &Nodes)
 {
     each_bad_pair_has_a_line(writer, reader); // law
     mismatches_are_at_bad_pairs(writer, reader); // law
+}
+
+/// The law that each datum becomes what the fate of its pair says: what is copied is the datum, what is promoted is it in
+/// the other type, bytes become a string where they are UTF-8, and what mismatches does so whatever the datum.
+pub fn fates_are_met(writer: &Nodes, reader: &Nodes)
+    ensures { FatesAreMet writer.now reader.now }
+{
+    reader.is_well_formed(); // law
 }
 
 /// The law that two schemas have one explanation.
