@@ -12,3 +12,5 @@ pub mod GoodParts
 pub mod Sound
 pub mod OneExplanation
 pub mod SafeLines
+pub mod Mismatched
+pub mod Fated

@@ -1,18 +1,25 @@
--- Which nodes are still to be explained, how deep and how many they are.
-use Rattle.std.specs.Prelude.{◌≡◌, ℕ, ◌+◌, ◌*◌, ◌<◌, ◌≤◌, List, length}
+-- Which nodes lines have and are still to be explained, how deep and how many they are.
+use Rattle.std.specs.Prelude.{◌≡◌, ℕ, ◌+◌, ◌*◌, ◌<◌, ◌≤◌, List, length, IfSome}
 use Rattle.std.specs.List.{AllByRecursion}
 use Rattle.avro_types.specs.Node.{Node}
+use Rattle.avro_types.specs.declared.limits.TheConstants.{MOST_SYMBOLS}
 use Rattle.schema_explain.specs.Pairs.{Listed}
 use Rattle.schema_explain.specs.declared.entries.Entry.{Entry}
 use Rattle.schema_explain.specs.declared.entries.Entry.TheVariants.{Ready, Due}
+use Rattle.schema_explain.specs.declared.line.Line.{Line}
 
 -- how many parts a pair may have: as many as an enum symbols
 abbrev pub MOST_PARTS : ℕ
-MOST_PARTS = 4096
+MOST_PARTS = MOST_SYMBOLS
 
--- nodes of both schemas, no deeper than that
+-- the nodes of a line are nodes of the schemas
+pub record HasNodesOf (W R : List Node) (line : Line) : Type 0 where
+  pub writer : IfSome line.writer (λ w. w < length W)
+  pub reader : IfSome line.reader (λ r. r < length R)
+
+-- nodes of both schemas, and a pair that is due is no deeper than that
 abbrev pub IsBelow : List Node → List Node → ℕ → Entry → Type 0
-IsBelow W R depth (Ready line) = Unit {0}
+IsBelow W R depth (Ready line) = HasNodesOf W R line
 IsBelow W R depth (Due t) = (t.writer < length W) × (t.reader < length R) × (t.depth ≤ depth)
 
 abbrev pub AreBelow : List Node → List Node → ℕ → List Entry → Type 0

@@ -4,3 +4,4 @@ pub mod Parts
 pub mod Explanation
 pub mod Bounds
 pub mod Lines
+pub mod Becoming

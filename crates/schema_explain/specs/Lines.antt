@@ -1,15 +1,18 @@
 -- What holds of the lines of two schemas: no part is missing, and mismatches are at bad pairs.
-use Rattle.std.specs.Prelude.{◌≡◌, ◌↔◌, ℕ, ◌⊎◌, true, List, [], ◌∷◌, Some, None, slice_get}
+use Rattle.std.specs.Prelude.{◌≡◌, ◌↔◌, ℕ, ◌⊎◌, true, List, [], ◌∷◌, Some, None, Ok, Err, slice_get}
 use Rattle.std.specs.List.{AllByRecursion}
+use Rattle.avro_types.specs.Conforming.{Conforms}
+use Rattle.avro_types.specs.Datum.{Datum}
 use Rattle.avro_types.specs.Node.{Node, FieldNode}
+use Rattle.outcome.specs.declared.mismatch.Mismatch.{Mismatch}
 use Rattle.outcome.specs.declared.mismatch.MismatchKind.{MismatchKind}
-use Rattle.outcome.specs.declared.mismatch.MismatchKind.TheVariants.{NoMatch, NoBranch, NoSymbol, NoDefault}
+use Rattle.outcome.specs.declared.mismatch.MismatchKind.TheVariants.{NoMatch, NoBranch, NoSymbol, NoDefault, BytesNotText}
 use Rattle.resolver_matching.specs.Partners.{routes}
-use Rattle.resolver.specs.Resolution.{field_lists, lacks, symbol_at, symbol_for}
+use Rattle.resolver.specs.Resolution.{Resolved, field_lists, lacks, resolved, symbol_at, symbol_for}
 use Rattle.resolver.specs.Safety.{IsBad, IsSafe, Pair, Reached}
 use Rattle.schema_explain.specs.Arrivals.{arrival}
 use Rattle.schema_explain.specs.Explanation.{IsExplanation}
-use Rattle.schema_explain.specs.declared.line.Fate.TheVariants.{Mismatch}
+use Rattle.schema_explain.specs.declared.line.Fate.TheVariants as fates
 use Rattle.schema_explain.specs.declared.line.Line.{Line}
 use Rattle.schema_explain.specs.declared.line.Part.TheVariants.{Field, Symbol}
 
@@ -44,7 +47,7 @@ module _ (W R : List Node) where
   -- a line with a mismatch at this pair
   pub record HasMismatchAt (p : Pair) (line : Line) : Type 0 where
     pub kind : MismatchKind
-    pub fate : line.fate ≡ Mismatch kind
+    pub fate : line.fate ≡ fates.Mismatch kind
     pub at : IsMismatchAt kind p line
 
   -- a line of a mismatch at a bad pair that is reached
@@ -67,15 +70,33 @@ EachBadPairHasALine W R = (lines : List Line) (p : Pair) → IsExplanation W R l
 -- each line with a mismatch is at a bad pair that the roots lead to
 abbrev pub MismatchesAreAtBadPairs : List Node → List Node → Type 0
 MismatchesAreAtBadPairs W R = (lines : List Line) (i : ℕ) (line : Line) (kind : MismatchKind)
-    → IsExplanation W R lines → slice_get lines i ≡ Some line → line.fate ≡ Mismatch kind → IsAtBadPair W R kind line
+    → IsExplanation W R lines → slice_get lines i ≡ Some line → line.fate ≡ fates.Mismatch kind
+    → IsAtBadPair W R kind line
+
+-- a line with the kind and the nodes of a mismatch, or with its nodes and bytes that may be no text
+pub record ShowsMismatch (m : Mismatch) (line : Line) : Type 0 where
+  pub writer : line.writer ≡ Some m.writer_node
+  pub reader : line.reader ≡ Some m.reader_node
+  pub fate : (line.fate ≡ fates.Mismatch m.kind) ⊎ ((m.kind ≡ BytesNotText) × (line.fate ≡ fates.PromotedIfText))
+
+-- a value of the reader, or a mismatch that has a line
+abbrev pub HasLine : {A : Type 0} → List Line → Resolved A → Type 0
+HasLine lines (Ok a) = Unit {0}
+HasLine lines (Err m) = SomeLine (ShowsMismatch m) lines
+
+-- whatever a datum of the writer is, a mismatch that it meets has a line
+abbrev pub EachMismatchHasALine : List Node → List Node → Type 0
+EachMismatchHasALine W R = (lines : List Line) (d : Datum) → IsExplanation W R lines → Conforms W 0 d
+    → HasLine lines (resolved W R 0 0 d)
 
 -- it has no mismatch
 abbrev pub IsFine : Line → Type 0
-IsFine line = (kind : MismatchKind) → line.fate ≡ Mismatch kind → ⊥
+IsFine line = (kind : MismatchKind) → line.fate ≡ fates.Mismatch kind → ⊥
 
 -- no line has a mismatch just where no bad pair is reached
 abbrev pub SafeWhereNoLineMismatches : List Node → List Node → Type 0
-SafeWhereNoLineMismatches W R = (lines : List Line) → IsExplanation W R lines → AllByRecursion IsFine lines ↔ IsSafe W R
+SafeWhereNoLineMismatches W R = (lines : List Line) → IsExplanation W R lines
+    → AllByRecursion IsFine lines ↔ IsSafe W R
 
 -- two schemas have one explanation
 abbrev pub ThereIsOneExplanation : List Node → List Node → Type 0

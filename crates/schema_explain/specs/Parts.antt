@@ -48,11 +48,12 @@ symbol_line whole i fate =
 abbrev pub symbol_entries : Whole → List (List ℕ) → Option ℕ → ℕ → List (List ℕ) → List Entry
 symbol_entries whole theirs default i [] = []
 symbol_entries whole theirs default i (symbol ∷ symbols) =
-    Ready (symbol_line whole i (symbol_fate theirs default symbol)) ∷ symbol_entries whole theirs default (suc i) symbols
+    Ready (symbol_line whole i (symbol_fate theirs default symbol))
+    ∷ symbol_entries whole theirs default (suc i) symbols
 
 -- ---- records
 
--- the position and the node of the writer's field that goes to the reader's field j
+-- the position and the node of the writer's field that goes to the reader's field j, among those from i on
 abbrev pub source : ℕ → ℕ → List Route → Option (ℕ × ℕ)
 source j i [] = None
 source j i (route ∷ routes) = if goes_to j route then Some (i, route.node) else source j (suc i) routes

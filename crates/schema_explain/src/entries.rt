@@ -1,7 +1,7 @@
 //! What is still to be explained.
 
 ghost use Rattle.std.specs.Prelude.{◌≡◌, ◌++◌, ◌∷◌, [], reverse, IfOk, OnOk};
-ghost use Rattle.schema_explain.specs.declared.entries.Entry.TheVariants.{Due};
+ghost use Rattle.schema_explain.specs.Parts.{due};
 
 use crate::line::{Line, Part};
 use std::alloc::{AllocError, Global};
@@ -30,12 +30,29 @@ pub(crate) struct Whole {
     pub(crate) reader: usize,
 }
 
-/// Returns one pair alone.
-pub(crate) fn one_due(alloc: Global, task: Task) -> Result<Vec<Entry>, AllocError>
-    ensures { IfOk result (λ v. v.items ≡ Due task ∷ []) }
+/// Returns a pair of nodes as a part of a whole.
+pub(crate) fn due(whole: Whole, part: Part, writer: usize, reader: usize) -> Entry
+    ensures { result ≡ due whole part writer reader }
+{
+    Entry::Due(Task {
+        depth: whole.depth,
+        part,
+        writer,
+        reader,
+    })
+}
+
+/// Returns a pair of nodes as the only part of a whole.
+pub(crate) fn one_due(
+    alloc: Global,
+    whole: Whole,
+    part: Part,
+    pair: (usize, usize),
+) -> Result<Vec<Entry>, AllocError>
+    ensures { IfOk result (λ v. v.items ≡ due whole part pair.0 pair.1 ∷ []) }
 {
     let mut entries = Vec::new(alloc);
-    entries.push(Entry::Due(task))?;
+    entries.push(due(whole, part, pair.0, pair.1))?;
     Ok(entries)
 }
 

@@ -1,7 +1,8 @@
 //! The lines of two schemas.
 
 ghost use Rattle.std.specs.Prelude.{◌≡◌, ◌<◌, ◌≤◌, length, IfOk, OnOk};
-ghost use Rattle.schema_explain.specs.Bounds.{AreBelow, AreFew, IsBelow, IsOfNodes};
+ghost use Rattle.std.specs.List.{AllByRecursion};
+ghost use Rattle.schema_explain.specs.Bounds.{AreBelow, AreFew, HasNodesOf, IsBelow, IsOfNodes};
 ghost use Rattle.schema_explain.specs.Explanation.{IsExplanation, line_at, pair_step, step};
 
 use crate::arrivals::{Arrival, arrival_of};
@@ -47,10 +48,12 @@ fn pair_step(
     requires nodes { IsOfNodes writer.now reader.now explained.old }
     requires depth { task.depth ≤ length explained.old.pairs }
     ensures line { IfOk result (λ s. s.line ≡ (pair_step writer.now reader.now task explained.old.pairs).line) }
-    ensures parts { IfOk result (λ s. s.parts.items ≡ (pair_step writer.now reader.now task explained.old.pairs).parts) }
+    ensures parts { IfOk result
+        (λ s. s.parts.items ≡ (pair_step writer.now reader.now task explained.old.pairs).parts) }
     ensures explained { OnOk result
         (explained.new.pairs ≡ (pair_step writer.now reader.now task explained.old.pairs).explained) }
     ensures nodes { OnOk result (IsOfNodes writer.now reader.now explained.new) }
+    ensures within { IfOk result (λ s. HasNodesOf writer.now reader.now s.line) }
     ensures below { IfOk result (λ s. AreBelow writer.now reader.now (length explained.new.pairs) s.parts.items) }
     ensures few { IfOk result (λ s. AreFew (length explained.old.pairs) (length explained.new.pairs) s.parts.items) }
 {
@@ -91,6 +94,7 @@ fn step_of(
     ensures explained { OnOk result
         (explained.new.pairs ≡ (step writer.now reader.now entry explained.old.pairs).explained) }
     ensures nodes { OnOk result (IsOfNodes writer.now reader.now explained.new) }
+    ensures within { IfOk result (λ s. HasNodesOf writer.now reader.now s.line) }
     ensures below { IfOk result (λ s. AreBelow writer.now reader.now (length explained.new.pairs) s.parts.items) }
     ensures few { IfOk result (λ s. AreFew (length explained.old.pairs) (length explained.new.pairs) s.parts.items) }
 {
@@ -105,9 +109,10 @@ fn step_of(
 
 /// Returns what becomes of every part of a message that one schema writes and another reads, depth first: a line for
 /// each, the fields of a record in the reader's order and then those that are dropped. Parts that recur are explained
-/// where they come first.
+/// where they come first. A line's nodes are nodes of the schemas. The error is that memory ran out.
 pub fn explain(alloc: Global, writer: &Nodes, reader: &Nodes) -> Result<Vec<Line>, AllocError>
-    ensures { IfOk result (λ lines. IsExplanation writer.now reader.now lines.items) }
+    ensures lines { IfOk result (λ lines. IsExplanation writer.now reader.now lines.items) }
+    ensures nodes { IfOk result (λ lines. AllByRecursion (HasNodesOf writer.now reader.now) lines.items) }
 {
     writer.is_well_formed(); // law
     reader.is_well_formed(); // law

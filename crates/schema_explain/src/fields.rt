@@ -5,7 +5,7 @@ ghost use Rattle.avro_types.specs.Node.{field_of, fields_of};
 ghost use Rattle.resolver_matching.specs.Partners.{routes};
 ghost use Rattle.schema_explain.specs.Parts.{absent_line, dropped, dropped_line, field_entries, field_entry, record_entries, source};
 
-use crate::entries::{Entry, Task, Whole};
+use crate::entries::{Entry, Whole, due};
 use crate::line::{Fate, Line, Part};
 use avro_types::Field;
 use outcome::MismatchKind;
@@ -70,15 +70,13 @@ fn field_entry(whole: Whole, routes: &[Route], position: usize, field: &Field) -
     ensures { result ≡ field_entry whole routes.now position (field_of field.now) }
 {
     match source_of(routes, position) {
-        Some((i, node)) => Entry::Due(Task {
-            depth: whole.depth,
-            part: Part::Field {
+        Some((i, node)) => {
+            let part = Part::Field {
                 writer: Some(i),
                 reader: Some(position),
-            },
-            writer: node,
-            reader: field.node,
-        }),
+            };
+            due(whole, part, node, field.node)
+        }
         None => Entry::Ready(absent_line(whole, position, field)),
     }
 }

@@ -1,6 +1,7 @@
 //! Laws of explanations. They do nothing when they run.
 
-ghost use Rattle.schema_explain.specs.Lines.{EachBadPairHasALine, EachPairHasALine, MismatchesAreAtBadPairs, SafeWhereNoLineMismatches, ThereIsOneExplanation};
+ghost use Rattle.schema_explain.specs.Becoming.{FatesAreMet};
+ghost use Rattle.schema_explain.specs.Lines.{EachBadPairHasALine, EachMismatchHasALine, EachPairHasALine, MismatchesAreAtBadPairs, SafeWhereNoLineMismatches, ThereIsOneExplanation};
 
 use avro_types::Nodes;
 use resolver_matching::partners_by_rule;
@@ -30,6 +31,16 @@ pub fn mismatches_are_at_bad_pairs(writer: &Nodes, reader: &Nodes)
     reader.is_well_formed(); // law
 }
 
+/// The law that whatever mismatch a datum of the writer meets has a line, with its kind and its nodes; of bytes that are
+/// no text, the line that they are promoted if they are.
+pub fn each_mismatch_has_a_line(writer: &Nodes, reader: &Nodes)
+    ensures { EachMismatchHasALine writer.now reader.now }
+{
+    writer.is_well_formed(); // law
+    reader.is_well_formed(); // law
+    partners_by_rule(); // law
+}
+
 /// The law that no line has a mismatch just where no bad pair is reached, so that all that the writer writes can be
 /// read.
 pub fn safe_where_no_line_mismatches(writer: &Nodes, reader: &Nodes)
@@ -37,6 +48,14 @@ pub fn safe_where_no_line_mismatches(writer: &Nodes, reader: &Nodes)
 {
     each_bad_pair_has_a_line(writer, reader); // law
     mismatches_are_at_bad_pairs(writer, reader); // law
+}
+
+/// The law that each datum becomes what the fate of its pair says: what is copied is the datum, what is promoted is it in
+/// the other type, bytes become a string where they are UTF-8, and what mismatches does so whatever the datum.
+pub fn fates_are_met(writer: &Nodes, reader: &Nodes)
+    ensures { FatesAreMet writer.now reader.now }
+{
+    reader.is_well_formed(); // law
 }
 
 /// The law that two schemas have one explanation.

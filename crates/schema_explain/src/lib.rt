@@ -15,8 +15,8 @@ mod parts;
 
 pub use explaining::explain;
 pub use laws::{
-    each_bad_pair_has_a_line, each_pair_has_a_line, mismatches_are_at_bad_pairs,
-    safe_where_no_line_mismatches, there_is_one_explanation,
+    each_bad_pair_has_a_line, each_mismatch_has_a_line, each_pair_has_a_line, fates_are_met,
+    mismatches_are_at_bad_pairs, safe_where_no_line_mismatches, there_is_one_explanation,
 };
 pub use line::{Fate, Line, Part};
 pub use outcome::MismatchKind;

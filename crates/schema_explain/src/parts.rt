@@ -4,7 +4,7 @@ ghost use Rattle.std.specs.Prelude.{◌≡◌, ◌<◌, ◌≤◌, length, map, 
 ghost use Rattle.schema_explain.specs.Parts.{branch_entries, parts_of, symbol_entries, symbol_fate};
 ghost use Rattle.schema_explain.specs.Bounds.{AreBelow, MOST_PARTS};
 
-use crate::entries::{Entry, Task, Whole, one_due};
+use crate::entries::{Entry, Whole, due, one_due};
 use crate::fields::record_entries;
 use crate::line::{Fate, Line, Part};
 use avro_types::{Kind, Nodes, Symbols};
@@ -17,12 +17,7 @@ fn branch_entries(alloc: Global, whole: Whole, members: &[usize]) -> Result<Vec<
 {
     let mut entries = Vec::new(alloc);
     for (position, member) in members.iter().enumerate() {
-        entries.push(Entry::Due(Task {
-            depth: whole.depth,
-            part: Part::Branch(position),
-            writer: *member,
-            reader: whole.reader,
-        }))?;
+        entries.push(due(whole, Part::Branch(position), *member, whole.reader))?;
     }
     Ok(entries)
 }
@@ -80,32 +75,13 @@ pub(crate) fn parts_of(
     ensures below { IfOk result (λ v. AreBelow w.now r.now whole.depth v.items) }
     ensures few { IfOk result (λ v. length v.items ≤ MOST_PARTS) }
 {
-    let depth = whole.depth;
     match (w.kind(whole.writer), r.kind(whole.reader)) {
         (Kind::Union(members), _) => branch_entries(alloc, whole, members),
         (Kind::Array(item), Kind::Array(other)) => {
-            let (writer, reader) = (*item, *other);
-            one_due(
-                alloc,
-                Task {
-                    depth,
-                    part: Part::Item,
-                    writer,
-                    reader,
-                },
-            )
+            one_due(alloc, whole, Part::Item, (*item, *other))
         }
         (Kind::Map(value), Kind::Map(other)) => {
-            let (writer, reader) = (*value, *other);
-            one_due(
-                alloc,
-                Task {
-                    depth,
-                    part: Part::Value,
-                    writer,
-                    reader,
-                },
-            )
+            one_due(alloc, whole, Part::Value, (*value, *other))
         }
         (
             Kind::Enum { symbols, .. },

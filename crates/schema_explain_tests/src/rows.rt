@@ -109,4 +109,14 @@ root 0>0 parts
     field 0>0 2>2 copied
     field ->1 1>3 mismatch NoDefault
   field 0>1 1>1 as above
-  field 2>- 3>- dropped"#;
+  field 2>- 3>- dropped
+
+{"type":"record","name":"a.R","fields":[{"name":"n","type":{"type":"record","name":"b.R","fields":[{"name":"n","type":"a.R"}]}}]}
+{"type":"record","name":"c.R","fields":[{"name":"n","type":{"type":"record","name":"d.R","fields":[{"name":"n","type":{"type":"record","name":"e.R","fields":[{"name":"n","type":"c.R"}]}}]}}]}
+root 0>0 parts
+  field 0>0 1>1 parts
+    field 0>0 0>2 parts
+      field 0>0 1>0 parts
+        field 0>0 0>1 parts
+          field 0>0 1>2 parts
+            field 0>0 0>0 as above"#;

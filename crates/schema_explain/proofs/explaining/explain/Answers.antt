@@ -1,6 +1,6 @@
 -- The parts of the entry on top are in its place, and its line is with the others.
 use Rattle.std.proofs.Common.{◌≡◌, ◌+◌, ◌*◌, ◌≤◌, length, reverse, vec_len, arith}
-use Rattle.schema_explain.proofs.Below.{below_both, below_more}
+use Rattle.schema_explain.proofs.Below.{below_both, below_more, lines_within}
 use Rattle.schema_explain.proofs.Stacked.{all_done, leads_on, length_after, less_left, nothing_left, top_first}
 use Rattle.schema_explain.proofs.explaining.explain.Goals as goal
 
@@ -20,8 +20,9 @@ loop-entry-preserved c =
     record {
       nodes = c.in_ok-step.ensures.nodes;
       below = rw c.in_ok-put_on_top.ensures (below_both W R _ c.in_ok-step.step.parts.items (reverse c.pop.new.self.items) c.in_ok-step.ensures.below (below_more W R _ _ (reverse c.pop.new.self.items) more rest));
+      within = rw c.in_ok-push-2.ensures.items (lines_within W R c.loop-entry.lines.items c.in_ok-step.step.line c.loop-entry.invariant.within c.in_ok-step.ensures.within);
       so_far = leads_on W R (reverse c.loop-entry.stack.items) (reverse c.pop.new.self.items) c.in_ok-step.step.parts.items (reverse c.put_on_top.new.stack.items) c.loop-entry.explained.pairs c.step_of.new.explained.pairs c.loop-entry.lines.items c.push-in-Some.new.self.items c.in-Some.entry c.in_ok-step.step.line first c.in_ok-step.ensures.line c.in_ok-step.ensures.parts c.in_ok-step.ensures.explained c.in_ok-put_on_top.ensures c.in_ok-push-2.ensures.items c.loop-entry.invariant.so_far;
     }
 
-pub returns : goal.returns
-returns c = all_done _ _ (reverse c.loop-entry.stack.items) c.loop-entry.explained.pairs c.loop-entry.lines.items (nothing_left c.loop-entry.stack.items (omega (arith, c.in_default.ensures.cases.0, c.loop-entry.stack.ok.0))) c.loop-entry.invariant.so_far
+pub returns-clause-lines : goal.returns-clause-lines
+returns-clause-lines c = all_done _ _ (reverse c.loop-entry.stack.items) c.loop-entry.explained.pairs c.loop-entry.lines.items (nothing_left c.loop-entry.stack.items (omega (arith, c.in_default.ensures.cases.0, c.loop-entry.stack.ok.0))) c.loop-entry.invariant.so_far

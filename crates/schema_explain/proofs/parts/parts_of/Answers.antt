@@ -20,7 +20,7 @@ returns-in-Union-default-clause-few c =
 
 pub returns-in-Enum-Enum-clause-below : goal.returns-in-Enum-Enum-clause-below
 returns-in-Enum-Enum-clause-below c =
-    of_items (AreBelow c.args.w.now c.args.r.now c.args.whole.depth) _ c.symbol_entries.result c.symbol_entries.ensures (symbols_below _ _ c.args.whole _ _ 0 _)
+    of_items (AreBelow c.args.w.now c.args.r.now c.args.whole.depth) _ c.symbol_entries.result c.symbol_entries.ensures (symbols_below _ _ c.args.whole c.requires.writer c.requires.reader _ _ 0 _)
 
 pub returns-in-Enum-Enum-clause-few : goal.returns-in-Enum-Enum-clause-few
 returns-in-Enum-Enum-clause-few c =
@@ -34,7 +34,7 @@ returns-in-Record-Record-clause-below c =
     let ws = (rw c.in-Record-Record.is-0 at c.kind.ensures.well_formed).0 in
     let rs = (rw c.in-Record-Record.is-1 at c.kind-2.ensures.well_formed).0 in
     of_items (AreBelow c.args.w.now c.args.r.now c.args.whole.depth) _ c.record_entries.result (rw (c.deref-in-Record-Record.ensures.value, c.deref-in-Record-Record-2.ensures.value) at c.record_entries.ensures)
-    (record_below _ _ c.args.whole (fields_of c.in-Record-Record.ws.items) (fields_of c.in-Record-Record.rs.items) ws rs)
+    (record_below _ _ c.args.whole c.requires.writer (fields_of c.in-Record-Record.ws.items) (fields_of c.in-Record-Record.rs.items) ws rs)
 
 pub returns-in-Record-Record-clause-few : goal.returns-in-Record-Record-clause-few
 returns-in-Record-Record-clause-few c =
