@@ -26,7 +26,7 @@ printf '"float"\n' | "$program" transcode >"$out" 2>"$err"; want 'bad schema' 1 
 "$program" --version </dev/null >"$out" 2>"$err"; want version 0 some none
 # Each help ends with an example, a call of `avrogate` with what it writes: so it does.
 avrogate() { "$program" "$@"; }
-for subcommand in transcode compile run debug replay; do
+for subcommand in transcode compile run debug replay nodes check explain; do
   "$program" "$subcommand" --help </dev/null >"$out" 2>"$err"; want "help of $subcommand" 0 some none
   sed -n '/^Example:/,$s/^  //p' "$out" >"$folder/example"
   if [ "$(eval "$(head -n 1 "$folder/example")")" = "$(tail -n +2 "$folder/example")" ] && [ "$(wc -l <"$folder/example")" -gt 1 ]; then
