@@ -1,0 +1,4 @@
+pub mod Faults
+pub mod Places
+pub mod Trail
+pub mod Words

@@ -1,0 +1,17 @@
+//! Schemas; used by `commands`.
+//!
+//! Where in its JSON value a text that is no schema has its first fault.
+#![tactic(auto)]
+
+mod faults;
+mod numbers;
+mod tracing;
+mod types;
+mod words;
+#[cfg(test)]
+mod tests;
+
+pub use avro_schema_names::SchemaError;
+pub use avro_schema_paths::Step;
+pub use faults::{Fault, fault_of};
+pub use words::word_at;
