@@ -1,0 +1,6 @@
+mod Bounds
+mod Ending
+mod Found
+mod Leaving
+mod Reaching
+mod Sound

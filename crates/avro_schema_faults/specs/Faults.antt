@@ -36,22 +36,22 @@ abbrev pub IsObject : Data → Type 0
 IsObject d = true ≡ is_some (as_object d)
 
 -- the value is an object, and its `type` makes this of it
-pub record IsOfForm (form : Form) (d : Data) : Type 0 where
+pub record IsOfForm (f : Form) (d : Data) : Type 0 where
   pub object : IsObject d
-  pub form : form_of (get (codes "type") d) ≡ form
+  pub form : form_of (get (codes "type") d) ≡ f
 
 -- the walk of members, one after another, comes to the one at a position, after these heads
 pub data MemberAt (enclosing : List ℕ) : Items → List Head → ℕ → Data → List Head → Type 0 where
-  first : {d : Data} {ds : Items} {heads : List Head} → MemberAt enclosing (item d ds) heads 0 d heads
-  further : {c d : Data} {ds : Items} {heads more : List Head} {n i : ℕ} {added : List Draft}
+  first_member : {d : Data} {ds : Items} {heads : List Head} → MemberAt enclosing (item d ds) heads 0 d heads
+  next_member : {c d : Data} {ds : Items} {heads more : List Head} {n i : ℕ} {added : List Draft}
       → walk c enclosing heads ≡ Ok (n, added) → MemberAt enclosing ds (heads ++ heads_of added) i d more
       → MemberAt enclosing (item c ds) heads (suc i) d more
 
 -- the walk of fields, one after another, comes to the one at a position, after those of such names and these heads
 pub data FieldAt (enclosing : List ℕ) : Items → List (List ℕ) → List Head → ℕ → Visit → Type 0 where
-  first : {d : Data} {ds : Items} {before : List (List ℕ)} {heads : List Head}
+  first_field : {d : Data} {ds : Items} {before : List (List ℕ)} {heads : List Head}
       → FieldAt enclosing (item d ds) before heads 0 (field_after before d enclosing heads)
-  further : {c : Data} {ds : Items} {before : List (List ℕ)} {heads : List Head} {f : DraftField} {i : ℕ}
+  next_field : {c : Data} {ds : Items} {before : List (List ℕ)} {heads : List Head} {f : DraftField} {i : ℕ}
       {added : List Draft} {w : Visit} → field c before enclosing heads ≡ Ok (f, added)
       → FieldAt enclosing ds (before ++ f.name ∷ []) (heads ++ heads_of added) i w
       → FieldAt enclosing (item c ds) before heads (suc i) w

@@ -11,7 +11,7 @@ use serde_json::Value;
 
 /// Returns the value that is one step away. `None` where there is none.
 fn step_in<'v>(value: &'v Value, step: Step) -> Option<&'v Value>
-    ensures { data_at result.entry ≡ step_in step (view value.now) }
+    ensures { data_at result ≡ step_in step (view value.now) }
 {
     match step {
         Step::Type => value.get("type"),
@@ -24,7 +24,7 @@ fn step_in<'v>(value: &'v Value, step: Step) -> Option<&'v Value>
 
 /// Returns the value at the end of a path. `None` where the path leads nowhere.
 fn follow<'v>(value: &'v Value, path: &[Step]) -> Option<&'v Value>
-    ensures { data_at result.entry ≡ follow path.now (view value.now) }
+    ensures { data_at result ≡ follow path.now (view value.now) }
 {
     let mut found = value;
     for step in path {
