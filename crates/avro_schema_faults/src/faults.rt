@@ -54,7 +54,7 @@ fn fault_in(alloc: Global, value: &Value) -> Result<Option<Fault>, AllocError>
     let mut path = Vec::new(alloc);
     match check_value(alloc, value, &mut path) {
         Ok(()) => Ok(None),
-        Err(SchemaError::NoMemory) => Err(AllocError),
+        Err(error) if error == SchemaError::NoMemory => Err(AllocError),
         Err(error) => Ok(Some(Fault { error, path })),
     }
 }

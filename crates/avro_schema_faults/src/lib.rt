@@ -4,6 +4,7 @@
 #![tactic(auto)]
 
 mod faults;
+mod laws;
 mod numbers;
 mod tracing;
 mod types;
@@ -14,4 +15,5 @@ mod tests;
 pub use avro_schema_names::SchemaError;
 pub use avro_schema_paths::Step;
 pub use faults::{Fault, fault_of};
+pub use laws::places_lead_to_faults;
 pub use words::word_at;

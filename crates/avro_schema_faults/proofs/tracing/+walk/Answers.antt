@@ -1,5 +1,6 @@
 use Rattle.std.proofs.Common.{rules, codes, ◌≤◌, ◌<◌, ◌≡◌, ◌∙◌, ◌++◌, ◌∷◌, sym, ap, refl, arith, option_map, length, map, [], string_bytes, false, is_some, None, Some, subst}
 use Rattle.std.specs.Arc.{arc_str_bytes}
+use Rattle.std.specs.Vec.{vec_len}
 use Rattle.std.proofs.lemmas.Result.{err_from_is_err_and}
 use Rattle.serde_json.specs.Data.{array, string, depth, items_depth}
 use Rattle.serde_json.specs.Find.{as_array, as_object, get}
@@ -451,11 +452,12 @@ walk_listed-returns-in_err-field-clause-place t c =
 pub walk_listed-loop-i-preserved : goal.walk_listed-loop-i-preserved
 walk_listed-loop-i-preserved t c =
     let l = c.loop-i in
+    let n : vec_len c.walk_field.new.trail ≡ length c.walk_field.new.trail.items = search rules in
     let f = c.in_ok-field.field in (
       enclosing-walked _ _ c.args.enclosing.now l.drafts _ _ l.invariant.0 c.in_ok-field.ensures.nodes,
       rw (c.in_ok-push-2.ensures.fields, map-push (λ g. g.name) l.list (draft_field_of f))
           (sym (fields-on (arc_str_bytes c.args.enclosing.now.text) c.args.items.now l.i c.index-items-i.result (omega arith) c.index-items-i.is l.list (field_names l.list) l.drafts _ _ c.in_ok-field.ensures.nodes) ∙ l.invariant.1),
-      c.pop.ensures.rest ∙ popped l.trail.items _ (steps.At l.i) _ (c.in_ok-field.ensures.place ∙ c.in_ok-push.ensures.items) refl ∙ l.invariant.2,
+      c.pop.ensures.rest ∙ popped l.trail.items c.walk_field.new.trail.items (steps.At l.i) (vec_len c.walk_field.new.trail) (c.in_ok-field.ensures.place ∙ c.in_ok-push.ensures.items) n ∙ l.invariant.2,
       rw (c.in_ok-push-2.ensures.fields, map-push (λ g. g.name) l.list (draft_field_of f))
           (reaches_field-next (arc_str_bytes c.args.enclosing.now.text) c.args.items.now l.i c.index-items-i.result (omega arith) c.index-items-i.is (items_view c.args.items.now) (heads_of c.args.drafts.now) l.drafts (field_names l.list) _ _ c.in_ok-field.ensures.nodes l.invariant.3),
     )
