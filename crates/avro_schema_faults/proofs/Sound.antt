@@ -20,7 +20,7 @@ use Rattle.avro_schema_faults.specs.Faults.{ComesTo, Fails, HasSoundParts, IsObj
 use Rattle.avro_schema_faults.proofs.Bounds.{followed-first, followed-rest}
 
 -- an array is no object
-no_array : (ds : Items) (f : Form) → IsOfForm f (array ds) → ⊥
+pub no_array : (ds : Items) (f : Form) → IsOfForm f (array ds) → ⊥
 no_array ds f is = let o : true ≡ false = is.object in let no : ⊥ = cc in no
 
 no_other : (d : Data) (f : Form) → false ≡ is_some (as_object d) → IsOfForm f d → ⊥
@@ -71,7 +71,7 @@ union-sound ds enclosing heads p ok s w e (to_fields is room named found) = absu
 
 -- ---- objects, by their forms
 
-two_forms : (d : Data) (f g : Form) → IsOfForm f d → IsOfForm g d → f ≡ g
+pub two_forms : (d : Data) (f g : Form) → IsOfForm f d → IsOfForm g d → f ≡ g
 two_forms d f g is other = sym is.form ∙ other.form
 
 pub array-sound : (d : Data) (enclosing : List ℕ) (heads : List Head) → IsOfForm forms.Array d
