@@ -50,10 +50,10 @@ same-step : (v w u : Visit) (s t : Step) (e x : SchemaError) → ComesTo v s w �
 same-step v w u s t e x (to_member {ds = ds} {enclosing = enclosing} {heads = heads} {more = more} {i = i} {d = d} room at) bad (to_member {more = most} {i = j} {d = c} room2 there) worse =
     let h = same-member enclosing ds (heads ++ UnionHead ∷ []) i j d c more most e x at bad there worse in
     (ap (λ (k : ℕ). steps.At k) h.0, h.1)
-same-step v w u s t e x (to_member {ds = ds} room at) bad (to_items form room found) worse = absurd (no_array ds forms.Array form)
-same-step v w u s t e x (to_member {ds = ds} room at) bad (to_values form room found) worse = absurd (no_array ds forms.Map form)
-same-step v w u s t e x (to_member {ds = ds} room at) bad (to_wrapped form found) worse = absurd (no_array ds forms.Other form)
-same-step v w u s t e x (to_member {ds = ds} room at) bad (to_fields form room named found) worse = absurd (no_array ds forms.Record form)
+same-step v w u s t e x (to_member {ds = ds} room2 at) bad (to_items form room found) worse = absurd (no_array ds forms.Array form)
+same-step v w u s t e x (to_member {ds = ds} room2 at) bad (to_values form room found) worse = absurd (no_array ds forms.Map form)
+same-step v w u s t e x (to_member {ds = ds} room2 at) bad (to_wrapped form found) worse = absurd (no_array ds forms.Other form)
+same-step v w u s t e x (to_member {ds = ds} room2 at) bad (to_fields form room named found) worse = absurd (no_array ds forms.Record form)
 same-step v w u s t e x (to_items form room found) bad (to_member {ds = ds} room2 at) worse = absurd (no_array ds forms.Array form)
 same-step v w u s t e x (to_items {d = d} {c = c} {enclosing = enclosing} {heads = heads} form room found) bad (to_items {c = b} form2 room2 found2) worse = (refl, ap (λ (y : Data). schema y enclosing (heads ++ ArrayHead ∷ [])) (same-found (get (codes "items") d) c b found found2))
 same-step v w u s t e x (to_items {d = d} form room found) bad (to_values form2 room2 found2) worse = absurd (let same = two_forms d forms.Array forms.Map form form2 in let no : ⊥ = cc in no)
