@@ -1,15 +1,14 @@
 -- The walk of a value ends with the fault of a part that it comes to.
-use Rattle.std.proofs.Common.{◌≡◌, ◌<◌, ℕ, suc, List, [], ◌∷◌, ◌++◌, length, true, is_some, Option, Some, option_map, Result, Ok, Err, refl, sym, ap, ◌∙◌, codes}
+use Rattle.std.proofs.Common.{◌≡◌, ◌<◌, ℕ, List, [], ◌∷◌, ◌++◌, length, true, is_some, Option, Some, option_map, Ok, Err, refl, ap, ◌∙◌, codes}
 use Rattle.std.proofs.lemmas.Bool.{lt-ltb}
-use Rattle.serde_json.specs.Data.{Data, array, object, Items, item}
+use Rattle.serde_json.specs.Data.{Data, array, object, Items}
 use Rattle.serde_json.specs.Find.{as_object, get}
 use Rattle.avro_types.specs.FullNames.{namespace_of}
 use Rattle.avro_types.specs.Node.{ArrayNode, MapNode, Names}
 use Rattle.avro_types.specs.declared.limits.TheConstants.{MOST_FIELDS, MOST_NODES}
-use Rattle.avro_schema_drafts.specs.Draft.{Draft, DraftField, RecordDraft, Whole}
+use Rattle.avro_schema_drafts.specs.Draft.{Draft, DraftField, Whole}
 use Rattle.avro_schema_drafts.specs.Head.{ArrayHead, Head, MapHead, Named, UnionHead, heads_of}
 use Rattle.avro_schema_names.specs.Aliases.{field_aliases, new_names}
-use Rattle.avro_schema_names.specs.Fault.{◌>>=◌}
 use Rattle.avro_schema_names.specs.Names.{field_name}
 use Rattle.avro_schema_names.specs.declared.error.SchemaError.{SchemaError}
 use Rattle.avro_schema_names.specs.declared.word.Form.TheVariants as forms

@@ -7,7 +7,7 @@ use Rattle.serde_json.specs.Written.{has_float}
 use Rattle.avro_types.specs.Datum.{Datum}
 use Rattle.avro_types.specs.Node.{Node}
 use Rattle.avro_types.specs.declared.limits.TheConstants.{MOST_TEXT}
-use Rattle.avro_schema.specs.Schema.{declared, nodes_in, nodes_in_read, schema_of}
+use Rattle.avro_schema.specs.Schema.{declared, nodes_in_read}
 use Rattle.avro_schema.proofs.Declared.{declared-is, finished-err, finished-ok, small, too-large}
 use Rattle.avro_schema_defaults.specs.Defaults.{all_defaults, finished, nodes_with}
 use Rattle.avro_schema_drafts.specs.Draft.{Draft}
@@ -19,7 +19,7 @@ use Rattle.avro_schema_walk.specs.Contract.{run}
 use Rattle.avro_schema_walk.specs.Walk.{walk}
 use Rattle.avro_schema_faults.specs.declared.faults.Fault.{Fault}
 use Rattle.avro_schema_faults.specs.Faults.{IsFault, schema}
-use Rattle.avro_schema_faults.specs.Places.{Finds, FindsIn, IsFaultIn, IsFaultOf, IsPlace, IsPlaceIn, IsPlaceOf, IsWholeFault, of_default, of_length, of_number, of_schema, of_text, of_value, of_walk}
+use Rattle.avro_schema_faults.specs.Places.{Finds, FindsIn, IsFaultIn, IsFaultOf, IsPlace, IsWholeFault, of_default, of_length, of_number, of_schema, of_text, of_value, of_walk}
 use Rattle.avro_schema_faults.specs.Trail.{Ends}
 use Rattle.avro_schema_faults.proofs.Bounds.{gives-after}
 

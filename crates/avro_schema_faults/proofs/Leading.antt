@@ -1,14 +1,14 @@
 -- Where the steps to a fault lead.
-use Rattle.std.proofs.Common.{◌≡◌, ℕ, zero, suc, List, [], ◌∷◌, Some, option_and_then, refl, ap, ◌∙◌}
-use Rattle.serde_json.specs.Data.{Data, array, Items, item}
+use Rattle.std.proofs.Common.{◌≡◌, ℕ, List, [], Some, option_and_then, refl, ap, ◌∙◌}
+use Rattle.serde_json.specs.Data.{Data, Items}
 use Rattle.serde_json.specs.Find.{get_item}
 use Rattle.avro_schema_drafts.specs.Head.{Head}
 use Rattle.avro_schema_names.specs.declared.error.SchemaError.{SchemaError}
 use Rattle.avro_schema_paths.specs.Following.{follow, step_in}
 use Rattle.avro_schema_paths.specs.Places.{Path}
 use Rattle.avro_schema_paths.specs.declared.step.Step.{Step}
-use Rattle.avro_schema_faults.specs.Faults.{ComesTo, Fails, FieldAt, HasSoundParts, IsFault, MemberAt, Visit, first_field, first_member, here, next_field, next_member, to_field, to_fields, to_items, to_member, to_type, to_values, to_wrapped, within}
-use Rattle.avro_schema_faults.specs.Laws.{Comes, LeadsToFault, further, itself, value_in}
+use Rattle.avro_schema_faults.specs.Faults.{ComesTo, FieldAt, IsFault, MemberAt, Visit, first_field, first_member, here, next_field, next_member, to_field, to_fields, to_items, to_member, to_type, to_values, to_wrapped, within}
+use Rattle.avro_schema_faults.specs.Laws.{LeadsToFault, further, itself, value_in}
 
 member-there : (enclosing : List ℕ) (ds : Items) (heads : List Head) (i : ℕ) (d : Data) (more : List Head) → MemberAt enclosing ds heads i d more → get_item i ds ≡ Some d
 member-there enclosing ds heads i d more first_member = refl

@@ -1,6 +1,5 @@
 -- What each value leaves of the trail.
-use Rattle.std.proofs.Common.{◌≡◌, ◌≢◌, ◌<◌, ◌≤◌, ℕ, suc, List, [], ◌∷◌, ◌++◌, length, map, set, Option, Some, None, option_map, Result, Ok, Err, arith, refl, sym, ap, subst, ◌∙◌, codes, true, false, is_some, Bool, ◌⊎◌, inl, inr, rules}
-use Rattle.std.specs.Borrow.{Bor}
+use Rattle.std.proofs.Common.{◌≡◌, ◌<◌, ◌≤◌, ℕ, suc, List, [], ◌∷◌, ◌++◌, length, set, Option, Some, None, option_map, Result, Ok, Err, arith, refl, sym, ap, subst, ◌∙◌, codes, false, is_some, Bool, ◌⊎◌, inl, inr, rules}
 use Rattle.serde_json.specs.Data.{Data, array, null, boolean, number, Items, depth, items_depth}
 use Rattle.serde_json.specs.Find.{as_array, as_object, get}
 use Rattle.serde_json.specs.View.{view, number_view}
@@ -9,14 +8,14 @@ use Rattle.serde_json.specs.declared.value.Value as json
 use Rattle.serde_json.specs.declared.value.Value.{the_lemmas}
 use Rattle.avro_types.specs.FullNames.{namespace_of}
 use Rattle.avro_types.specs.Node.{ArrayNode, MapNode, Names, UnionNode, names_of}
-use Rattle.avro_types.specs.declared.limits.TheConstants.{MOST_FIELDS, MOST_NODES}
+use Rattle.avro_types.specs.declared.limits.TheConstants.{MOST_NODES}
 use Rattle.avro_schema_drafts.specs.Draft.{Draft, DraftField, RecordDraft, Whole, field_names}
 use Rattle.avro_schema_drafts.specs.Head.{ArrayHead, Head, MapHead, Named, UnionHead, heads_of}
 use Rattle.avro_schema_drafts.proofs.Depths.{found-depth}
 use Rattle.avro_schema_drafts.proofs.DraftLists.{heads_of-append, length-heads_of}
 use Rattle.avro_schema_names.specs.Aliases.{new_names}
 use Rattle.avro_schema_names.specs.declared.error.SchemaError.{SchemaError}
-use Rattle.avro_schema_names.specs.declared.error.SchemaError.TheVariants.{NoMemory, TooLarge, Unknown}
+use Rattle.avro_schema_names.specs.declared.error.SchemaError.TheVariants.{Unknown}
 use Rattle.avro_schema_names.specs.declared.word.Form.{Form}
 use Rattle.avro_schema_names.specs.declared.word.Form.TheVariants as forms
 use Rattle.avro_schema_paths.specs.Places.{Path}
@@ -24,10 +23,9 @@ use Rattle.avro_schema_paths.specs.declared.step.Step.{Step}
 use Rattle.avro_schema_paths.specs.declared.step.Step.TheVariants as steps
 use Rattle.avro_schema_walk.specs.Contract.{Walks, object_as, run}
 use Rattle.avro_schema_walk.specs.Walk.{around, fault, fields, if_room, members, or_unknown, record_of, union_of, walk}
-use Rattle.avro_schema_walk.proofs.FieldList.{behind}
 use Rattle.avro_schema_walk.proofs.Records.{record-done, record-failed}
 use Rattle.avro_schema_walk.proofs.Runs.{closed, run-fault, run-if_room, unclosed}
-use Rattle.avro_schema_faults.specs.Faults.{ComesTo, Fails, HasSoundParts, IsOfForm, Visit, listing, schema, to_field, to_fields, to_items, to_member, to_values, to_wrapped}
+use Rattle.avro_schema_faults.specs.Faults.{ComesTo, HasSoundParts, IsOfForm, Visit, listing, schema, to_field, to_fields, to_items, to_member, to_values}
 use Rattle.avro_schema_faults.specs.Trail.{Ends, EndsInField, EndsInMember, Leaves, LeavesFrom}
 use Rattle.avro_schema_faults.proofs.Bounds.{fails-after, gives-after}
 use Rattle.avro_schema_faults.proofs.Ending.{ends-here, ends-within}
@@ -194,8 +192,3 @@ listed-within (array es) ds enclosing heads e before after is m =
     subst (λ (xs : Items). Ends e (listing (array xs) enclosing heads) before after) same
     (ends-within e (listing (array ds) enclosing heads) m.field (steps.At m.i) before after (to_field m.comes) m.ends)
 listed-within d ds enclosing heads e before after is m = absurd (let no : ⊥ = cc in no)
-
--- nothing walked before
-pub behind-nothing : {A : Type 0} (r : Result (List A × List Draft) SchemaError) → behind [] r ≡ r
-behind-nothing (Ok p) = refl
-behind-nothing (Err e) = refl

@@ -1,6 +1,6 @@
 -- A fault has one place.
-use Rattle.std.proofs.Common.{◌≡◌, ◌<◌, ℕ, suc, List, [], ◌∷◌, ◌++◌, length, Option, Some, Result, Ok, Err, refl, sym, ap, subst, ◌∙◌, codes}
-use Rattle.serde_json.specs.Data.{Data, array, Items, item}
+use Rattle.std.proofs.Common.{◌≡◌, ℕ, suc, List, [], ◌∷◌, ◌++◌, Option, Some, Result, Ok, Err, refl, sym, ap, subst, ◌∙◌, codes}
+use Rattle.serde_json.specs.Data.{Data, Items}
 use Rattle.serde_json.specs.Find.{get}
 use Rattle.avro_types.specs.FullNames.{namespace_of}
 use Rattle.avro_types.specs.Node.{Names}
@@ -43,7 +43,7 @@ same-field enclosing ds before heads i j w u e x (next_field ran at) bad first_f
 same-field enclosing ds before heads i j w u e x (next_field {c = b} {ds = rest} {f = f} {i = k} {added = added} ran at) bad (next_field {f = g} {i = l} {added = new} run there) worse =
     let both = same-ok (field b before enclosing heads) (f, added) (g, new) ran run in
     let h = same-field enclosing rest (before ++ f.name ∷ []) (heads ++ heads_of added) k l w u e x at bad
-        (subst (λ (p : DraftField × List Draft). FieldAt enclosing rest (before ++ p.0.name ∷ []) (heads ++ heads_of p.1) l u) (sym both) there) worse in
+    (subst (λ (p : DraftField × List Draft). FieldAt enclosing rest (before ++ p.0.name ∷ []) (heads ++ heads_of p.1) l u) (sym both) there) worse in
     (ap suc h.0, h.1)
 
 same-step : (v w u : Visit) (s t : Step) (e x : SchemaError) → ComesTo v s w → Fails e w → ComesTo v t u → Fails x u → (s ≡ t) × (w ≡ u)

@@ -1,6 +1,6 @@
 -- Where a schema's first fault is: into which parts the walk of a value goes, and which of them it fails in
 -- (Avro 1.11 Specification, "Schema Declaration").
-use Rattle.std.specs.Prelude.{◌≡◌, ◌<◌, ℕ, zero, suc, true, is_some, List, [], ◌∷◌, ◌++◌, length, Some, Ok, Err, codes}
+use Rattle.std.specs.Prelude.{◌≡◌, ◌<◌, ℕ, suc, true, is_some, List, [], ◌∷◌, ◌++◌, length, Some, Ok, Err, codes}
 use Rattle.serde_json.specs.Data.{Data, array, Items, item}
 use Rattle.serde_json.specs.Find.{as_object, get}
 use Rattle.avro_types.specs.FullNames.{namespace_of}

@@ -1,5 +1,5 @@
 -- What the place of a fault means.
-use Rattle.std.specs.Prelude.{◌≡◌, ℕ, List, ◌∷◌, [], Some}
+use Rattle.std.specs.Prelude.{◌≡◌, ◌∷◌, [], Some}
 use Rattle.serde_json.specs.Data.{Data}
 use Rattle.avro_schema_names.specs.declared.error.SchemaError.{SchemaError}
 use Rattle.avro_schema_paths.specs.Following.{follow}

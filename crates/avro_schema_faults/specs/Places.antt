@@ -23,7 +23,7 @@ pub data IsPlace : Data → SchemaError → Path → Type 0 where
   of_default : {d : Data} {e : SchemaError} {n : ℕ} {drafts : List Draft} → walk d null_namespace [] ≡ Ok (n, drafts)
       → finished drafts ≡ Err e → IsPlace d e []
 
--- in a value: the place of a number that is a fraction or too large is the root
+-- in a value: where a number is a fraction or too large the place is the root
 pub data IsPlaceIn : Data → SchemaError → Path → Type 0 where
   of_number : {d : Data} → has_float d ≡ true → IsPlaceIn d BadNumber []
   of_schema : {d : Data} {e : SchemaError} {path : Path} → has_float d ≡ false → IsPlace d e path → IsPlaceIn d e path

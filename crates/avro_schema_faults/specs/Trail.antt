@@ -1,4 +1,4 @@
--- What the walk leaves of the trail: after `Ok` the steps that it had, and after an `Err` behind them those to the fault.
+-- What the walk leaves of the trail: the steps that it had, and, if it ends with a fault, after them those to it.
 use Rattle.std.specs.Prelude.{◌≡◌, ◌≢◌, ℕ, List, [], ◌∷◌, ◌++◌, Result, Ok, Err}
 use Rattle.serde_json.specs.Data.{Data, Items}
 use Rattle.avro_schema_drafts.specs.Head.{Head}
@@ -9,7 +9,7 @@ use Rattle.avro_schema_paths.specs.declared.step.Step.{Step}
 use Rattle.avro_schema_paths.specs.declared.step.Step.TheVariants as steps
 use Rattle.avro_schema_faults.specs.Faults.{FieldAt, IsFault, MemberAt, Visit, schema}
 
--- behind a trail stand the steps from a value to its fault
+-- the trail ends with the steps from a value to its fault
 pub record Ends (e : SchemaError) (v : Visit) (before after : Path) : Type 0 where
   pub path : Path
   pub is : after ≡ before ++ path
@@ -20,7 +20,7 @@ abbrev pub Leaves : {R : Type 0} → Result R SchemaError → Visit → Path →
 Leaves (Ok r) v before after = after ≡ before
 Leaves (Err e) v before after = e ≢ NoMemory → Ends e v before after
 
--- the walk of a part, by a step that stands before its own
+-- the walk of a part, by a step that comes before its own
 abbrev pub LeavesFrom : {R : Type 0} → Step → Result R SchemaError → Visit → Path → Path → Type 0
 LeavesFrom step (Ok r) v before after = after ≡ before
 LeavesFrom step (Err e) v before after = e ≢ NoMemory → Ends e v (before ++ step ∷ []) after

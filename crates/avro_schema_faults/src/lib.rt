@@ -6,11 +6,11 @@
 mod faults;
 mod laws;
 mod numbers;
+#[cfg(test)]
+mod tests;
 mod tracing;
 mod types;
 mod words;
-#[cfg(test)]
-mod tests;
 
 pub use avro_schema_names::SchemaError;
 pub use avro_schema_paths::Step;

@@ -19,7 +19,7 @@ pub(crate) fn has_float(value: &Value) -> bool
     }
 }
 
-/// Returns whether one in an element is.
+/// Returns whether a number in an element is held as a float.
 #[cycle(float)]
 fn items_have_float(items: &Vec<Value>) -> bool
     ensures { result ≡ items_have_float (items_view items.now.items) }
@@ -32,7 +32,7 @@ fn items_have_float(items: &Vec<Value>) -> bool
     false
 }
 
-/// Returns whether one in a member is.
+/// Returns whether a number in a member is held as a float.
 #[cycle(float)]
 fn members_have_float(members: &Map<String, Value>) -> bool
     ensures { result ≡ members_have_float (members_view members.now.entries) }

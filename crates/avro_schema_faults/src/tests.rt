@@ -7,7 +7,8 @@ use serde_json::Value;
 use std::alloc::{AllocError, Global};
 use std::test::Fail;
 
-const DEEP: &str = r#"["null", {"type": "array", "items": {"type": "record", "name": "Order", "fields": [
+const DEEP: &str =
+    r#"["null", {"type": "array", "items": {"type": "record", "name": "Order", "fields": [
     {"name": "id", "type": "long"}, {"name": "to", "type": {"type": "map", "values": "Adress"}}]}}]"#;
 
 const TWICE: &str = r#"{"type": "record", "name": "Pair", "fields": [
@@ -45,10 +46,19 @@ fn faults_with_their_places(rt: HostRuntime) -> Result<(), Fail> {
         (DEEP, "Unknown at /1/items/fields/1/type/values: Adress"),
         (TWICE, "Redefined at /fields/1/type: Part"),
         (r#"["null", ["int"]]"#, "BadUnion at : -"),
-        (r#"{"type": {"type": ["int", "int"]}}"#, "BadUnion at /type/type: -"),
+        (
+            r#"{"type": {"type": ["int", "int"]}}"#,
+            "BadUnion at /type/type: -",
+        ),
         (r#"{"type": "array"}"#, "Unknown at : -"),
-        (r#"["int", {"type": "map", "value": "int"}]"#, "Unknown at /1: -"),
-        (r#"{"type": "record", "name": "R", "fields": {}}"#, "Unknown at /fields: -"),
+        (
+            r#"["int", {"type": "map", "value": "int"}]"#,
+            "Unknown at /1: -",
+        ),
+        (
+            r#"{"type": "record", "name": "R", "fields": {}}"#,
+            "Unknown at /fields: -",
+        ),
         (r#"{"type": "record", "name": "R"}"#, "Unknown at : R"),
         ("7", "Unknown at : -"),
         ("[", "NotJson at : -"),

@@ -1,4 +1,4 @@
-//! The walk over a JSON value, with the path of the value that it stands at.
+//! The walk over a JSON value, with the path of the value that it has come to.
 
 ghost use Rattle.std.specs.Prelude.{◌≡◌, true, [], is_some, map};
 ghost use Rattle.serde_json.specs.Data.{array};
@@ -24,8 +24,8 @@ use std::alloc::Global;
 /// Returns the node of the schema that a value is, after it added that node and those of its parts (Avro 1.11
 /// Specification, "Schema Declaration").
 ///
-/// An `Err` is the first fault in the order of the walk, and then the trail has the steps to the smallest value that
-/// is at fault behind those that it had. After `Ok` the trail is as it was.
+/// An `Err` is the first fault in the order of the walk, and then the trail has the steps that it had, and after them
+/// those to the smallest value that is at fault. After `Ok` the trail is as it was.
 #[cycle(walk)]
 pub(crate) fn walk<'v>(
     alloc: Global,
@@ -48,7 +48,7 @@ pub(crate) fn walk<'v>(
     }
 }
 
-/// Returns the node of the schema that is one step away, as `walk` does.
+/// Returns the node of the schema that is one step away, as `walk` does. After an `Err` the step is in the trail too.
 #[cycle(walk)]
 fn walk_part<'v>(
     alloc: Global,

@@ -1,9 +1,9 @@
-use Rattle.std.proofs.Common.{rules, codes, ◌≤◌, ◌<◌, ◌≡◌, ◌∙◌, ◌++◌, ◌∷◌, sym, ap, refl, arith, option_map, length, map, [], string_bytes, false, is_some, None, Some, subst}
+use Rattle.std.proofs.Common.{rules, codes, ◌≤◌, ◌<◌, ◌≡◌, ◌∙◌, ◌++◌, ◌∷◌, sym, ap, refl, arith, length, map, [], string_bytes, false, is_some, None}
 use Rattle.std.specs.Arc.{arc_str_bytes}
 use Rattle.std.specs.Vec.{vec_len}
 use Rattle.std.proofs.lemmas.Result.{err_from_is_err_and}
 use Rattle.serde_json.specs.Data.{array, string, depth, items_depth}
-use Rattle.serde_json.specs.Find.{as_array, as_object, get}
+use Rattle.serde_json.specs.Find.{as_array, as_object}
 use Rattle.serde_json.specs.View.{view, items_view}
 use Rattle.serde_json.specs.declared.value.Value.{the_lemmas}
 use Rattle.serde_json.proofs.Views.{view-Array, view-Object}
@@ -11,27 +11,26 @@ use Rattle.avro_types.specs.Aliases.{full_names}
 use Rattle.avro_types.specs.Node.{ArrayNode, MapNode, UnionNode, names_of}
 use Rattle.avro_types.specs.declared.limits.TheConstants.{MOST_FIELDS, MOST_NODES}
 use Rattle.avro_schema_drafts.specs.Draft.{RecordDraft, Whole, draft_field_of, field_names}
-use Rattle.avro_schema_drafts.specs.Head.{Named, heads_of}
+use Rattle.avro_schema_drafts.specs.Head.{heads_of}
 use Rattle.avro_schema_drafts.proofs.Depths.{item-depth}
-use Rattle.avro_schema_drafts.proofs.DraftLists.{length-heads_of, map-push}
+use Rattle.avro_schema_drafts.proofs.DraftLists.{map-push}
 use Rattle.avro_schema_names.specs.Word.{form_of}
 use Rattle.avro_schema_names.specs.declared.error.SchemaError.TheVariants.{BadUnion, OutOfProfile, TooLarge, Unknown}
 use Rattle.avro_schema_names.specs.declared.word.Form.TheVariants as forms
 use Rattle.avro_schema_paths.specs.declared.step.Step.TheVariants as steps
 use Rattle.avro_schema_walk.specs.Contract.{object_walk, run}
 use Rattle.avro_schema_walk.specs.Walk.{field, fields, walk}
-use Rattle.avro_schema_walk.proofs.FieldList.{behind, fields-on, fields-fail, fields-end, run-field, run-many}
+use Rattle.avro_schema_walk.proofs.FieldList.{fields-on, fields-fail, fields-end, run-field, run-many}
 use Rattle.avro_schema_walk.proofs.MemberList.{members-on, members-fail, members-end, union-failed, union-bad, union-done, pushed_union}
 use Rattle.avro_schema_walk.proofs.Members.{walk-scalar, walk-object, field-other, fields-none, fields-some}
 use Rattle.avro_schema_walk.proofs.NamespaceKept.{enclosing-pushed, enclosing-walked}
 use Rattle.avro_schema_walk.proofs.Records.{pushed-record, run-record}
-use Rattle.avro_schema_walk.proofs.Runs.{run-if_room, run-no_room, run-keeps, run-fault}
-use Rattle.avro_schema_faults.specs.Faults.{IsOfForm, field_after, listing, schema, to_field, to_type, to_wrapped}
-use Rattle.avro_schema_faults.specs.Trail.{Ends, EndsInField, EndsInMember}
+use Rattle.avro_schema_walk.proofs.Runs.{run-no_room, run-keeps, run-fault}
+use Rattle.avro_schema_faults.specs.Faults.{IsOfForm, field_after, listing, schema, to_type, to_wrapped}
 use Rattle.avro_schema_faults.proofs.Bounds.{fails-after}
 use Rattle.avro_schema_faults.proofs.Ending.{ends-here, ends-within, popped}
-use Rattle.avro_schema_faults.proofs.Leaving.{array-done, array-failed, array-none, array-within, behind-nothing, fields-done, fields-failed, fields-missing, fields-within, form-fails, full-heads, inner-depth, leaves-formed, leaves-plain, leaves-within, listed-depth, listed-within, map-done, map-failed, map-none, map-within, names-length, nothing-there, scalar-plain, union-fails, union-walked, union-within, wrapped-none}
-use Rattle.avro_schema_faults.proofs.Reaching.{reaches-next, reaches-start, reaches-this, reaches_field-next, reaches_field-start, reaches_field-this}
+use Rattle.avro_schema_faults.proofs.Leaving.{array-done, array-failed, array-none, array-within, fields-done, fields-failed, fields-missing, fields-within, form-fails, full-heads, inner-depth, leaves-formed, leaves-plain, leaves-within, listed-depth, listed-within, map-done, map-failed, map-none, map-within, names-length, nothing-there, scalar-plain, union-fails, union-walked, union-within, wrapped-none}
+use Rattle.avro_schema_faults.proofs.Reaching.{reaches-next, reaches-this, reaches_field-next, reaches_field-this}
 use Rattle.avro_schema_faults.proofs.Sound.{array-sound, enum-sound, error-sound, field-sound, fixed-sound, full-sound, listing-sound, map-sound, nothing-in, other-sound, plain-sound, record-sound}
 use Rattle.avro_schema_faults.proofs.tracing.+walk.Goals as goal
 
@@ -79,7 +78,7 @@ unfolding walk
 walk-returns-in-Array-clause-nodes t c = rw (c.in-Array.is, view-Array c.in-Array.items, ← c.deref.ensures.value) c.walk_union.ensures.nodes
 
 pub walk-returns-in-Object-clause-nodes : goal.walk-returns-in-Object-clause-nodes
-walk-returns-in-Object-clause-nodes t c = 
+walk-returns-in-Object-clause-nodes t c =
     let seen = ap view c.in-Object.is ∙ view-Object c.in-Object.field-0 in
     rw (seen, walk-object _, ← seen) c.walk_object.ensures.nodes
 
@@ -506,9 +505,9 @@ walk_field-returns-in_err-aliases-clause-place t c =
     let p = err_from_is_err_and c.from_residual-in_err-aliases.result c.from_residual-in_err-aliases.ensures.1 in
     let room : length c.args.before.now < MOST_FIELDS = omega arith in
     rw (p.1, p.2) (λ known.
-      let good = rw c.get.ensures at c.in_ok-name.ensures in
-      let bad = rw c.get-2.ensures at (c.in_err-aliases.ensures known) in
-      ends-here _ (field_after (field_names c.args.before.now) (view c.args.value.now) (arc_str_bytes c.args.enclosing.now.text) (heads_of c.args.drafts.now)) c.args.trail.now.items c.args.trail.now.items refl (fails-after (field (view c.args.value.now) (field_names c.args.before.now)) (arc_str_bytes c.args.enclosing.now.text) c.args.drafts.now _ (run-field (view c.args.value.now) c.args.before.now (arc_str_bytes c.args.enclosing.now.text) c.args.drafts.now c.if-not-is_object.ensures room ∙ rw (good, bad) refl)) (field-sound (field_names c.args.before.now) (view c.args.value.now) (arc_str_bytes c.args.enclosing.now.text) (heads_of c.args.drafts.now) (λ few name named aliases aliased x found. let no : ⊥ = cc in no)))
+    let good = rw c.get.ensures at c.in_ok-name.ensures in
+    let bad = rw c.get-2.ensures at (c.in_err-aliases.ensures known) in
+    ends-here _ (field_after (field_names c.args.before.now) (view c.args.value.now) (arc_str_bytes c.args.enclosing.now.text) (heads_of c.args.drafts.now)) c.args.trail.now.items c.args.trail.now.items refl (fails-after (field (view c.args.value.now) (field_names c.args.before.now)) (arc_str_bytes c.args.enclosing.now.text) c.args.drafts.now _ (run-field (view c.args.value.now) c.args.before.now (arc_str_bytes c.args.enclosing.now.text) c.args.drafts.now c.if-not-is_object.ensures room ∙ rw (good, bad) refl)) (field-sound (field_names c.args.before.now) (view c.args.value.now) (arc_str_bytes c.args.enclosing.now.text) (heads_of c.args.drafts.now) (λ few name named aliases aliased x found. let no : ⊥ = cc in no)))
 
 pub walk_field-walk_part-requires : goal.walk_field-walk_part-requires
 walk_field-walk_part-requires t c = (let less = inner-depth (codes "type") (view c.args.value.now) (view c.in-Some.inner.now) c.in-Some.ensures in omega (arith, less), c.requires.known)
@@ -524,9 +523,9 @@ walk_field-returns-in_err-walk_part-in-Some-clause-place t c =
     let p = err_from_is_err_and c.from_residual-in_err-walk_part-in-Some.result c.from_residual-in_err-walk_part-in-Some.ensures.1 in
     let few : length (field_names c.args.before.now) < MOST_FIELDS = rw (names-length c.args.before.now) (omega arith) in
     rw (p.1, p.2) (λ known.
-      let named = rw c.get.ensures at c.in_ok-name.ensures in
-      let aliased = rw c.get-2.ensures at c.in_ok-aliases.ensures in
-      ends-within _ (field_after (field_names c.args.before.now) (view c.args.value.now) (arc_str_bytes c.args.enclosing.now.text) (heads_of c.args.drafts.now)) (schema (view c.in-Some.inner.now) (arc_str_bytes c.args.enclosing.now.text) (heads_of c.args.drafts.now)) steps.Type c.args.trail.now.items c.walk_part.new.trail.items (to_type few named aliased (sym c.in-Some.ensures)) (c.in_err-walk_part-in-Some.ensures.place known))
+    let named = rw c.get.ensures at c.in_ok-name.ensures in
+    let aliased = rw c.get-2.ensures at c.in_ok-aliases.ensures in
+    ends-within _ (field_after (field_names c.args.before.now) (view c.args.value.now) (arc_str_bytes c.args.enclosing.now.text) (heads_of c.args.drafts.now)) (schema (view c.in-Some.inner.now) (arc_str_bytes c.args.enclosing.now.text) (heads_of c.args.drafts.now)) steps.Type c.args.trail.now.items c.walk_part.new.trail.items (to_type few named aliased (sym c.in-Some.ensures)) (c.in_err-walk_part-in-Some.ensures.place known))
 
 pub walk_field-returns-in_ok-walk_part-in-Some-clause-nodes : goal.walk_field-returns-in_ok-walk_part-in-Some-clause-nodes
 walk_field-returns-in_ok-walk_part-in-Some-clause-nodes t c =
@@ -541,4 +540,3 @@ walk_field-returns-in-None-clause-nodes t c =
 
 pub walk_field-returns-in-None-clause-place : goal.walk_field-returns-in-None-clause-place
 walk_field-returns-in-None-clause-place t c = λ known. ends-here Unknown (field_after (field_names c.args.before.now) (view c.args.value.now) (arc_str_bytes c.args.enclosing.now.text) (heads_of c.args.drafts.now)) c.args.trail.now.items c.args.trail.now.items refl (fails-after (field (view c.args.value.now) (field_names c.args.before.now)) (arc_str_bytes c.args.enclosing.now.text) c.args.drafts.now Unknown (walk_field-returns-in-None-clause-nodes t c known)) (field-sound (field_names c.args.before.now) (view c.args.value.now) (arc_str_bytes c.args.enclosing.now.text) (heads_of c.args.drafts.now) (λ few name named aliases aliased x found. nothing-there _ x c.in-None.ensures found))
-
