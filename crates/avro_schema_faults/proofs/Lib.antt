@@ -1,0 +1,9 @@
+mod Bounds
+mod Ending
+mod Failing
+mod Found
+mod Leading
+mod Leaving
+mod One
+mod Reaching
+mod Sound

@@ -1,0 +1,65 @@
+use Rattle.std.proofs.Common.{◌≡◌, ◌+◌, ◌*◌, drop, []}
+use Rattle.std.specs.Arc.{arc_str_bytes}
+use Rattle.serde_json.specs.Data.{depth, items_depth}
+use Rattle.serde_json.specs.View.{view, items_view}
+use Rattle.avro_schema_drafts.specs.Draft.{field_names}
+use Rattle.avro_schema_drafts.specs.Head.{heads_of}
+use Rattle.avro_schema_drafts.specs.Index.{IsNamespaceOf}
+use Rattle.avro_schema_walk.specs.Contract.{run}
+use Rattle.avro_schema_walk.specs.Walk.{fields_after, members}
+use Rattle.avro_schema_walk.proofs.FieldList.{behind}
+use Rattle.avro_schema_faults.proofs.Reaching.{Reaches, ReachesField}
+use Rattle.avro_schema_faults.proofs.tracing.+walk.Given as goal
+
+-- Each level of the value takes eight steps: a field, its type, an object, a record, its list of fields.
+abbrev pub decreases-walk : goal.decreases-walk
+decreases-walk l = 8 * depth (view l.value.now) + 5
+
+abbrev pub decreases-walk_part : goal.decreases-walk_part
+decreases-walk_part l = 8 * depth (view l.value.now) + 6
+
+abbrev pub decreases-walk_union : goal.decreases-walk_union
+decreases-walk_union l = 8 * items_depth (items_view l.items.now) + 8
+
+abbrev pub decreases-walk_members : goal.decreases-walk_members
+decreases-walk_members l = 8 * items_depth (items_view l.items.now) + 7
+
+abbrev pub decreases-walk_object : goal.decreases-walk_object
+decreases-walk_object l = 8 * depth (view l.value.now) + 4
+
+abbrev pub decreases-walk_wrapped : goal.decreases-walk_wrapped
+decreases-walk_wrapped l = 8 * depth (view l.value.now) + 3
+
+abbrev pub decreases-walk_array : goal.decreases-walk_array
+decreases-walk_array l = 8 * depth (view l.value.now) + 3
+
+abbrev pub decreases-walk_map : goal.decreases-walk_map
+decreases-walk_map l = 8 * depth (view l.value.now) + 3
+
+abbrev pub decreases-walk_record : goal.decreases-walk_record
+decreases-walk_record l = 8 * depth (view l.value.now) + 3
+
+abbrev pub decreases-walk_fields : goal.decreases-walk_fields
+decreases-walk_fields l = 8 * depth (view l.value.now) + 2
+
+abbrev pub decreases-walk_listed : goal.decreases-walk_listed
+decreases-walk_listed l = 8 * items_depth (items_view l.items.now) + 9
+
+abbrev pub decreases-walk_field : goal.decreases-walk_field
+decreases-walk_field l = 8 * depth (view l.value.now) + 7
+
+abbrev pub invariant-walk_members-loop-i : goal.invariant-walk_members-loop-i
+invariant-walk_members-loop-i l =
+    IsNamespaceOf l.enclosing l.drafts
+    × (behind l.members.items (run (members (items_view (drop l.i l.items))) (arc_str_bytes l.enclosing.text) l.drafts)
+    ≡ run (members (items_view l.items)) (arc_str_bytes l.enclosing.text) l.fn.drafts)
+    × (l.trail.items ≡ l.fn.trail.items)
+    × Reaches (arc_str_bytes l.enclosing.text) (items_view (drop l.i l.items)) (heads_of l.drafts) l.i (items_view l.items) (heads_of l.fn.drafts)
+
+abbrev pub invariant-walk_listed-loop-i : goal.invariant-walk_listed-loop-i
+invariant-walk_listed-loop-i l =
+    IsNamespaceOf l.enclosing l.drafts
+    × (behind l.list (run (fields_after (items_view (drop l.i l.items)) (field_names l.list)) (arc_str_bytes l.enclosing.text) l.drafts)
+    ≡ run (fields_after (items_view l.items) []) (arc_str_bytes l.enclosing.text) l.fn.drafts)
+    × (l.trail.items ≡ l.fn.trail.items)
+    × ReachesField (arc_str_bytes l.enclosing.text) (items_view (drop l.i l.items)) (field_names l.list) (heads_of l.drafts) l.i (items_view l.items) (heads_of l.fn.drafts)

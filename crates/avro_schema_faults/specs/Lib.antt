@@ -1,0 +1,5 @@
+pub mod Faults
+pub mod Laws
+pub mod Places
+pub mod Trail
+pub mod Words

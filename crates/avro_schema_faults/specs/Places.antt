@@ -1,0 +1,67 @@
+-- Where a text that is no schema has its first fault.
+use Rattle.std.specs.Prelude.{◌≡◌, ◌≢◌, ◌<◌, ◌≤◌, ⊤, ℕ, List, [], length, true, false, Option, Some, None, Result, Ok, Err}
+use Rattle.serde_json.specs.Data.{Data}
+use Rattle.serde_json.specs.Read.{read}
+use Rattle.serde_json.specs.Written.{has_float}
+use Rattle.avro_types.specs.Node.{Node}
+use Rattle.avro_types.specs.declared.limits.TheConstants.{MOST_TEXT}
+use Rattle.avro_schema.specs.Schema.{declared, nodes_in, schema_of}
+use Rattle.avro_schema_defaults.specs.Defaults.{finished}
+use Rattle.avro_schema_drafts.specs.Draft.{Draft}
+use Rattle.avro_schema_names.specs.Names.{null_namespace}
+use Rattle.avro_schema_names.specs.declared.error.SchemaError.{SchemaError}
+use Rattle.avro_schema_names.specs.declared.error.SchemaError.TheVariants.{BadNumber, NoMemory, NotJson, TooLarge}
+use Rattle.avro_schema_paths.specs.Places.{Path}
+use Rattle.avro_schema_walk.specs.Walk.{walk}
+use Rattle.avro_schema_faults.specs.declared.faults.Fault.{Fault}
+use Rattle.avro_schema_faults.specs.Faults.{IsFault, schema}
+
+-- In a value without fractions: the walk's fault has the path of the smallest value that is at fault, and a default
+-- that is no value of its type the root's.
+pub data IsPlace : Data → SchemaError → Path → Type 0 where
+  of_walk : {d : Data} {e : SchemaError} {path : Path} → IsFault e (schema d null_namespace []) path → IsPlace d e path
+  of_default : {d : Data} {e : SchemaError} {n : ℕ} {drafts : List Draft} → walk d null_namespace [] ≡ Ok (n, drafts)
+      → finished drafts ≡ Err e → IsPlace d e []
+
+-- in a value: where a number is a fraction or too large the place is the root
+pub data IsPlaceIn : Data → SchemaError → Path → Type 0 where
+  of_number : {d : Data} → has_float d ≡ true → IsPlaceIn d BadNumber []
+  of_schema : {d : Data} {e : SchemaError} {path : Path} → has_float d ≡ false → IsPlace d e path → IsPlaceIn d e path
+
+-- in a text: where it is too long or no JSON the place is the root
+pub data IsPlaceOf (text : List ℕ) : SchemaError → Path → Type 0 where
+  of_length : MOST_TEXT < length text → IsPlaceOf text TooLarge []
+  of_text : length text ≤ MOST_TEXT → read text ≡ None → IsPlaceOf text NotJson []
+  of_value : {d : Data} {e : SchemaError} {path : Path} → length text ≤ MOST_TEXT → read text ≡ Some d
+      → IsPlaceIn d e path → IsPlaceOf text e path
+
+-- a fault with this error, at the root
+pub record IsWholeFault (e : SchemaError) (f : Fault) : Type 0 where
+  pub error : f.error ≡ e
+  pub path : f.path.items ≡ []
+
+-- the first fault of a value, and its place
+pub record IsFaultIn (d : Data) (f : Fault) : Type 0 where
+  pub error : nodes_in d ≡ Err f.error
+  pub place : IsPlaceIn d f.error f.path.items
+
+-- the first fault of a text, and its place
+pub record IsFaultOf (text : List ℕ) (f : Fault) : Type 0 where
+  pub error : schema_of text ≡ Err f.error
+  pub place : IsPlaceOf text f.error f.path.items
+
+-- of a text: none where it is a schema, unless memory ran out
+abbrev pub Finds : {E : Type 0} → Result (Option Fault) E → List ℕ → Type 0
+Finds (Ok None) text = (nodes : List Node) × (schema_of text ≡ Ok nodes)
+Finds (Ok (Some f)) text = IsFaultOf text f
+Finds (Err e) text = ⊤
+
+abbrev pub FindsIn : {E : Type 0} → Result (Option Fault) E → Data → Type 0
+FindsIn (Ok None) d = (nodes : List Node) × (nodes_in d ≡ Ok nodes)
+FindsIn (Ok (Some f)) d = IsFaultIn d f
+FindsIn (Err e) d = ⊤
+
+-- of a walk from an empty trail, and what is left of it
+abbrev pub Leads : {A : Type 0} → Result A SchemaError → Data → Path → Type 0
+Leads (Ok a) d after = (nodes : List Node) × (declared d ≡ Ok nodes)
+Leads (Err e) d after = e ≢ NoMemory → (declared d ≡ Err e) × IsPlace d e after

@@ -1,0 +1,19 @@
+//! Schemas; used by `commands`.
+//!
+//! Where in its JSON value a text that is no schema has its first fault.
+#![tactic(auto)]
+
+mod faults;
+mod laws;
+mod numbers;
+#[cfg(test)]
+mod tests;
+mod tracing;
+mod types;
+mod words;
+
+pub use avro_schema_names::SchemaError;
+pub use avro_schema_paths::Step;
+pub use faults::{Fault, fault_of};
+pub use laws::{each_fault_has_one_place, places_lead_to_faults};
+pub use words::word_at;

@@ -1,0 +1,46 @@
+//! Numbers in JSON that no schema may have.
+
+ghost use Rattle.std.specs.Prelude.{◌≡◌};
+ghost use Rattle.serde_json.specs.View.{view, items_view, members_view};
+ghost use Rattle.serde_json.specs.Written.{has_float, items_have_float, members_have_float};
+
+use serde_json::{Map, Value};
+
+/// Returns whether a number somewhere in a value is held as a float.
+#[cycle(float)]
+pub(crate) fn has_float(value: &Value) -> bool
+    ensures { result ≡ has_float (view value.now) }
+{
+    match value {
+        Value::Null | Value::Bool(_) | Value::String(_) => false,
+        Value::Number(number) => number.is_f64(),
+        Value::Array(items) => items_have_float(items),
+        Value::Object(members) => members_have_float(members),
+    }
+}
+
+/// Returns whether a number in an element is held as a float.
+#[cycle(float)]
+fn items_have_float(items: &Vec<Value>) -> bool
+    ensures { result ≡ items_have_float (items_view items.now.items) }
+{
+    for item in items {
+        if has_float(item) {
+            return true;
+        }
+    }
+    false
+}
+
+/// Returns whether a number in a member is held as a float.
+#[cycle(float)]
+fn members_have_float(members: &Map<String, Value>) -> bool
+    ensures { result ≡ members_have_float (members_view members.now.entries) }
+{
+    for (_, member) in members.iter() {
+        if has_float(member) {
+            return true;
+        }
+    }
+    false
+}
