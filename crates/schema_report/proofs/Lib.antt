@@ -2,3 +2,4 @@ pub mod SchemaLines
 pub mod Appending
 pub mod Refused
 pub mod Answering
+pub mod Placing

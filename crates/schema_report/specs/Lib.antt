@@ -2,4 +2,5 @@ pub mod Types
 pub mod Reading
 pub mod Listing
 pub mod Checking
+pub mod Faults
 pub mod Reports

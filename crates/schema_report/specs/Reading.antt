@@ -6,7 +6,7 @@ use Rattle.avro_schema.specs.Schema.{schema_of}
 use Rattle.avro_schema_names.specs.declared.error.SchemaError.{SchemaError}
 use Rattle.avro_schema_names.specs.declared.error.SchemaError.TheVariants.{NotJson}
 use Rattle.schema_report.specs.declared.refusal.Refusal.{Refusal}
-use Rattle.schema_report.specs.declared.refusal.Refusal.TheVariants.{BadSchema}
+use Rattle.schema_report.specs.declared.refusal.Refusal.TheVariants.{NoMemory, BadSchema}
 
 -- the nodes of a schema line, or its first fault: bytes that are no UTF-8 are no JSON
 abbrev pub schema_of_line : List ℕ → Result (List Node) SchemaError
@@ -17,3 +17,8 @@ pub record IsBadLine (line : List ℕ) (number : ℕ) (refusal : Refusal) : Type
   pub error : SchemaError
   pub refused : refusal ≡ BadSchema number error
   pub fault : schema_of_line line ≡ Err error
+
+-- a refusal that is not for want of memory has the fault of this line
+abbrev pub IsOfText : Refusal → List ℕ → Type 0
+IsOfText NoMemory line = Unit {0}
+IsOfText (BadSchema number error) line = schema_of_line line ≡ Err error

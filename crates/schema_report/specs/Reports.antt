@@ -1,15 +1,14 @@
 -- What is answered to a question about schemas. The lines are this project's own.
 use Rattle.std.specs.Prelude.{◌≡◌, ◌&&◌, ℕ, Bool, true, false, List, [], ◌++◌, codes, string_bytes, Vec, Some, Ok, Err, length}
-use Rattle.std.specs.Fmt.{decimal}
 use Rattle.std.specs.declared.alloc.Global.{Global}
 use Rattle.serde_json.specs.Data.{Data}
 use Rattle.serde_json.specs.Read.{read}
 use Rattle.avro_types.specs.Node.{Node}
-use Rattle.avro_schema_names.specs.SchemaError.{name_of}
 use Rattle.avro_schema_names.specs.declared.error.SchemaError.{SchemaError}
 use Rattle.avro_schema_paths.specs.Adds.{ArePaths}
 use Rattle.avro_schema_paths.specs.declared.step.Step.{Step}
 use Rattle.schema_report.specs.Checking.{IsChecked}
+use Rattle.schema_report.specs.Faults.{IsBadSchema}
 use Rattle.schema_report.specs.Listing.{node_lines}
 use Rattle.schema_report.specs.Reading.{schema_of_line}
 use Rattle.schema_report.specs.declared.asking.Level.{Level}
@@ -21,15 +20,11 @@ use Rattle.schema_report.specs.declared.report.Report.{Report}
 use Rattle.schema_report.specs.declared.report.Verdict.{Verdict}
 use Rattle.schema_report.specs.declared.report.Verdict.TheVariants.{Yes, No}
 
--- the line of a schema that is none, with its number and its first fault
-abbrev pub bad_schema : ℕ → SchemaError → List ℕ
-bad_schema line error = codes "bad schema " ++ decimal line ++ codes " " ++ name_of error ++ codes "\n"
-
--- the report of a refusal that is not for want of memory
-abbrev pub IsRefused : Refusal → Report → Type 0
-IsRefused NoMemory report = ⊥
-IsRefused (BadSchema line error) report =
-    (string_bytes report.text ≡ bad_schema line error) × (report.verdict ≡ No)
+-- the report of a refusal of a line that is not for want of memory
+abbrev pub IsRefused : Refusal → List ℕ → Report → Type 0
+IsRefused NoMemory line report = ⊥
+IsRefused (BadSchema number error) line report =
+    IsBadSchema number line error (string_bytes report.text) × (report.verdict ≡ No)
 
 -- a line is a schema of these nodes, and these are their paths in its JSON value
 pub record IsOfLine (line : List ℕ) (nodes : List Node) (paths : List (Vec Step Global)) : Type 0 where
@@ -42,7 +37,8 @@ pub record IsOfLine (line : List ℕ) (nodes : List Node) (paths : List (Vec Ste
 pub data AnswersNodes (line : List ℕ) : List ℕ → Verdict → Type 0 where
   listed : (nodes : List Node) (paths : List (Vec Step Global)) → IsOfLine line nodes paths
       → AnswersNodes line (node_lines nodes 0 paths) Yes
-  refused : (error : SchemaError) → schema_of_line line ≡ Err error → AnswersNodes line (bad_schema 1 error) No
+  refused : (error : SchemaError) (text : List ℕ) → schema_of_line line ≡ Err error
+      → IsBadSchema 1 line error text → AnswersNodes line text No
 
 -- the lines of the bad pairs were added, by which of the schemas reads
 abbrev pub AreChecked : Level → Side → Side → List ℕ → List ℕ → Bool → Type 0
@@ -71,7 +67,7 @@ pub data AnswersCheck (level : Level) (first second : List ℕ) : List ℕ → V
   checked : (a b : Side) (lines : List ℕ) (is_safe : Bool) → IsSideOf first a → IsSideOf second b
       → AreChecked level a b [] lines is_safe
       → AnswersCheck level first second (compatible_or is_safe lines) (verdict_of is_safe)
-  first_refused : (error : SchemaError) → schema_of_line first ≡ Err error
-      → AnswersCheck level first second (bad_schema 1 error) No
-  second_refused : (nodes : List Node) (error : SchemaError) → schema_of_line first ≡ Ok nodes
-      → schema_of_line second ≡ Err error → AnswersCheck level first second (bad_schema 2 error) No
+  first_refused : (error : SchemaError) (text : List ℕ) → schema_of_line first ≡ Err error
+      → IsBadSchema 1 first error text → AnswersCheck level first second text No
+  second_refused : (nodes : List Node) (error : SchemaError) (text : List ℕ) → schema_of_line first ≡ Ok nodes
+      → schema_of_line second ≡ Err error → IsBadSchema 2 second error text → AnswersCheck level first second text No

@@ -1,14 +1,14 @@
 //! The questions, each of the lines that it is of.
 
 ghost use Rattle.std.specs.Prelude.{◌≡◌, ◌≢◌, length, string_bytes, IfErr, IfOk, OnOk, []};
-ghost use Rattle.schema_report.specs.Reading.{IsBadLine};
+ghost use Rattle.schema_report.specs.Reading.{IsOfText};
 ghost use Rattle.schema_report.specs.Reports.{AnswersCheck, AnswersNodes, AreChecked, IsRefused, compatible_or, verdict_of};
 
 use crate::checking::{Side, push_check};
 use crate::listing::list_nodes;
 use crate::reading::{PathedSchema, read_schema};
 use crate::refusal::Refusal;
-use crate::report::{Report, Verdict, bad_schema};
+use crate::report::{Report, Verdict, bad_line};
 use std::alloc::{AllocError, Global};
 
 /// Which of two schemas, an older and a newer one, reads what the other writes (Confluent Schema Registry,
@@ -23,14 +23,15 @@ pub enum Level {
     Full,
 }
 
-/// Returns the report of a refusal: the line of the schema that is none.
-pub(crate) fn refused(alloc: Global, refusal: Refusal) -> Result<Report, AllocError>
-    ensures { IfOk result (λ report. IsRefused refusal report) }
+/// Returns the report of a refusal of a line: that it is no schema, and where its fault is.
+pub(crate) fn refused(alloc: Global, refusal: Refusal, text: &[u8]) -> Result<Report, AllocError>
+    requires { IsOfText refusal text.now }
+    ensures { IfOk result (λ report. IsRefused refusal text.now report) }
 {
     match refusal {
         Refusal::NoMemory => Err(AllocError),
         Refusal::BadSchema { line, error } => Ok(Report {
-            text: bad_schema(alloc, line, error)?,
+            text: bad_line(alloc, line, error, text)?,
             verdict: Verdict::No,
         }),
     }
@@ -44,7 +45,7 @@ pub fn nodes_report(alloc: Global, line: &[u8]) -> Result<Report, AllocError>
 {
     let read = match read_schema(alloc, line, 1) {
         Ok(read) => read,
-        Err(refusal) => return refused(alloc, refusal),
+        Err(refusal) => return refused(alloc, refusal, line),
     };
     let text = list_nodes(alloc, read.schema.nodes(), &read.paths)?;
     Ok(Report {
@@ -120,11 +121,11 @@ pub fn check_report(
 {
     let older = match read_schema(alloc, first, 1) {
         Ok(read) => read,
-        Err(refusal) => return refused(alloc, refusal),
+        Err(refusal) => return refused(alloc, refusal, first),
     };
     let newer = match read_schema(alloc, second, 2) {
         Ok(read) => read,
-        Err(refusal) => return refused(alloc, refusal),
+        Err(refusal) => return refused(alloc, refusal, second),
     };
     let mut lines = String::new(alloc);
     let is_safe = push_level(alloc, &mut lines, level, &side_of(&older), &side_of(&newer))?;

@@ -279,11 +279,11 @@ pub fn explain_report(
 ) -> Result<Report, AllocError> {
     let writer = match read_schema(alloc, first, 1) {
         Ok(read) => read,
-        Err(refusal) => return refused(alloc, refusal),
+        Err(refusal) => return refused(alloc, refusal, first),
     };
     let reader = match read_schema(alloc, second, 2) {
         Ok(read) => read,
-        Err(refusal) => return refused(alloc, refusal),
+        Err(refusal) => return refused(alloc, refusal, second),
     };
     let lines = explain(alloc, writer.schema.nodes(), reader.schema.nodes())?;
     let both = Both {

@@ -1,9 +1,14 @@
 //! What is answered to a question, and whether it is yes.
 
-ghost use Rattle.std.specs.Prelude.{◌≡◌, ◌++◌, string_bytes, IfOk};
-ghost use Rattle.schema_report.specs.Reports.{bad_schema};
+ghost use Rattle.std.specs.Prelude.{◌≡◌, ◌++◌, string_bytes, Err, IfOk, OnOk};
+ghost use Rattle.schema_report.specs.Faults.{HasPlaceOf, IsBadSchema, bad_schema, has_place, place_text};
+ghost use Rattle.schema_report.specs.Reading.{schema_of_line};
 
+use crate::listing::push_path;
 use avro_schema::SchemaError;
+use avro_schema_faults::{fault_of, word_at};
+use avro_schema_paths::Step;
+use serde_json::Value;
 use std::alloc::{AllocError, Global};
 
 /// Whether the answer to a question is yes: the schema is one, the schemas are compatible, the pair is explained.
@@ -20,11 +25,96 @@ pub struct Report {
     pub verdict: Verdict,
 }
 
-/// Returns the line of a schema that is none.
-pub(crate) fn bad_schema(alloc: Global, line: u8, error: SchemaError) -> Result<String, AllocError>
-    ensures { IfOk result (λ text. string_bytes text ≡ bad_schema line error) }
+/// Returns the number of a line that is no schema, and its first fault.
+fn bad_schema(alloc: Global, number: u8, error: SchemaError) -> Result<String, AllocError>
+    ensures { IfOk result (λ text. string_bytes text ≡ bad_schema number error) }
 {
     let name = error.name();
-    let text = format!(in alloc; "bad schema {line} {name}\n")?;
+    let text = format!(in alloc; "bad schema {number} {name}")?;
+    Ok(text)
+}
+
+/// Returns whether a fault is at some value of the line's JSON. One of the text, of a number or of a default is not.
+fn has_place(error: SchemaError) -> bool
+    ensures { result ≡ has_place error }
+{
+    match error {
+        SchemaError::NotJson
+        | SchemaError::BadNumber
+        | SchemaError::BadDefault
+        | SchemaError::NoMemory => false,
+        SchemaError::TooLarge
+        | SchemaError::Unknown
+        | SchemaError::OutOfProfile
+        | SchemaError::BadName
+        | SchemaError::Redefined
+        | SchemaError::BadUnion
+        | SchemaError::BadSymbols => true,
+    }
+}
+
+/// Returns the word in question at the end of a path in a text's JSON value, as JSON writes it within quotes; the empty
+/// text where there is none.
+fn word_of(alloc: Global, text: &[u8], path: &[Step]) -> Result<String, AllocError> {
+    let Ok(value) = Value::from_slice(alloc, text) else {
+        return Err(AllocError);
+    };
+    let Some(word) = word_at(&value, path) else {
+        return Ok(String::new(alloc));
+    };
+    let quoted = Value::String(String::from_str(alloc, word)?).to_string(alloc)?;
+    let inner = quoted.strip_prefix("\"").unwrap_or("").strip_suffix("\"");
+    format!(in alloc; ": {}", inner.unwrap_or(""))
+}
+
+/// Returns the path of the value that is at fault in a line, after `at`.
+fn place_of(alloc: Global, path: &[Step]) -> Result<String, AllocError>
+    ensures { IfOk result (λ text. string_bytes text ≡ place_text path.now) }
+{
+    let mut text = String::from_str(alloc, " at ")?;
+    push_path(alloc, &mut text, path)?;
+    Ok(text)
+}
+
+/// Appends where the fault of a line is, and the word in question; nothing where it has no place.
+fn push_place(
+    alloc: Global,
+    output: &mut String,
+    line: &[u8],
+    error: SchemaError,
+) -> Result<(), AllocError>
+    requires { schema_of_line line.now ≡ Err error }
+    ensures { OnOk result (HasPlaceOf line.now error (string_bytes output.old) (string_bytes output.new)) }
+{
+    if !has_place(error) {
+        return Ok(());
+    }
+    let Ok(text) = std::str::from_utf8(line) else {
+        return Ok(());
+    };
+    let Some(fault) = fault_of(alloc, text)? else {
+        return Ok(());
+    };
+    let place = place_of(alloc, &fault.path)?;
+    let word = word_of(alloc, line, &fault.path)?;
+    output.push_str(&place)?;
+    output.push_str(&word)?;
+    Ok(())
+}
+
+/// Returns the line of a schema that is none: its number, its first fault, the path of the value that is at fault, and
+/// the word in question.
+pub(crate) fn bad_line(
+    alloc: Global,
+    number: u8,
+    error: SchemaError,
+    line: &[u8],
+) -> Result<String, AllocError>
+    requires { schema_of_line line.now ≡ Err error }
+    ensures { IfOk result (λ text. IsBadSchema number line.now error (string_bytes text)) }
+{
+    let mut text = bad_schema(alloc, number, error)?;
+    push_place(alloc, &mut text, line, error)?;
+    text.push_str("\n")?;
     Ok(text)
 }

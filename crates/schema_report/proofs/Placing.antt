@@ -1,0 +1,23 @@
+-- Where the fault of a line is.
+use Rattle.std.proofs.Common.{◌≡◌, ◌++◌, ℕ, Bool, true, false, List, Ok, Err, None, refl, ◌∙◌, sym, subst}
+use Rattle.std.specs.Str.{IsUtf8}
+use Rattle.avro_types.specs.Node.{Node}
+use Rattle.avro_schema_faults.specs.Places.{IsFaultOf}
+use Rattle.avro_schema_faults.specs.declared.faults.Fault.{Fault}
+use Rattle.avro_schema_names.specs.declared.error.SchemaError.{SchemaError}
+use Rattle.avro_schema_names.specs.declared.error.SchemaError.TheVariants.{NotJson}
+use Rattle.schema_report.specs.Faults.{HasPlace, HasPlaceOf, has_place, place_text}
+use Rattle.schema_report.specs.Reading.{schema_of_line}
+use Rattle.schema_report.proofs.SchemaLines.{no_text}
+
+pub no_place : (line : List ℕ) (error : SchemaError) (old : List ℕ) → has_place error ≡ false → HasPlaceOf line error old old
+no_place line error old none = rw none refl
+
+-- bytes that are no text have no place
+pub no_text_place : (line : List ℕ) (error : SchemaError) (old : List ℕ) → ¬ (IsUtf8 line) → schema_of_line line ≡ Err error → HasPlaceOf line error old old
+no_text_place line error old broken fault =
+    let same : NotJson ≡ error = cc (no_text line broken, fault) in
+    no_place line error old (subst (λ (e : SchemaError). has_place e ≡ false) same refl)
+
+pub placed : (line : List ℕ) (error : SchemaError) (old new : List ℕ) → has_place error ≡ true → HasPlace line old new → HasPlaceOf line error old new
+placed line error old new some place = rw some place
