@@ -1,4 +1,4 @@
-//! Resolution; used by `commands`.
+//! Resolution; used by `schema_report`.
 //!
 //! Why a reader cannot read all that a writer writes: every bad pair of nodes that the roots lead to, by which kind it
 //! is bad, and a way to it (Avro 1.11 Specification, "Schema Resolution"). A call answers `AllocError` where there is no

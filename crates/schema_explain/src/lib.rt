@@ -1,4 +1,4 @@
-//! Resolution; used by `commands`.
+//! Resolution; used by `schema_report`.
 //!
 //! What becomes of every part of a message that is written by one schema and read by another (Avro 1.11 Specification,
 //! "Schema Resolution").

@@ -21,7 +21,25 @@ pub(crate) const NODES: &str = r#"{"type":"array","items":["null","long"]}
 0 string /
 
 {"type":"record"}
-bad schema 1 Unknown
+bad schema 1 Unknown at /
+
+{"type":"record","name":"T","fields":[{"name":"a","type":"int"},{"name":"b","type":["null",{"type":"array","items":"Adress"}]}]}
+bad schema 1 Unknown at /fields/1/type/1/items: Adress
+
+{"type":"record","name":"a.T","fields":[{"name":"x","type":{"type":"enum","name":"E","symbols":["1"]}}]}
+bad schema 1 BadSymbols at /fields/0/type: E
+
+["int",["long"]]
+bad schema 1 BadUnion at /
+
+{"type":"record","name":"T","fields":[{"name":"a","type":"int","default":"x"}]}
+bad schema 1 BadDefault
+
+{"type":"fixed","name":"F","size":1.5}
+bad schema 1 BadNumber
+
+{"type":"record","name":"T","fields":[{"name":"a","type":{"type":"record","name":"T\n","fields":[]}}]}
+bad schema 1 BadName at /fields/0/type: T\n
 "#;
 
 /// Levels, two schemas, and what is answered of them.
@@ -50,7 +68,7 @@ NoBranch 4 1 /fields/1/type/1 /fields/0/type string goes into no branch of the u
 BACKWARD
 "int"
 "itn"
-bad schema 2 Unknown
+bad schema 2 Unknown at /: itn
 
 BACKWARD
 int
@@ -99,7 +117,7 @@ message: mismatch NoMatch 0 0
 
 "x"
 "string"
-bad schema 1 Unknown
+bad schema 1 Unknown at /: x
 "#;
 
 /// A pair of schemas, one line each.
