@@ -43,8 +43,10 @@ Example:
 
 /// The lines of `replay`.
 pub(crate) const REPLAY: &str =
-    "Reads events, a line each: `register S TEXT`, `publish W R`, `begin W R`, `piece S HEX`,
-`slice S K N`, `result S` and others. Writes a reply to each.
+    "Reads events, a line each, and writes a reply to each: of the registry `register S TEXT`, `level S LEVEL` (S is a
+subject, `*` for all) and `publish W R`; `begin W R`; and of a session S `piece S HEX`, `finish S`,
+`steal S K`, `slice S K N`, `walk S N`, `go S N`, `break S A`, `clear S A`, `refuse S`, `show S`, `list S`
+and `result S`. K is a worker, N a number of rows, A an address.
 
 Example:
   printf '%s\\n' 'register s \"int\"' | avrogate replay
