@@ -85,6 +85,7 @@ try_built tests/plans.sh
 try_built tests/stack.sh
 try_built tests/allocations.sh
 try_built tests/peers/compare.sh
+try_built tests/peers/checks.sh
 try_library tests/embedding.sh
 try_built bench/memory.sh
 [ "$left_out" = 0 ] || echo "$left_out left out"

@@ -35,6 +35,14 @@ for subcommand in transcode compile run debug replay nodes check explain; do
     echo "the example of $subcommand's help"; failed=$((failed + 1))
   fi
 done
+# The man page names each subcommand.
+for subcommand in $("$program" --help | sed -n '/^Commands:/,/^$/s/^  \([a-z]*\) .*/\1/p' | grep -v '^help$'); do
+  if grep -q "^\.B $subcommand" "$top/packaging/avrogate.1"; then
+    passed=$((passed + 1))
+  else
+    echo "packaging/avrogate.1 lacks $subcommand"; failed=$((failed + 1))
+  fi
+done
 # The two that make and read a store do so in a folder, one after the other.
 for subcommand in import export; do
   "$program" "$subcommand" --help </dev/null >"$out" 2>"$err"; want "help of $subcommand" 0 some none
