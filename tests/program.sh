@@ -4,6 +4,7 @@
 # Usage: tests/program.sh PROGRAM
 set -uo pipefail
 program=$(realpath "$1")
+top=$(realpath "$(dirname "$0")/..")
 folder=$(mktemp -d)
 trap 'rm -rf "$folder"' EXIT
 out=$folder/out err=$folder/err
