@@ -2,7 +2,8 @@
 
 By python3-avro's checker: the verdict of `check` is the checker's, and where there is no union each place that the checker
 names is the path of a bad pair, or lies below one. By `transcode`: a message that is made of a random datum is rewritten
-into what the JSON of `explain` says that becomes of each of its parts, or mismatches where that says so.
+into what the JSON of `explain` says that becomes of each of its parts, or mismatches where that says so. By `compile`: the
+mismatches of the listing are lines of the explanation, and all of them where no field is lacking.
 Usage: checks.py PROGRAM PAIRS SEED"""
 import json
 import random
@@ -249,6 +250,16 @@ def name_fields(line, schema):
         name_fields(part, schema)
 
 
+def mismatches_in(lines):
+    """The kinds and nodes of the mismatches that an explanation has."""
+    found = set()
+    for line in lines:
+        kind = line["kind"] or ("BytesNotText" if line["fate"] == "promoted if UTF-8" else None)
+        if kind:
+            found.add((kind, str(line["writer"]["node"]), str(line["reader"]["node"])))
+    return found
+
+
 # ---- the comparisons
 
 def main():
@@ -283,6 +294,11 @@ def main():
                 if not any(place == path or place.startswith(path + "/") for path in paths):
                     wrong.append(("place", lines, place, paths))
         explained = json.loads(call("explain", "--json", lines=lines).stdout)
+        said = mismatches_in(explained)
+        listing = call("compile", lines=lines).stdout.decode().splitlines()
+        listed = {tuple(line.split(" ")[2:]) for line in listing if line.startswith("miss ")}
+        if not listed <= said or listed != said and not any(kind == "NoDefault" for kind, _, _ in said):
+            wrong.append(("listing", lines, listed, said))
         tree = tree_of(explained)
         name_fields(tree, writer)
         data = [datum(rng, writer) for _ in range(4)]
