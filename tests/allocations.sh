@@ -63,15 +63,16 @@ program=${program:-crates/avrogate/out/avrogate}
 next() { if [ -n "${SHORT:-}" ]; then echo $(($1 + 1 + $1 / 5)); else echo $(($1 + 1)); fi; }
 # each INPUT WORD ..: the program on an input, to these words
 each() {
-  local input=$1 runs=0 n
+  local input=$1 runs=0 whole=0 n
   shift
-  "$program" "$@" <"$input" >"$folder/whole" 2>"$folder/err" || { count bad "avrogate $*: status $?"; return; }
+  "$program" "$@" <"$input" >"$folder/whole" 2>"$folder/err" || whole=$?
+  [ $whole -le 1 ] || { count bad "avrogate $*: status $whole"; return; }
   for ((n = 1; ; n = $(next $n))); do
     refused $n "$program" "$@" <"$input" || break
     runs=$((runs + 1))
     if [ $status = 4 ] && [ ! -s "$folder/out" ] && [ ! -s "$folder/err" ]; then
       count ok
-    elif [ $status = 0 ] && { cmp -s "$folder/out" "$folder/whole" || grep -qE ' state memory$|^refused NoMemory$' "$folder/out"; }; then
+    elif [ $status = $whole ] && { cmp -s "$folder/out" "$folder/whole" || grep -qE ' state memory$|^refused NoMemory$' "$folder/out"; }; then
       count ok
     else
       count bad "avrogate $*, allocation $n: status $status"
@@ -90,6 +91,14 @@ each "$folder/pair" compile --image
 each "$folder/debug" debug
 { "$program" compile <"$folder/pair"; printf 'end\n02|3606|666f6f02|00\n0206666f6f\n0g\n'; } >"$folder/run"
 each "$folder/run" run
+echo "$record" >"$folder/one"
+each "$folder/one" nodes
+echo '{"type":"record","name":"T","fields":[{"name":"a","type":{"type":"array","items":"Adress"}}]}' >"$folder/bad"
+each "$folder/bad" nodes
+each "$folder/pair" check --level FULL
+each "$folder/pair" explain
+each "$folder/pair" explain --json
+each "$folder/pair" explain --node 2 2
 for store in '' store; do
   if PYTHONDONTWRITEBYTECODE=1 python3 tests/allocations/serve.py "$program" "$folder/refuse.so" "$folder" $store; then count ok; else count bad "avrogate serve${store:+ --store}: see above"; fi
 done
