@@ -14,8 +14,9 @@ use avro_schema_names::SchemaError;
 use avro_types::{Datum, Field, Kind};
 use std::alloc::{AllocError, Global};
 
-/// The datum of a field's default, where it has one.
-fn field_default(
+/// Returns the datum of a field's default, and `None` where it has no default. `BadDefault` where the default is no value
+/// of the field's type.
+pub fn field_default(
     alloc: Global,
     drafts: &[Draft],
     field: &DraftField,

@@ -6,4 +6,4 @@
 mod defaults;
 mod finishing;
 
-pub use finishing::{all_defaults, nodes_with};
+pub use finishing::{all_defaults, field_default, nodes_with};
