@@ -88,6 +88,17 @@ printf 'publish 1 1\nno event\n' | "$program" replay >"$out" 2>"$err"; want repl
 printf 'finish 0\n' | "$program" replay >/dev/full 2>"$err"; status=$?; : >"$out"; (exit $status); want 'replay to a full device' 3 none none
 "$program" replay more </dev/null >"$out" 2>"$err"; want 'replay and a further word' 2 none some
 printf '%s02|61\n' "$listing" | "$program" run >/dev/full 2>"$err"; status=$?; : >"$out"; (exit $status); want 'run to a full device' 3 none none
+# A line that is longer than a schema may be is answered as any other, whether it is JSON or not.
+too_large='bad schema 1 TooLarge at /'
+for row in "300000 [ $too_large" "262145 [ $too_large" '262144 [ bad schema 1 NotJson'; do
+  read -r length byte answer <<<"$row"
+  for subcommand in nodes check; do
+    head -c "$length" /dev/zero | tr '\0' "$byte" | "$program" "$subcommand" >"$out" 2>"$err"; want "$subcommand of $length $byte" 1 some none
+    [ "$(cat "$out")" = "$answer" ] && passed=$((passed + 1)) || { echo "$subcommand of $length $byte: $(head -c 100 "$out")"; failed=$((failed + 1)); }
+  done
+done
+{ printf '"'; head -c 300000 /dev/zero | tr '\0' a; printf '"\n'; } | "$program" nodes >"$out" 2>"$err"; want 'nodes of a long text' 1 some none
+[ "$(cat "$out")" = "$too_large" ] && passed=$((passed + 1)) || { echo "nodes of a long text: $(head -c 100 "$out")"; failed=$((failed + 1)); }
 for words in '--port 65536' '--port -1' '--clients 0' '--clients 65' '--each -1' '--each 4294967296' '--request-timeout 0' \
   '--request-timeout 3601' '--workers' '--workers 0' '--workers 65' '--connections 0' '--connections 65537' '--head-timeout 0' \
   '--head-timeout 3601' '--address' '--address localhost' '--address 127.0.0.256' '--log yes' 'more'; do

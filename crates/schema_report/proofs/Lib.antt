@@ -3,3 +3,4 @@ pub mod Appending
 pub mod Refused
 pub mod Answering
 pub mod Placing
+pub mod Quoting

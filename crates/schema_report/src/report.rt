@@ -1,13 +1,14 @@
 //! What is answered to a question, and whether it is yes.
 
-ghost use Rattle.std.specs.Prelude.{◌≡◌, ◌++◌, string_bytes, Err, IfOk, OnOk};
-ghost use Rattle.schema_report.specs.Faults.{HasPlaceOf, IsBadSchema, bad_schema, has_place, place_text};
+ghost use Rattle.std.specs.Prelude.{◌≡◌, ◌++◌, List, ℕ, Some, codes, option_map, string_bytes, Err, IfOk, OnOk};
+ghost use Rattle.schema_report.specs.Faults.{HasPlaceOf, IsBadSchema, bad_schema, has_place, place_text, word_of, word_text};
 ghost use Rattle.schema_report.specs.Reading.{schema_of_line};
 
 use crate::listing::push_path;
 use avro_schema::SchemaError;
 use avro_schema_faults::{fault_of, word_at};
 use avro_schema_paths::Step;
+use avro_types::MOST_TEXT;
 use serde_json::Value;
 use std::alloc::{AllocError, Global};
 
@@ -34,16 +35,15 @@ fn bad_schema(alloc: Global, number: u8, error: SchemaError) -> Result<String, A
     Ok(text)
 }
 
-/// Returns whether a fault is at some value of the line's JSON. One of the text, of a number or of a default is not.
+/// Returns whether a fault is at some value of the line's JSON: each is, but that of a line which is no JSON.
 fn has_place(error: SchemaError) -> bool
     ensures { result ≡ has_place error }
 {
     match error {
-        SchemaError::NotJson
-        | SchemaError::BadNumber
+        SchemaError::NotJson | SchemaError::NoMemory => false,
+        SchemaError::BadNumber
         | SchemaError::BadDefault
-        | SchemaError::NoMemory => false,
-        SchemaError::TooLarge
+        | SchemaError::TooLarge
         | SchemaError::Unknown
         | SchemaError::OutOfProfile
         | SchemaError::BadName
@@ -53,18 +53,41 @@ fn has_place(error: SchemaError) -> bool
     }
 }
 
-/// Returns the word in question at the end of a path in a text's JSON value, as JSON writes it within quotes; the empty
-/// text where there is none.
-fn word_of(alloc: Global, text: &[u8], path: &[Step]) -> Result<String, AllocError> {
-    let Ok(value) = Value::from_slice(alloc, text) else {
-        return Err(AllocError);
-    };
-    let Some(word) = word_at(&value, path) else {
-        return Ok(String::new(alloc));
-    };
+/// Returns what is between a quote at the beginning of a text and one at its end. `None` where one of them lacks.
+fn unquoted(text: &str) -> Option<&str>
+    ensures { (inner : List ℕ) → text.now ≡ codes "\"" ++ (inner ++ codes "\"")
+        → option_map (λ t. t.now) result ≡ Some inner }
+{
+    text.strip_prefix('"')?.strip_suffix('"')
+}
+
+/// Returns a colon, a space and a word, as JSON writes it within quotes.
+fn word_text(alloc: Global, word: &str) -> Result<String, AllocError>
+    ensures { IfOk result (λ text. string_bytes text ≡ word_text (Some word.now)) }
+{
     let quoted = Value::String(String::from_str(alloc, word)?).to_string(alloc)?;
-    let inner = quoted.strip_prefix("\"").unwrap_or("").strip_suffix("\"");
-    format!(in alloc; ": {}", inner.unwrap_or(""))
+    let inner = unquoted(&quoted).unwrap_or("");
+    let text = format!(in alloc; ": {inner}")?;
+    Ok(text)
+}
+
+/// Returns a colon, a space and the word in question at the end of a path in a line's JSON value. The empty text where
+/// there is no word, and where the line is too long for a schema or no JSON.
+fn word_of(alloc: Global, line: &str, path: &[Step]) -> Result<String, AllocError>
+    ensures { IfOk result (λ text. string_bytes text ≡ word_of line.now path.now) }
+{
+    if line.len() > MOST_TEXT {
+        return Ok(String::new(alloc));
+    }
+    let value = match Value::from_str(alloc, line) {
+        Ok(value) => value,
+        Err(error) if error.is_memory() => return Err(AllocError),
+        Err(_) => return Ok(String::new(alloc)),
+    };
+    match word_at(&value, path) {
+        Some(word) => word_text(alloc, word),
+        None => Ok(String::new(alloc)),
+    }
 }
 
 /// Returns the path of the value that is at fault in a line, after `at`.
@@ -96,7 +119,7 @@ fn push_place(
         return Ok(());
     };
     let place = place_of(alloc, &fault.path)?;
-    let word = word_of(alloc, line, &fault.path)?;
+    let word = word_of(alloc, text, &fault.path)?;
     output.push_str(&place)?;
     output.push_str(&word)?;
     Ok(())

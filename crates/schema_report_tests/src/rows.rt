@@ -33,10 +33,10 @@ bad schema 1 BadSymbols at /fields/0/type: E
 bad schema 1 BadUnion at /
 
 {"type":"record","name":"T","fields":[{"name":"a","type":"int","default":"x"}]}
-bad schema 1 BadDefault
+bad schema 1 BadDefault at /fields/0: a
 
 {"type":"fixed","name":"F","size":1.5}
-bad schema 1 BadNumber
+bad schema 1 BadNumber at /: F
 
 {"type":"record","name":"T","fields":[{"name":"a","type":{"type":"record","name":"T\n","fields":[]}}]}
 bad schema 1 BadName at /fields/0/type: T\n

@@ -1,6 +1,7 @@
 //! Each row's answer is the one that is written below its schemas.
 
 use crate::rows::{CHECKS, EXPLANATIONS, NODES, PAIR, PAIR_AS_JSON};
+use avro_types::MOST_TEXT;
 use schema_report::{Form, Level, check_report, explain_report, nodes_report};
 use std::alloc::{AllocError, Global};
 use std::test::Fail;
@@ -32,6 +33,44 @@ fn nodes_are_listed(rt: HostRuntime) -> Result<(), Fail> {
         let text = nodes(rt.alloc(), line)?;
         assert_eq!(rt; text.trim_end(), want.trim_end(), "{line}");
     }
+    Ok(())
+}
+
+/// Returns a text, and after it the byte `a` this many times, and another text.
+fn with_letters(
+    alloc: Global,
+    before: &str,
+    count: usize,
+    after: &str,
+) -> Result<String, AllocError> {
+    let letters = "a".repeat(alloc, count)?;
+    format!(in alloc; "{before}{letters}{after}")
+}
+
+#[test]
+fn lines_that_are_too_long_have_the_place_of_the_root(rt: HostRuntime) -> Result<(), Fail> {
+    let too_large = "bad schema 1 TooLarge at /\n";
+    let brackets = "[".repeat(rt.alloc(), 300_000)?;
+    assert_eq!(rt; nodes(rt.alloc(), &brackets)?.as_str(), too_large);
+    let text = with_letters(rt.alloc(), "\"", 300_000, "\"")?;
+    assert_eq!(rt; nodes(rt.alloc(), &text)?.as_str(), too_large);
+    let one_more = with_letters(rt.alloc(), "\"", MOST_TEXT - 1, "\"")?;
+    assert_eq!(rt; nodes(rt.alloc(), &one_more)?.as_str(), too_large);
+    Ok(())
+}
+
+#[test]
+fn a_line_of_the_greatest_length_has_its_word(rt: HostRuntime) -> Result<(), Fail> {
+    let letters = MOST_TEXT - 2;
+    let line = with_letters(rt.alloc(), "\"", letters, "\"")?;
+    let want = with_letters(rt.alloc(), "bad schema 1 Unknown at /: ", letters, "\n")?;
+    assert_eq!(rt; line.len(), MOST_TEXT);
+    assert_eq!(rt; nodes(rt.alloc(), &line)?.as_str(), want.as_str());
+    let brackets = "[".repeat(rt.alloc(), MOST_TEXT)?;
+    assert_eq!(rt;
+        nodes(rt.alloc(), &brackets)?.as_str(),
+        "bad schema 1 NotJson\n"
+    );
     Ok(())
 }
 
