@@ -1,12 +1,9 @@
 -- Where the fault of a line is.
-use Rattle.std.proofs.Common.{◌≡◌, ◌++◌, ℕ, Bool, true, false, List, Ok, Err, None, refl, ◌∙◌, sym, subst}
+use Rattle.std.proofs.Common.{◌≡◌, ℕ, true, false, List, Err, refl, subst}
 use Rattle.std.specs.Str.{IsUtf8}
-use Rattle.avro_types.specs.Node.{Node}
-use Rattle.avro_schema_faults.specs.Places.{IsFaultOf}
-use Rattle.avro_schema_faults.specs.declared.faults.Fault.{Fault}
 use Rattle.avro_schema_names.specs.declared.error.SchemaError.{SchemaError}
 use Rattle.avro_schema_names.specs.declared.error.SchemaError.TheVariants.{NotJson}
-use Rattle.schema_report.specs.Faults.{HasPlace, HasPlaceOf, has_place, place_text}
+use Rattle.schema_report.specs.Faults.{HasPlace, HasPlaceOf, has_place}
 use Rattle.schema_report.specs.Reading.{schema_of_line}
 use Rattle.schema_report.proofs.SchemaLines.{no_text}
 

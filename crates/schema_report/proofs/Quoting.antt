@@ -1,5 +1,5 @@
 -- What is between two quotes.
-use Rattle.std.proofs.Common.{◌≡◌, ◌≢◌, ◌++◌, ℕ, List, [], ◌∷◌, Bor, Option, Some, None, MatchOption, option_map, ap, sym, ◌∙◌, subst}
+use Rattle.std.proofs.Common.{◌≡◌, ◌≢◌, ◌++◌, ℕ, List, [], ◌∷◌, Bor, Option, Some, None, MatchOption, option_map, ap, sym, ◌∙◌}
 use Rattle.std.proofs.lemmas.List.{append_cancel_right}
 
 -- a text that begins with a quote has one at its beginning

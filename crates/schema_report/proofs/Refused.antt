@@ -1,5 +1,5 @@
 -- The reports of lines that are no schemas.
-use Rattle.std.proofs.Common.{◌≡◌, ◌≢◌, ℕ, List, string_bytes, Ok, Err, refl, sym, ap, subst, ◌∙◌}
+use Rattle.std.proofs.Common.{◌≡◌, ◌≢◌, ℕ, List, string_bytes, Ok, Err, sym, subst}
 use Rattle.avro_types.specs.Node.{Node}
 use Rattle.avro_schema_names.specs.declared.error.SchemaError.{SchemaError}
 use Rattle.schema_report.specs.Reading.{IsBadLine, IsOfText, schema_of_line}

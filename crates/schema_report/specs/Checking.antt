@@ -1,5 +1,5 @@
 -- The lines of bad pairs. Their words are this project's own.
-use Rattle.std.specs.Prelude.{◌≡◌, ◌↔◌, ◌<◌, ℕ, Bool, length, IsTrue, List, [], ◌∷◌, ◌++◌, map, Option, Some, None, Vec, codes, slice_get}
+use Rattle.std.specs.Prelude.{◌≡◌, ◌↔◌, ◌<◌, ℕ, Bool, length, IsTrue, List, [], ◌++◌, Option, Some, None, Vec, codes, slice_get}
 use Rattle.std.specs.Fmt.{decimal}
 use Rattle.std.specs.List.{AllByRecursion, flat_map}
 use Rattle.std.specs.declared.alloc.Global.{Global}

@@ -1,5 +1,5 @@
 -- A schema in a line. The lines are this project's own.
-use Rattle.std.specs.Prelude.{◌≡◌, ℕ, List, if◌then◌else◌, Result, Ok, Err}
+use Rattle.std.specs.Prelude.{◌≡◌, ℕ, List, if◌then◌else◌, Result, Err}
 use Rattle.std.specs.Str.{is_utf8}
 use Rattle.avro_types.specs.Node.{Node}
 use Rattle.avro_schema.specs.Schema.{schema_of}

@@ -1,5 +1,5 @@
 -- What is answered to a question about schemas. The lines are this project's own.
-use Rattle.std.specs.Prelude.{◌≡◌, ◌&&◌, ℕ, Bool, true, false, List, [], ◌++◌, codes, string_bytes, Vec, Some, Ok, Err, length}
+use Rattle.std.specs.Prelude.{◌≡◌, ◌&&◌, ℕ, Bool, true, false, List, [], codes, string_bytes, Vec, Some, Ok, Err, length}
 use Rattle.std.specs.declared.alloc.Global.{Global}
 use Rattle.serde_json.specs.Data.{Data}
 use Rattle.serde_json.specs.Read.{read}

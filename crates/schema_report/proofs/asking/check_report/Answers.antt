@@ -1,4 +1,3 @@
-use Rattle.std.proofs.Common.{◌≡◌, List, ℕ, sym, subst}
 use Rattle.std.proofs.lemmas.Result.{IfOk-weaker}
 use Rattle.schema_report.proofs.Answering.{is_checked, side_is}
 use Rattle.schema_report.proofs.Refused.{refused_first, refused_second}

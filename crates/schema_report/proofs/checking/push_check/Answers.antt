@@ -1,4 +1,4 @@
-use Rattle.std.proofs.Common.{◌≡◌, ◌++◌, ◌∙◌, ap, List, string_bytes, sym}
+use Rattle.std.proofs.Common.{◌++◌, ◌∙◌, ap, List, string_bytes, sym}
 use Rattle.schema_check.specs.declared.checking.BadPair.{BadPair}
 use Rattle.schema_report.specs.Checking.{bad_lines}
 use Rattle.schema_report.proofs.Appending.{empty_is, is_empty_of}

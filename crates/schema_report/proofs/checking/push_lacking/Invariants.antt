@@ -1,6 +1,6 @@
 use Rattle.std.proofs.Common.{◌≡◌, ◌++◌, drop, slice_get, string_bytes}
 use Rattle.std.specs.List.{flat_map}
-use Rattle.schema_report.specs.Checking.{field_words, symbol_words}
+use Rattle.schema_report.specs.Checking.{field_words}
 use Rattle.schema_report.proofs.checking.push_lacking.Given as goal
 
 abbrev pub invariant-loop-position : goal.invariant-loop-position

@@ -1,4 +1,4 @@
-use Rattle.std.proofs.Common.{◌≡◌, List, ℕ, string_bytes, subst}
+use Rattle.std.proofs.Common.{List, ℕ, string_bytes, subst}
 use Rattle.schema_report.specs.Faults.{HasPlaceOf}
 use Rattle.schema_report.proofs.report.bad_line.Goals as goal
 

@@ -1,4 +1,4 @@
-use Rattle.std.proofs.Common.{◌≡◌, ◌++◌, ◌∙◌, ap, append_assoc, List, ℕ, Ok, Option, string_bytes, true, sym, subst}
+use Rattle.std.proofs.Common.{◌++◌, ◌∙◌, ap, append_assoc, List, ℕ, Ok, Option, string_bytes, sym, subst}
 use Rattle.avro_schema_faults.specs.Places.{Finds, IsFaultOf}
 use Rattle.avro_schema_faults.specs.declared.faults.Fault.{Fault}
 use Rattle.std.specs.declared.alloc.AllocError.{AllocError}

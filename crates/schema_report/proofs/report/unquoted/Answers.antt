@@ -1,5 +1,5 @@
 -- A quote at the beginning, and one at the end.
-use Rattle.std.proofs.Common.{◌≡◌, ◌++◌, ◌∷◌, [], ◌∙◌, ℕ, List, arith, sym}
+use Rattle.std.proofs.Common.{◌≡◌, ◌++◌, ◌∷◌, [], arith}
 use Rattle.std.proofs.lemmas.Str.Pattern.{strip_prefix_char, strip_suffix_char}
 use Rattle.schema_report.proofs.Quoting.{after_quote, before_quote, begins}
 use Rattle.schema_report.proofs.report.unquoted.Goals as goal
