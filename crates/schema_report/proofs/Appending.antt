@@ -8,12 +8,6 @@ pub one_more : {T E : Type 0} (r : Result T E) (old mid new x y : List ℕ) → 
 one_more r old mid new x y first then_more =
     on_ok_weaker r (λ (e : new ≡ mid ++ y). e ∙ ap (λ (l : List ℕ). l ++ y) first ∙ append_assoc old x y) then_more
 
--- and one more, after two
-pub two_more : {T E : Type 0} (r : Result T E) (old one two new x y z : List ℕ) → one ≡ old ++ x → two ≡ one ++ y → OnOk r (new ≡ two ++ z)
-    → OnOk r (new ≡ old ++ ((x ++ y) ++ z))
-two_more r old one two new x y z first second then_more =
-    one_more r old two new (x ++ y) z (second ∙ ap (λ (l : List ℕ). l ++ y) first ∙ append_assoc old x y) then_more
-
 -- what a list is that is found to be empty
 pub empty_is : {A : Type 0} (xs : List A) (b : Bool) → b ≡ (length xs == 0) → IsTrue b → xs ≡ []
 empty_is [] b is empty = refl

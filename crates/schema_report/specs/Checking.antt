@@ -16,7 +16,7 @@ use Rattle.schema_check.specs.declared.checking.Check.{Check}
 use Rattle.schema_report.specs.declared.checking.Pair.{Pair}
 use Rattle.schema_report.specs.declared.checking.Side.{Side}
 use Rattle.schema_report.specs.Listing.{path_text}
-use Rattle.schema_report.specs.Types.{type_at}
+use Rattle.schema_report.specs.Types.{type_at, type_beside}
 
 abbrev pub Paths : Type 0
 Paths = List (Vec Step Global)
@@ -60,9 +60,12 @@ abbrev pub missing_words : Pair → List ℕ
 missing_words p =
     flat_map (symbol_words (slice_get p.writer.now p.w)) (all_missing (slice_get p.writer.now p.w) (slice_get p.reader.now p.r))
 
--- the two types, the type that has no branch, the fields without a default, or the symbols that are lacking
+-- the two types beside one another, the type that has no branch, the fields without a default, or the symbols that are
+-- lacking
 abbrev pub about : MismatchKind → Pair → List ℕ
-about NoMatch p = type_at p.writer.now p.w ++ codes " is not read as " ++ type_at p.reader.now p.r
+about NoMatch p =
+    type_beside (length p.writer.now) p.writer.now p.w p.reader.now p.r ++ codes " is not read as "
+    ++ type_beside (length p.writer.now) p.reader.now p.r p.writer.now p.w
 about NoBranch p = type_at p.writer.now p.w ++ codes " goes into no branch of the union"
 about NoDefault p = codes "fields without a default:" ++ lacking_words p
 about NoSymbol p = codes "symbols that the reader lacks:" ++ missing_words p

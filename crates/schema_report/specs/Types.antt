@@ -1,6 +1,8 @@
 -- Types in words (Avro 1.11, "Schema Declaration", "Names"). The texts are this project's own.
-use Rattle.std.specs.Prelude.{ℕ, List, [], ◌++◌, Option, Some, None, codes, slice_get}
+use Rattle.std.specs.Prelude.{ℕ, zero, suc, List, [], ◌++◌, Option, Some, None, codes, slice_get}
 use Rattle.avro_types.specs.Node.{Node, NullNode, BooleanNode, IntNode, LongNode, BytesNode, TextNode, FixedNode, EnumNode, ArrayNode, MapNode, UnionNode, RecordNode}
+use Rattle.resolver_matching.specs.Matching.{both_items, both_values}
+use Rattle.resolver_matching.specs.Options.{given}
 
 -- the standard's word for what a node is
 abbrev pub kind_word : Node → List ℕ
@@ -38,3 +40,13 @@ type_at nodes node = type_in (slice_get nodes node)
     type_in : Option Node → List ℕ
     type_in None = []
     type_in (Some node) = type_text node
+
+-- The type of a node beside a node of another schema, in words: as long as both are arrays or both are maps, the word
+-- for that and then the type of what they hold, by at most this many steps.
+abbrev pub type_beside : ℕ → List Node → ℕ → List Node → ℕ → List ℕ
+type_beside zero nodes node others other = type_at nodes node
+type_beside (suc steps) nodes node others other =
+    given (both_items (slice_get nodes node) (slice_get others other))
+    (given (both_values (slice_get nodes node) (slice_get others other)) (type_at nodes node)
+    (λ p. codes "map of " ++ type_beside steps nodes p.0 others p.1))
+    (λ p. codes "array of " ++ type_beside steps nodes p.0 others p.1)

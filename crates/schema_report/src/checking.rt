@@ -5,7 +5,7 @@ ghost use Rattle.outcome.specs.declared.mismatch.MismatchKind.TheVariants.{NoMat
 ghost use Rattle.schema_report.specs.Checking.{AreInside, IsChecked, IsInside, about, bad_line, bad_lines, field_words, lacking_words, missing_words, numbers, path_at, symbol_words};
 
 use crate::listing::push_path;
-use crate::types::push_type;
+use crate::types::{push_beside, push_type};
 use avro_schema_paths::Step;
 use avro_types::{Kind, Nodes};
 use outcome::MismatchKind;
@@ -96,14 +96,15 @@ fn push_missing(alloc: Global, output: &mut String, pair: &Pair) -> Result<(), A
     Ok(())
 }
 
-/// Appends the types of a pair that does not match.
+/// Appends the types of a pair that does not match: where both are arrays or both are maps, with what they hold.
 fn push_two_types(output: &mut String, pair: &Pair) -> Result<(), AllocError>
     requires { IsInside pair.now }
     ensures { OnOk result (string_bytes output.new ≡ string_bytes output.old ++ about NoMatch pair.now) }
 {
-    push_type(output, pair.writer, pair.w)?;
+    let steps = pair.writer.len();
+    push_beside(output, pair.writer, pair.w, pair.reader, pair.r, steps)?;
     output.push_str(" is not read as ")?;
-    push_type(output, pair.reader, pair.r)
+    push_beside(output, pair.reader, pair.r, pair.writer, pair.w, steps)
 }
 
 /// Appends the type of a writer's node that goes into no branch.

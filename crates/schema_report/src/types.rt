@@ -2,9 +2,10 @@
 
 ghost use Rattle.std.specs.Prelude.{◌≡◌, ◌<◌, ◌++◌, length, slice_get, string_bytes, OnOk};
 ghost use Rattle.avro_types.specs.Node.{node_of};
-ghost use Rattle.schema_report.specs.Types.{kind_word, name_text, type_text, type_at};
+ghost use Rattle.schema_report.specs.Types.{kind_word, name_text, type_text, type_at, type_beside};
 
 use avro_types::{Kind, Name, Nodes};
+use resolver_matching::{both_items, both_values};
 use std::alloc::AllocError;
 
 /// Returns the standard's word for what a node is.
@@ -53,4 +54,33 @@ pub(crate) fn push_type(output: &mut String, nodes: &Nodes, node: usize) -> Resu
         }
         _ => Ok(()),
     }
+}
+
+/// Appends the type of a node beside a node of another schema: as long as both are arrays or both are maps, the word for
+/// that and then the type of what they hold, by at most this many steps.
+pub(crate) fn push_beside(
+    output: &mut String,
+    nodes: &Nodes,
+    node: usize,
+    others: &Nodes,
+    other: usize,
+    steps: usize,
+) -> Result<(), AllocError>
+    requires node { node < length nodes.now }
+    requires other { other < length others.now }
+    ensures { OnOk result (string_bytes output.new
+        ≡ string_bytes output.old ++ type_beside steps nodes.now node others.now other) }
+{
+    if steps == 0 {
+        return push_type(output, nodes, node);
+    }
+    if let Some((item, beside)) = both_items(nodes, node, others, other) {
+        output.push_str("array of ")?;
+        return push_beside(output, nodes, item, others, beside, steps - 1);
+    }
+    if let Some((value, beside)) = both_values(nodes, node, others, other) {
+        output.push_str("map of ")?;
+        return push_beside(output, nodes, value, others, beside, steps - 1);
+    }
+    push_type(output, nodes, node)
 }

@@ -66,6 +66,21 @@ NoSymbol 1 4 /fields/0/type /fields/1/type symbols that the reader lacks: A C
 NoBranch 4 1 /fields/1/type/1 /fields/0/type string goes into no branch of the union
 
 BACKWARD
+{"type":"map","values":"int"}
+{"type":"map","values":"string"}
+NoMatch 0 0 / / map of int is not read as map of string
+
+FORWARD
+{"type":"record","name":"T","fields":[{"name":"a","type":{"type":"array","items":{"type":"map","values":"long"}}}]}
+{"type":"record","name":"T","fields":[{"name":"a","type":{"type":"array","items":{"type":"map","values":{"type":"fixed","name":"b.F","size":2}}}}]}
+NoMatch 1 1 /fields/0/type /fields/0/type array of map of fixed b.F is not read as array of map of long
+
+BACKWARD
+{"type":"array","items":{"type":"array","items":"int"}}
+{"type":"array","items":{"type":"map","values":"int"}}
+NoMatch 0 0 / / array of array is not read as array of map
+
+BACKWARD
 "int"
 "itn"
 bad schema 2 Unknown at /: itn
