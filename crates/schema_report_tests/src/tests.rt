@@ -1,10 +1,12 @@
 //! Each row's answer is the one that is written below its schemas.
 
 use crate::rows::{CHECKS, EXPLANATIONS, NODES, PAIR, PAIR_AS_JSON};
-use avro_types::MOST_TEXT;
 use schema_report::{Form, Level, check_report, explain_report, nodes_report};
 use std::alloc::{AllocError, Global};
 use std::test::Fail;
+
+/// How many bytes the text of a schema may have.
+const MOST_TEXT: usize = 262_144;
 
 /// Returns what is answered of the nodes of a schema.
 fn nodes(alloc: Global, line: &str) -> Result<String, AllocError> {
