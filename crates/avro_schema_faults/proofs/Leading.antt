@@ -7,8 +7,8 @@ use Rattle.avro_schema_names.specs.declared.error.SchemaError.{SchemaError}
 use Rattle.avro_schema_paths.specs.Following.{follow, step_in}
 use Rattle.avro_schema_paths.specs.Places.{Path}
 use Rattle.avro_schema_paths.specs.declared.step.Step.{Step}
-use Rattle.avro_schema_faults.specs.Faults.{ComesTo, FieldAt, IsFault, MemberAt, Visit, first_field, first_member, here, next_field, next_member, to_field, to_fields, to_items, to_member, to_type, to_values, to_wrapped, within}
-use Rattle.avro_schema_faults.specs.Laws.{LeadsToFault, further, itself, value_in}
+use Rattle.avro_schema_faults.specs.Faults.{ComesTo, FieldAt, IsFault, MemberAt, Visit, first_field, first_member, further, here, itself, next_field, next_member, to_field, to_fields, to_items, to_member, to_type, to_values, to_wrapped, within}
+use Rattle.avro_schema_faults.specs.Laws.{LeadsToFault, value_in}
 
 member-there : (enclosing : List ℕ) (ds : Items) (heads : List Head) (i : ℕ) (d : Data) (more : List Head) → MemberAt enclosing ds heads i d more → get_item i ds ≡ Some d
 member-there enclosing ds heads i d more first_member = refl

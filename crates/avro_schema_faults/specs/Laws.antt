@@ -1,22 +1,16 @@
 -- What the place of a fault means.
-use Rattle.std.specs.Prelude.{◌≡◌, ◌∷◌, [], Some}
+use Rattle.std.specs.Prelude.{◌≡◌, Some}
 use Rattle.serde_json.specs.Data.{Data}
 use Rattle.avro_schema_names.specs.declared.error.SchemaError.{SchemaError}
 use Rattle.avro_schema_paths.specs.Following.{follow}
 use Rattle.avro_schema_paths.specs.Places.{Path}
-use Rattle.avro_schema_paths.specs.declared.step.Step.{Step}
-use Rattle.avro_schema_faults.specs.Faults.{ComesTo, Fails, HasSoundParts, IsFault, Visit, field_after, listing, schema}
+use Rattle.avro_schema_faults.specs.Faults.{Comes, Fails, HasSoundParts, IsFault, Visit, field_after, listing, schema}
 
 -- the value that is walked
 abbrev pub value_in : Visit → Data
 value_in (schema d enclosing heads) = d
 value_in (listing d enclosing heads) = d
 value_in (field_after before d enclosing heads) = d
-
--- the walk comes from a value to another by these steps
-pub data Comes : Visit → Path → Visit → Type 0 where
-  itself : {v : Visit} → Comes v [] v
-  further : {v w u : Visit} {s : Step} {q : Path} → ComesTo v s w → Comes w q u → Comes v (s ∷ q) u
 
 -- The path leads to a value that the walk comes to. Its walk, after the heads that it then has, ends with the fault,
 -- and that of no part of it does.

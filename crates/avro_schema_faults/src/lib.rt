@@ -3,11 +3,12 @@
 //! Where in its JSON value a text that is no schema has its first fault.
 #![tactic(auto)]
 
+mod bad_defaults;
 mod faults;
+mod fractions;
 mod laws;
 mod numbers;
-#[cfg(test)]
-mod tests;
+mod seeking;
 mod tracing;
 mod types;
 mod words;
