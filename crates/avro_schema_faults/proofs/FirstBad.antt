@@ -1,5 +1,5 @@
 -- The first default that is no value of its field's type.
-use Rattle.std.proofs.Common.{◌≡◌, ◌<◌, ◌≤◌, ◌+◌, ◌⊎◌, inl, inr, ℕ, zero, suc, List, [], ◌∷◌, Bool, true, false, cond, not, is_some, Option, Some, None, option_map, option_and_then, arith, refl, sym, ap, ◌∙◌, slice_get}
+use Rattle.std.proofs.Common.{◌≡◌, ◌<◌, ◌≤◌, ◌+◌, ◌⊎◌, inl, inr, ℕ, zero, suc, List, [], ◌∷◌, Bool, true, false, cond, not, is_some, Option, Some, None, arith, refl, sym, ap, ◌∙◌, slice_get}
 use Rattle.std.specs.List.{position_from}
 use Rattle.avro_types.specs.Datum.{Datum}
 use Rattle.avro_types.specs.Node.{Names}
@@ -60,6 +60,9 @@ later-drafts : (drafts : List Draft) (d : Draft) (ds : List Draft) (place : ℕ)
 later-drafts drafts d ds place none before zero e j at bad = absurd (let same : d ≡ e = cc in let f = ap (bad_field drafts) same in let no : ⊥ = cc in no)
 later-drafts drafts d ds place none before (suc k) e j at bad = let le = before k e j at bad in omega (arith, le)
 
+no-more : (n : ℕ) → n ≡ n + 0
+no-more n = omega arith
+
 first-draft : (drafts : List Draft) (node : ℕ) (ds : List Draft) (m i : ℕ) → first_bad drafts node ds ≡ Some (m, i) → IsFirstDraft drafts node ds m i
 first-draft drafts node [] m i h = absurd (let no : ⊥ = cc in no)
 first-draft drafts node (d ∷ ds) m i h = go (first-draft drafts (node + 1) ds m i) (bad_field drafts d) refl h where
@@ -68,7 +71,7 @@ first-draft drafts node (d ∷ ds) m i h = go (first-draft drafts (node + 1) ds 
       let pair : (node, j) ≡ (m, i) = cc in
       let first : node ≡ m = ap (λ (p : ℕ × ℕ). p.0) pair in
       let second : j ≡ i = ap (λ (p : ℕ × ℕ). p.1) pair in
-      record { place = 0; is = sym first ∙ (let e : node ≡ node + 0 = omega arith in e); draft = d; at = refl; bad = is ∙ ap Some second; before = λ k e j at bad. omega arith }
+      record { place = 0; is = sym first ∙ no-more node; draft = d; at = refl; bad = is ∙ ap Some second; before = λ k e j at bad. omega arith }
   go rest None is h =
       let r = rest h in
       record { place = suc r.place; is = r.is ∙ (let e : (node + 1) + r.place ≡ node + suc r.place = omega arith in e); draft = r.draft; at = r.at; bad = r.bad; before = later-drafts drafts d ds r.place is r.before }

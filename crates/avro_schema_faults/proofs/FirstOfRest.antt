@@ -1,11 +1,11 @@
 -- The first of a list, and of what is left of it.
-use Rattle.std.proofs.Common.{◌≡◌, ◌<◌, ◌≤◌, ◌+◌, ◌∙◌, ℕ, List, [], ◌∷◌, length, drop, get_or, map, Bool, true, false, Option, Some, None, refl, sym, ap, add-one}
+use Rattle.std.proofs.Common.{◌≡◌, ◌<◌, ◌≤◌, ◌+◌, ◌∙◌, ℕ, List, ◌∷◌, length, drop, get_or, map, Bool, true, false, Some, None, refl, add-one}
 use Rattle.std.specs.List.{position_from}
 use Rattle.std.proofs.Math.Seq.{drop-cons}
 use Rattle.std.proofs.Math.ListN.{drop_of_length-le}
 use Rattle.avro_schema_drafts.specs.declared.draft.Draft as rust
 use Rattle.avro_schema_drafts.specs.Draft.{Draft, draft_of, drafts_of}
-use Rattle.avro_schema_faults.specs.DefaultPlaces.{bad_field, first_bad, or_later}
+use Rattle.avro_schema_faults.specs.DefaultPlaces.{bad_field, first_bad}
 
 rest-is : {A : Type 0} (xs : List A) (i : ℕ) (x : A) → i < length xs → x ≡ get_or xs i x → drop i xs ≡ x ∷ drop (i + 1) xs
 rest-is xs i x lt is = drop-cons xs i x lt ∙ rw (← is, add-one i)

@@ -2,7 +2,7 @@
 use Rattle.std.proofs.Common.{◌≡◌, ◌<◌, ◌≤◌, ◌+◌, ◌⊎◌, inl, inr, ℕ, zero, suc, List, [], ◌∷◌, ◌++◌, length, get_or, true, false, is_some, Option, Some, None, Result, Ok, Err, arith, refl, sym, ap, subst, ◌∙◌, codes, append_assoc, append-nil}
 use Rattle.std.specs.Prelude.{OnOk}
 use Rattle.serde_json.specs.Data.{Data, array, object, string, null, boolean, number, Items, item, no_items, depth, items_depth}
-use Rattle.serde_json.specs.Find.{as_array, as_object, get, get_item}
+use Rattle.serde_json.specs.Find.{as_array, as_object, get_item}
 use Rattle.serde_json.specs.View.{view, items_view}
 use Rattle.serde_json.specs.Written.{has_float}
 use Rattle.serde_json.specs.declared.value.Value.{Value}
@@ -11,7 +11,7 @@ use Rattle.avro_schema_paths.specs.Following.{step_in}
 use Rattle.avro_schema_paths.specs.Places.{Path}
 use Rattle.avro_schema_paths.specs.declared.step.Step.{Step}
 use Rattle.avro_schema_paths.specs.declared.step.Step.TheVariants as steps
-use Rattle.avro_schema_faults.specs.Fractions.{EndsAtFraction, HasNoFloatNear, IsFractionAt, LeadsToFloat, has_float_at, here, within}
+use Rattle.avro_schema_faults.specs.Fractions.{EndsAtFraction, HasNoFloatNear, LeadsToFloat, has_float_at, here, within}
 use Rattle.avro_schema_faults.proofs.FirstBad.{less-or-same}
 
 -- ---- elements

@@ -9,7 +9,7 @@ use Rattle.avro_types.specs.Node.{Node}
 use Rattle.avro_types.specs.declared.limits.TheConstants.{MOST_TEXT}
 use Rattle.avro_schema.specs.Schema.{declared, nodes_in_read}
 use Rattle.avro_schema.proofs.Declared.{declared-is, finished-err, finished-ok, small, too-large}
-use Rattle.avro_schema_defaults.specs.Defaults.{all_defaults, finished, nodes_with}
+use Rattle.avro_schema_defaults.specs.Defaults.{nodes_with}
 use Rattle.avro_schema_drafts.specs.Draft.{Draft}
 use Rattle.avro_schema_names.specs.Names.{null_namespace}
 use Rattle.avro_schema_names.specs.declared.error.SchemaError.{SchemaError}

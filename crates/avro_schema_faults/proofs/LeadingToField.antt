@@ -1,13 +1,11 @@
 -- The steps to a field of a record that a search has found.
-use Rattle.std.proofs.Common.{◌≡◌, ◌<◌, ◌≤◌, ◌+◌, ℕ, zero, suc, List, [], ◌∷◌, ◌++◌, length, true, false, Option, Some, None, Result, Ok, Err, arith, refl, sym, ap, ◌∙◌, slice_get, append_assoc}
+use Rattle.std.proofs.Common.{◌≡◌, ◌<◌, ◌+◌, ℕ, zero, suc, List, [], ◌∷◌, ◌++◌, length, true, Option, Some, None, Ok, arith, ap, ◌∙◌, slice_get, append_assoc}
 use Rattle.serde_json.specs.Data.{Data}
 use Rattle.avro_schema_drafts.specs.Draft.{Draft}
 use Rattle.avro_schema_names.specs.Names.{null_namespace}
 use Rattle.avro_schema_paths.specs.Places.{Path}
 use Rattle.avro_schema_paths.specs.declared.step.Step.TheVariants as steps
-use Rattle.avro_schema_faults.specs.DefaultPlaces.{IsRecordAt}
-use Rattle.avro_schema_faults.specs.Faults.{schema}
-use Rattle.avro_schema_faults.specs.Searching.{EndsAtField, LeadsToField, Searches, SoughtIn, is_record}
+use Rattle.avro_schema_faults.specs.Searching.{LeadsToField, Searches, SoughtIn, is_record}
 
 below : (drafts : List Draft) (n : ℕ) → is_record (slice_get drafts n) ≡ true → n < length drafts
 below [] n holds = absurd (let bad : ⊥ = cc in bad)

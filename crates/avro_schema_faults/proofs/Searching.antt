@@ -1,33 +1,24 @@
 -- What a search for a node comes to, by what the walk adds.
-use Rattle.std.proofs.Common.{◌≡◌, ◌<◌, ◌≤◌, ◌+◌, ◌-◌, ℕ, zero, suc, List, [], ◌∷◌, ◌++◌, length, map, Bool, true, false, cond, is_some, Option, Some, None, option_map, Result, Ok, Err, arith, refl, sym, ap, subst, ◌∙◌, codes, nat_lt, slice_get, append-nil, length-append}
+use Rattle.std.proofs.Common.{◌≡◌, ◌<◌, ◌≤◌, ◌+◌, ◌-◌, ℕ, zero, suc, List, [], ◌∷◌, ◌++◌, length, map, Bool, true, false, cond, is_some, Option, Some, None, Result, Ok, Err, arith, refl, sym, ap, subst, ◌∙◌, nat_lt, slice_get, append-nil, length-append}
 use Rattle.std.specs.Option.{SomeIff}
 use Rattle.std.proofs.lemmas.Bool.{ltb-true}
-use Rattle.serde_json.specs.Data.{Data, array, object, string, Items, item, no_items}
-use Rattle.serde_json.specs.Find.{as_array, as_object, get}
-use Rattle.avro_types.specs.FullNames.{full_name, namespace_of}
-use Rattle.avro_types.specs.Node.{ArrayNode, EnumNode, FixedNode, MapNode, Names, Node, UnionNode}
-use Rattle.avro_types.specs.declared.limits.TheConstants.{MOST_FIELDS, MOST_NODES}
-use Rattle.avro_schema_drafts.specs.Draft.{Draft, DraftField, RecordDraft, Whole}
-use Rattle.avro_schema_drafts.specs.Head.{ArrayHead, Head, MapHead, Named, UnionHead, are_apart, defined_at, head_at, heads_of}
-use Rattle.avro_schema_drafts.proofs.DraftLists.{get-front, length-heads_of}
-use Rattle.avro_schema_names.specs.Aliases.{field_aliases, new_names}
-use Rattle.avro_schema_names.specs.Attributes.{default_symbol, size_of, symbols_of}
+use Rattle.serde_json.specs.Data.{Data, array, string, Items}
+use Rattle.avro_types.specs.FullNames.{full_name}
+use Rattle.avro_types.specs.Node.{Node, UnionNode}
+use Rattle.avro_types.specs.declared.limits.TheConstants.{MOST_NODES}
+use Rattle.avro_schema_drafts.specs.Draft.{Draft, Whole}
+use Rattle.avro_schema_drafts.specs.Head.{Head, UnionHead, are_apart, defined_at, head_at, heads_of}
 use Rattle.avro_schema_names.specs.Fault.{◌>>=◌}
-use Rattle.avro_schema_names.specs.Names.{field_name}
 use Rattle.avro_schema_names.specs.Word.{is_left_out, leaf_of, word_of}
 use Rattle.avro_schema_names.specs.declared.error.SchemaError.{SchemaError}
 use Rattle.avro_schema_names.specs.declared.error.SchemaError.TheVariants.{BadUnion, OutOfProfile, TooLarge, Unknown}
-use Rattle.avro_schema_names.specs.declared.word.Form.{Form}
 use Rattle.avro_schema_names.specs.declared.word.Form.TheVariants as forms
 use Rattle.avro_schema_paths.specs.Places.{Path}
 use Rattle.avro_schema_paths.specs.declared.step.Step.{Step}
 use Rattle.avro_schema_paths.specs.declared.step.Step.TheVariants as steps
-use Rattle.avro_schema_walk.specs.Contract.{field_walk, object_as}
-use Rattle.avro_schema_walk.specs.Walk.{Walk, added as added_to, apart_union, around, done, enum_of, fault, field, field_of, fields, fields_after, fixed_of, followed_by, found, if_few, if_room, leaf_or_reference, members, named, one_node, or_unknown, record_of, reference, union_of, walk}
-use Rattle.avro_schema_walk.proofs.Members.{field-object, field-other}
-use Rattle.avro_schema_faults.specs.Faults.{ComesTo, FieldAt, IsOfForm, MemberAt, Visit, field_after, first_field, first_member, further, itself, listing, next_field, next_member, schema, to_field, to_fields, to_items, to_member, to_type, to_values, to_wrapped}
-use Rattle.avro_schema_faults.specs.Searching.{Adds, Behind, IsDeclaredAt, IsInField, IsInMember, Sought, SoughtIn, SoughtInField, SoughtInFields, SoughtInList, SoughtInMembers, is_record, nodes_before}
-use Rattle.avro_schema_faults.proofs.Sound.{walk-of_form}
+use Rattle.avro_schema_walk.specs.Walk.{Walk, added as added_to, around, done, fault, followed_by, found, if_room, leaf_or_reference, members, named, one_node, reference, union_of, walk}
+use Rattle.avro_schema_faults.specs.Faults.{ComesTo, IsOfForm, Visit, further, itself, schema, to_member}
+use Rattle.avro_schema_faults.specs.Searching.{Adds, IsDeclaredAt, SoughtIn, SoughtInMembers, is_record}
 
 -- ---- what a walk that succeeds is made of
 

@@ -1,5 +1,5 @@
 -- What a search for a node comes to in members, and in fields, one after another.
-use Rattle.std.proofs.Common.{◌≡◌, ◌<◌, ◌≤◌, ◌+◌, ℕ, suc, List, [], ◌∷◌, ◌++◌, length, drop, get_or, Option, Some, None, Result, Ok, Err, arith, refl, sym, ap, subst, ◌∙◌, slice_get, length-append, add-one}
+use Rattle.std.proofs.Common.{◌≡◌, ◌<◌, ◌≤◌, ◌+◌, ℕ, suc, List, [], ◌∷◌, ◌++◌, length, drop, get_or, Option, Some, None, Ok, arith, refl, sym, ap, subst, ◌∙◌, slice_get, length-append, add-one}
 use Rattle.std.proofs.Math.Seq.{drop-cons}
 use Rattle.std.proofs.Math.ListN.{drop_of_length-le}
 use Rattle.serde_json.specs.Data.{Data, Items, item, no_items}
@@ -8,12 +8,11 @@ use Rattle.serde_json.specs.declared.value.Value.{Value}
 use Rattle.avro_schema_drafts.specs.Draft.{Draft, DraftField}
 use Rattle.avro_schema_drafts.specs.Head.{Head, heads_of}
 use Rattle.avro_schema_drafts.proofs.DraftLists.{get-front, length-heads_of}
-use Rattle.avro_schema_names.specs.declared.error.SchemaError.{SchemaError}
 use Rattle.avro_schema_paths.specs.Places.{Path}
 use Rattle.avro_schema_paths.specs.declared.step.Step.TheVariants as steps
-use Rattle.avro_schema_walk.specs.Walk.{Walk, done, field, fields_after, followed_by, members, walk}
-use Rattle.avro_schema_faults.specs.Faults.{FieldAt, MemberAt, Visit, field_after, first_field, first_member, next_field, next_member, schema}
-use Rattle.avro_schema_faults.specs.Searching.{Behind, IsDeclaredAt, IsInField, IsInMember, SoughtIn, SoughtInField, SoughtInFields, SoughtInMembers}
+use Rattle.avro_schema_walk.specs.Walk.{field, fields_after, members, walk}
+use Rattle.avro_schema_faults.specs.Faults.{field_after, first_field, first_member, next_field, next_member, schema}
+use Rattle.avro_schema_faults.specs.Searching.{Behind, SoughtIn, SoughtInField, SoughtInFields, SoughtInMembers}
 use Rattle.avro_schema_faults.proofs.Searching.{InTwo, get-behind, in-two, moved, new_of}
 
 -- ---- numbers and drafts behind others
@@ -45,12 +44,18 @@ members-ok d ds enclosing heads ns new h = in-two (walk d) (λ n. members ds) (�
 pub members-this : (d : Data) (ds : Items) (i k : ℕ) (p : Path) → Behind (steps.At i) (SoughtIn d k) None p → SoughtInMembers (item d ds) i k None p
 members-this d ds i k p (q, e, s) enclosing heads ns new h =
     let t = members-ok d ds enclosing heads ns new h in
-    let l = s enclosing heads t.front (t.a, t.first) in
-    (here-below t.front t.back new k t.is l.0, record {
-      j = 0; member = d; more = heads; rest = q; at = first_member;
-      path_is = e ∙ (let same : i ≡ i + 0 = omega arith in ap (λ (j : ℕ). steps.At j ∷ q) same);
-      found = moved (schema d enclosing heads) (length heads + k) (length heads + k) (slice_get t.front k) (slice_get new k) q refl (here-draft t.front t.back new k t.is l.0) l.1;
-    })
+    let l = s enclosing heads t.front (t.a, t.first) in (
+      here-below t.front t.back new k t.is l.0,
+      record {
+        j = 0;
+        member = d;
+        more = heads;
+        rest = q;
+        at = first_member;
+        path_is = e ∙ (let same : i ≡ i + 0 = omega arith in ap (λ (j : ℕ). steps.At j ∷ q) same);
+        found = moved (schema d enclosing heads) (length heads + k) (length heads + k) (slice_get t.front k) (slice_get new k) q refl (here-draft t.front t.back new k t.is l.0) l.1;
+      },
+    )
 
 pub members-next : (d : Data) (ds : Items) (i k rest : ℕ) (r : Option ℕ) (p : Path) → SoughtIn d k (Some rest) [] → SoughtInMembers ds (i + 1) rest r p → SoughtInMembers (item d ds) i k r p
 members-next d ds i k rest (Some left) p first s = λ enclosing heads ns new h.
@@ -61,12 +66,18 @@ members-next d ds i k rest None p first s = λ enclosing heads ns new h.
     let t = members-ok d ds enclosing heads ns new h in
     let far = first enclosing heads t.front (t.a, t.first) in
     let l = s enclosing (heads ++ heads_of t.front) t.c t.back t.second in
-    let m = l.1 in
-    (far-below t.front t.back new k rest t.is far l.0, record {
-      j = suc m.j; member = m.member; more = m.more; rest = m.rest; at = next_member t.first m.at;
-      path_is = m.path_is ∙ (let same : (i + 1) + m.j ≡ i + suc m.j = omega arith in ap (λ (j : ℕ). steps.At j ∷ m.rest) same);
-      found = moved (schema m.member enclosing m.more) _ (length heads + k) _ (slice_get new k) m.rest (far-number heads t.front k rest far) (far-draft t.front t.back new k rest t.is far) m.found;
-    })
+    let m = l.1 in (
+      far-below t.front t.back new k rest t.is far l.0,
+      record {
+        j = suc m.j;
+        member = m.member;
+        more = m.more;
+        rest = m.rest;
+        at = next_member t.first m.at;
+        path_is = m.path_is ∙ (let same : (i + 1) + m.j ≡ i + suc m.j = omega arith in ap (λ (j : ℕ). steps.At j ∷ m.rest) same);
+        found = moved (schema m.member enclosing m.more) _ (length heads + k) _ (slice_get new k) m.rest (far-number heads t.front k rest far) (far-draft t.front t.back new k rest t.is far) m.found;
+      },
+    )
 
 pub members-end : (i k : ℕ) → SoughtInMembers no_items i k (Some k) []
 unfolding members
@@ -81,12 +92,17 @@ fields-ok d ds before enclosing heads fs new h = in-two (field d before) (λ f. 
 pub fields-this : (d : Data) (ds : Items) (i k : ℕ) (p : Path) → Behind (steps.At i) (SoughtInField d k) None p → SoughtInFields (item d ds) i k None p
 fields-this d ds i k p (q, e, s) before enclosing heads fs new h =
     let t = fields-ok d ds before enclosing heads fs new h in
-    let l = s before enclosing heads t.front (t.a, t.first) in
-    (here-below t.front t.back new k t.is l.0, record {
-      j = 0; field = field_after before d enclosing heads; rest = q; at = first_field;
-      path_is = e ∙ (let same : i ≡ i + 0 = omega arith in ap (λ (j : ℕ). steps.At j ∷ q) same);
-      found = moved (field_after before d enclosing heads) (length heads + k) (length heads + k) (slice_get t.front k) (slice_get new k) q refl (here-draft t.front t.back new k t.is l.0) l.1;
-    })
+    let l = s before enclosing heads t.front (t.a, t.first) in (
+      here-below t.front t.back new k t.is l.0,
+      record {
+        j = 0;
+        field = field_after before d enclosing heads;
+        rest = q;
+        at = first_field;
+        path_is = e ∙ (let same : i ≡ i + 0 = omega arith in ap (λ (j : ℕ). steps.At j ∷ q) same);
+        found = moved (field_after before d enclosing heads) (length heads + k) (length heads + k) (slice_get t.front k) (slice_get new k) q refl (here-draft t.front t.back new k t.is l.0) l.1;
+      },
+    )
 
 pub fields-next : (d : Data) (ds : Items) (i k rest : ℕ) (r : Option ℕ) (p : Path) → SoughtInField d k (Some rest) [] → SoughtInFields ds (i + 1) rest r p → SoughtInFields (item d ds) i k r p
 fields-next d ds i k rest (Some left) p first s = λ before enclosing heads fs new h.
@@ -97,12 +113,17 @@ fields-next d ds i k rest None p first s = λ before enclosing heads fs new h.
     let t = fields-ok d ds before enclosing heads fs new h in
     let far = first before enclosing heads t.front (t.a, t.first) in
     let l = s (before ++ t.a.name ∷ []) enclosing (heads ++ heads_of t.front) t.c t.back t.second in
-    let m = l.1 in
-    (far-below t.front t.back new k rest t.is far l.0, record {
-      j = suc m.j; field = m.field; rest = m.rest; at = next_field t.first m.at;
-      path_is = m.path_is ∙ (let same : (i + 1) + m.j ≡ i + suc m.j = omega arith in ap (λ (j : ℕ). steps.At j ∷ m.rest) same);
-      found = moved m.field _ (length heads + k) _ (slice_get new k) m.rest (far-number heads t.front k rest far) (far-draft t.front t.back new k rest t.is far) m.found;
-    })
+    let m = l.1 in (
+      far-below t.front t.back new k rest t.is far l.0,
+      record {
+        j = suc m.j;
+        field = m.field;
+        rest = m.rest;
+        at = next_field t.first m.at;
+        path_is = m.path_is ∙ (let same : (i + 1) + m.j ≡ i + suc m.j = omega arith in ap (λ (j : ℕ). steps.At j ∷ m.rest) same);
+        found = moved m.field _ (length heads + k) _ (slice_get new k) m.rest (far-number heads t.front k rest far) (far-draft t.front t.back new k rest t.is far) m.found;
+      },
+    )
 
 pub fields-end : (i k : ℕ) → SoughtInFields no_items i k (Some k) []
 unfolding fields_after

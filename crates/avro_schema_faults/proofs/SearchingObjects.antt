@@ -1,7 +1,7 @@
 -- What a search for a node comes to in an object, by its form, and in a field.
-use Rattle.std.proofs.Common.{◌≡◌, ◌<◌, ◌+◌, ℕ, suc, List, [], ◌∷◌, ◌++◌, length, Bool, true, false, is_some, Option, Some, None, option_map, Result, Ok, Err, arith, refl, sym, ap, subst, ◌∙◌, codes, nat_lt, slice_get}
+use Rattle.std.proofs.Common.{◌≡◌, ◌<◌, ◌+◌, ℕ, suc, List, [], ◌∷◌, ◌++◌, length, Bool, true, false, is_some, Option, Some, None, option_map, Ok, arith, refl, sym, ap, subst, ◌∙◌, codes, nat_lt, slice_get}
 use Rattle.std.proofs.lemmas.Bool.{ltb-true}
-use Rattle.serde_json.specs.Data.{Data, array, object, Items}
+use Rattle.serde_json.specs.Data.{Data, array, Items}
 use Rattle.serde_json.specs.Find.{as_array, as_object, get}
 use Rattle.avro_types.specs.FullNames.{namespace_of}
 use Rattle.avro_types.specs.Node.{ArrayNode, EnumNode, FixedNode, MapNode, Names, Node}
@@ -11,7 +11,6 @@ use Rattle.avro_schema_drafts.specs.Head.{ArrayHead, Head, MapHead, Named}
 use Rattle.avro_schema_names.specs.Aliases.{field_aliases, new_names}
 use Rattle.avro_schema_names.specs.Attributes.{default_symbol, size_of, symbols_of}
 use Rattle.avro_schema_names.specs.Names.{field_name}
-use Rattle.avro_schema_names.specs.declared.error.SchemaError.{SchemaError}
 use Rattle.avro_schema_names.specs.declared.error.SchemaError.TheVariants.{TooLarge}
 use Rattle.avro_schema_names.specs.declared.word.Form.{Form}
 use Rattle.avro_schema_names.specs.declared.word.Form.TheVariants as forms
@@ -19,10 +18,10 @@ use Rattle.avro_schema_paths.specs.Places.{Path}
 use Rattle.avro_schema_paths.specs.declared.step.Step.{Step}
 use Rattle.avro_schema_paths.specs.declared.step.Step.TheVariants as steps
 use Rattle.avro_schema_walk.specs.Contract.{field_walk, object_as}
-use Rattle.avro_schema_walk.specs.Walk.{Walk, around, enum_of, fault, field, field_of, fields, fields_after, fixed_of, if_few, if_room, one_node, or_unknown, record_of, walk}
-use Rattle.avro_schema_walk.proofs.Members.{field-object, field-other, fields-none, fields-some}
-use Rattle.avro_schema_faults.specs.Faults.{ComesTo, IsOfForm, Visit, field_after, listing, schema, to_field, to_fields, to_items, to_type, to_values, to_wrapped}
-use Rattle.avro_schema_faults.specs.Searching.{Adds, Behind, IsDeclaredAt, IsInField, Sought, SoughtIn, SoughtInField, SoughtInFields, SoughtInList, is_record}
+use Rattle.avro_schema_walk.specs.Walk.{Walk, around, enum_of, field_of, fields, fixed_of, if_few, if_room, or_unknown, record_of, walk}
+use Rattle.avro_schema_walk.proofs.Members.{field-object, field-other, fields-none}
+use Rattle.avro_schema_faults.specs.Faults.{ComesTo, IsOfForm, field_after, listing, schema, to_field, to_fields, to_items, to_type, to_values, to_wrapped}
+use Rattle.avro_schema_faults.specs.Searching.{Adds, Behind, IsDeclaredAt, IsInField, SoughtIn, SoughtInField, SoughtInFields, SoughtInList}
 use Rattle.avro_schema_faults.proofs.Searching.{AddsOne, Never, around-ok, bind-ok, cond-ok, moved, new_of, no-record, one-more, own, room-ok, within}
 use Rattle.avro_schema_faults.proofs.Sound.{walk-of_form}
 

@@ -1,9 +1,9 @@
 -- Where a default lies that is no value of its field's type (Avro 1.11 Specification, "Complex Types").
-use Rattle.std.specs.Prelude.{◌≡◌, ◌<◌, ◌≤◌, ◌+◌, ◌⊎◌, ℕ, List, [], ◌∷◌, length, Option, Some, None, cond, not, is_some, Bool, option_map, slice_get}
+use Rattle.std.specs.Prelude.{◌≡◌, ◌<◌, ◌≤◌, ◌+◌, ◌⊎◌, ℕ, List, [], ◌∷◌, length, Option, Some, None, not, is_some, Bool, slice_get}
 use Rattle.std.specs.List.{position_from}
 use Rattle.serde_json.specs.Data.{Data}
 use Rattle.avro_types.specs.Node.{Names}
-use Rattle.avro_schema_defaults.specs.Defaults.{all_defaults, field_default}
+use Rattle.avro_schema_defaults.specs.Defaults.{field_default}
 use Rattle.avro_schema_drafts.specs.Draft.{Draft, DraftField, RecordDraft, Whole}
 use Rattle.avro_schema_drafts.specs.Head.{Head}
 use Rattle.avro_schema_names.specs.Names.{null_namespace}

@@ -42,7 +42,8 @@ pub record IsDeclaredAt (v : Visit) (node : ℕ) (draft : Option Draft) (path : 
 abbrev pub Sought : Visit → ℕ → Option ℕ → Path → Type 0
 Sought v k (Some rest) path = (added : List Draft) → Adds v added → length added + rest ≡ k
 Sought v k None path =
-    (added : List Draft) → Adds v added → (k < length added) × IsDeclaredAt v (nodes_before v + k) (slice_get added k) path
+    (added : List Draft) → Adds v added
+    → (k < length added) × IsDeclaredAt v (nodes_before v + k) (slice_get added k) path
 
 -- wherever the walk comes to the value
 abbrev pub SoughtIn : Data → ℕ → Option ℕ → Path → Type 0
@@ -74,11 +75,15 @@ pub record IsInMember (enclosing : List ℕ) (ds : Items) (heads : List Head) (i
 
 abbrev pub SoughtInMembers : Items → ℕ → ℕ → Option ℕ → Path → Type 0
 SoughtInMembers ds i k (Some rest) path =
-    (enclosing : List ℕ) (heads : List Head) (ns : List ℕ) (added : List Draft) → members ds enclosing heads ≡ Ok (ns,
-    added) → length added + rest ≡ k
+    (enclosing : List ℕ) (heads : List Head) (ns : List ℕ) (added : List Draft) → members ds enclosing heads ≡ Ok (
+      ns,
+      added,
+    ) → length added + rest ≡ k
 SoughtInMembers ds i k None path =
-    (enclosing : List ℕ) (heads : List Head) (ns : List ℕ) (added : List Draft) → members ds enclosing heads ≡ Ok (ns,
-    added) → (k < length added) × IsInMember enclosing ds heads i (length heads + k) (slice_get added k) path
+    (enclosing : List ℕ) (heads : List Head) (ns : List ℕ) (added : List Draft) → members ds enclosing heads ≡ Ok (
+      ns,
+      added,
+    ) → (k < length added) × IsInMember enclosing ds heads i (length heads + k) (slice_get added k) path
 
 -- in one of these fields
 pub record IsInField (enclosing : List ℕ) (ds : Items) (before : List (List ℕ)) (heads : List Head) (i node : ℕ)

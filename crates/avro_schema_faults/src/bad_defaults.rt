@@ -41,11 +41,7 @@ fn bad_among(
 }
 
 /// Returns the position of the first field of a node that has one. `None` where none has.
-fn bad_field(
-    alloc: Global,
-    drafts: &[Draft],
-    draft: &Draft,
-) -> Result<Option<usize>, AllocError>
+fn bad_field(alloc: Global, drafts: &[Draft], draft: &Draft) -> Result<Option<usize>, AllocError>
     requires { HaveFewSymbols (drafts_of drafts.now) }
     ensures { IfOk result (λ found. found ≡ bad_field (drafts_of drafts.now) (draft_of draft.now)) }
 {

@@ -16,5 +16,5 @@ mod words;
 pub use avro_schema_names::SchemaError;
 pub use avro_schema_paths::Step;
 pub use faults::{Fault, fault_of};
-pub use laws::{each_fault_has_one_place, places_lead_to_faults};
+pub use laws::{each_fault_has_one_place, places_lead_to_faults, record_paths_lead_to_records};
 pub use words::word_at;
