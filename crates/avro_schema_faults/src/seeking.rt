@@ -36,7 +36,7 @@ fn seek_in_text(text: &str, left: usize) -> Option<usize>
 /// Returns `None` where it is found, with its path at the end of the trail. Else the trail is as it was, and what is
 /// returned is how many of the others come after the value.
 ///
-/// This counts the nodes of a value that declares them, and of no other.
+/// It reads no names, so its count is that of the walk only where the walk of the value ends with no fault.
 #[cycle(seek)]
 pub(crate) fn seek(
     value: &Value,
