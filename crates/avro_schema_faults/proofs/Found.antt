@@ -1,5 +1,5 @@
 -- The fault of a value, and that of a text.
-use Rattle.std.proofs.Common.{◌≡◌, ◌≢◌, ◌<◌, ◌≤◌, ℕ, List, [], ◌++◌, length, true, false, Option, Some, None, Result, Ok, Err, refl, sym, ap, subst, ◌∙◌}
+use Rattle.std.proofs.Common.{◌≡◌, ◌≢◌, ◌<◌, ◌≤◌, ℕ, List, [], ◌∷◌, ◌++◌, length, true, false, Option, Some, None, Result, Ok, Err, refl, sym, ap, subst, ◌∙◌}
 use Rattle.std.specs.Option.{ok_or}
 use Rattle.serde_json.specs.Data.{Data}
 use Rattle.serde_json.specs.Read.{read}
@@ -9,19 +9,24 @@ use Rattle.avro_types.specs.Node.{Node}
 use Rattle.avro_types.specs.declared.limits.TheConstants.{MOST_TEXT}
 use Rattle.avro_schema.specs.Schema.{declared, nodes_in_read}
 use Rattle.avro_schema.proofs.Declared.{declared-is, finished-err, finished-ok, small, too-large}
-use Rattle.avro_schema_defaults.specs.Defaults.{all_defaults, finished, nodes_with}
+use Rattle.avro_schema_defaults.specs.Defaults.{nodes_with}
 use Rattle.avro_schema_drafts.specs.Draft.{Draft}
 use Rattle.avro_schema_names.specs.Names.{null_namespace}
 use Rattle.avro_schema_names.specs.declared.error.SchemaError.{SchemaError}
 use Rattle.avro_schema_names.specs.declared.error.SchemaError.TheVariants.{BadDefault, BadNumber, NoMemory, NotJson, TooLarge}
 use Rattle.avro_schema_paths.specs.Places.{Path}
+use Rattle.avro_schema_paths.specs.declared.step.Step.TheVariants as steps
 use Rattle.avro_schema_walk.specs.Contract.{run}
 use Rattle.avro_schema_walk.specs.Walk.{walk}
 use Rattle.avro_schema_faults.specs.declared.faults.Fault.{Fault}
+use Rattle.avro_schema_faults.specs.DefaultPlaces.{first_bad}
 use Rattle.avro_schema_faults.specs.Faults.{IsFault, schema}
+use Rattle.avro_schema_faults.specs.Fractions.{EndsAtFraction}
 use Rattle.avro_schema_faults.specs.Places.{Finds, FindsIn, IsFaultIn, IsFaultOf, IsPlace, IsWholeFault, of_default, of_length, of_number, of_schema, of_text, of_value, of_walk}
+use Rattle.avro_schema_faults.specs.Searching.{LeadsToField}
 use Rattle.avro_schema_faults.specs.Trail.{Ends}
 use Rattle.avro_schema_faults.proofs.Bounds.{gives-after}
+use Rattle.avro_schema_faults.proofs.FirstBad.{all-bad, all-good, first-is, first-is_record}
 
 -- ---- the walk, and then the defaults
 
@@ -30,20 +35,31 @@ walk-failed d e before after nothing ran h =
     let is : after ≡ h.path = h.is ∙ ap (λ (b : Path). b ++ h.path) nothing in
     (declared-is d ∙ rw ran refl, of_walk (subst (λ (q : Path). IsFault e (schema d null_namespace []) q) (sym is) h.fault))
 
-pub default-failed : (d : Data) (n : ℕ) (ls : List Draft) (e : SchemaError) (after : Path) → run (walk d) null_namespace [] ≡ Ok (n, ls) → ok_or (all_defaults ls ls) BadDefault ≡ Err e → after ≡ [] → (declared d ≡ Err e) × IsPlace d e after
-default-failed d n ls e after ran bad nothing =
-    let g = gives-after (walk d) null_namespace [] n ls ran in
-    let fault = finished-err ls e bad in
-    let own : finished g.new ≡ Err e = subst (λ (xs : List Draft). finished xs ≡ Err e) (sym g.all) fault in
-    (declared-is d ∙ rw ran fault, subst (λ (q : Path). IsPlace d e q) (sym nothing) (of_default g.gives own))
+walk-gives : (d : Data) (n : ℕ) (ls : List Draft) → run (walk d) null_namespace [] ≡ Ok (n, ls) → walk d null_namespace [] ≡ Ok (n, ls)
+walk-gives d n ls ran = let g = gives-after (walk d) null_namespace [] n ls ran in g.gives ∙ ap (λ (xs : List Draft). Ok (n, xs)) g.all
 
-pub all-read : (d : Data) (n : ℕ) (ls : List Draft) (all : List (List (Option Datum))) → run (walk d) null_namespace [] ≡ Ok (n, ls) → ok_or (all_defaults ls ls) BadDefault ≡ Ok all → (nodes : List Node) × (declared d ≡ Ok nodes)
-all-read d n ls all ran good = (nodes_with ls all, declared-is d ∙ rw ran (finished-ok ls all good))
+pub default-failed : (d : Data) (n : ℕ) (ls : List Draft) (m i : ℕ) (before after : Path) → run (walk d) null_namespace [] ≡ Ok (n, ls) → first_bad ls 0 ls ≡ Some (m, i) → before ≡ [] → LeadsToField d m i before after → (declared d ≡ Err BadDefault) × IsPlace d BadDefault after
+default-failed d n ls m i before after ran bad nothing leads =
+    let first = first-is ls m i bad in
+    let gives = walk-gives d n ls ran in
+    let fault = finished-err ls BadDefault (ap (λ (o : Option (List (List (Option Datum)))). ok_or o BadDefault) (all-bad ls 0 ls (m, i) bad)) in
+    let ends = leads ls (n, gives) (first-is_record ls m i first.has) in
+    let own = ends.path ++ steps.Fields ∷ steps.At i ∷ [] in
+    let is : after ≡ own = ends.is ∙ ap (λ (b : Path). b ++ own) nothing in
+    (declared-is d ∙ rw ran fault, subst (λ (q : Path). IsPlace d BadDefault q) (sym is) (of_default gives first ends.record_is))
+
+pub all-read : (d : Data) (n : ℕ) (ls : List Draft) → run (walk d) null_namespace [] ≡ Ok (n, ls) → first_bad ls 0 ls ≡ None → (nodes : List Node) × (declared d ≡ Ok nodes)
+all-read d n ls ran none =
+    let good = all-good ls 0 ls none in
+    let all = ap (λ (o : Option (List (List (Option Datum)))). ok_or o BadDefault) good.1 in
+    (nodes_with ls good.0, declared-is d ∙ rw ran (finished-ok ls good.0 all))
 
 -- ---- a value
 
-pub number-found : (d : Data) (f : Fault) → true ≡ has_float d → IsWholeFault BadNumber f → IsFaultIn d f
-number-found d f is w = record { error = rw (← is, w.error) refl; place = rw (w.error, w.path) (of_number (sym is)) }
+pub number-found : (d : Data) (f : Fault) → true ≡ has_float d → f.error ≡ BadNumber → (before : Path) → before ≡ [] → EndsAtFraction d before f.path.items → IsFaultIn d f
+number-found d f is bad before nothing ends =
+    let path : f.path.items ≡ ends.path = ends.is ∙ ap (λ (b : Path). b ++ ends.path) nothing in
+    record { error = rw (← is, bad) refl; place = rw (bad, path) (of_number (sym is) ends.fraction) }
 
 pub fault-found : (d : Data) (f : Fault) → false ≡ has_float d → f.error ≢ NoMemory → (f.error ≢ NoMemory → (declared d ≡ Err f.error) × IsPlace d f.error f.path.items) → IsFaultIn d f
 fault-found d f is known h = let p = h known in record { error = rw (← is) p.0; place = of_schema (sym is) p.1 }

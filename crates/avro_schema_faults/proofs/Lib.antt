@@ -1,9 +1,17 @@
 mod Bounds
 mod Ending
 mod Failing
+mod FirstBad
+mod FirstOfRest
 mod Found
+mod FloatSteps
 mod Leading
+mod LeadingToField
 mod Leaving
 mod One
 mod Reaching
+mod Searching
+mod SearchingLists
+mod SearchingObjects
+mod SearchingTrail
 mod Sound

@@ -88,6 +88,11 @@ pub data ComesTo : Visit → Step → Visit → Type 0 where
       → field_aliases (get (codes "aliases") d) ≡ Ok aliases → get (codes "type") d ≡ Some c
       → ComesTo (field_after before d enclosing heads) steps.Type (schema c enclosing heads)
 
+-- the walk comes from a value to another by these steps
+pub data Comes : Visit → Path → Visit → Type 0 where
+  itself : {v : Visit} → Comes v [] v
+  further : {v w u : Visit} {s : Step} {q : Path} → ComesTo v s w → Comes w q u → Comes v (s ∷ q) u
+
 -- no part that the walk comes to is at fault
 abbrev pub HasSoundParts : Visit → Type 0
 HasSoundParts v = (s : Step) (w : Visit) (e : SchemaError) → ComesTo v s w → ¬ (Fails e w)

@@ -1,31 +1,34 @@
 -- Where a text that is no schema has its first fault.
-use Rattle.std.specs.Prelude.{◌≡◌, ◌≢◌, ◌<◌, ◌≤◌, ⊤, ℕ, List, [], length, true, false, Option, Some, None, Result, Ok, Err}
+use Rattle.std.specs.Prelude.{◌≡◌, ◌≢◌, ◌<◌, ◌≤◌, ⊤, ℕ, List, [], ◌∷◌, ◌++◌, length, true, false, Option, Some, None, Result, Ok, Err}
 use Rattle.serde_json.specs.Data.{Data}
 use Rattle.serde_json.specs.Read.{read}
 use Rattle.serde_json.specs.Written.{has_float}
 use Rattle.avro_types.specs.Node.{Node}
 use Rattle.avro_types.specs.declared.limits.TheConstants.{MOST_TEXT}
 use Rattle.avro_schema.specs.Schema.{declared, nodes_in, schema_of}
-use Rattle.avro_schema_defaults.specs.Defaults.{finished}
 use Rattle.avro_schema_drafts.specs.Draft.{Draft}
 use Rattle.avro_schema_names.specs.Names.{null_namespace}
 use Rattle.avro_schema_names.specs.declared.error.SchemaError.{SchemaError}
-use Rattle.avro_schema_names.specs.declared.error.SchemaError.TheVariants.{BadNumber, NoMemory, NotJson, TooLarge}
+use Rattle.avro_schema_names.specs.declared.error.SchemaError.TheVariants.{BadDefault, BadNumber, NoMemory, NotJson, TooLarge}
 use Rattle.avro_schema_paths.specs.Places.{Path}
+use Rattle.avro_schema_paths.specs.declared.step.Step.TheVariants as steps
 use Rattle.avro_schema_walk.specs.Walk.{walk}
 use Rattle.avro_schema_faults.specs.declared.faults.Fault.{Fault}
+use Rattle.avro_schema_faults.specs.DefaultPlaces.{IsFirstBadDefault, IsRecordAt}
 use Rattle.avro_schema_faults.specs.Faults.{IsFault, schema}
+use Rattle.avro_schema_faults.specs.Fractions.{IsFractionAt}
 
 -- In a value without fractions: the walk's fault has the path of the smallest value that is at fault, and a default
--- that is no value of its type the root's.
+-- that is no value of its type that of its field, which is the one at a position of its record's `fields`.
 pub data IsPlace : Data → SchemaError → Path → Type 0 where
   of_walk : {d : Data} {e : SchemaError} {path : Path} → IsFault e (schema d null_namespace []) path → IsPlace d e path
-  of_default : {d : Data} {e : SchemaError} {n : ℕ} {drafts : List Draft} → walk d null_namespace [] ≡ Ok (n, drafts)
-      → finished drafts ≡ Err e → IsPlace d e []
+  of_default : {d : Data} {n m i : ℕ} {drafts : List Draft} {path : Path} → walk d null_namespace [] ≡ Ok (n, drafts)
+      → IsFirstBadDefault drafts m i → IsRecordAt d m path
+      → IsPlace d BadDefault (path ++ steps.Fields ∷ steps.At i ∷ [])
 
--- in a value: where a number is a fraction or too large the place is the root
+-- in a value: where a number is a fraction or out of range the place is the smallest part that has one
 pub data IsPlaceIn : Data → SchemaError → Path → Type 0 where
-  of_number : {d : Data} → has_float d ≡ true → IsPlaceIn d BadNumber []
+  of_number : {d : Data} {path : Path} → has_float d ≡ true → IsFractionAt d path → IsPlaceIn d BadNumber path
   of_schema : {d : Data} {e : SchemaError} {path : Path} → has_float d ≡ false → IsPlace d e path → IsPlaceIn d e path
 
 -- in a text: where it is too long or no JSON the place is the root

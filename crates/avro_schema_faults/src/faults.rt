@@ -4,9 +4,11 @@ ghost use Rattle.std.specs.Prelude.{◌≡◌, [], IfOk};
 ghost use Rattle.serde_json.specs.View.{view};
 ghost use Rattle.avro_schema_faults.specs.Places.{Finds, FindsIn, IsWholeFault, Leads};
 
+use crate::bad_defaults::first_bad;
+use crate::fractions::lead_to_fraction;
 use crate::numbers::has_float;
+use crate::seeking::lead_to_field;
 use crate::tracing::walk;
-use avro_schema_defaults::all_defaults;
 use avro_schema_drafts::{Drafts, Namespace};
 use avro_schema_names::SchemaError;
 use avro_schema_paths::Step;
@@ -14,7 +16,8 @@ use avro_types::MOST_TEXT;
 use serde_json::Value;
 use std::alloc::{AllocError, Global};
 
-/// Why a text is no schema, and where: the path in the text's JSON value of the smallest value that is at fault.
+/// Why a text is no schema, and where: the path in the text's JSON value of the smallest value that is at fault, which
+/// is a record's field where its default is.
 #[derive(Debug, Drop)]
 pub struct Fault {
     pub error: SchemaError,
@@ -32,7 +35,7 @@ fn whole(alloc: Global, error: SchemaError) -> Fault
 }
 
 /// Walks a value and reads its defaults, with a trail that is empty. After an `Err` the trail leads to the value that
-/// is at fault; where that is a default the trail is empty.
+/// is at fault; where that is a default it leads to the default's field.
 fn check_value(alloc: Global, value: &Value, trail: &mut Vec<Step>) -> Result<(), SchemaError>
     requires { trail.old.items ≡ [] }
     ensures { Leads result (view value.now) trail.new.items }
@@ -40,18 +43,25 @@ fn check_value(alloc: Global, value: &Value, trail: &mut Vec<Step>) -> Result<()
     let mut drafts = Drafts::new(alloc)?;
     let enclosing = Namespace::null(alloc)?;
     walk(alloc, value, &enclosing, &mut drafts, trail)?;
-    all_defaults(alloc, drafts.as_slice())?;
-    Ok(())
+    match first_bad(alloc, drafts.as_slice())? {
+        None => Ok(()),
+        Some((node, position)) => {
+            lead_to_field(value, node, position, trail)?;
+            Err(SchemaError::BadDefault)
+        }
+    }
 }
 
 /// Returns the first fault of a value. `None` where it declares a schema.
 fn fault_in(alloc: Global, value: &Value) -> Result<Option<Fault>, AllocError>
     ensures { FindsIn result (view value.now) }
 {
-    if has_float(value) {
-        return Ok(Some(whole(alloc, SchemaError::BadNumber)));
-    }
     let mut path = Vec::new(alloc);
+    if has_float(value) {
+        lead_to_fraction(value, &mut path)?;
+        let error = SchemaError::BadNumber;
+        return Ok(Some(Fault { error, path }));
+    }
     match check_value(alloc, value, &mut path) {
         Ok(()) => Ok(None),
         Err(error) if error == SchemaError::NoMemory => Err(AllocError),
@@ -62,8 +72,10 @@ fn fault_in(alloc: Global, value: &Value) -> Result<Option<Fault>, AllocError>
 /// Returns the first fault of a text, in the order in which `Schema::parse` finds them. `None` where the text is a
 /// schema (Avro 1.11 Specification, "Schema Declaration").
 ///
-/// The path is empty where the text is too long or no JSON, where a number in it is a fraction or out of range, and
-/// where a default is no value of its type.
+/// The path of a default that is no value of its type is that of its field, as `/fields/3` behind the path of the
+/// record that declares the field; the first default counts, by the numbers of the records and then by the positions of
+/// the fields. Where a number is a fraction or out of range the path leads to the smallest value that has one, as far
+/// as steps lead. The path is empty where the text is too long or no JSON.
 pub fn fault_of(alloc: Global, text: &str) -> Result<Option<Fault>, AllocError>
     ensures { Finds result text.now }
 {

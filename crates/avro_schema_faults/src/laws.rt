@@ -1,6 +1,6 @@
 //! The laws of places. They do nothing when they run.
 
-ghost use Rattle.avro_schema_faults.specs.Laws.{EachFaultHasOnePlace, PlacesAreOfFaults, PlacesLeadToFaults};
+ghost use Rattle.avro_schema_faults.specs.Laws.{EachFaultHasOnePlace, PlacesAreOfFaults, PlacesLeadToFaults, RecordPathsLeadToRecords};
 
 /// The law that the place of a fault leads to a value whose walk ends with that fault, while that of no part of it
 /// fails.
@@ -13,4 +13,10 @@ pub fn places_lead_to_faults()
 pub fn each_fault_has_one_place()
     ensures fails { PlacesAreOfFaults }
     ensures one { EachFaultHasOnePlace }
+{}
+
+/// The law that the path of a record, behind which the place of a bad default is that of its field, leads to an object
+/// whose `type` is that of records.
+pub fn record_paths_lead_to_records()
+    ensures { RecordPathsLeadToRecords }
 {}

@@ -10,7 +10,7 @@ use avro_schema_paths::Step;
 use serde_json::Value;
 
 /// Returns the value that is one step away. `None` where there is none.
-fn step_in<'v>(value: &'v Value, step: Step) -> Option<&'v Value>
+pub(crate) fn step_in<'v>(value: &'v Value, step: Step) -> Option<&'v Value>
     ensures { data_at result ≡ step_in step (view value.now) }
 {
     match step {

@@ -1,4 +1,4 @@
-use Rattle.std.proofs.Common.{◌∙◌}
+use Rattle.std.proofs.Common.{◌∙◌, sym}
 use Rattle.std.proofs.lemmas.Result.{err_from_is_err_and}
 use Rattle.serde_json.specs.View.{view}
 use Rattle.avro_schema.proofs.WholeNodes.{walked_few}
@@ -16,16 +16,16 @@ returns-in_err-walk c =
     (rw (c.in_ok-enclosing.ensures.text, c.in_ok-drafts.ensures) at (c.in_err-walk.ensures.nodes known))
     (rw (c.in_ok-enclosing.ensures.text, c.in_ok-drafts.ensures) at (c.in_err-walk.ensures.place known)))
 
-pub all_defaults-requires : goal.all_defaults-requires
-all_defaults-requires c = rw c.as_slice.ensures (walked_few (view c.args.value.now) _ _ (rw (c.in_ok-enclosing.ensures.text, c.in_ok-drafts.ensures) at c.in_ok-walk.ensures.nodes))
+pub first_bad-requires : goal.first_bad-requires
+first_bad-requires c = rw c.as_slice.ensures (walked_few (view c.args.value.now) _ _ (rw (c.in_ok-enclosing.ensures.text, c.in_ok-drafts.ensures) at c.in_ok-walk.ensures.nodes))
 
-pub returns-in_err-all_defaults : goal.returns-in_err-all_defaults
-returns-in_err-all_defaults c =
-    let p = err_from_is_err_and c.from_residual-in_err-all_defaults.result c.from_residual-in_err-all_defaults.ensures.1 in
+pub returns-in-None : goal.returns-in-None
+returns-in-None c =
     let ran = rw (c.in_ok-enclosing.ensures.text, c.in_ok-drafts.ensures) at c.in_ok-walk.ensures.nodes in
-    rw (p.1, p.2) (λ known. default-failed (view c.args.value.now) _ _ _ _ ran (rw c.as_slice.ensures at (c.in_err-all_defaults.ensures known)) (c.in_ok-walk.ensures.place ∙ c.requires))
+    all-read (view c.args.value.now) _ _ ran (rw c.as_slice.ensures at (sym c.in_ok-first_bad.ensures ∙ c.in-None.is))
 
 pub returns : goal.returns
 returns c =
     let ran = rw (c.in_ok-enclosing.ensures.text, c.in_ok-drafts.ensures) at c.in_ok-walk.ensures.nodes in
-    all-read (view c.args.value.now) _ _ _ ran (rw c.as_slice.ensures at c.in_ok-all_defaults.ensures)
+    let bad = rw c.as_slice.ensures at (sym c.in_ok-first_bad.ensures ∙ c.in-Some.is) in
+    λ known. default-failed (view c.args.value.now) _ _ c.in-Some.node c.in-Some.position c.walk.new.trail.items _ ran bad (c.in_ok-walk.ensures.place ∙ c.requires) c.in_ok-lead_to_field-in-Some.ensures

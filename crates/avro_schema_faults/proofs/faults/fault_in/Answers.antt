@@ -5,7 +5,7 @@ use Rattle.avro_schema_faults.proofs.Found.{fault-found, number-found}
 use Rattle.avro_schema_faults.proofs.faults.fault_in.Goals as goal
 
 pub returns-then-has_float : goal.returns-then-has_float
-returns-then-has_float c = number-found (view c.args.value.now) _ c.if-has_float.ensures c.whole.ensures
+returns-then-has_float c = number-found (view c.args.value.now) _ c.if-has_float.ensures refl c.new-path.result.items c.new-path.ensures.items c.in_ok-lead_to_fraction.ensures
 
 pub returns-in-Err-2 : goal.returns-in-Err-2
 returns-in-Err-2 c =

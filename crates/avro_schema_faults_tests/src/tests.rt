@@ -1,7 +1,7 @@
 //! Tests of each fault with its place, written out by hand beside its text.
 
-use crate::{Fault, SchemaError, fault_of, word_at};
 use avro_schema::Schema;
+use avro_schema_faults::{Fault, fault_of, word_at};
 use avro_schema_paths::pointer;
 use serde_json::Value;
 use std::alloc::{AllocError, Global};
@@ -96,11 +96,102 @@ fn faults_of_named_types_and_fields(rt: HostRuntime) -> Result<(), Fail> {
         ),
         (
             r#"{"type": "record", "name": "R", "fields": [{"name": "a", "type": "int", "default": "x"}]}"#,
-            "BadDefault at : R",
+            "BadDefault at /fields/0: a",
         ),
         (
             r#"{"type": "fixed", "name": "Id", "size": 9999999999}"#,
             "TooLarge at : Id",
+        ),
+    ];
+    for (text, wanted) in rows {
+        let line = line_of(rt.alloc(), text)?;
+        assert_eq!(rt; line.as_str(), wanted);
+    }
+    Ok(())
+}
+
+#[test]
+fn defaults_with_their_places(rt: HostRuntime) -> Result<(), Fail> {
+    let rows = [
+        (
+            r#"{"type": "record", "name": "R", "fields": [{"name": "a", "type": "int", "default": 1},
+            {"name": "b", "type": "int", "default": "x"}, {"name": "c", "type": "int", "default": "x"}]}"#,
+            "BadDefault at /fields/1: b",
+        ),
+        (
+            r#"{"type": {"type": "record", "name": "R", "fields": [{"name": "a", "type": "int", "default": null}]}}"#,
+            "BadDefault at /type/fields/0: a",
+        ),
+        (
+            r#"{"type": "array", "items": ["null", {"type": "record", "name": "R", "fields": [
+            {"name": "a", "type": "int"}, {"name": "b", "type": "string", "default": 1}]}]}"#,
+            "BadDefault at /items/1/fields/1: b",
+        ),
+        (
+            r#"{"type": "map", "values": {"type": "record", "name": "R", "fields": [
+            {"name": "a", "type": {"type": "record", "name": "S", "fields": [{"name": "p", "type": "int"}]},
+            "default": {"p": "x"}}]}}"#,
+            "BadDefault at /values/fields/0: a",
+        ),
+    ];
+    for (text, wanted) in rows {
+        let line = line_of(rt.alloc(), text)?;
+        assert_eq!(rt; line.as_str(), wanted);
+    }
+    Ok(())
+}
+
+#[test]
+fn defaults_by_the_numbers_of_records(rt: HostRuntime) -> Result<(), Fail> {
+    let rows = [
+        (
+            r#"{"type": "record", "name": "R", "fields": [
+            {"name": "a", "type": {"type": "record", "name": "S", "fields": [
+            {"name": "x", "type": "int"}, {"name": "y", "type": "int", "default": "no"}]}}]}"#,
+            "BadDefault at /fields/0/type/fields/1: y",
+        ),
+        (
+            r#"{"type": "record", "name": "R", "fields": [
+            {"name": "a", "type": {"type": "record", "name": "S", "fields": [
+            {"name": "p", "type": "int", "default": "x"}]}}, {"name": "b", "type": "int", "default": "y"}]}"#,
+            "BadDefault at /fields/1: b",
+        ),
+        (
+            r#"{"type": "record", "name": "R", "fields": [
+            {"name": "e", "type": {"type": "enum", "name": "E", "symbols": ["A"]}},
+            {"name": "f", "type": {"type": "fixed", "name": "F", "size": 1}}, {"name": "g", "type": "E"},
+            {"name": "h", "type": {"type": {"type": "record", "name": "S", "fields": [
+            {"name": "p", "type": ["int", "null"], "default": null}]}}}]}"#,
+            "BadDefault at /fields/3/type/type/fields/0: p",
+        ),
+    ];
+    for (text, wanted) in rows {
+        let line = line_of(rt.alloc(), text)?;
+        assert_eq!(rt; line.as_str(), wanted);
+    }
+    Ok(())
+}
+
+#[test]
+fn fractions_with_their_places(rt: HostRuntime) -> Result<(), Fail> {
+    let rows = [
+        ("1.5", "BadNumber at : -"),
+        (
+            r#"["null", {"type": "fixed", "name": "Id", "size": 1.5}]"#,
+            "BadNumber at /1: Id",
+        ),
+        (
+            r#"{"type": {"type": "fixed", "name": "Id", "size": 99999999999999999999}}"#,
+            "BadNumber at /type: Id",
+        ),
+        (
+            r#"{"type": "record", "name": "R", "fields": [{"name": "a", "type": "int"},
+            {"name": "b", "type": "int", "default": 1.5}]}"#,
+            "BadNumber at /fields/1: b",
+        ),
+        (
+            r#"{"type": "array", "items": {"type": "map", "values": {"type": "int", "x": [0.5]}}}"#,
+            "BadNumber at /items/values: -",
         ),
     ];
     for (text, wanted) in rows {
