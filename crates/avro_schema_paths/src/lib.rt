@@ -11,8 +11,6 @@ mod paths;
 mod placing;
 mod pointers;
 mod step;
-#[cfg(test)]
-mod tests;
 
 pub use entries::{NodePath, Place};
 pub use laws::{

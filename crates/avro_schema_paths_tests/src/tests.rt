@@ -1,7 +1,7 @@
 //! Tests of the pointers of nodes, each written out by hand beside its schema.
 
-use crate::{Step, paths_of, pointer, read_value_is_declared};
 use avro_schema::{Schema, SchemaError};
+use avro_schema_paths::{Step, paths_of, pointer, read_value_is_declared};
 use serde_json::Value;
 use std::alloc::Global;
 use std::test::Fail;
