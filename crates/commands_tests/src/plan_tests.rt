@@ -122,6 +122,31 @@ const LIST: &str = r#"{"type":"record","name":"L","fields":[{"name":"value","typ
 const LIST_OF_PAIRS: &str = r#"{"type":"record","name":"L","fields":[{"name":"a","type":"long"},
 {"name":"b","type":"string"},{"name":"next","type":["null","L"]}]}"#;
 
+/// The same with its strings first.
+const TURNED_LIST_OF_PAIRS: &str = r#"{"type":"record","name":"L","fields":[{"name":"b","type":"string"},
+{"name":"a","type":"long"},{"name":"next","type":["null","L"]}]}"#;
+
+/// The same with what follows first.
+const LIST_FROM_ITS_END: &str = r#"{"type":"record","name":"L","fields":[{"name":"next","type":["null","L"]},
+{"name":"a","type":"long"},{"name":"b","type":"string"}]}"#;
+
+/// A long, a tree of longs or null, and a boolean.
+const WITH_TREE: &str = r#"{"type":"record","name":"T","fields":[{"name":"a","type":"long"},
+{"name":"tree","type":["null",{"type":"record","name":"N","fields":[{"name":"value","type":"long"},
+{"name":"left","type":["null","N"]},{"name":"right","type":["null","N"]}]}]},{"name":"b","type":"boolean"}]}"#;
+
+/// The same without the tree.
+const WITHOUT_TREE: &str = r#"{"type":"record","name":"T","fields":[{"name":"a","type":"long"},
+{"name":"b","type":"boolean"}]}"#;
+
+/// A value as JSON has them: a null, a boolean, a number, a text, some values, or values by keys.
+const VALUE: &str = r#"{"type":"record","name":"V","fields":[{"name":"v","type":["null","boolean","long","string",
+{"type":"array","items":"V"},{"type":"map","values":"V"}]}]}"#;
+
+/// Records of two types in turn.
+const MUTUAL: &str = r#"{"type":"record","name":"A","fields":[{"name":"a","type":"long"},{"name":"b","type":["null",
+{"type":"record","name":"B","fields":[{"name":"b","type":"boolean"},{"name":"a","type":["null","A"]}]}]}]}"#;
+
 /// Strings by keys.
 const MAP: &str = r#"{"type":"map","values":"string"}"#;
 
@@ -303,7 +328,68 @@ pub(crate) const ROWS: &[Row] = &[
         writer: TREE,
         reader: TREE,
         payload: &[0x02, 0x00, 0x00],
-        planned: Planned::NoPlan,
+        planned: Planned::Output(&[0x02, 0x00, 0x00]),
+    },
+    Row {
+        writer: TREE,
+        reader: TREE,
+        payload: &[0x02, 0x02, 0x04, 0x00, 0x00, 0x02, 0x06, 0x00, 0x00],
+        planned: Planned::Output(&[0x02, 0x02, 0x04, 0x00, 0x00, 0x02, 0x06, 0x00, 0x00]),
+    },
+    // (a branch that the union lacks, and a tree that is cut)
+    Row {
+        writer: TREE,
+        reader: TREE,
+        payload: &[0x02, 0x04, 0x00],
+        planned: Planned::Nothing,
+    },
+    Row {
+        writer: TREE,
+        reader: TREE,
+        payload: &[0x02, 0x02, 0x04, 0x00],
+        planned: Planned::Nothing,
+    },
+    Row {
+        writer: WITH_TREE,
+        reader: WITH_TREE,
+        payload: &[0x36, 0x00, 0x01],
+        planned: Planned::Output(&[0x36, 0x00, 0x01]),
+    },
+    Row {
+        writer: LIST_OF_PAIRS,
+        reader: TURNED_LIST_OF_PAIRS,
+        payload: &[0x02, 0x02, 0x61, 0x02, 0x04, 0x00, 0x00],
+        planned: Planned::Output(&[0x02, 0x61, 0x02, 0x02, 0x00, 0x04, 0x00]),
+    },
+    // (what is read last is put first)
+    Row {
+        writer: LIST_OF_PAIRS,
+        reader: LIST_FROM_ITS_END,
+        payload: &[0x02, 0x02, 0x61, 0x02, 0x04, 0x00, 0x00],
+        planned: Planned::Output(&[0x02, 0x00, 0x04, 0x00, 0x02, 0x02, 0x61]),
+    },
+    Row {
+        writer: VALUE,
+        reader: VALUE,
+        payload: &[
+            0x08, 0x04, 0x04, 0x0a, 0x0a, 0x02, 0x02, 0x6b, 0x00, 0x00, 0x00,
+        ],
+        planned: Planned::Output(&[
+            0x08, 0x04, 0x04, 0x0a, 0x0a, 0x02, 0x02, 0x6b, 0x00, 0x00, 0x00,
+        ]),
+    },
+    // (a list that a reader lets go of)
+    Row {
+        writer: WITH_TREE,
+        reader: WITHOUT_TREE,
+        payload: &[0x36, 0x02, 0x02, 0x02, 0x04, 0x00, 0x00, 0x00, 0x01],
+        planned: Planned::Output(&[0x36, 0x01]),
+    },
+    Row {
+        writer: MUTUAL,
+        reader: MUTUAL,
+        payload: &[0x02, 0x02, 0x01, 0x02, 0x04, 0x00],
+        planned: Planned::Output(&[0x02, 0x02, 0x01, 0x02, 0x04, 0x00]),
     },
     Row {
         writer: ENUM,
@@ -498,6 +584,42 @@ fn list_of(alloc: Global, longs: usize) -> Result<Vec<u8>, AllocError> {
     }
     list.extend_from_slice(&[0x02, 0x00])?;
     Ok(list)
+}
+
+/// A tree of so many longs, each but the first to the left of another.
+fn left_tree_of(alloc: Global, longs: usize) -> Result<Vec<u8>, AllocError> {
+    let mut tree = list_of(alloc, longs)?;
+    for _ in 0..longs {
+        tree.push(0x00)?;
+    }
+    Ok(tree)
+}
+
+/// Arrays in one another, so many deep, of which the innermost is empty, each the only value of the one around it.
+fn values_of(alloc: Global, deep: usize) -> Result<Vec<u8>, AllocError> {
+    let mut values = Vec::new(alloc);
+    for _ in 1..deep {
+        values.extend_from_slice(&[0x08, 0x02])?;
+    }
+    values.extend_from_slice(&[0x08, 0x00])?;
+    for _ in 1..deep {
+        values.push(0x00)?;
+    }
+    Ok(values)
+}
+
+/// Whether the plan of a list whose reader puts its strings first finds one of so many records.
+fn is_turned(alloc: Global, records: usize) -> Result<bool, AllocError> {
+    let program = planned_program(alloc, LIST_OF_PAIRS, TURNED_LIST_OF_PAIRS)?;
+    let (mut list, mut wanted) = (Vec::new(alloc), Vec::new(alloc));
+    for i in 0..records {
+        let next = if i + 1 < records { 0x02 } else { 0x00 };
+        list.extend_from_slice(&[0x04, 0x02, 0x61, next])?;
+        wanted.extend_from_slice(&[0x02, 0x61, 0x04, next])?;
+    }
+    let (mut scratch, mut output) = (Scratch::new(alloc), Vec::new(alloc));
+    let found = program.finds_output(&list, &mut scratch, &mut output, MOST_OUTPUT);
+    Ok(found && output == wanted)
 }
 
 /// Whether the plan of a schema to itself finds a payload.
@@ -716,6 +838,29 @@ fn plans_find_lists_of_a_thousand_levels(rt: HostRuntime) -> Result<(), Fail> {
     let most = is_found(rt.alloc(), LIST, &list_of(rt.alloc(), 1_000)?)?;
     let more = is_found(rt.alloc(), LIST, &list_of(rt.alloc(), 1_001)?)?;
     assert_eq!(rt; (most, more), (true, false));
+    Ok(())
+}
+
+#[test]
+fn plans_find_trees_of_a_thousand_levels(rt: HostRuntime) -> Result<(), Fail> {
+    let most = is_found(rt.alloc(), TREE, &left_tree_of(rt.alloc(), 1_000)?)?;
+    let more = is_found(rt.alloc(), TREE, &left_tree_of(rt.alloc(), 1_001)?)?;
+    assert_eq!(rt; (most, more), (true, false));
+    Ok(())
+}
+
+#[test]
+fn plans_find_arrays_of_themselves_of_a_thousand_levels(rt: HostRuntime) -> Result<(), Fail> {
+    let most = is_found(rt.alloc(), VALUE, &values_of(rt.alloc(), 500)?)?;
+    let more = is_found(rt.alloc(), VALUE, &values_of(rt.alloc(), 501)?)?;
+    assert_eq!(rt; (most, more), (true, false));
+    Ok(())
+}
+
+#[test]
+fn plans_find_lists_that_are_put_piece_by_piece(rt: HostRuntime) -> Result<(), Fail> {
+    assert!(rt; is_turned(rt.alloc(), 1)?);
+    assert!(rt; is_turned(rt.alloc(), 500)?);
     Ok(())
 }
 
