@@ -123,11 +123,13 @@ const LIST_OF_PAIRS: &str = r#"{"type":"record","name":"L","fields":[{"name":"a"
 {"name":"b","type":"string"},{"name":"next","type":["null","L"]}]}"#;
 
 /// The same with its strings first.
-const TURNED_LIST_OF_PAIRS: &str = r#"{"type":"record","name":"L","fields":[{"name":"b","type":"string"},
+const TURNED_LIST_OF_PAIRS: &str =
+    r#"{"type":"record","name":"L","fields":[{"name":"b","type":"string"},
 {"name":"a","type":"long"},{"name":"next","type":["null","L"]}]}"#;
 
 /// The same with what follows first.
-const LIST_FROM_ITS_END: &str = r#"{"type":"record","name":"L","fields":[{"name":"next","type":["null","L"]},
+const LIST_FROM_ITS_END: &str =
+    r#"{"type":"record","name":"L","fields":[{"name":"next","type":["null","L"]},
 {"name":"a","type":"long"},{"name":"b","type":"string"}]}"#;
 
 /// A long, a tree of longs or null, and a boolean.
@@ -140,11 +142,13 @@ const WITHOUT_TREE: &str = r#"{"type":"record","name":"T","fields":[{"name":"a",
 {"name":"b","type":"boolean"}]}"#;
 
 /// A value as JSON has them: a null, a boolean, a number, a text, some values, or values by keys.
-const VALUE: &str = r#"{"type":"record","name":"V","fields":[{"name":"v","type":["null","boolean","long","string",
+const VALUE: &str =
+    r#"{"type":"record","name":"V","fields":[{"name":"v","type":["null","boolean","long","string",
 {"type":"array","items":"V"},{"type":"map","values":"V"}]}]}"#;
 
 /// Records of two types in turn.
-const MUTUAL: &str = r#"{"type":"record","name":"A","fields":[{"name":"a","type":"long"},{"name":"b","type":["null",
+const MUTUAL: &str =
+    r#"{"type":"record","name":"A","fields":[{"name":"a","type":"long"},{"name":"b","type":["null",
 {"type":"record","name":"B","fields":[{"name":"b","type":"boolean"},{"name":"a","type":["null","A"]}]}]}]}"#;
 
 /// Strings by keys.
@@ -633,6 +637,49 @@ fn is_found(alloc: Global, schema: &str, payload: &[u8]) -> Result<bool, AllocEr
     Ok(found && output.as_slice() == payload)
 }
 
+/// An enum of so many symbols.
+fn enum_of(alloc: Global, symbols: usize) -> Result<String, AllocError> {
+    let mut text = String::from_str(alloc, r#"{"type":"enum","name":"E","symbols":["S0""#)?;
+    for symbol in 1..symbols {
+        let more = format!(in alloc; ",\"S{symbol}\"")?;
+        text.push_str(&more)?;
+    }
+    text.push_str("]}")?;
+    Ok(text)
+}
+
+/// Positions among 200 symbols, and whether a plan finds them: the first of two bytes, the last, one that no symbol has,
+/// and one that is spelled longer than it need be.
+const POSITIONS: &[Among] = &[
+    Among {
+        number: &[0x80, 0x01],
+        found: true,
+    },
+    Among {
+        number: &[0x8e, 0x03],
+        found: true,
+    },
+    Among {
+        number: &[0x90, 0x03],
+        found: false,
+    },
+    Among {
+        number: &[0x82, 0x00],
+        found: false,
+    },
+];
+
+/// For how many of these positions the plan does as it says, from the first on.
+fn positions_right(alloc: Global) -> Result<usize, AllocError> {
+    let text = enum_of(alloc, 200)?;
+    for (number, among) in POSITIONS.iter().enumerate() {
+        if is_found(alloc, &text, among.number)? != among.found {
+            return Ok(number);
+        }
+    }
+    Ok(POSITIONS.len())
+}
+
 /// A number among others, and whether a plan finds them.
 struct Among {
     number: &'static [u8],
@@ -868,6 +915,13 @@ fn plans_find_lists_that_are_put_piece_by_piece(rt: HostRuntime) -> Result<(), F
 fn plans_find_longs_of_any_length_at_any_place(rt: HostRuntime) -> Result<(), Fail> {
     let right = arrays_right(rt.alloc())?;
     assert_eq!(rt; right, AMONG.len());
+    Ok(())
+}
+
+#[test]
+fn plans_find_symbols_whose_positions_have_two_bytes(rt: HostRuntime) -> Result<(), Fail> {
+    let right = positions_right(rt.alloc())?;
+    assert_eq!(rt; right, POSITIONS.len());
     Ok(())
 }
 
