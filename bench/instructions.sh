@@ -57,6 +57,45 @@ def short_message():
 
 maybe, sources = ["null", "string"], ["WEB", "MOBILE", "SERVER", "BATCH"]
 address = record("Address", *[(name, "string") for name in ("street", "city", "zip", "country")])
+def tree_message(nodes=500):
+    if not nodes:
+        return b"\0"
+    left = rng.randint(0, nodes - 1)
+    return b"\2" + number(rng.randrange(10**6)) + tree_message(left) + tree_message(nodes - 1 - left)
+
+
+def linked_message():
+    links = [number(rng.randrange(10**6)) + text(word(3, 9)) + bytes([rng.randrange(2)]) for _ in range(500)]
+    return b"\2".join(links) + b"\0"
+
+
+def value_message(deep=4):
+    if not deep:
+        return rng.choice((b"\0", b"\2" + bytes([rng.randrange(2)]), b"\4" + number(rng.randrange(10**6)), b"\6" + text(word(4, 12))))
+    values = [value_message(deep - 1) for _ in range(3)]
+    if deep % 2:
+        return b"\10" + items(values)
+    return b"\12" + items([text(word(3, 9)) + value for value in values])
+
+
+def row():
+    return number(rng.randrange(10**6)) + text(word(3, 9))
+
+
+def rows_message():
+    return items([row() for _ in range(500)])
+
+
+def blocks_message():
+    blocks = [b"".join(row() for _ in range(100)) for _ in range(5)]
+    return b"".join(number(-100) + number(len(block)) + block for block in blocks) + b"\0"
+
+
+def nested_message():
+    inner = lambda: number(rng.randrange(10**6)) + optional(0.5) + optional(0.5) + optional(0.5)
+    return number(rng.randrange(10**6)) + inner() + inner()
+
+
 flat = record("Flat", ("id", "long"), ("name", "string"), ("n", "int"), ("b", "boolean"))
 evolved = record("Flat", ("n", "long"), ("name", "string"), ("region", "string", "eu-west"), ("id", "long"))
 chain = record("LongList", ("value", "long"), ("next", ["null", "LongList"]))
@@ -74,6 +113,16 @@ read = record("Event", ("ts", "long"), ("id", "string"), ("source", {"type": "en
     ("went", "long"), ("came", "long"), ("cached", "boolean"),
     *tail(record("Item", ("sku", "string"), ("currency", "string", "EUR"), ("qty", "long"), ("price", "long"), ("note", maybe))), ("referrer", maybe),
     ("trace", "bytes"), ("retries", "long"))
+node = record("Node", ("value", "long"), ("left", ["null", "Node"]), ("right", ["null", "Node"]))
+with_tree = lambda event, tree: dict(event, fields=event["fields"] + [{"name": "tree", "type": ["null", tree]}])
+linked = record("Linked", ("id", "long"), ("name", "string"), ("ok", "boolean"), ("next", ["null", "Linked"]))
+turned = record("Linked", ("name", "string"), ("id", "long"), ("ok", "boolean"), ("next", ["null", "Linked"]))
+value = record("Value", ("v", ["null", "boolean", "long", "string", {"type": "array", "items": "Value"}, {"type": "map", "values": "Value"}]))
+rows = {"type": "array", "items": record("Row", ("id", "long"), ("name", "string"))}
+symbols = {"type": "enum", "name": "Symbol", "symbols": ["S%d" % i for i in range(250)]}
+inner = record("Inner", ("id", "long"), ("a", maybe), ("b", maybe), ("c", maybe))
+turned_inner = record("Inner", ("c", maybe), ("a", maybe), ("id", "long"), ("b", maybe))
+nested = lambda part: record("Outer", ("id", "long"), ("first", part), ("second", part["name"]))
 WORKLOADS = [
     ("flat record, to itself", flat, flat, flat_message, 10_000),
     ("flat record, evolved", flat, evolved, flat_message, 10_000),
@@ -81,6 +130,16 @@ WORKLOADS = [
     ("event of 20 fields, evolved", written, read, event_message, 3_000),
     ("list of 500 records", chain, chain, list_message, 300),
     ("record of 5 bytes", short, short, short_message, 10_000),
+    ("event of 20 fields, evolved, and a tree that is null", with_tree(written, node), with_tree(read, node), lambda: event_message() + b"\0", 3_000),
+    ("tree of 500 records", node, node, lambda: tree_message()[1:], 300),
+    ("list of 500 records of three fields", linked, linked, linked_message, 300),
+    ("the same, two fields turned", linked, turned, linked_message, 300),
+    ("value as of JSON", value, value, value_message, 300),
+    ("500 records in one block", rows, rows, rows_message, 300),
+    ("500 records in five blocks with sizes", rows, rows, blocks_message, 300),
+    ("symbol at position 10", symbols, symbols, lambda: number(10), 10_000),
+    ("symbol at position 200", symbols, symbols, lambda: number(200), 10_000),
+    ("three unions in each of two records, turned", nested(inner), nested(turned_inner), nested_message, 3_000),
 ]
 
 

@@ -48,7 +48,7 @@ def entries(payloads, folder):
 
 
 def is_nest(name):
-    return bool(re.search(r"machine_plan::reading::", name or ""))
+    return bool(re.search(r"machine_plan::(reader|reading|skimming)::", name or ""))
 
 
 with tempfile.TemporaryDirectory() as folder:
