@@ -5,6 +5,7 @@ use Rattle.avro_types.specs.Datum.{Datum}
 use Rattle.avro_types.specs.Node.{Names}
 use Rattle.avro_schema_defaults.specs.Defaults.{all_defaults, field_default, field_defaults, node_defaults}
 use Rattle.avro_schema_drafts.specs.Draft.{Draft, DraftField, RecordDraft, Whole}
+use Rattle.avro_schema_faults.specs.declared.bad_defaults.FieldPlace.{FieldPlace}
 use Rattle.avro_schema_faults.specs.DefaultPlaces.{HasBadDefault, IsFirstBadDefault, bad_field, first_bad, is_bad, or_later}
 use Rattle.avro_schema_faults.specs.Searching.{is_record}
 
@@ -63,14 +64,14 @@ later-drafts drafts d ds place none before (suc k) e j at bad = let le = before 
 no-more : (n : ℕ) → n ≡ n + 0
 no-more n = omega arith
 
-first-draft : (drafts : List Draft) (node : ℕ) (ds : List Draft) (m i : ℕ) → first_bad drafts node ds ≡ Some (m, i) → IsFirstDraft drafts node ds m i
+first-draft : (drafts : List Draft) (node : ℕ) (ds : List Draft) (m i : ℕ) → first_bad drafts node ds ≡ Some (record { node = m; position = i }) → IsFirstDraft drafts node ds m i
 first-draft drafts node [] m i h = absurd (let no : ⊥ = cc in no)
 first-draft drafts node (d ∷ ds) m i h = go (first-draft drafts (node + 1) ds m i) (bad_field drafts d) refl h where
-  go : (first_bad drafts (node + 1) ds ≡ Some (m, i) → IsFirstDraft drafts (node + 1) ds m i) → (o : Option ℕ) → bad_field drafts d ≡ o → or_later node o (first_bad drafts (node + 1) ds) ≡ Some (m, i) → IsFirstDraft drafts node (d ∷ ds) m i
+  go : (first_bad drafts (node + 1) ds ≡ Some (record { node = m; position = i }) → IsFirstDraft drafts (node + 1) ds m i) → (o : Option ℕ) → bad_field drafts d ≡ o → or_later node o (first_bad drafts (node + 1) ds) ≡ Some (record { node = m; position = i }) → IsFirstDraft drafts node (d ∷ ds) m i
   go rest (Some j) is h =
-      let pair : (node, j) ≡ (m, i) = cc in
-      let first : node ≡ m = ap (λ (p : ℕ × ℕ). p.0) pair in
-      let second : j ≡ i = ap (λ (p : ℕ × ℕ). p.1) pair in
+      let pair : record { node = node; position = j } ≡ record { node = m; position = i } = cc in
+      let first : node ≡ m = ap (λ (p : FieldPlace). p.node) pair in
+      let second : j ≡ i = ap (λ (p : FieldPlace). p.position) pair in
       record { place = 0; is = sym first ∙ no-more node; draft = d; at = refl; bad = is ∙ ap Some second; before = λ k e j at bad. omega arith }
   go rest None is h =
       let r = rest h in
@@ -102,7 +103,7 @@ less-or-same (suc m) (suc n) le = up (less-or-same m n (omega (arith, le))) wher
   up (inl lt) = inl (omega (arith, lt))
   up (inr e) = inr (ap suc e)
 
-pub first-is : (drafts : List Draft) (m i : ℕ) → first_bad drafts 0 drafts ≡ Some (m, i) → IsFirstBadDefault drafts m i
+pub first-is : (drafts : List Draft) (m i : ℕ) → first_bad drafts 0 drafts ≡ Some (record { node = m; position = i }) → IsFirstBadDefault drafts m i
 first-is drafts m i h = record { has = has; first = first } where
   r : IsFirstDraft drafts 0 drafts m i
   r = first-draft drafts 0 drafts m i h
@@ -179,7 +180,7 @@ all-good drafts node (d ∷ ds) h = go (all-good drafts (node + 1) ds) (bad_fiel
   go rest (Some j) is h = absurd (let no : ⊥ = cc in no)
   go rest None is h = let own = node-good drafts d is in let r = rest h in (own.0 ∷ r.0, rw (own.1, r.1) refl)
 
-pub all-bad : (drafts : List Draft) (node : ℕ) (ds : List Draft) (p : ℕ × ℕ) → first_bad drafts node ds ≡ Some p → all_defaults drafts ds ≡ None
+pub all-bad : (drafts : List Draft) (node : ℕ) (ds : List Draft) (p : FieldPlace) → first_bad drafts node ds ≡ Some p → all_defaults drafts ds ≡ None
 all-bad drafts node [] p h = absurd (let no : ⊥ = cc in no)
 all-bad drafts node (d ∷ ds) p h = go (all-bad drafts (node + 1) ds p) (bad_field drafts d) refl h where
   go : (first_bad drafts (node + 1) ds ≡ Some p → all_defaults drafts ds ≡ None) → (o : Option ℕ) → bad_field drafts d ≡ o → or_later node o (first_bad drafts (node + 1) ds) ≡ Some p → all_defaults drafts (d ∷ ds) ≡ None

@@ -21,7 +21,7 @@ module _ {A B : Type 0} (f : A → B) (t : B → Bool) (xs : List A) (i : ℕ) w
   position-end le = rw (drop_of_length-le xs le) refl
 
 module _ (ds : List Draft) (xs : List rust.Draft) (i : ℕ) where
-  pub first-hit : (x : rust.Draft) (j : ℕ) → i < length xs → x ≡ get_or xs i x → bad_field ds (draft_of x) ≡ Some j → first_bad ds i (drafts_of (drop i xs)) ≡ Some (i, j)
+  pub first-hit : (x : rust.Draft) (j : ℕ) → i < length xs → x ≡ get_or xs i x → bad_field ds (draft_of x) ≡ Some j → first_bad ds i (drafts_of (drop i xs)) ≡ Some (record { node = i; position = j })
   first-hit x j lt is bad = rw (rest-is xs i x lt is, bad) refl
 
   pub first-miss : (x : rust.Draft) → i < length xs → x ≡ get_or xs i x → bad_field ds (draft_of x) ≡ None → first_bad ds i (drafts_of (drop i xs)) ≡ first_bad ds (i + 1) (drafts_of (drop (i + 1) xs))

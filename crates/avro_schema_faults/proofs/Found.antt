@@ -38,11 +38,11 @@ walk-failed d e before after nothing ran h =
 walk-gives : (d : Data) (n : ℕ) (ls : List Draft) → run (walk d) null_namespace [] ≡ Ok (n, ls) → walk d null_namespace [] ≡ Ok (n, ls)
 walk-gives d n ls ran = let g = gives-after (walk d) null_namespace [] n ls ran in g.gives ∙ ap (λ (xs : List Draft). Ok (n, xs)) g.all
 
-pub default-failed : (d : Data) (n : ℕ) (ls : List Draft) (m i : ℕ) (before after : Path) → run (walk d) null_namespace [] ≡ Ok (n, ls) → first_bad ls 0 ls ≡ Some (m, i) → before ≡ [] → LeadsToField d m i before after → (declared d ≡ Err BadDefault) × IsPlace d BadDefault after
+pub default-failed : (d : Data) (n : ℕ) (ls : List Draft) (m i : ℕ) (before after : Path) → run (walk d) null_namespace [] ≡ Ok (n, ls) → first_bad ls 0 ls ≡ Some (record { node = m; position = i }) → before ≡ [] → LeadsToField d m i before after → (declared d ≡ Err BadDefault) × IsPlace d BadDefault after
 default-failed d n ls m i before after ran bad nothing leads =
     let first = first-is ls m i bad in
     let gives = walk-gives d n ls ran in
-    let fault = finished-err ls BadDefault (ap (λ (o : Option (List (List (Option Datum)))). ok_or o BadDefault) (all-bad ls 0 ls (m, i) bad)) in
+    let fault = finished-err ls BadDefault (ap (λ (o : Option (List (List (Option Datum)))). ok_or o BadDefault) (all-bad ls 0 ls (record { node = m; position = i }) bad)) in
     let ends = leads ls (n, gives) (first-is_record ls m i first.has) in
     let own = ends.path ++ steps.Fields ∷ steps.At i ∷ [] in
     let is : after ≡ own = ends.is ∙ ap (λ (b : Path). b ++ own) nothing in

@@ -10,6 +10,7 @@ use Rattle.avro_schema_names.specs.Names.{null_namespace}
 use Rattle.avro_schema_names.specs.declared.word.Form.TheVariants as forms
 use Rattle.avro_schema_paths.specs.Places.{Path}
 use Rattle.avro_schema_faults.specs.Faults.{Comes, IsOfForm, schema}
+use Rattle.avro_schema_faults.specs.declared.bad_defaults.FieldPlace.{FieldPlace}
 
 -- the default of the field at a position of the record that is this node is no value of the field's type
 pub record HasBadDefault (drafts : List Draft) (node position : ℕ) : Type 0 where
@@ -44,11 +45,11 @@ abbrev pub bad_field : List Draft → Draft → Option ℕ
 bad_field drafts (Whole node) = None
 bad_field drafts (RecordDraft names fields) = position_from (is_bad drafts) 0 fields
 
-abbrev pub or_later : ℕ → Option ℕ → Option (ℕ × ℕ) → Option (ℕ × ℕ)
-or_later node (Some i) later = Some (node, i)
+abbrev pub or_later : ℕ → Option ℕ → Option FieldPlace → Option FieldPlace
+or_later node (Some i) later = Some (record { node = node; position = i })
 or_later node None later = later
 
 -- the first one of these drafts, which have their numbers from `node` on, and its position
-abbrev pub first_bad : List Draft → ℕ → List Draft → Option (ℕ × ℕ)
+abbrev pub first_bad : List Draft → ℕ → List Draft → Option FieldPlace
 first_bad drafts node [] = None
 first_bad drafts node (d ∷ ds) = or_later node (bad_field drafts d) (first_bad drafts (node + 1) ds)

@@ -10,6 +10,13 @@ use avro_schema_drafts::{Draft, DraftField};
 use avro_schema_names::SchemaError;
 use std::alloc::{AllocError, Global};
 
+/// A field, by its record's number and its position there.
+#[derive(Clone, Copy, Debug)]
+pub(crate) struct FieldPlace {
+    pub(crate) node: usize,
+    pub(crate) position: usize,
+}
+
 /// Returns whether a field has a default that is no value of its type.
 fn is_bad(alloc: Global, drafts: &[Draft], field: &DraftField) -> Result<bool, AllocError>
     requires { HaveFewSymbols (drafts_of drafts.now) }
@@ -51,18 +58,14 @@ fn bad_field(alloc: Global, drafts: &[Draft], draft: &Draft) -> Result<Option<us
     }
 }
 
-/// Returns the first default that is no value of its field's type: the number of its record and its field's position.
-/// `None` where there is none.
-pub(crate) fn first_bad(
-    alloc: Global,
-    drafts: &[Draft],
-) -> Result<Option<(usize, usize)>, AllocError>
+/// Returns the field of the first default that is no value of its field's type. `None` where there is none.
+pub(crate) fn first_bad(alloc: Global, drafts: &[Draft]) -> Result<Option<FieldPlace>, AllocError>
     requires { HaveFewSymbols (drafts_of drafts.now) }
     ensures { IfOk result (λ found. found ≡ first_bad (drafts_of drafts.now) 0 (drafts_of drafts.now)) }
 {
     for (node, draft) in drafts.iter().enumerate() {
         if let Some(position) = bad_field(alloc, drafts, draft)? {
-            return Ok(Some((node, position)));
+            return Ok(Some(FieldPlace { node, position }));
         }
     }
     Ok(None)

@@ -45,8 +45,8 @@ fn check_value(alloc: Global, value: &Value, trail: &mut Vec<Step>) -> Result<()
     walk(alloc, value, &enclosing, &mut drafts, trail)?;
     match first_bad(alloc, drafts.as_slice())? {
         None => Ok(()),
-        Some((node, position)) => {
-            lead_to_field(value, node, position, trail)?;
+        Some(field) => {
+            lead_to_field(value, field.node, field.position, trail)?;
             Err(SchemaError::BadDefault)
         }
     }

@@ -28,4 +28,4 @@ pub returns : goal.returns
 returns c =
     let ran = rw (c.in_ok-enclosing.ensures.text, c.in_ok-drafts.ensures) at c.in_ok-walk.ensures.nodes in
     let bad = rw c.as_slice.ensures at (sym c.in_ok-first_bad.ensures ∙ c.in-Some.is) in
-    λ known. default-failed (view c.args.value.now) _ _ c.in-Some.node c.in-Some.position c.walk.new.trail.items _ ran bad (c.in_ok-walk.ensures.place ∙ c.requires) c.in_ok-lead_to_field-in-Some.ensures
+    λ known. default-failed (view c.args.value.now) _ _ c.in-Some.field.node c.in-Some.field.position c.walk.new.trail.items _ ran bad (c.in_ok-walk.ensures.place ∙ c.requires) c.in_ok-lead_to_field-in-Some.ensures
