@@ -1,8 +1,8 @@
 #!/usr/bin/env bash
 # How often the plan of a program reads a payload: once, whether it finds the output or the rows are taken then. Counted by
 # valgrind's callgrind, as calls from elsewhere into the code that reads what a nest of a plan holds, of payloads that are
-# one such nest: three records that a reader reorders. The gate runs it. It installs Debian's valgrind where that is
-# missing.
+# one such nest: three records that a reader reorders, a tree and a list. The gate runs it. It installs Debian's valgrind
+# where that is missing.
 # Usage: tests/plans.sh [PROGRAM]   (crates/avrogate/out/avrogate if it is left out)
 set -uo pipefail
 here=$(dirname "$(realpath "$0")")
@@ -23,11 +23,19 @@ def items(*fields):
 writer = items(("a", "string"), ("b", ["null", "string"]))
 reader = items(("b", ["null", "string"]), ("a", "string"))
 whole = "06" "0278" "020279" "027a" "00" "0277" "00" "00"
-CASES = [("a payload whose output the plan finds", [whole]), ("one with a byte left over", [whole + "00"]),
-         ("one that is cut", [whole[:-2]]), ("three, of which the second is cut", [whole, whole[:-2], whole])]
+itself = lambda *fields: json.dumps({"type": "record", "name": "R", "fields": [{"name": name, "type": kind} for name, kind in fields]})
+tree = itself(("v", "long"), ("left", ["null", "R"]), ("right", ["null", "R"]))
+linked = itself(("v", "long"), ("s", "string"), ("next", ["null", "R"]))
+turned = itself(("s", "string"), ("v", "long"), ("next", ["null", "R"]))
+# what is read, the writer's and the reader's schema, and the payloads
+CASES = [("a payload whose output the plan finds", writer, reader, [whole]), ("one with a byte left over", writer, reader, [whole + "00"]),
+         ("one that is cut", writer, reader, [whole[:-2]]), ("three, of which the second is cut", writer, reader, [whole, whole[:-2], whole]),
+         ("a tree of 1,000 levels", tree, tree, ["0202" * 999 + "0200" + "00" * 1000]), ("a tree that is cut", tree, tree, ["020200"]),
+         ("a list of 500 records, turned", linked, turned, ["02026102" * 499 + "02026100"]),
+         ("a list that is cut", linked, turned, ["02026102"])]
 
 
-def entries(payloads, folder):
+def entries(writer, reader, payloads, folder):
     """Returns how often the code of nests was called from elsewhere, and what the program wrote."""
     text = "\n".join([writer, reader, *payloads]) + "\n"
     out = f"{folder}/calls"
@@ -52,8 +60,8 @@ def is_nest(name):
 
 
 with tempfile.TemporaryDirectory() as folder:
-    for what, payloads in CASES:
-        count, answers = entries(payloads, folder)
+    for what, writer, reader, payloads in CASES:
+        count, answers = entries(writer, reader, payloads, folder)
         if count == len(payloads) == len(answers):
             passed += 1
         else:
