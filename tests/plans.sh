@@ -31,7 +31,7 @@ turned = itself(("s", "string"), ("v", "long"), ("next", ["null", "R"]))
 CASES = [("a payload whose output the plan finds", writer, reader, [whole]), ("one with a byte left over", writer, reader, [whole + "00"]),
          ("one that is cut", writer, reader, [whole[:-2]]), ("three, of which the second is cut", writer, reader, [whole, whole[:-2], whole]),
          ("a tree of 1,000 levels", tree, tree, ["0202" * 999 + "0200" + "00" * 1000]), ("a tree that is cut", tree, tree, ["020200"]),
-         ("a list of 500 records, turned", linked, turned, ["02026102" * 499 + "02026100"]),
+         ("a list of 100 records, turned", linked, turned, ["02026102" * 99 + "02026100"]),
          ("a list that is cut", linked, turned, ["02026102"])]
 
 

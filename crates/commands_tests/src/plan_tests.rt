@@ -907,7 +907,7 @@ fn plans_find_arrays_of_themselves_of_a_thousand_levels(rt: HostRuntime) -> Resu
 #[test]
 fn plans_find_lists_that_are_put_piece_by_piece(rt: HostRuntime) -> Result<(), Fail> {
     assert!(rt; is_turned(rt.alloc(), 1)?);
-    assert!(rt; is_turned(rt.alloc(), 500)?);
+    assert!(rt; is_turned(rt.alloc(), 120)?);
     Ok(())
 }
 
