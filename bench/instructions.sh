@@ -64,9 +64,9 @@ def tree_message(nodes=500):
     return b"\2" + number(rng.randrange(10**6)) + tree_message(left) + tree_message(nodes - 1 - left)
 
 
-def linked_message():
-    links = [number(rng.randrange(10**6)) + text(word(3, 9)) + bytes([rng.randrange(2)]) for _ in range(500)]
-    return b"\2".join(links) + b"\0"
+def linked_message(links=500):
+    parts = [number(rng.randrange(10**6)) + text(word(3, 9)) + bytes([rng.randrange(2)]) for _ in range(links)]
+    return b"\2".join(parts) + b"\0"
 
 
 def value_message(deep=4):
@@ -133,7 +133,7 @@ WORKLOADS = [
     ("event of 20 fields, evolved, and a tree that is null", with_tree(written, node), with_tree(read, node), lambda: event_message() + b"\0", 3_000),
     ("tree of 500 records", node, node, lambda: tree_message()[1:], 300),
     ("list of 500 records of three fields", linked, linked, linked_message, 300),
-    ("the same, two fields turned", linked, turned, linked_message, 300),
+    ("list of 100 records of three fields, two turned", linked, turned, lambda: linked_message(100), 300),
     ("value as of JSON", value, value, value_message, 300),
     ("500 records in one block", rows, rows, rows_message, 300),
     ("500 records in five blocks with sizes", rows, rows, blocks_message, 300),

@@ -23,8 +23,9 @@
  *    is not rewritten in its own place.
  *  - malloc, realloc and free come from one allocator, which aligns a block to each power of two up to 16 that divides
  *    its size. No call is made from a signal handler, nor in the forked child of a process with threads.
- *  - The stack has room for a call: 256 KiB for avrogate_open and avrogate_can_read, 64 KiB for the others. (Measured
- *    with what nests deepest: no proof speaks of the stack. A thread of musl has 128 KiB unless it is told otherwise.)
+ *  - The stack has room for a call: 256 KiB for avrogate_open and avrogate_can_read, 512 KiB for the others.
+ *    (Measured with what nests deepest: no proof speaks of the stack. A thread of musl has 128 KiB unless it is told
+ *    otherwise.)
  */
 #ifndef AVROGATE_H
 #define AVROGATE_H

@@ -78,7 +78,9 @@ check 'four threads by helgrind' valgrind -q --tool=helgrind --error-exitcode=9 
 build refusals -Wl,--wrap=malloc,--wrap=realloc,--wrap=free
 check 'each allocation refused' "$folder/refusals"
 build deep
-check '64 KiB of stack to transcode' bash -c 'ulimit -s 64; exec "$0" data 999' "$folder/deep"
+for what in one copied turned tree; do
+  check "512 KiB of stack to transcode, $what" bash -c 'ulimit -s 512; exec "$0" "$1" 999' "$folder/deep" $what
+done
 check '256 KiB of stack to open, arrays' bash -c 'ulimit -s 256; exec "$0" schema 127' "$folder/deep"
 check '256 KiB of stack to open, records' bash -c 'ulimit -s 256; exec "$0" names 1022' "$folder/deep"
 

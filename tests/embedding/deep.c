@@ -1,4 +1,6 @@
-/* What nests deepest: `data N` transcodes N records in one another, `schema N` opens and compares N arrays in one
+/* What nests deepest: `one N`, `copied N` and `turned N` transcode a list of N records, of which each holds the next
+ * one: of no other value, of two to themselves, and of two that are turned for the reader; `tree N` a tree of N records
+ * to itself, of which each is the left part of the one before it. `schema N` opens and compares N arrays in one
  * another, and `names N` a record of N records, of which each holds the one before it. Prints the statuses. */
 #include <avrogate.h>
 
@@ -6,23 +8,44 @@
 #include <stdlib.h>
 #include <string.h>
 
-static int data(size_t depth) {
-    static const char list[] =
-        "{\"type\":\"record\",\"name\":\"L\",\"fields\":[{\"name\":\"n\",\"type\":[\"null\",\"L\"]}]}";
-    static const char back[] = "{\"type\":\"record\",\"name\":\"L\",\"fields\":[{\"name\":\"n\",\"type\":[\"L\","
-                               "\"null\"]},{\"name\":\"x\",\"type\":\"int\",\"default\":1}]}";
+static int transcode(const char *writer, const char *reader, const uint8_t *payload, size_t length) {
     avrogate_transcoder t = AVROGATE_TRANSCODER_INIT;
-    uint32_t fault, opened = avrogate_open(&t, list, strlen(list), back, strlen(back), &fault), status;
-    uint8_t *payload = malloc(depth + 1), *room = malloc(2 * depth + 64);
+    uint32_t fault, opened = avrogate_open(&t, writer, strlen(writer), reader, strlen(reader), &fault), status;
+    uint8_t *room = malloc(2 * length + 64);
     avrogate_report report;
-    memset(payload, 2, depth);
-    payload[depth] = 0;
-    status = avrogate_transcode(&t, payload, depth + 1, room, 2 * depth + 64, &report);
+    status = avrogate_transcode(&t, payload, length, room, 2 * length + 64, &report);
     printf("%u %u\n", (unsigned)opened, (unsigned)status);
     avrogate_close(&t);
-    free(payload);
     free(room);
     return opened || status;
+}
+
+#define RECORD(fields) "{\"type\":\"record\",\"name\":\"R\",\"fields\":[" fields "]}"
+#define FIELD(name, type) "{\"name\":\"" name "\",\"type\":" type "}"
+#define MAYBE "[\"null\",\"R\"]"
+
+static const char one[] = RECORD(FIELD("next", MAYBE));
+static const char one_more[] =
+    RECORD(FIELD("next", "[\"R\",\"null\"]") ",{\"name\":\"more\",\"type\":\"int\",\"default\":1}");
+static const char two[] = RECORD(FIELD("a", "\"long\"") "," FIELD("b", "\"string\"") "," FIELD("next", MAYBE));
+static const char two_turned[] = RECORD(FIELD("next", MAYBE) "," FIELD("b", "\"string\"") "," FIELD("a", "\"long\""));
+static const char tree[] = RECORD(FIELD("value", "\"long\"") "," FIELD("left", MAYBE) "," FIELD("right", MAYBE));
+
+/* Transcodes a list of `depth` records, whose values are the bytes at `values`, or a tree where each record has a right
+ * part as well, which is null. */
+static int data(const char *writer, const char *reader, const char *values, size_t depth, bool is_tree) {
+    size_t each = strlen(values), length = 0, at;
+    uint8_t *payload = malloc(depth * (each + 2));
+    int failed;
+    for (at = 0; at < depth; at++) {
+        memcpy(payload + length, values, each);
+        length += each;
+        payload[length++] = at + 1 < depth ? 2 : 0;
+    }
+    for (at = 0; is_tree && at < depth; at++) payload[length++] = 0;
+    failed = transcode(writer, reader, payload, length);
+    free(payload);
+    return failed;
 }
 
 static size_t arrays(char *text, size_t depth) {
@@ -59,8 +82,13 @@ static int schema(size_t (*write)(char *, size_t), size_t depth) {
 }
 
 int main(int argc, char **argv) {
-    size_t depth;
-    if (argc != 3) return 2;
-    depth = (size_t)atol(argv[2]);
-    return !strcmp(argv[1], "data") ? data(depth) : schema(strcmp(argv[1], "names") ? arrays : records, depth);
+    const char *what = argc == 3 ? argv[1] : "";
+    size_t depth = argc == 3 ? (size_t)atol(argv[2]) : 0;
+    if (!strcmp(what, "one")) return data(one, one_more, "", depth, false);
+    if (!strcmp(what, "copied")) return data(two, two, "\2\2a", depth, false);
+    if (!strcmp(what, "turned")) return data(two, two_turned, "\2\2a", depth, false);
+    if (!strcmp(what, "tree")) return data(tree, tree, "\2", depth, true);
+    if (!strcmp(what, "schema")) return schema(arrays, depth);
+    if (!strcmp(what, "names")) return schema(records, depth);
+    return 2;
 }
