@@ -3,7 +3,8 @@
 # long names that differ at their ends, of many defaults, members, aliases that are one or are met often, a record that
 # is met often, and names in one long namespace, each of one size and of twice that size, in one run. And whether a datum
 # costs the same with a schema of twice the size: records of many fields, unions of many members, enums of many symbols,
-# long names, lists of many levels. Not part of the gate.
+# long names, lists of many levels. And `explain` on as many fields and symbols as a schema may have, and fields of a large
+# union, and on half of them. Not part of the gate.
 # Usage: bench/doubling.sh PROGRAM [WORD [instructions]], which takes the rows alone whose names have that word, and
 # counts instructions (by valgrind) in place of time.
 set -euo pipefail
@@ -135,6 +136,12 @@ def symbols_row(many):
     rng, data = random.Random(many), 400_000
     return enum, enum, number(data) + b"".join(number(rng.randrange(64, many)) for _ in range(data)) + b"\0", data
 
+def unions_row(fields):
+    """Fields of one union of 900 records, whose branches are looked for one by one."""
+    first = ",".join('{"type":"record","name":"R%d","fields":[]}' % i for i in range(900))
+    others = ",".join('"R%d"' % i for i in range(900))
+    return whole(['{"name":"f%d","type":[%s]}' % (i, others if i else first) for i in range(fields)]).split("\n")
+
 def name_row(letters):
     name = "n" * letters
     schema = '{"type":"array","items":{"type":"record","name":"%s","fields":[{"name":"%s","type":"long"}]}}' % (name, name)
@@ -188,6 +195,14 @@ if word in "payload in pieces":
     once, twice = least(10, *(pieces(size * k).encode() for k in (1, 2)), verb="run")
     holds = holds and twice / once <= 2.3
     print("payload in pieces of %d and %d bytes: %.1f and %.1f %s, ratio %.2f (2.3 at most)" % (size, size * 2, once, twice, unit, twice / once))
+
+for name, make, many in [("explained fields", fields_row, 500), ("explained symbols", symbols_row, 2000), ("explained unions", unions_row, 15)]:
+    if word not in name:
+        continue
+    pairs = ["".join(line + "\n" for line in make(parts)[:2]).encode() for parts in (many, many * 2)]
+    once, twice = (took - start for took in least(30, *pairs, verb="explain"))
+    holds = holds and twice / once <= 2.3
+    print("%s, %d and %d: %.1f and %.1f %s, ratio %.2f (2.3 at most)" % (name, many, many * 2, once, twice, unit, twice / once))
 
 for name, make, many in [("data of a record by its fields", fields_row, 500), ("data of a union by its members", members_row, 500),
                          ("data of an enum by its symbols", symbols_row, 2000), ("data of a record by the letters of its name", name_row, 50_000),
