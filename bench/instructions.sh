@@ -133,7 +133,7 @@ WORKLOADS = [
     ("event of 20 fields, evolved, and a tree that is null", with_tree(written, node), with_tree(read, node), lambda: event_message() + b"\0", 3_000),
     ("tree of 500 records", node, node, lambda: tree_message()[1:], 300),
     ("list of 500 records of three fields", linked, linked, linked_message, 300),
-    ("list of 100 records of three fields, two turned", linked, turned, lambda: linked_message(100), 300),
+    ("list of 500 records of three fields, two turned", linked, turned, lambda: linked_message(500), 300),
     ("value as of JSON", value, value, value_message, 300),
     ("500 records in one block", rows, rows, rows_message, 300),
     ("500 records in five blocks with sizes", rows, rows, blocks_message, 300),

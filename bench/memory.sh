@@ -1,11 +1,12 @@
 #!/usr/bin/env bash
 # What a message may make the program hold: a reader's default of 200,000 letters, which a payload of a few bytes copies 335
 # times (an answer just within its limit), 336, 2,000 and 524,288 times (as often as units allow), inside of 1, 20 and 60
-# arrays, and where the default's slot is filled after another, through `transcode`, `run` in pieces, and `serve`. At no
+# arrays, in one block each and in blocks with sizes, and where the default's slot is filled after another; and a text of 8
+# MB inside of 1, 8 and 60 arrays in blocks with sizes, through `transcode`, `run` in pieces, and `serve`. At no
 # moment is more than 3 times the limit of an answer held, besides the text that `transcode` and `run` write; each line is as
-# it should be, and what passes the limit is told within five seconds of processor time (0.3 where nothing else runs; the
+# it should be, and what passes the limit, and that text, is told within five seconds of processor time (0.3 where nothing else runs; the
 # whole answer would take minutes). Takes about two minutes; with SHORT=1 in the environment 335, 336 and 524,288 times,
-# inside of 1 and 60 arrays, are tried.
+# inside of 1 and 60 arrays, are tried, and the text inside of 60.
 # Usage: bench/memory.sh PROGRAM
 set -euo pipefail
 here=$(dirname "$(realpath "$0")")
@@ -35,25 +36,50 @@ def inside(depth, items, item):
     return number(1) * (depth - 1) + number(items) + item * items + b"\0" * depth
 
 
+def sized(depth, items, item):
+    """The same in blocks with sizes, two where there are two items or more."""
+    first, last = items // 2, items - items // 2
+    data = b"".join(number(-some) + number(some * len(item)) + item * some for some in (first, last) if some) + b"\0"
+    for _ in range(depth - 1):
+        data = number(-1) + number(len(data)) + data + b"\0"
+    return data
+
+
 class Case:
     """A pair of schemas and a payload, and the answer: its bytes, or None where it is too large."""
 
-    def __init__(self, depth, items, written="", item=b""):
-        self.name = "%d items in %d %s%s" % (items, depth, "array" if depth == 1 else "arrays", ", a field before" if written else "")
+    def __init__(self, depth, items, written="", item=b"", spelled=inside):
+        self.name = "%d items in %d %s%s%s" % (items, depth, "array" if depth == 1 else "arrays", ", a field before" if written else "", ", sizes" if spelled is sized else "")
         self.writer, self.reader = schema(depth, written), schema(depth, ",".join(filter(None, [DEFAULT, written])))
-        self.payload = inside(depth, items, item)
+        self.payload = spelled(depth, items, item)
         one = number(LETTERS) + b"a" * LETTERS + item
         self.answer = inside(depth, items, one) if items * len(one) < LIMIT else None
 
     def line(self):
         return LARGE if self.answer is None else "done " + self.answer.hex()
 
+    def is_timed(self):
+        return self.answer is None
+
+
+class Text(Case):
+    """A text of 8 MB inside of arrays in blocks with sizes, to itself."""
+
+    def __init__(self, depth):
+        self.name = "a text in %d arrays, sizes" % depth
+        self.writer = self.reader = schema(depth, '{"name":"s","type":"string"}')
+        item = number(8_000_000) + b"a" * 8_000_000
+        self.payload, self.answer = sized(depth, 1, item), inside(depth, 1, item)
+
+    def is_timed(self):
+        return True
+
 
 def told(what, case, held, seconds):
     print("%s: %s: %.2f times the limit of an answer, %.2f s" % (what, case.name, held / LIMIT, seconds), flush=True)
     if held > MOST * LIMIT:
         failed.append("%s: %s: memory" % (what, case.name))
-    if case.answer is None and seconds > MOST_SECONDS:
+    if case.is_timed() and seconds > MOST_SECONDS:
         failed.append("%s: %s: time" % (what, case.name))
 
 
@@ -130,6 +156,8 @@ def serve(case):
 # (an item that is a record is two units, and an array in an array one)
 cases = [Case(depth, items) for depth in DEPTHS for items in (*ITEMS, (UNITS - depth + 1) // 2)]
 cases += [Case(1, items, INT, b"\x0a") for items in ITEMS]
+cases += [Case(depth, items, INT, b"\x0a", sized) for depth in DEPTHS for items in ITEMS[:2]]
+cases += [Text(depth) for depth in ((60,) if os.environ.get("SHORT") else (1, 8, 60))]
 for case in cases:
     for ask in (transcode, run, serve):
         ask(case)

@@ -81,6 +81,9 @@ build deep
 for what in one copied turned tree; do
   check "512 KiB of stack to transcode, $what" bash -c 'ulimit -s 512; exec "$0" "$1" 999' "$folder/deep" $what
 done
+for depth in 100 127 128 500; do
+  check "512 KiB of stack to transcode, $depth arrays with sizes" bash -c 'ulimit -s 512; exec "$0" sized "$1"' "$folder/deep" $depth
+done
 check '256 KiB of stack to open, arrays' bash -c 'ulimit -s 256; exec "$0" schema 127' "$folder/deep"
 check '256 KiB of stack to open, records' bash -c 'ulimit -s 256; exec "$0" names 1022' "$folder/deep"
 

@@ -1,8 +1,8 @@
 #!/usr/bin/env bash
-# How often the plan of a program reads a payload: once, whether it finds the output or the rows are taken then. Counted by
-# valgrind's callgrind, as calls from elsewhere into the code that reads what a nest of a plan holds, of payloads that are
-# one such nest: three records that a reader reorders, a tree and a list. The gate runs it. It installs Debian's valgrind
-# where that is missing.
+# How often the plans of a program read a payload: once, whether they find the output or the rows are taken then, and once
+# more where a block is unusual. Counted by valgrind's callgrind, as calls from elsewhere into the code that reads what a
+# nest of a plan holds, of payloads that are one such nest: records that a reader reorders, a tree and a list. The gate runs
+# it. It installs Debian's valgrind where that is missing.
 # Usage: tests/plans.sh [PROGRAM]   (crates/avrogate/out/avrogate if it is left out)
 set -uo pipefail
 here=$(dirname "$(realpath "$0")")
@@ -27,12 +27,19 @@ itself = lambda *fields: json.dumps({"type": "record", "name": "R", "fields": [{
 tree = itself(("v", "long"), ("left", ["null", "R"]), ("right", ["null", "R"]))
 linked = itself(("v", "long"), ("s", "string"), ("next", ["null", "R"]))
 turned = itself(("s", "string"), ("v", "long"), ("next", ["null", "R"]))
-# what is read, the writer's and the reader's schema, and the payloads
+either = lambda kind: json.dumps({"type": "array", "items": [json.loads(itself(("a", "long"), ("b", kind))), "long"]})
+LONGS = '{"type":"array","items":"long"}'
+sized = "03" "10" "0278" "020279" "027a" "00" "02" "0277" "00" "00"
+# what is read, the writer's and the reader's schema, the payloads, and how often each is read where that is not once
 CASES = [("a payload whose output the plan finds", writer, reader, [whole]), ("one with a byte left over", writer, reader, [whole + "00"]),
          ("one that is cut", writer, reader, [whole[:-2]]), ("three, of which the second is cut", writer, reader, [whole, whole[:-2], whole]),
          ("a tree of 1,000 levels", tree, tree, ["0202" * 999 + "0200" + "00" * 1000]), ("a tree that is cut", tree, tree, ["020200"]),
          ("a list of 100 records, turned", linked, turned, ["02026102" * 99 + "02026100"]),
-         ("a list that is cut", linked, turned, ["02026102"])]
+         ("a list that is cut", linked, turned, ["02026102"]),
+         ("a branch beside one that mismatches", either("string"), either("int"), ["04" "0206" "0208" "00"]),
+         ("the branch that mismatches", either("string"), either("int"), ["04" "0206" "00080261" "00"]),
+         ("a block with its size, and one without", writer, reader, [sized], 2), ("a size that is wrong", writer, reader, [sized.replace("0310", "0312")], 2),
+         ("blocks of longs with a size", json.dumps({"type": "array", "items": json.loads(LONGS)}), json.dumps({"type": "array", "items": json.loads(LONGS)}), ["02" "0304020400" "00"], 2)]
 
 
 def entries(writer, reader, payloads, folder):
@@ -60,13 +67,14 @@ def is_nest(name):
 
 
 with tempfile.TemporaryDirectory() as folder:
-    for what, writer, reader, payloads in CASES:
+    for what, writer, reader, payloads, *times in CASES:
         count, answers = entries(writer, reader, payloads, folder)
-        if count == len(payloads) == len(answers):
+        wanted = len(payloads) * (times[0] if times else 1)
+        if count == wanted and len(payloads) == len(answers):
             passed += 1
         else:
             failed += 1
-            print(f"{what}: {count} readings by the plan and {len(answers)} answers, wanted {len(payloads)} of each")
+            print(f"{what}: {count} readings by plans and {len(answers)} answers, wanted {wanted} and {len(payloads)}")
 print(f"{passed} passed, {failed} failed")
 sys.exit(failed > 0)
 PYTHON

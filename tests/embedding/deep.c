@@ -1,6 +1,7 @@
 /* What nests deepest: `one N`, `copied N` and `turned N` transcode a list of N records, of which each holds the next
  * one: of no other value, of two to themselves, and of two that are turned for the reader; `tree N` a tree of N records
- * to itself, of which each is the left part of the one before it. `schema N` opens and compares N arrays in one
+ * to itself, of which each is the left part of the one before it; `sized N` a record of an array of such records, N of
+ * them in one another, each array in a block with its size. `schema N` opens and compares N arrays in one
  * another, and `names N` a record of N records, of which each holds the one before it. Prints the statuses. */
 #include <avrogate.h>
 
@@ -48,6 +49,35 @@ static int data(const char *writer, const char *reader, const char *values, size
     return failed;
 }
 
+static const char held[] = RECORD(FIELD("r", "{\"type\":\"array\",\"items\":\"R\"}"));
+
+/* Writes a number below 2^20, doubled, seven bits a byte, and returns how many bytes it has. */
+static size_t number(uint8_t *to, size_t number) {
+    size_t length = 0, rest = 2 * number;
+    for (; rest > 127; rest >>= 7) to[length++] = (uint8_t)(rest & 127) | 128;
+    to[length++] = (uint8_t)rest;
+    return length;
+}
+
+/* Transcodes `depth` records in one another, each but the last the only item of the array of the one before it, in a
+ * block with its size. */
+static int sized(size_t depth) {
+    size_t *lengths = malloc(depth * sizeof *lengths), length = 0, at;
+    uint8_t *payload = malloc(8 * depth), spelled[8];
+    int failed;
+    lengths[0] = 1;
+    for (at = 1; at < depth; at++) lengths[at] = 2 + number(spelled, lengths[at - 1]) + lengths[at - 1];
+    for (at = depth - 1; at > 0; at--) {
+        payload[length++] = 1;
+        length += number(payload + length, lengths[at - 1]);
+    }
+    for (at = 0; at < depth; at++) payload[length++] = 0;
+    failed = transcode(held, held, payload, length);
+    free(payload);
+    free(lengths);
+    return failed;
+}
+
 static size_t arrays(char *text, size_t depth) {
     size_t length = 0, at;
     for (at = 0; at < depth; at++) length += (size_t)sprintf(text + length, "{\"type\":\"array\",\"items\":");
@@ -88,6 +118,7 @@ int main(int argc, char **argv) {
     if (!strcmp(what, "copied")) return data(two, two, "\2\2a", depth, false);
     if (!strcmp(what, "turned")) return data(two, two_turned, "\2\2a", depth, false);
     if (!strcmp(what, "tree")) return data(tree, tree, "\2", depth, true);
+    if (!strcmp(what, "sized")) return sized(depth);
     if (!strcmp(what, "schema")) return schema(arrays, depth);
     if (!strcmp(what, "names")) return schema(records, depth);
     return 2;

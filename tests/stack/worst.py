@@ -219,6 +219,14 @@ def many_data():
           lambda: transcode(lists, backs, b"\6\2" * (LEVELS - 1) + b"\6\0"))
 
 
+def sized(levels):
+    """Records in one another, each but the last the only item of the array of the one before it, in a block with its size."""
+    data = b"\0"
+    for _ in range(levels - 1):
+        data = b"\1" + number(len(data)) + data + b"\0"
+    return data
+
+
 def deep_data():
     plain = '{"type":"record","name":"R","fields":[{"name":"r","type":["null","R"]}]}'
     listed = '{"type":"record","name":"R","fields":[{"name":"r","type":{"type":"array","items":"R"}}]}'
@@ -231,6 +239,10 @@ def deep_data():
             payload = each * (levels - 1) + b"\0" + end * (levels - 1)
             want = (200, payload) if levels * step <= LEVELS else (422, "malformed TooDeep at %d" % (len(each) * (levels - 1)))
             check("a record in itself by %s, %d levels" % (name, levels * step), want, lambda: transcode(one, two, payload))
+    texts = (padded(listed.replace('"name":"R"', '"name":"R","doc":"%sPAD"' % which, 1)) for which in "wr")
+    one, two = (register("sized", one) for one in texts)
+    for levels in 20, 100, LEVELS // 2:
+        check("a record in itself by an array with its size, %d levels" % (2 * levels), (200, b"\2" * (levels - 1) + b"\0" * levels), lambda: transcode(one, two, sized(levels)))
     endless = register("endless", '{"type":"record","name":"R","fields":[{"name":"r","type":"R"}]}')
     check("a record in itself", (422, "malformed TooDeep at 0"), lambda: transcode(endless, endless, b""))
 

@@ -15,6 +15,10 @@ mod limit_tests;
 #[cfg(test)]
 mod pair_tests;
 #[cfg(test)]
+mod plan_rows;
+#[cfg(test)]
+mod plan_schemas;
+#[cfg(test)]
 mod plan_tests;
 #[cfg(test)]
 mod replay_tests;

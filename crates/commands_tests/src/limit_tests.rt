@@ -1,7 +1,9 @@
 //! Plans at the limit of an output, and runs that go by their plans whatever their payload's length.
 
 use crate::again::pushed;
-use crate::plan_tests::{EVOLVED, Planned, RECORD, ROWS, letters, planned_program, rows_alone};
+use crate::plan_rows::{Planned, ROWS};
+use crate::plan_schemas::{EVOLVED, RECORD};
+use crate::plan_tests::{letters, planned_program, rows_alone};
 use machine::Run;
 use machine_plan::{PlannedProgram, Scratch};
 use outcome::MOST_OUTPUT;

@@ -1,549 +1,19 @@
 //! Plans of programs, and what they find of payloads: that they find anything is in no contract.
 
 use crate::again::{compiled, pair_of, pushed};
+use crate::plan_rows::{Planned, ROWS, Row};
+use crate::plan_schemas::{
+    EVOLVED, HELD, LIST, LIST_OF_PAIRS, LONGS, RECORD, STRING_ALONE, TREE, TURNED_LIST_OF_PAIRS,
+    VALUE,
+};
 use crate::run_tests::NOWHERE;
+use avro_bytes::put_long;
 use machine::Run;
 use machine_plan::{PlannedProgram, Scratch};
 use outcome::MOST_OUTPUT;
 use std::alloc::{AllocError, Global};
+use std::mem;
 use std::test::Fail;
-
-/// What comes of the plan of a program, on a payload.
-#[derive(Clone, Copy, Debug, PartialEq, Eq)]
-pub(crate) enum Planned {
-    /// The program has none.
-    NoPlan,
-    /// The plan finds nothing.
-    Nothing,
-    /// It finds this output.
-    Output(&'static [u8]),
-}
-
-/// A writer's and a reader's schema, a payload, and what comes of the plan.
-pub(crate) struct Row {
-    pub(crate) writer: &'static str,
-    pub(crate) reader: &'static str,
-    pub(crate) payload: &'static [u8],
-    pub(crate) planned: Planned,
-}
-
-/// A record of a long and a string.
-pub(crate) const RECORD: &str =
-    r#"{"type":"record","name":"T","fields":[{"name":"a","type":"long"},{"name":"b","type":"string"}]}"#;
-
-/// The same with its fields the other way round, and an int by default between them.
-pub(crate) const EVOLVED: &str =
-    r#"{"type":"record","name":"T","fields":[{"name":"b","type":"string"},
-{"name":"d","type":"int","default":7},{"name":"a","type":"long"}]}"#;
-
-/// Its string alone.
-const STRING_ALONE: &str =
-    r#"{"type":"record","name":"T","fields":[{"name":"b","type":"string"}]}"#;
-
-/// Longs.
-const LONGS: &str = r#"{"type":"array","items":"long"}"#;
-
-/// A string, or null.
-const OPTIONAL: &str = r#"["null","string"]"#;
-
-/// A boolean, a string or null.
-const ONE_OF_THREE: &str = r#"["null","boolean","string"]"#;
-
-/// One of three symbols.
-const ENUM: &str = r#"{"type":"enum","name":"E","symbols":["A","B","C"]}"#;
-
-/// The same symbols, the other way round.
-const RENUMBERED: &str = r#"{"type":"enum","name":"E","symbols":["C","B","A"]}"#;
-
-/// The first two of them.
-const FEWER: &str = r#"{"type":"enum","name":"E","symbols":["A","B"]}"#;
-
-/// The last two of them, the other way round.
-const LAST_TURNED: &str = r#"{"type":"enum","name":"E","symbols":["C","B"]}"#;
-
-/// Records.
-const RECORDS: &str = r#"{"type":"array","items":
-{"type":"record","name":"T","fields":[{"name":"a","type":"long"}]}}"#;
-
-/// Records of a long and a string.
-const PAIRS: &str = r#"{"type":"array","items":
-{"type":"record","name":"T","fields":[{"name":"a","type":"long"},{"name":"b","type":"string"}]}}"#;
-
-/// The same with their fields the other way round, and an int by default between them.
-const EVOLVED_PAIRS: &str = r#"{"type":"array","items":
-{"type":"record","name":"T","fields":[{"name":"b","type":"string"},
-{"name":"d","type":"int","default":7},{"name":"a","type":"long"}]}}"#;
-
-/// Maps of longs.
-const MAPS: &str = r#"{"type":"array","items":{"type":"map","values":"long"}}"#;
-
-/// Arrays of arrays of records.
-const DEEP: &str = r#"{"type":"array","items":{"type":"array","items":
-{"type":"record","name":"T","fields":[{"name":"a","type":"long"}]}}}"#;
-
-/// A string.
-const STRING: &str = r#""string""#;
-
-/// A string, or null, the other way round.
-const TURNED: &str = r#"["string","null"]"#;
-
-/// A record of a long and a string with others around them.
-const WIDE: &str = r#"{"type":"record","name":"T","fields":[{"name":"u","type":["null","string"]},
-{"name":"a","type":"long"},{"name":"l","type":{"type":"array","items":
-{"type":"record","name":"I","fields":[{"name":"i","type":"long"}]}}},
-{"name":"r","type":{"type":"record","name":"R","fields":[{"name":"n","type":"int"},{"name":"s","type":"string"}]}},
-{"name":"b","type":"string"},{"name":"m","type":{"type":"map","values":"long"}}]}"#;
-
-/// Records of a long and a string, or nulls.
-const OPTIONAL_PAIRS: &str = r#"{"type":"array","items":["null",
-{"type":"record","name":"T","fields":[{"name":"a","type":"long"},{"name":"b","type":"string"}]}]}"#;
-
-/// The same with their fields the other way round.
-const EVOLVED_OPTIONAL_PAIRS: &str = r#"{"type":"array","items":["null",
-{"type":"record","name":"T","fields":[{"name":"b","type":"string"},{"name":"a","type":"long"}]}]}"#;
-
-/// Records of a long and of longs.
-const ROWS_OF_LONGS: &str = r#"{"type":"array","items":{"type":"record","name":"T","fields":[
-{"name":"a","type":"long"},{"name":"c","type":{"type":"array","items":"long"}}]}}"#;
-
-/// The same with their fields the other way round.
-const TURNED_ROWS_OF_LONGS: &str = r#"{"type":"array","items":{"type":"record","name":"T","fields":[
-{"name":"c","type":{"type":"array","items":"long"}},{"name":"a","type":"long"}]}}"#;
-
-/// A tree of longs.
-const TREE: &str = r#"{"type":"record","name":"N","fields":[{"name":"value","type":"long"},
-{"name":"left","type":["null","N"]},{"name":"right","type":["null","N"]}]}"#;
-
-/// A list of longs.
-const LIST: &str = r#"{"type":"record","name":"L","fields":[{"name":"value","type":"long"},
-{"name":"next","type":["null","L"]}]}"#;
-
-/// A list of longs and strings.
-const LIST_OF_PAIRS: &str = r#"{"type":"record","name":"L","fields":[{"name":"a","type":"long"},
-{"name":"b","type":"string"},{"name":"next","type":["null","L"]}]}"#;
-
-/// The same with its strings first.
-const TURNED_LIST_OF_PAIRS: &str =
-    r#"{"type":"record","name":"L","fields":[{"name":"b","type":"string"},
-{"name":"a","type":"long"},{"name":"next","type":["null","L"]}]}"#;
-
-/// The same with what follows first.
-const LIST_FROM_ITS_END: &str =
-    r#"{"type":"record","name":"L","fields":[{"name":"next","type":["null","L"]},
-{"name":"a","type":"long"},{"name":"b","type":"string"}]}"#;
-
-/// A long, a tree of longs or null, and a boolean.
-const WITH_TREE: &str = r#"{"type":"record","name":"T","fields":[{"name":"a","type":"long"},
-{"name":"tree","type":["null",{"type":"record","name":"N","fields":[{"name":"value","type":"long"},
-{"name":"left","type":["null","N"]},{"name":"right","type":["null","N"]}]}]},{"name":"b","type":"boolean"}]}"#;
-
-/// The same without the tree.
-const WITHOUT_TREE: &str = r#"{"type":"record","name":"T","fields":[{"name":"a","type":"long"},
-{"name":"b","type":"boolean"}]}"#;
-
-/// A value as JSON has them: a null, a boolean, a number, a text, some values, or values by keys.
-const VALUE: &str =
-    r#"{"type":"record","name":"V","fields":[{"name":"v","type":["null","boolean","long","string",
-{"type":"array","items":"V"},{"type":"map","values":"V"}]}]}"#;
-
-/// Records of two types in turn.
-const MUTUAL: &str =
-    r#"{"type":"record","name":"A","fields":[{"name":"a","type":"long"},{"name":"b","type":["null",
-{"type":"record","name":"B","fields":[{"name":"b","type":"boolean"},{"name":"a","type":["null","A"]}]}]}]}"#;
-
-/// Strings by keys.
-const MAP: &str = r#"{"type":"map","values":"string"}"#;
-
-pub(crate) const ROWS: &[Row] = &[
-    Row {
-        writer: RECORD,
-        reader: RECORD,
-        payload: &[0x36, 0x06, 0x66, 0x6f, 0x6f],
-        planned: Planned::Output(&[0x36, 0x06, 0x66, 0x6f, 0x6f]),
-    },
-    Row {
-        writer: RECORD,
-        reader: EVOLVED,
-        payload: &[0x36, 0x06, 0x66, 0x6f, 0x6f],
-        planned: Planned::Output(&[0x06, 0x66, 0x6f, 0x6f, 0x0e, 0x36]),
-    },
-    Row {
-        writer: RECORD,
-        reader: STRING_ALONE,
-        payload: &[0x36, 0x06, 0x66, 0x6f, 0x6f],
-        planned: Planned::Output(&[0x06, 0x66, 0x6f, 0x6f]),
-    },
-    // (27 in two bytes)
-    Row {
-        writer: RECORD,
-        reader: RECORD,
-        payload: &[0xb6, 0x00, 0x06, 0x66, 0x6f, 0x6f],
-        planned: Planned::Nothing,
-    },
-    Row {
-        writer: RECORD,
-        reader: EVOLVED,
-        payload: &[0x36, 0x06, 0x66],
-        planned: Planned::Nothing,
-    },
-    Row {
-        writer: RECORD,
-        reader: EVOLVED,
-        payload: &[0x36, 0x06, 0x66, 0x6f, 0x6f, 0x00],
-        planned: Planned::Nothing,
-    },
-    Row {
-        writer: RECORD,
-        reader: RECORD,
-        payload: &[0x36, 0x06, 0x66, 0x6f, 0xff],
-        planned: Planned::Nothing,
-    },
-    Row {
-        writer: LONGS,
-        reader: LONGS,
-        payload: &[0x04, 0x02, 0x80, 0x01, 0x00],
-        planned: Planned::Output(&[0x04, 0x02, 0x80, 0x01, 0x00]),
-    },
-    Row {
-        writer: LONGS,
-        reader: LONGS,
-        payload: &[0x00],
-        planned: Planned::Output(&[0x00]),
-    },
-    // (a block with its size, and two blocks)
-    Row {
-        writer: LONGS,
-        reader: LONGS,
-        payload: &[0x03, 0x04, 0x02, 0x04, 0x00],
-        planned: Planned::Nothing,
-    },
-    Row {
-        writer: LONGS,
-        reader: LONGS,
-        payload: &[0x02, 0x02, 0x02, 0x04, 0x00],
-        planned: Planned::Nothing,
-    },
-    Row {
-        writer: OPTIONAL,
-        reader: OPTIONAL,
-        payload: &[0x00],
-        planned: Planned::Output(&[0x00]),
-    },
-    Row {
-        writer: OPTIONAL,
-        reader: OPTIONAL,
-        payload: &[0x02, 0x02, 0x61],
-        planned: Planned::Output(&[0x02, 0x02, 0x61]),
-    },
-    Row {
-        writer: OPTIONAL,
-        reader: OPTIONAL,
-        payload: &[0x04],
-        planned: Planned::Nothing,
-    },
-    Row {
-        writer: ONE_OF_THREE,
-        reader: ONE_OF_THREE,
-        payload: &[0x00],
-        planned: Planned::Output(&[0x00]),
-    },
-    Row {
-        writer: ONE_OF_THREE,
-        reader: ONE_OF_THREE,
-        payload: &[0x04, 0x02, 0x61],
-        planned: Planned::Output(&[0x04, 0x02, 0x61]),
-    },
-    Row {
-        writer: ONE_OF_THREE,
-        reader: ONE_OF_THREE,
-        payload: &[0x06],
-        planned: Planned::Nothing,
-    },
-    Row {
-        writer: OPTIONAL,
-        reader: TURNED,
-        payload: &[0x02, 0x02, 0x61],
-        planned: Planned::Output(&[0x00, 0x02, 0x61]),
-    },
-    // (null, which the reader has not)
-    Row {
-        writer: OPTIONAL,
-        reader: STRING,
-        payload: &[0x02, 0x02, 0x61],
-        planned: Planned::Output(&[0x02, 0x61]),
-    },
-    Row {
-        writer: OPTIONAL,
-        reader: STRING,
-        payload: &[0x00],
-        planned: Planned::Nothing,
-    },
-    Row {
-        writer: STRING,
-        reader: OPTIONAL,
-        payload: &[0x02, 0x61],
-        planned: Planned::Output(&[0x02, 0x02, 0x61]),
-    },
-    Row {
-        writer: OPTIONAL_PAIRS,
-        reader: EVOLVED_OPTIONAL_PAIRS,
-        payload: &[
-            0x06, 0x02, 0x36, 0x02, 0x61, 0x00, 0x02, 0x02, 0x02, 0x62, 0x00,
-        ],
-        planned: Planned::Output(&[
-            0x06, 0x02, 0x02, 0x61, 0x36, 0x00, 0x02, 0x02, 0x62, 0x02, 0x00,
-        ]),
-    },
-    // (a union in the second item that has no third branch)
-    Row {
-        writer: OPTIONAL_PAIRS,
-        reader: EVOLVED_OPTIONAL_PAIRS,
-        payload: &[0x04, 0x00, 0x04, 0x36, 0x02, 0x61, 0x00],
-        planned: Planned::Nothing,
-    },
-    // (a union, an array of records, a record and a map, which the reader has not, around a long and a string)
-    Row {
-        writer: WIDE,
-        reader: RECORD,
-        payload: &[
-            0x02, 0x02, 0x61, 0x36, 0x02, 0x08, 0x00, 0x0a, 0x02, 0x62, 0x06, 0x66, 0x6f, 0x6f,
-            0x02, 0x02, 0x6b, 0x0c, 0x00,
-        ],
-        planned: Planned::Output(&[0x36, 0x06, 0x66, 0x6f, 0x6f]),
-    },
-    Row {
-        writer: WIDE,
-        reader: RECORD,
-        payload: &[
-            0x00, 0x36, 0x00, 0x0a, 0x02, 0x62, 0x06, 0x66, 0x6f, 0x6f, 0x00,
-        ],
-        planned: Planned::Output(&[0x36, 0x06, 0x66, 0x6f, 0x6f]),
-    },
-    // (a text in the skipped record that is none)
-    Row {
-        writer: WIDE,
-        reader: RECORD,
-        payload: &[
-            0x00, 0x36, 0x00, 0x0a, 0x02, 0xff, 0x06, 0x66, 0x6f, 0x6f, 0x00,
-        ],
-        planned: Planned::Nothing,
-    },
-    Row {
-        writer: TREE,
-        reader: TREE,
-        payload: &[0x02, 0x00, 0x00],
-        planned: Planned::Output(&[0x02, 0x00, 0x00]),
-    },
-    Row {
-        writer: TREE,
-        reader: TREE,
-        payload: &[0x02, 0x02, 0x04, 0x00, 0x00, 0x02, 0x06, 0x00, 0x00],
-        planned: Planned::Output(&[0x02, 0x02, 0x04, 0x00, 0x00, 0x02, 0x06, 0x00, 0x00]),
-    },
-    // (a branch that the union lacks, and a tree that is cut)
-    Row {
-        writer: TREE,
-        reader: TREE,
-        payload: &[0x02, 0x04, 0x00],
-        planned: Planned::Nothing,
-    },
-    Row {
-        writer: TREE,
-        reader: TREE,
-        payload: &[0x02, 0x02, 0x04, 0x00],
-        planned: Planned::Nothing,
-    },
-    Row {
-        writer: WITH_TREE,
-        reader: WITH_TREE,
-        payload: &[0x36, 0x00, 0x01],
-        planned: Planned::Output(&[0x36, 0x00, 0x01]),
-    },
-    Row {
-        writer: LIST_OF_PAIRS,
-        reader: TURNED_LIST_OF_PAIRS,
-        payload: &[0x02, 0x02, 0x61, 0x02, 0x04, 0x00, 0x00],
-        planned: Planned::Output(&[0x02, 0x61, 0x02, 0x02, 0x00, 0x04, 0x00]),
-    },
-    // (what is read last is put first)
-    Row {
-        writer: LIST_OF_PAIRS,
-        reader: LIST_FROM_ITS_END,
-        payload: &[0x02, 0x02, 0x61, 0x02, 0x04, 0x00, 0x00],
-        planned: Planned::Output(&[0x02, 0x00, 0x04, 0x00, 0x02, 0x02, 0x61]),
-    },
-    Row {
-        writer: VALUE,
-        reader: VALUE,
-        payload: &[
-            0x08, 0x04, 0x04, 0x0a, 0x0a, 0x02, 0x02, 0x6b, 0x00, 0x00, 0x00,
-        ],
-        planned: Planned::Output(&[
-            0x08, 0x04, 0x04, 0x0a, 0x0a, 0x02, 0x02, 0x6b, 0x00, 0x00, 0x00,
-        ]),
-    },
-    // (a list that a reader lets go of)
-    Row {
-        writer: WITH_TREE,
-        reader: WITHOUT_TREE,
-        payload: &[0x36, 0x02, 0x02, 0x02, 0x04, 0x00, 0x00, 0x00, 0x01],
-        planned: Planned::Output(&[0x36, 0x01]),
-    },
-    Row {
-        writer: MUTUAL,
-        reader: MUTUAL,
-        payload: &[0x02, 0x02, 0x01, 0x02, 0x04, 0x00],
-        planned: Planned::Output(&[0x02, 0x02, 0x01, 0x02, 0x04, 0x00]),
-    },
-    Row {
-        writer: ENUM,
-        reader: ENUM,
-        payload: &[0x04],
-        planned: Planned::Output(&[0x04]),
-    },
-    Row {
-        writer: ENUM,
-        reader: ENUM,
-        payload: &[0x06],
-        planned: Planned::Nothing,
-    },
-    Row {
-        writer: ENUM,
-        reader: RENUMBERED,
-        payload: &[0x04],
-        planned: Planned::Output(&[0x00]),
-    },
-    Row {
-        writer: ENUM,
-        reader: FEWER,
-        payload: &[0x02],
-        planned: Planned::Output(&[0x02]),
-    },
-    // (a symbol that the reader lacks)
-    Row {
-        writer: ENUM,
-        reader: FEWER,
-        payload: &[0x04],
-        planned: Planned::Nothing,
-    },
-    Row {
-        writer: ENUM,
-        reader: LAST_TURNED,
-        payload: &[0x02],
-        planned: Planned::NoPlan,
-    },
-    Row {
-        writer: MAP,
-        reader: MAP,
-        payload: &[0x02, 0x02, 0x61, 0x02, 0x62, 0x00],
-        planned: Planned::Output(&[0x02, 0x02, 0x61, 0x02, 0x62, 0x00]),
-    },
-    Row {
-        writer: MAP,
-        reader: MAP,
-        payload: &[0x02, 0x02, 0x61, 0x02, 0xff, 0x00],
-        planned: Planned::Nothing,
-    },
-    Row {
-        writer: RECORDS,
-        reader: RECORDS,
-        payload: &[0x00],
-        planned: Planned::Output(&[0x00]),
-    },
-    Row {
-        writer: RECORDS,
-        reader: RECORDS,
-        payload: &[0x04, 0x02, 0x04, 0x00],
-        planned: Planned::Output(&[0x04, 0x02, 0x04, 0x00]),
-    },
-    Row {
-        writer: PAIRS,
-        reader: EVOLVED_PAIRS,
-        payload: &[0x04, 0x36, 0x06, 0x66, 0x6f, 0x6f, 0x02, 0x02, 0x61, 0x00],
-        planned: Planned::Output(&[
-            0x04, 0x06, 0x66, 0x6f, 0x6f, 0x0e, 0x36, 0x02, 0x61, 0x0e, 0x02, 0x00,
-        ]),
-    },
-    Row {
-        writer: PAIRS,
-        reader: EVOLVED_PAIRS,
-        payload: &[0x00],
-        planned: Planned::Output(&[0x00]),
-    },
-    // (two blocks, an item that is cut, and a byte that is left)
-    Row {
-        writer: PAIRS,
-        reader: EVOLVED_PAIRS,
-        payload: &[0x02, 0x02, 0x02, 0x61, 0x02, 0x02, 0x02, 0x61, 0x00],
-        planned: Planned::Nothing,
-    },
-    Row {
-        writer: PAIRS,
-        reader: EVOLVED_PAIRS,
-        payload: &[0x04, 0x36, 0x06, 0x66, 0x6f, 0x6f, 0x02, 0x04, 0x61],
-        planned: Planned::Nothing,
-    },
-    Row {
-        writer: PAIRS,
-        reader: EVOLVED_PAIRS,
-        payload: &[0x02, 0x02, 0x02, 0x61, 0x00, 0x00],
-        planned: Planned::Nothing,
-    },
-    Row {
-        writer: MAPS,
-        reader: MAPS,
-        payload: &[0x04, 0x02, 0x02, 0x61, 0x06, 0x00, 0x00, 0x00],
-        planned: Planned::Output(&[0x04, 0x02, 0x02, 0x61, 0x06, 0x00, 0x00, 0x00]),
-    },
-    Row {
-        writer: DEEP,
-        reader: DEEP,
-        payload: &[0x00],
-        planned: Planned::Output(&[0x00]),
-    },
-    Row {
-        writer: DEEP,
-        reader: DEEP,
-        payload: &[0x04, 0x02, 0x06, 0x00, 0x00, 0x00],
-        planned: Planned::Output(&[0x04, 0x02, 0x06, 0x00, 0x00, 0x00]),
-    },
-    Row {
-        writer: DEEP,
-        reader: DEEP,
-        payload: &[0x04, 0x02, 0x06, 0x00, 0x00],
-        planned: Planned::Nothing,
-    },
-    Row {
-        writer: ROWS_OF_LONGS,
-        reader: TURNED_ROWS_OF_LONGS,
-        payload: &[0x04, 0x06, 0x04, 0x08, 0x0a, 0x00, 0x02, 0x00, 0x00],
-        planned: Planned::Output(&[0x04, 0x04, 0x08, 0x0a, 0x00, 0x06, 0x00, 0x02, 0x00]),
-    },
-    Row {
-        writer: LIST,
-        reader: LIST,
-        payload: &[0x02, 0x02, 0x04, 0x02, 0x80, 0x01, 0x00],
-        planned: Planned::Output(&[0x02, 0x02, 0x04, 0x02, 0x80, 0x01, 0x00]),
-    },
-    Row {
-        writer: LIST,
-        reader: LIST,
-        payload: &[0x02, 0x02, 0x04, 0x04],
-        planned: Planned::Nothing,
-    },
-    Row {
-        writer: LIST_OF_PAIRS,
-        reader: LIST_OF_PAIRS,
-        payload: &[0x02, 0x02, 0x61, 0x02, 0x04, 0x00, 0x00],
-        planned: Planned::Output(&[0x02, 0x02, 0x61, 0x02, 0x04, 0x00, 0x00]),
-    },
-    Row {
-        writer: RECORD,
-        reader: LONGS,
-        payload: &[0x00],
-        planned: Planned::NoPlan,
-    },
-];
 
 /// The program of the schemas of two texts, with its plan.
 pub(crate) fn planned_program(
@@ -626,6 +96,35 @@ fn is_turned(alloc: Global, records: usize) -> Result<bool, AllocError> {
     Ok(found && output == wanted)
 }
 
+/// Records in one another, so many deep, each but the last the only item of the array of the one before it, in a block with
+/// its size, and the last with a text.
+fn sized_of(alloc: Global, deep: usize, text: &[u8]) -> Result<Vec<u8>, AllocError> {
+    let mut payload = Vec::new(alloc);
+    payload.extend_from_slice(text)?;
+    payload.push(0x00)?;
+    for _ in 1..deep {
+        let inner = mem::replace(&mut payload, Vec::new(alloc));
+        payload.extend_from_slice(&[0x00, 0x01])?;
+        put_long(&mut payload, inner.len() as i64)?;
+        payload.extend_from_slice(&inner)?;
+        payload.push(0x00)?;
+    }
+    Ok(payload)
+}
+
+/// Whether the plan that walks finds records that are so many deep, whose last has a text of 8,000 letters.
+fn is_walked(alloc: Global, deep: usize) -> Result<bool, AllocError> {
+    let Some(text) = letters(alloc, 8_000)? else {
+        return Ok(false);
+    };
+    let program = planned_program(alloc, HELD, HELD)?;
+    let payload = sized_of(alloc, deep, &text)?;
+    let (mut scratch, mut output) = (Scratch::new(alloc), Vec::new(alloc));
+    let found = program.finds_output(&payload, &mut scratch, &mut output, MOST_OUTPUT);
+    // (the sizes of all but the last take two bytes or three, and are not put)
+    Ok(found && output.len() < payload.len() && output.len() == 8_002 + 1 + 3 * (deep - 1))
+}
+
 /// Whether the plan of a schema to itself finds a payload.
 fn is_found(alloc: Global, schema: &str, payload: &[u8]) -> Result<bool, AllocError> {
     let program = planned_program(alloc, schema, schema)?;
@@ -646,6 +145,31 @@ fn enum_of(alloc: Global, symbols: usize) -> Result<String, AllocError> {
     }
     text.push_str("]}")?;
     Ok(text)
+}
+
+/// A union of so many fixed types of one byte, from the first on or from the last.
+fn union_of(alloc: Global, members: usize, is_turned: bool) -> Result<String, AllocError> {
+    let mut text = String::from_str(alloc, "[")?;
+    for i in 0..members {
+        let name = if is_turned { members - 1 - i } else { i };
+        let comma = if i > 0 { "," } else { "" };
+        let member = format!(in alloc;
+            "{comma}{{\"type\":\"fixed\",\"name\":\"F{name}\",\"size\":1}}"
+        )?;
+        text.push_str(&member)?;
+    }
+    text.push_str("]")?;
+    Ok(text)
+}
+
+/// Whether the plan of unions of 70 members finds one at a position, and puts it at that of the same member for a reader
+/// that has them the other way round.
+fn is_moved(alloc: Global, payload: &[u8], turned: &[u8]) -> Result<bool, AllocError> {
+    let (writer, reader) = (union_of(alloc, 70, false)?, union_of(alloc, 70, true)?);
+    let program = planned_program(alloc, writer.as_str(), reader.as_str())?;
+    let (mut scratch, mut output) = (Scratch::new(alloc), Vec::new(alloc));
+    let found = program.finds_output(payload, &mut scratch, &mut output, MOST_OUTPUT);
+    Ok(found && output.as_slice() == turned && is_found(alloc, writer.as_str(), payload)?)
 }
 
 /// Positions among 200 symbols, and whether a plan finds them: the first of two bytes, the last, one that no symbol has,
@@ -907,7 +431,16 @@ fn plans_find_arrays_of_themselves_of_a_thousand_levels(rt: HostRuntime) -> Resu
 #[test]
 fn plans_find_lists_that_are_put_piece_by_piece(rt: HostRuntime) -> Result<(), Fail> {
     assert!(rt; is_turned(rt.alloc(), 1)?);
-    assert!(rt; is_turned(rt.alloc(), 120)?);
+    assert!(rt; is_turned(rt.alloc(), 500)?);
+    Ok(())
+}
+
+#[test]
+fn plans_walk_over_blocks_in_one_another_a_few_times(rt: HostRuntime) -> Result<(), Fail> {
+    assert!(rt; is_walked(rt.alloc(), 2)?);
+    assert!(rt; is_walked(rt.alloc(), 50)?);
+    // (the text would be put aside more often than rows take to put it)
+    assert!(rt; !is_walked(rt.alloc(), 120)?);
     Ok(())
 }
 
@@ -922,6 +455,19 @@ fn plans_find_longs_of_any_length_at_any_place(rt: HostRuntime) -> Result<(), Fa
 fn plans_find_symbols_whose_positions_have_two_bytes(rt: HostRuntime) -> Result<(), Fail> {
     let right = positions_right(rt.alloc())?;
     assert_eq!(rt; right, POSITIONS.len());
+    Ok(())
+}
+
+#[test]
+fn plans_find_branches_whose_positions_have_two_bytes(rt: HostRuntime) -> Result<(), Fail> {
+    // (the members 63, 64 and 69, which the reader has at 6, 5 and 0, and the member 0 at 69)
+    assert!(rt; is_moved(rt.alloc(), &[0x7e, 0x61], &[0x0c, 0x61])?);
+    assert!(rt; is_moved(rt.alloc(), &[0x80, 0x01, 0x61], &[0x0a, 0x61])?);
+    assert!(rt; is_moved(rt.alloc(), &[0x8a, 0x01, 0x61], &[0x00, 0x61])?);
+    assert!(rt; is_moved(rt.alloc(), &[0x00, 0x61], &[0x8a, 0x01, 0x61])?);
+    // (a position that is spelled longer than it need be, and one that no member has)
+    assert!(rt; !is_moved(rt.alloc(), &[0x80, 0x00, 0x61], &[0x8a, 0x01, 0x61])?);
+    assert!(rt; !is_moved(rt.alloc(), &[0x8c, 0x01, 0x61], &[0x00, 0x61])?);
     Ok(())
 }
 

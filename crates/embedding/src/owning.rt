@@ -107,7 +107,7 @@ impl OwningTranscoder {
         pair.reader().same_text_has_same_nodes(reader); // law
         Ok(OwningTranscoder {
             pair,
-            room: TranscodingRoom::new(alloc),
+            room: TranscodingRoom::for_small_stack(alloc),
             outcome: Outcome::Done(Vec::new(alloc)),
         })
     }

@@ -105,6 +105,14 @@ impl Machine {
         self.foresight.shrink_to(bytes);
     }
 
+    /// Has plans read at most `most` nests that are put piece by piece inside of one another: each takes about 1 KiB of
+    /// stack. What nests deeper goes by rows, which take none.
+    pub fn limit_nests(&mut self, most: usize)
+        ensures { self.new ≡ self.old }
+    {
+        self.foresight.limit_nests(most);
+    }
+
     /// The address of the next instruction.
     pub fn pc(&self) -> usize
         ensures { result ≡ self.now.state.pc }
