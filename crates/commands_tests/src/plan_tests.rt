@@ -112,17 +112,18 @@ fn sized_of(alloc: Global, deep: usize, text: &[u8]) -> Result<Vec<u8>, AllocErr
     Ok(payload)
 }
 
-/// Whether the plan that walks finds records that are so many deep, whose last has a text of 8,000 letters.
-fn is_walked(alloc: Global, deep: usize) -> Result<bool, AllocError> {
+/// Returns whether the plan that walks finds records of this depth, the last of which has a text of 8,000 letters.
+fn is_walked(alloc: Global, depth: u8) -> Result<bool, AllocError> {
     let Some(text) = letters(alloc, 8_000)? else {
         return Ok(false);
     };
     let program = planned_program(alloc, HELD, HELD)?;
-    let payload = sized_of(alloc, deep, &text)?;
+    let depth = usize::from(depth);
+    let payload = sized_of(alloc, depth, &text)?;
     let (mut scratch, mut output) = (Scratch::new(alloc), Vec::new(alloc));
     let found = program.finds_output(&payload, &mut scratch, &mut output, MOST_OUTPUT);
-    // (the sizes of all but the last take two bytes or three, and are not put)
-    Ok(found && output.len() < payload.len() && output.len() == 8_002 + 1 + 3 * (deep - 1))
+    // (the sizes of all but the last take two bytes or three, and are not put; each level but the last puts 3 bytes)
+    Ok(found && output.len() < payload.len() && output.len() == 8_000 + 3 * depth)
 }
 
 /// Whether the plan of a schema to itself finds a payload.
