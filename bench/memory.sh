@@ -139,12 +139,16 @@ def serve(case):
     server = subprocess.Popen([PROGRAM, "serve", "--port", "0", "--request-timeout", str(PATIENCE)], stdout=subprocess.PIPE)
     try:
         port = int(server.stdout.readline().split()[1])
+        ids = []
         for subject, text in (("w", case.writer), ("r", case.reader)):
-            assert posted(port, "/subjects/%s/versions" % subject, json.dumps({"schema": text}))[0] == 200
+            status, body = posted(port, "/subjects/%s/versions" % subject, json.dumps({"schema": text}))
+            assert status == 200
+            ids.append(json.loads(body)["id"])
+        writer, reader = (b"\0" + id.to_bytes(4, "big") for id in ids)
         _, before = of_process(server.pid)
-        status, body = posted(port, "/transcode/2", b"\0\0\0\0\1" + case.payload)
+        status, body = posted(port, "/transcode/%d" % ids[1], writer + case.payload)
         held, after = of_process(server.pid)
-        wanted = (200, b"\0\0\0\0\2" + case.answer) if case.answer is not None else (422, b'{"error_code":42252,"message":"output too large"}')
+        wanted = (200, reader + case.answer) if case.answer is not None else (422, b'{"error_code":42252,"message":"output too large"}')
         if (status, body) != wanted:
             failed.append("serve: %s: %d %r" % (case.name, status, body[:60]))
         told("serve", case, held, after - before)
