@@ -2,7 +2,8 @@
 # `avrogate serve` beside a small server by hand (bench/service.cpp), each with 4 client threads and one request a
 # connection, under the load of wrk (Debian's package, which is installed if it is missing): a schema by its id, and
 # messages of about 100 bytes, 10 KB, 1 MiB and 8 MiB, of many texts and of one byte string, to a reader with a promoted
-# and an added field, of ours with 1 and 4 workers. First all have to answer the same bytes; then come 3 rounds of 2 seconds, in each of which all come in turn.
+# and an added field, of ours with 1 and 4 workers, and with 4 beside an upstream registry, the one with 4, whose schemas
+# are held by then (`--upstream`). First all have to answer the same bytes; then come 3 rounds of 2 seconds, in each of which all come in turn.
 # It prints, of each, the median of requests a second and of processor time a request (user and system, of the server
 # alone). wrk shares the machine, so that requests a second say less than processor time. It takes about two minutes. Not
 # part of the gate.
@@ -21,6 +22,7 @@ from avro_encoding import number, text
 
 program, folder = sys.argv[1:]
 ROUNDS, SECONDS, THREADS, CONNECTIONS, WORKERS = 3, 2, 2, 16, (1, 4)
+BESIDE = "beside"
 
 
 def schema(*fields):
@@ -97,31 +99,33 @@ try:
     started = [by_hand, *ours.values()]
     for text_of in (writer, reader):
         assert b'\r\n\r\n{"id":' in same("/subjects/events/versions", data=json.dumps({"schema": text_of}).encode())
+    ours[BESIDE] = start([program, "serve", "--port", "0", "--clients", "4", "--workers", str(WORKERS[-1]), "--upstream", ours[WORKERS[-1]][1]])
+    started.append(ours[BESIDE])
     assert b"200 OK" in same("/schemas/ids/1") and b"200 OK" in same("/schemas/ids/2") and b"40403" in same("/schemas/ids/3")
     for sent in MESSAGES.values():
         assert b"200 OK" in same("/transcode/2", data=sent)
     for spoilt in SPOILT:
         assert b"422 " in same("/transcode/2", data=spoilt)
     print("all answer the same bytes to %d requests" % (5 + len(MESSAGES) + len(SPOILT)))
-    LOADS = [("GET /schemas/ids/1", "/schemas/ids/1", [], WORKERS[-1:])]
+    LOADS = [("GET /schemas/ids/1", "/schemas/ids/1", [], (*WORKERS[-1:], BESIDE))]
     for at, (name, sent) in enumerate(MESSAGES.items()):
         with open(folder + "/message%d" % at, "wb") as out:
             out.write(sent)
         with open(folder + "/post%d.lua" % at, "w") as out:
             out.write('wrk.method = "POST"\nwrk.headers["Content-Type"] = "application/octet-stream"\nwrk.body = io.open("%s/message%d", "rb"):read("*a")\n' % (folder, at))
-        LOADS.append(("a message of " + name, "/transcode/2", ["-s", folder + "/post%d.lua" % at], WORKERS))
+        LOADS.append(("a message of " + name, "/transcode/2", ["-s", folder + "/post%d.lua" % at], (*WORKERS, BESIDE)))
     taken = {}
     for _ in range(ROUNDS):
         for name, path, script, many in LOADS:
             for which in ("by hand", *many):
                 taken.setdefault((name, which), []).append(load(by_hand if which == "by hand" else ours[which], path, script))
-    print("%-32s %12s %12s %7s   %14s %12s %7s" % ("", "requests/s", "by hand", "ratio", "processor us", "by hand", "ratio"))
+    print("%-36s %12s %12s %7s   %14s %12s %7s" % ("", "requests/s", "by hand", "ratio", "processor us", "by hand", "ratio"))
     for name, _, _, many in LOADS:
         their_rate, their_micros = (statistics.median(column) for column in zip(*taken[name, "by hand"]))
         for workers in many:
             rate, micros = (statistics.median(column) for column in zip(*taken[name, workers]))
-            label = "%s, %d workers" % (name, workers)
-            print("%-32s %12.0f %12.0f %7.2f   %14.1f %12.1f %7.2f" % (label, rate, their_rate, rate / their_rate, micros, their_micros, micros / their_micros))
+            label = "%s, %s" % (name, "beside a registry" if workers == BESIDE else "%d workers" % workers)
+            print("%-36s %12.0f %12.0f %7.2f   %14.1f %12.1f %7.2f" % (label, rate, their_rate, rate / their_rate, micros, their_micros, micros / their_micros))
     with open("/proc/sys/net/ipv4/ip_local_port_range") as ports:
         low, high = map(int, ports.read().split())
     for fault in sorted(faults):

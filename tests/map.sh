@@ -1,12 +1,14 @@
 #!/usr/bin/env bash
-# Fails where README.md, a page of docs/ or tests/peers/README.md names a file, a folder or a crate that is not there, and
-# where docs/MAP.md lacks a crate. A file may be named by its whole path, under its crate, or, in a paragraph that names
-# crates, under one of these. The gate runs it.
+# Fails where README.md, a page of docs/ or tests/peers/README.md names a file, a folder or a crate that is not there, where
+# docs/MAP.md lacks a crate, or where a line of crates.txt has a library that no file of its crate names. A file may be
+# named by its whole path, under its crate, or, in a paragraph that names crates, under one of these. Fails too where the
+# tables of docs/STATEMENT.md are not those of the definitions (tests/statement.py). The gate runs it.
 # Usage: tests/map.sh
 set -euo pipefail
 cd "$(dirname "$0")/.."
 . tests/packages.sh
 command_of python3 python3
+python3 tests/statement.py
 exec python3 - README.md docs/*.md tests/peers/README.md <<'PYTHON'
 import glob, os, re, sys
 
@@ -33,6 +35,13 @@ page = open("docs/MAP.md").read()
 listed = set(re.findall(r"^\| `(\w+)` \|", page, re.M))
 missing += ["docs/MAP.md: no crate " + name for name in sorted(listed - crates)]
 missing += ["docs/MAP.md lacks the crate " + name for name in sorted(crates - listed)]
+for line in open("crates.txt"):
+    words = re.match(r"(\w+)[^:#]*:(.*)", line)
+    files = [path for path in glob.glob("crates/%s/**/*" % words[1], recursive=True) if path.endswith((".rt", ".antt")) and "/out/" not in path] if words else []
+    text = "\n".join(row for path in files for row in open(path) if not row.lstrip().startswith(("//", "--")))
+    for name in words[2].split() if words else []:
+        if not re.search(r"Rattle\.%s\.|(?<![\w:])%s::|\buse %s\b" % (name, name, name), text):
+            missing.append("crates.txt: no file of %s names %s" % (words[1], name))
 heads = set(re.findall(r"\w+_\w+|\w+", " ".join(re.findall(r"^## (.*)", open("docs/PROOFS.md").read(), re.M))))
 missing += ["docs/PROOFS.md: no crate " + name for name in sorted(heads - crates)]
 print("\n".join(missing) or "each file and crate that is named is there")

@@ -16,7 +16,16 @@ command_of cc gcc libc6-dev
 command_of objcopy binutils
 kit=$(dirname "$(rt doc)")
 crate=$top/crates/avrogate_c
-read -r -a below <<<"$(sed -n 's/^avrogate_c staticlib: //p' "$top/crates.txt")"
+# libraries_of CRATE: the libraries of its line in crates.txt that have a line there too
+libraries_of() { sed -n "s/^$1\( [^:]*\)\?: //p" "$top/crates.txt" | tr ' ' '\n' | grep -xFf <(sed -n 's/^\([a-z]\w*\).*:.*/\1/p' "$top/crates.txt") || true; }
+mapfile -t listed < <(libraries_of avrogate_c)
+# All that it is made of: the libraries of its line, those of theirs, and so on.
+below=("${listed[@]}")
+for ((at = 0; at < ${#below[@]}; at++)); do
+  for name in $(libraries_of "${below[at]}"); do
+    [[ " ${below[*]} " == *" $name "* ]] || below+=("$name")
+  done
+done
 
 archive=$crate/out/libavrogate_c.a
 
@@ -41,7 +50,7 @@ are_left() {
 compile() {
   local name rlib words=(--crate-name avrogate_c src/lib.rt)
   words+=(--extern "std=$kit/rlibs/std.rlib" -L "dependency=$kit/rlibs")
-  for name in "${below[@]}"; do words+=(--extern "$name=$top/crates/$name/out/rlib/$name.rlib"); done
+  for name in "${listed[@]}"; do words+=(--extern "$name=$top/crates/$name/out/rlib/$name.rlib"); done
   for rlib in "$top"/crates/*/out/rlib; do words+=(-L "dependency=$rlib"); done
   words+=(--antt-project "$kit/rattle/logic/antt-project.json" --logic-built "$kit/logic_built" --jobs 2)
   for name in avrogate_c "${below[@]}"; do words+=(--links "$name="); done

@@ -7,6 +7,7 @@ mod asking;
 mod ending;
 mod serving;
 mod stores;
+mod upstream;
 mod words;
 
 use crate::asking::{check, explain, list_nodes};

@@ -93,7 +93,11 @@ authorisation, so an address that others reach wants a proxy before it.
 Prints `listening P`, and `served N` at the end; or `cannot listen on ADDRESS: WHY`, and ends with 3.
 With --store each schema and each level that was answered is in the file, and is there after a restart.
 A file that cannot be opened, or is no store, is told by a line with its name, and ends it with 3.
-With --log each answer is a line on standard error: METHOD PATH STATUS RECEIVED SENT MICROSECONDS.
+With --upstream it has no ids of its own: it asks the registry at that URL, by http, for the schema of an id
+once, and rewrites messages by its ids; with --store too these schemas are in the file, for a later start.
+The file of credentials has one line, `user:password`.
+With --log each answer is a line on standard error: METHOD PATH STATUS RECEIVED SENT MICROSECONDS;
+and each question to the registry at that URL: fetch ID CODE MICROSECONDS.
 
 Example:
   avrogate serve --port 8081 &

@@ -103,6 +103,25 @@ fn store<'a>(alloc: Global, help: &'a str) -> Arg<'a> {
         .help(help)
 }
 
+/// Returns the word with the URL of an upstream registry.
+fn upstream<'a>(alloc: Global) -> Arg<'a> {
+    Arg::new(alloc, "upstream")
+        .long("upstream")
+        .value_name("URL")
+        .action(ArgAction::Set)
+        .help("Rewrites messages by the ids of the schema registry at this URL")
+}
+
+/// Returns the word with the path of the credentials of an upstream registry. The error is want of memory.
+fn credentials<'a>(alloc: Global) -> Result<Arg<'a>, AllocError> {
+    Arg::new(alloc, "upstream-credentials")
+        .long("upstream-credentials")
+        .value_name("FILE")
+        .action(ArgAction::Set)
+        .help("Asks that registry as the `user:password` in this file")
+        .requires_arg("upstream")
+}
+
 /// Whether a service logs its answers.
 fn log<'a>(alloc: Global) -> Arg<'a> {
     Arg::new(alloc, "log")
@@ -121,6 +140,7 @@ fn serve<'a>(alloc: Global) -> Result<Command<'a>, AllocError> {
     let head = "How many seconds the head of a request may take to come";
     let request = "How many seconds a request may take to come, and its answer to go";
     let kept = "Keeps the registry in this file, which is made where there is none";
+    let waited = "How many seconds the registry at that URL may take to answer";
     Command::new(alloc, "serve")
         .about("Serves the schema registry's API over HTTP, and rewrites messages")
         .after_help(help::SERVE)
@@ -140,6 +160,9 @@ fn serve<'a>(alloc: Global) -> Result<Command<'a>, AllocError> {
         .arg(numbered(alloc, "head-timeout", 1, MOST_TIMEOUT, "5", head))?
         .arg(numbered(alloc, "request-timeout", 1, MOST_TIMEOUT, "10", request))?
         .arg(store(alloc, kept))?
+        .arg(upstream(alloc))?
+        .arg(numbered(alloc, "upstream-timeout", 1, MOST_TIMEOUT, "5", waited))?
+        .arg(credentials(alloc)?)?
         .arg(log(alloc))
 }
 
@@ -241,6 +264,9 @@ fn serve_words_of<'w>(words: &ArgMatches<'w>) -> Option<ServeWords<'w>> {
         connections: number_of(words, "connections")?,
         head_timeout: number_of(words, "head-timeout")?,
         request_timeout: number_of(words, "request-timeout")?,
+        upstream: words.get_str("upstream"),
+        upstream_timeout: number_of(words, "upstream-timeout")?,
+        upstream_credentials: words.get_str("upstream-credentials"),
         is_logged: words.get_flag("log"),
     })
 }

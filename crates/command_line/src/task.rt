@@ -54,6 +54,12 @@ pub struct ServeWords<'w> {
     pub head_timeout: u32,
     /// The number of seconds that the bytes of one request may take to come, and then those of its answer to go.
     pub request_timeout: u32,
+    /// The URL of the registry whose ids messages have. `None` where they have those of the registry that is served.
+    pub upstream: Option<&'w str>,
+    /// The number of seconds that the upstream registry may take to answer.
+    pub upstream_timeout: u32,
+    /// The path of the file with the credentials by which the upstream registry is asked.
+    pub upstream_credentials: Option<&'w str>,
     /// Whether each answer is logged.
     pub is_logged: bool,
 }

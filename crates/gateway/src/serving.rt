@@ -1,11 +1,12 @@
 //! One request answered, from a pool: of those that were received, or read and written.
 
-ghost use Rattle.std.specs.Prelude.{◌++◌, ℕ, IfErr, IfOk, List, Option};
+ghost use Rattle.std.specs.Prelude.{◌≡◌, ◌++◌, ℕ, IfErr, IfOk, List, Option};
 ghost use Rattle.gateway_requests.specs.Request.{request_of};
 ghost use Rattle.gateway_requests.specs.Sizes.{IsWithin};
 ghost use Rattle.gateway_requests.specs.declared.limits.TheConstants.{MOST_BODY};
 ghost use Rattle.session_pool.specs.Seats.{Rests};
 ghost use Rattle.gateway_core.specs.Gates.{SaidNo};
+ghost use Rattle.gateway_core.specs.NamedServing.{IsNamedReply};
 ghost use Rattle.gateway_core.specs.Serving.{IsFault, IsReplied, IsServed, ServesSome, TellsRequest};
 ghost use Rattle.gateway_core.specs.Transcoding.{IsWhyNone};
 ghost use Rattle.gateway.specs.Refusing.{Refuses};
@@ -13,7 +14,7 @@ ghost use Rattle.gateway.specs.Refusing.{Refuses};
 use crate::app::App;
 use crate::pooled::Pooled;
 use gateway_answers::Fault;
-use gateway_core::{Evidence, Gate, Reply, ServeError, TellError};
+use gateway_core::{Evidence, Gate, NamedReply, Reply, Schemas, ServeError, TellError};
 use gateway_requests::Request;
 use session_pool::ClientSeat;
 use std::alloc::AllocError;
@@ -44,6 +45,35 @@ pub fn reply_to<'p, R: Wait, G: Gate>(
         routes: &app.routes,
     };
     gateway_core::reply_to(rt, &answering, seat, gate, request)
+}
+
+/// Returns the reply to what the bytes of a request asked, or to the first of their faults, where another registry names
+/// the schemas. The error says that not even the answer that memory ran out found memory.
+pub fn reply_named<'p, R: Wait, S: Schemas, G: Gate>(
+    rt: &R,
+    app: &App<'_, 'p>,
+    schemas: &mut S,
+    seat: &mut ClientSeat<'p>,
+    gate: &mut G,
+    request: Result<Request, Fault>,
+) -> Result<NamedReply<S::Seen>, AllocError>
+    requires schemas { S.cells schemas.old ≡ app.now.registry.now }
+    requires seat { Rests app.now.pool.now seat.old }
+    requires size { IfOk request (λ r. IsWithin MOST_BODY (request_of r)) }
+    ensures seat { Rests app.now.pool.now seat.new }
+    ensures replied { IfOk result (λ reply. (input : Option (List ℕ)) → TellsRequest input request
+        → IsNamedReply (IsWhyNone (Refuses seat.old seat.new) (SaidNo G.says gate.old gate.new))
+        (S.cells schemas.old) (S.names schemas.old) (S.refuses schemas.old) input
+        (reply.bytes.front.items ++ reply.bytes.rest.items) reply.status reply.sight) }
+{
+    let transcoder = Pooled { pool: app.pool };
+    let answering = gateway_core::App {
+        alloc: app.alloc,
+        registry: app.registry,
+        transcoder: &transcoder,
+        routes: &app.routes,
+    };
+    gateway_core::reply_named(rt, &answering, schemas, seat, gate, request)
 }
 
 /// Reads one request and writes one answer: the status, and the receipts that the answer stands on.

@@ -10,6 +10,7 @@ use Rattle.gateway_answers.specs.declared.status.Status.TheVariants as statuses
 use Rattle.gateway_answers.specs.declared.fault.Fault.{Fault}
 use Rattle.gateway_answers.specs.declared.fault.Fault.TheVariants as faults
 use Rattle.gateway_answers.specs.Status.{number_of}
+use Rattle.gateway_answers.specs.UpstreamFault.{name_of as name_of_upstream_fault}
 
 abbrev pub code_of : Fault → ℕ
 code_of faults.BadRequest = 400
@@ -22,6 +23,8 @@ code_of faults.Incompatible = 409
 code_of faults.TooLarge = 41301
 code_of faults.BadBody = 42201
 code_of (faults.BadSchema error) = 42201
+code_of faults.NotAvro = 42201
+code_of faults.HasReferences = 42201
 code_of faults.BadVersion = 42202
 code_of faults.BadLevel = 42203
 code_of (faults.Malformed kind at) = 42250
@@ -35,6 +38,8 @@ code_of faults.NoMemory = 50301
 code_of faults.Full = 50302
 code_of faults.NotFinished = 50303
 code_of faults.NotStored = 50304
+code_of faults.Elsewhere = 404
+code_of (faults.Upstream fault) = 50305
 
 abbrev pub status_of : Fault → Status
 status_of faults.BadRequest = statuses.BadRequest
@@ -47,6 +52,8 @@ status_of faults.Incompatible = statuses.Conflict
 status_of faults.TooLarge = statuses.PayloadTooLarge
 status_of faults.BadBody = statuses.UnprocessableEntity
 status_of (faults.BadSchema error) = statuses.UnprocessableEntity
+status_of faults.NotAvro = statuses.UnprocessableEntity
+status_of faults.HasReferences = statuses.UnprocessableEntity
 status_of faults.BadVersion = statuses.UnprocessableEntity
 status_of faults.BadLevel = statuses.UnprocessableEntity
 status_of (faults.Malformed kind at) = statuses.UnprocessableEntity
@@ -60,6 +67,8 @@ status_of faults.NoMemory = statuses.ServiceUnavailable
 status_of faults.Full = statuses.ServiceUnavailable
 status_of faults.NotFinished = statuses.ServiceUnavailable
 status_of faults.NotStored = statuses.ServiceUnavailable
+status_of faults.Elsewhere = statuses.NotFound
+status_of (faults.Upstream fault) = statuses.ServiceUnavailable
 
 -- a code is its status, or has two digits behind it
 abbrev pub CodesBeginWithTheirStatus : Type 0
@@ -77,6 +86,8 @@ message_of faults.Incompatible = codes "incompatible schema"
 message_of faults.TooLarge = codes "too large"
 message_of faults.BadBody = codes "invalid schema: Body"
 message_of (faults.BadSchema error) = codes "invalid schema: " ++ name_of_schema_error error
+message_of faults.NotAvro = codes "invalid schema: NotAvro"
+message_of faults.HasReferences = codes "invalid schema: References"
 message_of faults.BadVersion = codes "invalid version"
 message_of faults.BadLevel = codes "invalid level"
 message_of (faults.Malformed kind at) = codes "malformed " ++ name_of_kind kind ++ codes " at " ++ decimal at
@@ -92,6 +103,8 @@ message_of faults.NoMemory = codes "no memory"
 message_of faults.Full = codes "full"
 message_of faults.NotFinished = codes "not finished"
 message_of faults.NotStored = codes "not stored"
+message_of faults.Elsewhere = codes "no such route: ask the upstream registry"
+message_of (faults.Upstream fault) = codes "upstream registry: " ++ name_of_upstream_fault fault
 
 -- for a private clause: its text has no parts
 abbrev pub HasFixedText : Fault → Type 0
@@ -99,4 +112,5 @@ HasFixedText (faults.BadSchema error) = ⊥
 HasFixedText (faults.Malformed kind at) = ⊥
 HasFixedText (faults.Mismatch mismatch) = ⊥
 HasFixedText (faults.BadEnvelope error) = ⊥
+HasFixedText (faults.Upstream fault) = ⊥
 HasFixedText fault = Unit {0}

@@ -1,4 +1,5 @@
 pub mod Status
+pub mod UpstreamFault
 pub mod Fault
 pub mod Replies
 pub mod Answer

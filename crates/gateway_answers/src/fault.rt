@@ -2,9 +2,10 @@
 
 ghost use Rattle.std.specs.Prelude.{◌≡◌, IfOk, string_bytes};
 ghost use Rattle.gateway_answers.specs.Fault.{HasFixedText, code_of, message_of, status_of};
-ghost use Rattle.gateway_answers.specs.declared.fault.Fault.TheVariants.{BadEnvelope, BadSchema, Malformed, Mismatch as MismatchFault};
+ghost use Rattle.gateway_answers.specs.declared.fault.Fault.TheVariants.{BadEnvelope, BadSchema, Malformed, Mismatch as MismatchFault, Upstream};
 
 use crate::status::Status;
+use crate::upstream_fault::UpstreamFault;
 use avro_bytes::MalformedKind;
 use avro_schema_names::SchemaError;
 use outcome::Mismatch;
@@ -31,6 +32,10 @@ pub enum Fault {
     BadBody,
     /// The text in the body is no schema.
     BadSchema(SchemaError),
+    /// The upstream registry has a schema of another language than Avro under the id.
+    NotAvro,
+    /// The upstream registry's schema of the id refers to others.
+    HasReferences,
     BadVersion,
     BadLevel,
     BadSubject,
@@ -53,6 +58,10 @@ pub enum Fault {
     NotFinished,
     /// The command would be accepted, and could not be written to the store of the registry.
     NotStored,
+    /// The route is one of the upstream registry, which this service does not answer for.
+    Elsewhere,
+    /// The schema of an id is not held, and the upstream registry could not be asked for it.
+    Upstream(UpstreamFault),
 }
 
 impl Fault {
@@ -62,14 +71,14 @@ impl Fault {
     {
         match self {
             Fault::BadRequest => 400,
-            Fault::NoRoute => 404,
+            Fault::NoRoute | Fault::Elsewhere => 404,
             Fault::NotAllowed => 405,
             Fault::NoSubject => 40401,
             Fault::NoVersion => 40402,
             Fault::NoSchema => 40403,
             Fault::Incompatible => 409,
             Fault::TooLarge => 41301,
-            Fault::BadBody | Fault::BadSchema(_) => 42201,
+            Fault::BadBody | Fault::BadSchema(_) | Fault::NotAvro | Fault::HasReferences => 42201,
             Fault::BadVersion => 42202,
             Fault::BadLevel => 42203,
             Fault::Malformed { .. } => 42250,
@@ -83,6 +92,7 @@ impl Fault {
             Fault::Full => 50302,
             Fault::NotFinished => 50303,
             Fault::NotStored => 50304,
+            Fault::Upstream(_) => 50305,
         }
     }
 
@@ -92,13 +102,18 @@ impl Fault {
     {
         match self {
             Fault::BadRequest => Status::BadRequest,
-            Fault::NoRoute | Fault::NoSubject | Fault::NoVersion | Fault::NoSchema =>
-                Status::NotFound,
+            Fault::NoRoute
+            | Fault::NoSubject
+            | Fault::NoVersion
+            | Fault::NoSchema
+            | Fault::Elsewhere => Status::NotFound,
             Fault::NotAllowed => Status::MethodNotAllowed,
             Fault::Incompatible => Status::Conflict,
             Fault::TooLarge => Status::PayloadTooLarge,
             Fault::BadBody
             | Fault::BadSchema(_)
+            | Fault::NotAvro
+            | Fault::HasReferences
             | Fault::BadVersion
             | Fault::BadLevel
             | Fault::BadSubject
@@ -108,8 +123,11 @@ impl Fault {
             | Fault::BadEnvelope(_)
             | Fault::ProgramTooLarge => Status::UnprocessableEntity,
             Fault::Clash => Status::InternalServerError,
-            Fault::NoMemory | Fault::Full | Fault::NotFinished | Fault::NotStored =>
-                Status::ServiceUnavailable,
+            Fault::NoMemory
+            | Fault::Full
+            | Fault::NotFinished
+            | Fault::NotStored
+            | Fault::Upstream(_) => Status::ServiceUnavailable,
         }
     }
 
@@ -122,6 +140,7 @@ impl Fault {
             Fault::Malformed { kind, at } => malformed_message(alloc, kind, at),
             Fault::Mismatch(mismatch) => mismatch_message(alloc, mismatch),
             Fault::BadEnvelope(error) => bad_envelope_message(alloc, error),
+            Fault::Upstream(fault) => upstream_message(alloc, fault),
             other => String::from_str(alloc, other.fixed_message()),
         }
     }
@@ -140,6 +159,8 @@ impl Fault {
             Fault::Incompatible => "incompatible schema",
             Fault::TooLarge => "too large",
             Fault::BadBody => "invalid schema: Body",
+            Fault::NotAvro => "invalid schema: NotAvro",
+            Fault::HasReferences => "invalid schema: References",
             Fault::BadVersion => "invalid version",
             Fault::BadLevel => "invalid level",
             Fault::BadSubject => "invalid subject",
@@ -150,10 +171,12 @@ impl Fault {
             Fault::Full => "full",
             Fault::NotFinished => "not finished",
             Fault::NotStored => "not stored",
+            Fault::Elsewhere => "no such route: ask the upstream registry",
             Fault::BadSchema(_)
             | Fault::Malformed { .. }
             | Fault::Mismatch(_)
-            | Fault::BadEnvelope(_) => "",
+            | Fault::BadEnvelope(_)
+            | Fault::Upstream(_) => "",
         }
     }
 }
@@ -186,6 +209,13 @@ fn bad_envelope_message(alloc: Global, error: EnvelopeError) -> Result<String, A
 {
     let name = error.name();
     Ok(format!(in alloc; "bad envelope: {name}")?)
+}
+
+fn upstream_message(alloc: Global, fault: UpstreamFault) -> Result<String, AllocError>
+    ensures { IfOk result (λ text. string_bytes text ≡ message_of (Upstream fault)) }
+{
+    let name = fault.name();
+    Ok(format!(in alloc; "upstream registry: {name}")?)
 }
 
 impl From<AllocError> for Fault {

@@ -9,6 +9,7 @@ mod fault;
 mod laws;
 mod replies;
 mod status;
+mod upstream_fault;
 
 pub use answer::{Answer, AnswerBytes};
 pub use fault::Fault;
@@ -18,3 +19,4 @@ pub use replies::{
     numbers_text, schema_text,
 };
 pub use status::Status;
+pub use upstream_fault::UpstreamFault;

@@ -1,11 +1,17 @@
 -- What is answered and written, from what is asked and told.
-use Rattle.std.proofs.Common.{◌≡◌, ◌⊎◌, ℕ, List, Option, sym, subst, inl, inr}
+use Rattle.std.proofs.Common.{◌≡◌, ◌≢◌, ◌⊎◌, ℕ, List, Option, Result, Err, sym, subst, inl, inr, ◌∙◌, ap}
 use Rattle.gateway_answers.specs.Answer.{Answer, Refused}
+use Rattle.gateway_answers.specs.declared.fault.Fault.{Fault}
 use Rattle.gateway_answers.specs.declared.fault.Fault.TheVariants as faults
 use Rattle.gateway_core.specs.declared.evidence.Evidence.{Evidence}
 use Rattle.gateway_core.specs.declared.transcode.TranscodeFault.{TranscodeFault}
 use Rattle.schema_registry.specs.Shared.{Shown}
-use Rattle.gateway_core.specs.Serving.{IsAnswer, IsReplied, IsTextOf}
+use Rattle.gateway_requests.specs.Request.{Request, request_of}
+use Rattle.gateway_requests.specs.Steps.{Tells}
+use Rattle.gateway_requests.specs.declared.request.Request as rust
+use Rattle.gateway_core.specs.Answering.{Answers}
+use Rattle.gateway_core.specs.Serving.{IsAnswer, IsReplied, IsTextOf, TellsRequest}
+use Rattle.gateway_core.proofs.Faults.{memory_or_another}
 
 module _ (refuses : Shown → Shown → TranscodeFault → Type 0)
     (cells : List ℕ) (input : Option (List ℕ)) (evidence : Evidence) (answer : Answer) where
@@ -23,3 +29,20 @@ module _ (refuses : Shown → Shown → TranscodeFault → Type 0)
     status_is = text.3;
     bytes_are = text.2;
   }
+
+  -- the answer to a fault of the request
+  fault_answers : (fault : Fault) → answer ≡ Refused fault → (request : Result Request Fault)
+      → (fault ≢ faults.NoMemory → request ≡ Err fault) → (fault ≡ faults.NoMemory) ⊎ (fault ≢ faults.NoMemory)
+      → (answer ≡ Refused faults.NoMemory) ⊎ Answers refuses cells request evidence answer
+  fault_answers fault is request told (inl memory) = inl (is ∙ ap Refused memory)
+  fault_answers fault is request told (inr another) = inr (rw (told another) is)
+
+  pub fault_answered : (fault : Fault) (result : Result rust.Request Fault) → result ≡ Err fault
+      → answer ≡ Refused fault → TellsRequest input result → IsAnswer refuses cells input evidence answer
+  fault_answered fault result failed is told =
+      let P : Result rust.Request Fault → Type 0 = λ r. Tells request_of r told.0 in
+      record {
+        request = told.0;
+        asked = told.2;
+        answers = fault_answers fault is told.0 (subst P failed told.1) (memory_or_another fault);
+      }

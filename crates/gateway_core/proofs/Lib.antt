@@ -1,3 +1,6 @@
 pub mod Asked
+pub mod Faults
 pub mod Answered
 pub mod Writes
+pub mod Found
+pub mod Replied

@@ -1,16 +1,12 @@
 -- What the service may answer to what is asked, and the receipts that its answer stands on.
 use Rattle.std.specs.Prelude.{◌≡◌, ◌⊎◌, ℕ, List, IfSome, Result, Ok, Err}
 use Rattle.serde_json.specs.Written.{compact_text}
-use Rattle.outcome.specs.Outcome.{Outcome, Done, Mismatched, Malformed, OutputTooLarge}
-use Rattle.resolver.specs.Outcome.{IsOutcome}
 use Rattle.schema_registry.specs.Accepting.{compacted}
 use Rattle.schema_registry.specs.Command.{Command}
 use Rattle.schema_registry.specs.Reply.{Reply, EntryReply, IdReply, CompatibleReply, NumbersReply, NamesReply, TextReply, LevelReply}
 use Rattle.schema_registry.specs.Shared.{Shown, IsReceiptOf, IsSomeAnswer, IsSomeId, ShowsText}
 use Rattle.schema_registry.specs.declared.refusal.Refusal.{Refusal}
-use Rattle.wire_frames.specs.Envelope.{envelope, IsNoMessage}
-use Rattle.wire_frames.specs.declared.envelope.EnvelopeError.{EnvelopeError}
-use Rattle.gateway_answers.specs.Answer.{Answer, Replied, Rewritten, Refused}
+use Rattle.gateway_answers.specs.Answer.{Answer, Replied, Refused}
 use Rattle.gateway_answers.specs.Replies.{id_data, schema_data}
 use Rattle.gateway_answers.specs.declared.fault.Fault.{Fault}
 use Rattle.gateway_answers.specs.declared.fault.Fault.TheVariants as faults
@@ -18,7 +14,7 @@ use Rattle.gateway_requests.specs.Request as requests
 use Rattle.gateway_core.specs.declared.evidence.Evidence.{Evidence}
 use Rattle.gateway_core.specs.declared.evidence.Evidence.TheVariants as evidences
 use Rattle.gateway_core.specs.declared.transcode.TranscodeFault.{TranscodeFault}
-use Rattle.gateway_core.specs.declared.transcode.TranscodeFault.TheVariants as transcoding
+use Rattle.gateway_core.specs.Naming.{HasNoWriter, TellsNamed}
 use Rattle.gateway_core.specs.Replies.{answer_to, fault_of}
 
 -- the schema of a receipt has this text
@@ -97,33 +93,9 @@ pub record TellsText (cells : List ℕ) (id : ℕ) (evidence : Evidence) (answer
   pub id_is : receipt.id ≡ id
   pub answer_is : IfSome receipt.schema (λ s. answer ≡ Replied (compact_text (schema_data s.text)))
 
--- ---- messages
-
--- the message or the fault that tells an outcome
-abbrev pub answer_of_outcome : ℕ → Outcome → Answer
-answer_of_outcome id (Done bytes) = Rewritten (envelope id bytes)
-answer_of_outcome id (Mismatched mismatch) = Refused (faults.Mismatch mismatch)
-answer_of_outcome id (Malformed kind at) = Refused (faults.Malformed kind at)
-answer_of_outcome id OutputTooLarge = Refused faults.OutputTooLarge
-
-abbrev pub fault_of_transcoding : TranscodeFault → Fault
-fault_of_transcoding transcoding.ProgramTooLarge = faults.ProgramTooLarge
-fault_of_transcoding transcoding.Clash = faults.Clash
-fault_of_transcoding transcoding.Full = faults.Full
-fault_of_transcoding transcoding.NotFinished = faults.NotFinished
-fault_of_transcoding transcoding.NoMemory = faults.NoMemory
-
 -- ---- messages that are not rewritten
 
--- the bytes are no message
-abbrev pub TellsEnvelope : List ℕ → Answer → Type 0
-TellsEnvelope message answer =
-    (e : EnvelopeError) × IsNoMessage message e × (answer ≡ Refused (faults.BadEnvelope e))
-
--- the bytes are a message, and a schema of its writer was not found
-abbrev pub TellsNoSchema : List ℕ → Answer → Type 0
-TellsNoSchema message answer =
-    (writer : ℕ) × (payload : List ℕ) × (message ≡ envelope writer payload) × (answer ≡ Refused faults.NoSchema)
+-- ---- messages that are not rewritten
 
 -- the path's reader was found, whose receipt shows it, and no writer
 pub record TellsNoWriter (cells : List ℕ) (id : ℕ) (message : List ℕ) (evidence : Evidence) (answer : Answer)
@@ -132,7 +104,9 @@ pub record TellsNoWriter (cells : List ℕ) (id : ℕ) (message : List ℕ) (evi
   pub evidence_is : evidence ≡ evidences.Shown reader
   pub is_reader : IsReceiptOf cells reader
   pub reader_id : reader.id ≡ id
-  pub tells : TellsEnvelope message answer ⊎ TellsNoSchema message answer
+  pub fault : Fault
+  pub why : HasNoWriter (λ writer f. f ≡ faults.NoSchema) message fault
+  pub answer_is : answer ≡ Refused fault
 
 -- the path's reader was not found
 abbrev pub TellsNoReader : Evidence → Answer → Type 0
@@ -141,25 +115,14 @@ TellsNoReader evidence answer = (evidence ≡ evidences.Nothing) × (answer ≡ 
 -- ---- messages that are rewritten, or for which a pair of schemas is refused as `refuses` says
 
 module _ (refuses : Shown → Shown → TranscodeFault → Type 0) where
-  -- the outcome of a payload between the schemas of two receipts, or why there is none
-  abbrev pub TellsOutcome : Shown → Shown → ℕ → List ℕ → Answer → Type 0
-  TellsOutcome writer reader id payload answer =
-      (IfSome writer.schema (λ w. IfSome reader.schema (λ r.
-      (outcome : Outcome) × IsOutcome w.nodes r.nodes payload outcome × (answer ≡ answer_of_outcome id outcome))))
-      ⊎ ((fault : TranscodeFault) × refuses writer reader fault × (answer ≡ Refused (fault_of_transcoding fault)))
-
-  -- the message of the path's reader, from that of the envelope's writer
+  -- the message of the path's reader, from that of the envelope's writer, by the ids of this registry
   pub record TellsMessage (cells : List ℕ) (id : ℕ) (message : List ℕ) (evidence : Evidence) (answer : Answer)
       : Type 0 where
     pub writer : Shown
     pub reader : Shown
-    pub payload : List ℕ
-    pub message_is : message ≡ envelope writer.id payload
     pub evidence_is : evidence ≡ evidences.Pair writer reader
-    pub is_writer : IsReceiptOf cells writer
-    pub is_reader : IsReceiptOf cells reader
-    pub reader_id : reader.id ≡ id
-    pub tells : TellsOutcome writer reader id payload answer
+    pub tells : TellsNamed refuses cells (λ named receipt (_ : Unit {0}). receipt.id ≡ named) id message
+        (record { receipt = writer; seen = tt }) (record { receipt = reader; seen = tt }) answer
 
   -- ---- all that may be asked
 

@@ -1,20 +1,22 @@
 //! A message of one schema, rewritten for another.
 
-ghost use Rattle.std.specs.Prelude.{◌≡◌, ◌≤◌, ◌⊎◌, length, vec_len};
+ghost use Rattle.std.specs.Prelude.{◌≡◌, ◌≤◌, ◌⊎◌, IfErr, IfNone, IfOk, IfSome, length, vec_len};
 ghost use Rattle.outcome.specs.Outcome.{outcome_of};
 ghost use Rattle.outcome.specs.declared.limits.TheConstants.{MOST_PAYLOAD};
 ghost use Rattle.schema_registry.specs.Shared.{IsReceiptOf};
-ghost use Rattle.gateway_answers.specs.Answer.{Refused, answer_of};
+ghost use Rattle.gateway_answers.specs.Answer.{answer_of};
 ghost use Rattle.gateway_requests.specs.declared.limits.TheConstants.{MOST_BODY};
-ghost use Rattle.gateway_core.specs.Answering.{TellsMessage, TellsNoReader, TellsNoWriter, TellsOutcome};
-ghost use Rattle.gateway_core.specs.Answering.{answer_of_outcome, fault_of_transcoding};
+ghost use Rattle.gateway_core.specs.Answering.{TellsMessage, TellsNoReader, TellsNoWriter};
 ghost use Rattle.gateway_core.specs.Gates.{SaidNo};
+ghost use Rattle.gateway_core.specs.Naming.{HasNoWriter, IsPaired, TellsNamed};
+ghost use Rattle.gateway_core.specs.Outcomes.{TellsOutcome, answer_of_outcome, fault_of_transcoding};
 ghost use Rattle.gateway_core.specs.Transcoding.{IsWhyNone};
 
 use crate::answering::{Told, refused};
 use crate::app::App;
 use crate::evidence::Evidence;
 use crate::gate::Gate;
+use crate::schemas::{NamedSchema, OwnSchemas, Schemas};
 use crate::transcode::{Transcode, TranscodeFault};
 use gateway_answers::{Answer, Fault};
 use outcome::Outcome;
@@ -46,46 +48,123 @@ fn fault_of_transcoding(fault: TranscodeFault) -> Fault
     }
 }
 
-/// A fault of a message whose reader was found.
-fn refused_for(reader: Receipt, fault: Fault) -> Told
-    ensures evidence { result.evidence ≡ Evidence.Shown reader }
-    ensures answer { answer_of result.answer ≡ Refused fault }
-{
-    Told {
-        answer: Answer::Fault(fault),
-        evidence: Evidence::Shown(reader),
-    }
+/// The schemas that the two ids of a message name.
+#[derive(Drop)]
+pub struct NamedPair<E: Drop> {
+    pub writer: NamedSchema<E>,
+    pub reader: NamedSchema<E>,
 }
 
-/// What becomes of a payload between two receipts, as the answer to the reader.
-fn rewritten<R: Wait, T: Transcode, G: Gate>(
+/// The answer to a message, and the schemas that it stands on.
+#[derive(Drop)]
+pub struct Rewritten<E: Drop> {
+    pub answer: Answer,
+    pub pair: NamedPair<E>,
+}
+
+/// Why a message has no pair of schemas, and its reader's, where that was found.
+#[derive(Drop)]
+pub struct Unpaired<E: Drop> {
+    pub fault: Fault,
+    pub reader: Option<NamedSchema<E>>,
+}
+
+/// Returns what becomes of a payload between the schemas of a pair, as the answer to the reader of an id.
+fn answer_to<R: Wait, T: Transcode, G: Gate, E: Drop>(
     rt: &R,
     transcoder: &T,
     seat: &mut T::Seat,
     gate: &mut G,
-    writer: &mut Receipt,
-    reader: &mut Receipt,
+    pair: &mut NamedPair<E>,
+    id: u32,
     payload: Vec<u8>,
 ) -> Answer
     requires seat { T.rests transcoder.now seat.old }
-    requires writer { IsReceiptOf (T.cells transcoder.now) writer.old }
-    requires reader { IsReceiptOf (T.cells transcoder.now) reader.old }
+    requires writer { IsReceiptOf (T.cells transcoder.now) pair.old.writer.receipt }
+    requires reader { IsReceiptOf (T.cells transcoder.now) pair.old.reader.receipt }
     requires payload { vec_len payload ≤ MOST_PAYLOAD }
     ensures seat { T.rests transcoder.now seat.new }
-    ensures writer { writer.new ≡ writer.old }
-    ensures reader { reader.new ≡ reader.old }
+    ensures pair { pair.new ≡ pair.old }
     ensures answer { TellsOutcome (IsWhyNone (T.refuses transcoder.now seat.old seat.new)
-        (SaidNo G.says gate.old gate.new)) writer.old reader.old reader.old.id payload.items (answer_of result) }
+        (SaidNo G.says gate.old gate.new)) pair.old.writer.receipt pair.old.reader.receipt id payload.items
+        (answer_of result) }
 {
-    let id = reader.id();
+    let (writer, reader) = (&mut pair.writer.receipt, &mut pair.reader.receipt);
     match transcoder.transcode(rt, seat, gate, writer, reader, payload) {
         Ok(outcome) => answer_of_outcome(id, outcome),
         Err(fault) => Answer::Fault(fault_of_transcoding(fault)),
     }
 }
 
-/// Rewrites a message for the reader of an id: first the reader is looked up, then the message opened, then its writer
-/// looked up. Its payload is transcoded in the memory that it was received in.
+/// Finds the two schemas of a message for the reader of an id: first the reader is looked up, then the message opened,
+/// then its writer looked up. Returns them with the payload, in the memory that it was received in.
+fn pair_of<S: Schemas>(
+    schemas: &mut S,
+    id: u32,
+    message: Message,
+) -> Result<(NamedPair<S::Seen>, Vec<u8>), Unpaired<S::Seen>>
+    ensures same { schemas.new ≡ schemas.old }
+    ensures found { IfOk result (λ r. IsPaired (S.cells schemas.old) (S.names schemas.old) id message
+        r.0.writer r.0.reader r.1.items) }
+    ensures no_reader { IfErr result (λ u. IfNone u.reader (S.refuses schemas.old id u.fault)) }
+    ensures reader { IfErr result (λ u. IfSome u.reader (λ n. IsReceiptOf (S.cells schemas.old) n.receipt
+        × S.names schemas.old id n.receipt n.seen × HasNoWriter (S.refuses schemas.old) message u.fault)) }
+{
+    let reader = match schemas.schema_of(id) {
+        Ok(reader) => reader,
+        Err(fault) => return Err(Unpaired {
+            fault,
+            reader: None,
+        }),
+    };
+    let (writer_id, payload) = match message.open() {
+        Ok(opened) => opened,
+        Err(error) => {
+            let fault = Fault::BadEnvelope(error);
+            return Err(Unpaired {
+                fault,
+                reader: Some(reader),
+            });
+        }
+    };
+    match schemas.schema_of(writer_id) {
+        Ok(writer) => Ok((NamedPair { writer, reader }, payload)),
+        Err(fault) => Err(Unpaired {
+            fault,
+            reader: Some(reader),
+        }),
+    }
+}
+
+/// Rewrites a message for the reader of an id. Returns the answer, with the two schemas that it stands on; the error says
+/// why there are no two.
+pub(crate) fn rewrite<R: Wait, S: Schemas, T: Transcode, G: Gate>(
+    rt: &R,
+    schemas: &mut S,
+    transcoder: &T,
+    seat: &mut T::Seat,
+    gate: &mut G,
+    id: u32,
+    message: Message,
+) -> Result<Rewritten<S::Seen>, Unpaired<S::Seen>>
+    requires cells { T.cells transcoder.now ≡ S.cells schemas.old }
+    requires seat { T.rests transcoder.now seat.old }
+    requires message { length message ≤ MOST_BODY }
+    ensures same { schemas.new ≡ schemas.old }
+    ensures seat { T.rests transcoder.now seat.new }
+    ensures told { IfOk result (λ r. TellsNamed (IsWhyNone (T.refuses transcoder.now seat.old seat.new)
+        (SaidNo G.says gate.old gate.new)) (S.cells schemas.old) (S.names schemas.old) id message
+        r.pair.writer r.pair.reader (answer_of r.answer)) }
+    ensures no_reader { IfErr result (λ u. IfNone u.reader (S.refuses schemas.old id u.fault)) }
+    ensures reader { IfErr result (λ u. IfSome u.reader (λ n. IsReceiptOf (S.cells schemas.old) n.receipt
+        × S.names schemas.old id n.receipt n.seen × HasNoWriter (S.refuses schemas.old) message u.fault)) }
+{
+    let (mut pair, payload) = pair_of(schemas, id, message)?;
+    let answer = answer_to(rt, transcoder, seat, gate, &mut pair, id, payload);
+    Ok(Rewritten { answer, pair })
+}
+
+/// Rewrites a message for the reader of an id of this service's registry.
 pub(crate) fn tell_message<R: Wait, T: Transcode, G: Gate>(
     rt: &R,
     app: &App<'_, T>,
@@ -104,26 +183,24 @@ pub(crate) fn tell_message<R: Wait, T: Transcode, G: Gate>(
         (SaidNo G.says gate.old gate.new)) app.now.registry.now id message result.evidence
         (answer_of result.answer) }
 {
-    let Some((_, mut reader)) = app.registry.find(id) else {
-        return refused(Fault::NoSchema);
+    let mut schemas = OwnSchemas {
+        registry: app.registry,
     };
-    let (writer_id, payload) = match message.open() {
-        Ok(opened) => opened,
-        Err(error) => return refused_for(reader, Fault::BadEnvelope(error)),
-    };
-    let Some((_, mut writer)) = app.registry.find(writer_id) else {
-        return refused_for(reader, Fault::NoSchema);
-    };
-    let transcoder = app.transcoder;
-    let answer = rewritten(
-        rt,
-        transcoder,
-        seat,
-        gate,
-        &mut writer,
-        &mut reader,
-        payload,
-    );
-    let evidence = Evidence::Pair { writer, reader };
-    Told { answer, evidence }
+    match rewrite(rt, &mut schemas, app.transcoder, seat, gate, id, message) {
+        Ok(Rewritten { answer, pair }) => {
+            let NamedPair { writer, reader } = pair;
+            let evidence = Evidence::Pair {
+                writer: writer.receipt,
+                reader: reader.receipt,
+            };
+            Told { answer, evidence }
+        }
+        Err(Unpaired { fault, reader }) => match reader {
+            Some(reader) => Told {
+                answer: Answer::Fault(fault),
+                evidence: Evidence::Shown(reader.receipt),
+            },
+            None => refused(fault),
+        },
+    }
 }

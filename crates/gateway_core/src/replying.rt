@@ -54,7 +54,7 @@ fn answer_request<R: Wait, T: Transcode, G: Gate>(
 }
 
 /// Returns the bytes of an answer and its status, or those of the answer that memory ran out.
-fn bytes_of(alloc: Global, answer: Answer) -> Result<(AnswerBytes, u16), AllocError>
+pub(crate) fn bytes_of(alloc: Global, answer: Answer) -> Result<(AnswerBytes, u16), AllocError>
     ensures { IfOk result (λ text. IsTextOf (answer_of answer) (text.0.front.items ++ text.0.rest.items) text.1) }
 {
     let status = answer.status().number();

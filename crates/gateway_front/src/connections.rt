@@ -4,14 +4,14 @@ ghost use Rattle.std.specs.Prelude.{◌≡◌};
 
 use crate::bounds::Bounds;
 use crate::connection::{Asked, Connection, Stage, Waiting};
-use crate::listening::{NEW, leave, watch};
-use crate::log::{Entry, Log, LogLock, request_line};
+use crate::listening::{NEW, WAKE, leave, watch};
+use crate::log::{Entry, Fetch, Log, LogLock, request_line};
 use crate::open::OpenConnections;
 use gateway_answers::AnswerBytes;
 use gateway_exchange::{Progress, Reception, Sending, drain, receive, send};
 use gateway_requests::Routes;
 use mio::net::TcpListener;
-use mio::{Events, Poll, Token};
+use mio::{Events, Poll, Token, Waker};
 use std::alloc::Global;
 use std::collections::VecDeque;
 use std::io::{ErrorKind, Read};
@@ -37,6 +37,17 @@ const PAUSE: u64 = 10;
 /// The number of milliseconds after which lines are tried again that standard error has not taken.
 const LOG_PAUSE: u64 = 100;
 
+/// What a thread has to see to next.
+#[derive(Drop)]
+pub enum Event {
+    /// A request is to be answered.
+    Request(Asked),
+    /// Another thread has woken this one, or a moment has come.
+    Woken,
+    /// No more connections are accepted, and all are closed.
+    Over,
+}
+
 /// The connections of a thread. Callers see it as the number of answers that were sent whole.
 #[derive(Drop)]
 pub struct Connections {
@@ -54,6 +65,8 @@ pub struct Connections {
     /// The keys of whole requests that came while another one was served.
     whole: VecDeque<usize>,
     open: OpenConnections,
+    /// Whether another thread has woken this one, and that was not handed out.
+    is_woken: bool,
     /// When it was found that some connections are late.
     late: Option<Instant>,
     accepted: u32,
@@ -101,6 +114,7 @@ impl Connections {
             round: 0,
             whole: VecDeque::new(alloc),
             open: OpenConnections::new(alloc),
+            is_woken: false,
             late: None,
             accepted: 0,
             is_accepting: true,
@@ -117,33 +131,65 @@ impl Connections {
         self.answered
     }
 
+    /// Returns what wakes this thread from another one, while it waits for its next request. The errors are the
+    /// system's.
+    pub fn waker(&self) -> io::Result<Waker> {
+        Waker::new(self.poll.registry(), Token(WAKE))
+    }
+
     /// Returns the next request to be served, for which it waits. `None` once no more connections are accepted and all
     /// are closed.
     pub fn next<R: Wait + Clock>(&mut self, rt: &R, routes: &Routes) -> Option<Asked> {
         for _ in rt.forever() {
-            if let Some(asked) = self.next_whole() {
-                return Some(asked);
-            }
-            if !self.is_accepting && self.open.is_empty() {
-                return None;
-            }
-            let asked = self.see_to_next(rt, routes);
-            if asked.is_some() {
-                return asked;
+            match self.next_event(rt, routes, None) {
+                Event::Request(asked) => return Some(asked),
+                Event::Over => return None,
+                Event::Woken => {}
             }
         }
         None
     }
 
+    /// Returns the next request to be served; or that another thread has woken this one, or that a moment has come. It
+    /// waits for these. Where there is no moment it is over once no more connections are accepted and all are closed.
+    pub fn next_event<R: Wait + Clock>(
+        &mut self,
+        rt: &R,
+        routes: &Routes,
+        moment: Option<Instant>,
+    ) -> Event {
+        for _ in rt.forever() {
+            if let Some(asked) = self.next_whole() {
+                return Event::Request(asked);
+            }
+            if self.is_woken || is_past(rt, moment) {
+                self.is_woken = false;
+                return Event::Woken;
+            }
+            if moment.is_none() && !self.is_accepting && self.open.is_empty() {
+                return Event::Over;
+            }
+            if let Some(asked) = self.see_to_next(rt, routes, moment) {
+                return Event::Request(asked);
+            }
+        }
+        Event::Over
+    }
+
     /// Sees to a connection to be accepted, or else to what is ready next; or asks the system where this round is over.
     /// Returns a request that is to be served.
-    fn see_to_next<R: Clock>(&mut self, rt: &R, routes: &Routes) -> Option<Asked> {
+    fn see_to_next<R: Clock>(
+        &mut self,
+        rt: &R,
+        routes: &Routes,
+        moment: Option<Instant>,
+    ) -> Option<Asked> {
         if self.has_new {
             self.has_new = false;
             return self.accept(rt, routes);
         }
         if self.round == 0 {
-            self.wait(rt);
+            self.wait(rt, moment);
             return None;
         }
         self.round -= 1;
@@ -178,6 +224,13 @@ impl Connections {
         if let Some(deadline) = deadline_after(rt, self.bounds.answer) {
             connection.deadline = deadline;
             self.send(rt, connection, Sending::new(bytes));
+        }
+    }
+
+    /// Logs a question to an upstream registry, where answers are logged.
+    pub fn note_fetch(&mut self, fetch: Fetch) {
+        if let Some(log) = &mut self.log {
+            log.note_fetch(fetch);
         }
     }
 
@@ -405,14 +458,17 @@ impl Connections {
     }
 
     /// Takes what the system reports, and begins a round of all that is ready. Where nothing is ready yet it waits,
-    /// until time is up. What has come before a connection is late is still taken: it is closed only after one more
-    /// look.
-    fn wait<R: Clock>(&mut self, rt: &R) {
+    /// until time is up, or a moment has come. What has come before a connection is late is still taken: it is closed only
+    /// after one more look.
+    fn wait<R: Clock>(&mut self, rt: &R, moment: Option<Instant>) {
         if let Some(late) = self.late {
             self.late = None;
             self.open.close_late(late);
         }
         let mut timeout = self.time_left(rt);
+        if let Some(left) = time_until(rt, moment) {
+            timeout = earlier_of(timeout, left);
+        }
         if let Some(log) = &mut self.log {
             log.flush();
             if log.is_pending() {
@@ -437,6 +493,8 @@ impl Connections {
             let key = event.token().0;
             if key == NEW {
                 self.has_new = true;
+            } else if key == WAKE {
+                self.is_woken = true;
             } else {
                 let _ = self.ready.push_back(key);
             }
@@ -461,6 +519,21 @@ fn earlier_of(one: Option<Duration>, other: Duration) -> Option<Duration> {
         Some(one) => one.min(other),
         None => other,
     })
+}
+
+/// Returns how long it is until a moment, where there is one. `None` where the clock fails.
+fn time_until<R: Clock>(rt: &R, moment: Option<Instant>) -> Option<Duration> {
+    let moment = moment?;
+    let now = Instant::now(rt).ok()?;
+    Some(moment.saturating_duration_since(now))
+}
+
+/// Returns whether a moment has come, where there is one.
+fn is_past<R: Clock>(rt: &R, moment: Option<Instant>) -> bool {
+    match time_until(rt, moment) {
+        Some(left) => left.is_zero(),
+        None => false,
+    }
 }
 
 /// Returns when a time has passed from now on. `None` where the clock has no such moment.

@@ -13,5 +13,5 @@ mod open;
 
 pub use bounds::Bounds;
 pub use connection::{Asked, Connection};
-pub use connections::Connections;
-pub use log::LogLock;
+pub use connections::{Connections, Event};
+pub use log::{Fetch, LogLock};

@@ -12,6 +12,9 @@ const EXCLUSIVE: u32 = 1 << 28;
 /// The key under which connections to be accepted are reported.
 pub(crate) const NEW: usize = usize::MAX;
 
+/// The key under which it is reported that another thread has woken this one.
+pub(crate) const WAKE: usize = usize::MAX - 1;
+
 /// Adds the listener to a set, or takes it away. The error is the system's.
 fn control(poll: &Poll, operation: i32, listener: &TcpListener) -> io::Result<()> {
     let (set, listener) = (poll.as_raw_fd(), listener.as_raw_fd());

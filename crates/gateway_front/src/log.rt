@@ -74,6 +74,17 @@ pub(crate) struct Entry {
     pub(crate) time: Duration,
 }
 
+/// A question to an upstream registry.
+#[derive(Clone, Copy, Debug, PartialEq, Eq)]
+pub struct Fetch {
+    /// The id whose schema was asked for.
+    pub id: u32,
+    /// The code of the fault that it came to; 200 where the schema is held.
+    pub code: u32,
+    /// The time that it took.
+    pub time: Duration,
+}
+
 /// The lines of a thread that standard error has not taken yet.
 #[derive(Drop)]
 pub(crate) struct Log {
@@ -108,26 +119,43 @@ impl Log {
         !self.pending.is_empty()
     }
 
-    /// Writes a line, or holds it back; where too much is held back, or memory is wanting, it is dropped and counted.
+    /// Writes the line of an answer, or holds it back; where too much is held back, or memory is wanting, it is dropped
+    /// and counted.
     pub(crate) fn note(&mut self, line: &str, entry: Entry) {
-        if self.append(line, entry).is_err() {
+        let (status, received, sent) = (entry.status, entry.received, entry.sent);
+        let micros = entry.time.as_micros();
+        let text = format!(in self.alloc; "{line} {status} {received} {sent} {micros}\n");
+        self.keep(text);
+    }
+
+    /// Writes the line of a question to an upstream registry, or holds it back or drops it, as one of an answer.
+    pub(crate) fn note_fetch(&mut self, fetch: Fetch) {
+        let (id, code) = (fetch.id, fetch.code);
+        let micros = fetch.time.as_micros();
+        let text = format!(in self.alloc; "fetch {id} {code} {micros}\n");
+        self.keep(text);
+    }
+
+    /// Writes a line or holds it back. Where there is no line for want of memory, it counts as dropped.
+    fn keep(&mut self, line: Result<String, AllocError>) {
+        let is_kept = match line {
+            Ok(line) => self.append(line.as_str()).is_ok(),
+            Err(_) => false,
+        };
+        if !is_kept {
             self.dropped = self.dropped.saturating_add(1);
         }
         self.flush();
     }
 
-    /// Appends a line to those that are held back, after one that tells how many were dropped before it. The error is
+    /// Appends a line to those that are held back, after one that says how many were dropped before it. The error is
     /// want of room.
-    fn append(&mut self, line: &str, entry: Entry) -> Result<(), AllocError> {
-        let (status, received, sent) = (entry.status, entry.received, entry.sent);
-        let micros = entry.time.as_micros();
+    fn append(&mut self, line: &str) -> Result<(), AllocError> {
         let dropped = self.dropped;
         let text = if dropped > 0 {
-            format!(in self.alloc;
-                "dropped {dropped}\n{line} {status} {received} {sent} {micros}\n"
-            )?
+            format!(in self.alloc; "dropped {dropped}\n{line}")?
         } else {
-            format!(in self.alloc; "{line} {status} {received} {sent} {micros}\n")?
+            String::from_str(self.alloc, line)?
         };
         if self.pending.len().saturating_add(text.len()) > MOST_PENDING {
             return Err(AllocError);

@@ -1,8 +1,10 @@
 //! The threads of a service.
 
-ghost use Rattle.std.specs.Prelude.{All};
+ghost use Rattle.std.specs.Option.{ForSome};
+ghost use Rattle.std.specs.Prelude.{◌≡◌, All};
 ghost use Rattle.session_pool.specs.Seats.{IsNewClient, IsNewWorker};
 
+use crate::beside::Beside;
 use crate::client::{Client, run_client};
 use crate::shared::Shared;
 use crate::worker::{Worker, run_worker};
@@ -14,14 +16,17 @@ use std::sync::Wait;
 use std::thread;
 use std::thread::Threads;
 use std::time::Clock;
+use upstream_schemas::Upstream;
 
 /// What each client is given: its connections, its seat, and one of the workers'.
-fn clients_of<'a, 'p>(
+fn clients_of<'a, 'p, 'r, U: Upstream>(
     shared: &'a Shared<'a, 'p>,
+    beside: Option<&'a Beside<'a, 'r, U>>,
     seats: &mut Vec<ClientSeat<'p>>,
     helpers: &mut Vec<WorkerSeat<'p>>,
     sets: &mut Vec<Connections>,
-) -> Result<Vec<Client<'a, 'p>>, AllocError>
+) -> Result<Vec<Client<'a, 'p, 'r, U>>, AllocError>
+    requires cells { ForSome beside (λ b. b.now.schemas.now.registry ≡ shared.now.registry.now) }
     requires seats { All (IsNewClient shared.now.pool.now) seats.old.items }
     requires helpers { All (IsNewWorker shared.now.pool.now) helpers.old.items }
     ensures { All (IsNewWorker shared.now.pool.now) helpers.new.items }
@@ -39,6 +44,7 @@ fn clients_of<'a, 'p>(
         };
         clients.push(Client {
             shared,
+            beside,
             seat,
             helper,
             connections,
@@ -78,15 +84,15 @@ fn run_workers<R: Threads + Wait + Sync>(
 }
 
 /// Each client in a thread of its own, every one joined, and then the workers end: how many requests were answered.
-fn run_clients<R: Threads + Wait + Clock + Sync>(
+fn run_clients<R: Threads + Wait + Clock + Sync, U: Upstream + Send + Sync>(
     rt: &R,
     shared: &Shared<'_, '_>,
-    clients: Vec<Client<'_, '_>>,
+    clients: Vec<Client<'_, '_, '_, U>>,
 ) -> Result<u64, AllocError> {
     let counts = thread::map_vec(
         rt,
         clients,
-        &|client: Client<'_, '_>| run_client(rt, client),
+        &|client: Client<'_, '_, '_, U>| run_client(rt, client),
     );
     shared.signals.end();
     let mut answered: u64 = 0;
@@ -97,10 +103,10 @@ fn run_clients<R: Threads + Wait + Clock + Sync>(
 }
 
 /// Clients and workers at once: how many requests were answered.
-fn run_all<R: Threads + Wait + Clock + Sync>(
+fn run_all<R: Threads + Wait + Clock + Sync, U: Upstream + Send + Sync>(
     rt: &R,
     shared: &Shared<'_, '_>,
-    clients: Vec<Client<'_, '_>>,
+    clients: Vec<Client<'_, '_, '_, U>>,
     workers: Vec<Worker<'_, '_>>,
 ) -> Result<u64, AllocError> {
     let (worked, answered) = thread::join(
@@ -114,17 +120,19 @@ fn run_all<R: Threads + Wait + Clock + Sync>(
 
 /// Serves with a thread for each client and for each seat that is then left of the workers': how many requests were
 /// answered.
-pub(crate) fn run_threads<'a, 'p, R: Threads + Wait + Clock + Sync>(
+pub(crate) fn run_threads<'a, 'p, 'r, R: Threads + Wait + Clock + Sync, U: Upstream + Send + Sync>(
     rt: &R,
     shared: &'a Shared<'a, 'p>,
+    beside: Option<&'a Beside<'a, 'r, U>>,
     seats: &mut Vec<ClientSeat<'p>>,
     helpers: &mut Vec<WorkerSeat<'p>>,
     sets: &mut Vec<Connections>,
 ) -> Result<u64, AllocError>
+    requires cells { ForSome beside (λ b. b.now.schemas.now.registry ≡ shared.now.registry.now) }
     requires seats { All (IsNewClient shared.now.pool.now) seats.old.items }
     requires helpers { All (IsNewWorker shared.now.pool.now) helpers.old.items }
 {
-    let clients = clients_of(shared, seats, helpers, sets)?;
+    let clients = clients_of(shared, beside, seats, helpers, sets)?;
     let workers = workers_of(shared, helpers)?;
     run_all(rt, shared, clients, workers)
 }

@@ -1,7 +1,7 @@
 //! Edge: lines and commands; used by `avrogate`.
 //!
 //! The registry of a file: it is opened for a service, its commands are printed as lines of `replay`, and it is made of
-//! such lines.
+//! such lines. And the schemas of an upstream registry in a file, for a service beside it.
 #![tactic(auto)]
 
 mod exporting;
@@ -17,6 +17,6 @@ mod tests;
 pub use exporting::{ExportFault, export};
 pub use importing::{ImportFault, import};
 pub use importing_lines::{LineTrouble, UntakenLine, import_lines};
-pub use opening::open_registry;
+pub use opening::{FileSchemas, FileStore, open_registry, open_schemas};
 pub use progress::TimedProgress;
 pub use refusal::{FileTrouble, StoreRefusal};

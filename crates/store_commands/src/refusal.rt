@@ -7,6 +7,7 @@ use std::alloc::AllocError;
 use std::io;
 use std::io::ErrorKind;
 use thiserror::Error;
+use upstream_store::UpstreamStoreFault;
 
 /// Why the file of a store is not opened or not made.
 #[derive(Clone, Copy, Debug, Error)]
@@ -34,13 +35,28 @@ pub enum StoreRefusal<'p> {
     NoMemory,
     /// The file is not opened, or there is none and none is made.
     #[error("cannot open the store {path}: {trouble}")]
-    Open { path: &'p str, trouble: FileTrouble },
+    Open {
+        path: &'p str,
+        trouble: FileTrouble,
+    },
     /// No new file is made.
     #[error("cannot make the store {path}: {trouble}")]
-    Make { path: &'p str, trouble: FileTrouble },
+    Make {
+        path: &'p str,
+        trouble: FileTrouble,
+    },
     /// What the file holds is no registry, or was not read.
     #[error("the store {path}: {fault}")]
-    Contents { path: &'p str, fault: StartFault },
+    Contents {
+        path: &'p str,
+        fault: StartFault,
+    },
+    /// What the file holds are no schemas of the upstream registry, or was not read.
+    #[error("the store {path}: {fault}")]
+    Schemas {
+        path: &'p str,
+        fault: UpstreamStoreFault,
+    },
 }
 
 impl<'p> From<AllocError> for StoreRefusal<'p> {
@@ -79,6 +95,16 @@ pub(crate) fn make_refusal(path: &str, error: FileError) -> StoreRefusal<'_> {
             StoreRefusal::NoMemory
         }
         trouble => StoreRefusal::Make { path, trouble },
+    }
+}
+
+/// Returns the refusal of a store whose file was opened, and which is not one of the schemas of an upstream registry.
+pub(crate) fn schemas_refusal(path: &str, fault: UpstreamStoreFault) -> StoreRefusal<'_> {
+    match fault {
+        UpstreamStoreFault::NoMemory | UpstreamStoreFault::File(OpenFault::NoMemory) => {
+            StoreRefusal::NoMemory
+        }
+        fault => StoreRefusal::Schemas { path, fault },
     }
 }
 

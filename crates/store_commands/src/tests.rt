@@ -1,6 +1,9 @@
 //! Stores as lines and back; the checks of lines are those of `sha256sum`.
 
-use crate::{ImportFault, LineTrouble, StoreRefusal, export, import, import_lines, open_registry};
+use crate::{
+    ImportFault, LineTrouble, StoreRefusal, export, import, import_lines, open_registry,
+    open_schemas,
+};
 use command_io::RunError;
 use journal_file::JournalFile;
 use registry_store::CommandStore;
@@ -141,6 +144,51 @@ fn stores_are_made_once_and_opened(rt: HostRuntime) -> Result<(), Fail> {
     assert!(rt;
         matches!(open_registry(&rt, alloc, OTHER), Ok(registry) if registry.find(1).is_none())
     );
+    fs::remove_dir_all(&rt, FOLDER)?;
+    Ok(())
+}
+
+/// Returns the ids of the schemas that the store at a path has, or why it is none; and adds one of this id to it.
+fn keep_one(rt: &HostRuntime, path: &str, id: u32) -> Result<Vec<u32>, Fail> {
+    let mut found = match open_schemas(rt, rt.alloc(), path, "http://registry:8081") {
+        Ok(found) => found,
+        Err(refusal) => return Err(Fail::from(refusal)),
+    };
+    let mut ids = Vec::new(rt.alloc());
+    for schema in &found.schemas {
+        ids.push(schema.id)?;
+    }
+    match found
+        .store
+        .keep_registration(id, "http://registry:8081", "\"int\"")
+    {
+        Ok(()) => Ok(ids),
+        Err(fault) => Err(Fail::from(fault)),
+    }
+}
+
+#[test]
+fn schemas_of_an_upstream_registry_are_kept(rt: HostRuntime) -> Result<(), Fail> {
+    const FOLDER: &str = "store_commands_schemas";
+    const PATH: &str = "store_commands_schemas/a";
+    let _ = fs::remove_dir_all(&rt, FOLDER);
+    fs::create_dir(&rt, FOLDER)?;
+    assert!(rt; keep_one(&rt, PATH, 100_001)?.is_empty());
+    assert_eq!(rt; keep_one(&rt, PATH, 7)?.as_slice(), [100_001].as_slice());
+    assert_eq!(rt;
+        keep_one(&rt, PATH, 4_294_967_295)?.as_slice(),
+        [100_001, 7].as_slice()
+    );
+    let other = open_schemas(&rt, rt.alloc(), PATH, "http://registry:8082");
+    assert!(rt; matches!(other, Err(StoreRefusal::Schemas { .. })));
+    assert!(rt;
+        matches!(
+            open_registry(&rt, rt.alloc(), PATH),
+            Err(StoreRefusal::Contents { .. })
+        )
+    );
+    let ids = keep_one(&rt, PATH, 8)?;
+    assert_eq!(rt; ids.as_slice(), [100_001, 7, 4_294_967_295].as_slice());
     fs::remove_dir_all(&rt, FOLDER)?;
     Ok(())
 }

@@ -1,6 +1,6 @@
 //! A message that is received in parts.
 
-ghost use Rattle.std.specs.Prelude.{◌≡◌, ◌<◌, ◌≤◌, ◌++◌, List, ℕ, [], IfErr, IfOk, OnErr, OnOk, length, take};
+ghost use Rattle.std.specs.Prelude.{◌≡◌, ◌<◌, ◌≤◌, ◌++◌, List, ℕ, [], IfErr, IfOk, IfSome, OnErr, OnOk, length, take};
 ghost use Rattle.std.specs.Io.KnownBytes.{Keeps};
 ghost use Rattle.byte_transfer.specs.Moving.{Receives};
 ghost use Rattle.wire_frames.specs.declared.envelope.TheConstants.{PREFIX_LENGTH};
@@ -82,6 +82,16 @@ impl Message {
     {
         self.envelope.truncate(length);
         self.payload.truncate(length.saturating_sub(PREFIX_LENGTH));
+    }
+
+    /// Returns the id of the writer's schema, where the bytes are a message. `None` where they are none.
+    pub fn writer(&self) -> Option<u32>
+        ensures { IfSome result (λ id. (payload : List ℕ) × (self.now ≡ envelope id payload)) }
+    {
+        match open_envelope(&self.envelope) {
+            Ok((id, _)) => Some(id),
+            Err(_) => None,
+        }
     }
 
     /// Opens the message: returns the id of the writer's schema, and the payload, in the memory that it was received in

@@ -141,6 +141,7 @@ fn printed<R: Net + Threads + Wait + Clock + Sync>(
         connections: OPEN,
         head_timeout: Duration::from_secs(PATIENCE),
         request_timeout: Duration::from_secs(PATIENCE),
+        patience: Duration::from_secs(PATIENCE),
         is_logged: false,
     };
     let mut lines = Vec::new(alloc);

@@ -17,6 +17,8 @@ begins faults.Incompatible = inl refl
 begins faults.TooLarge = inr refl
 begins faults.BadBody = inr refl
 begins (faults.BadSchema error) = inr refl
+begins faults.NotAvro = inr refl
+begins faults.HasReferences = inr refl
 begins faults.BadVersion = inr refl
 begins faults.BadLevel = inr refl
 begins (faults.Malformed kind at) = inr refl
@@ -30,6 +32,8 @@ begins faults.NoMemory = inr refl
 begins faults.Full = inr refl
 begins faults.NotFinished = inr refl
 begins faults.NotStored = inr refl
+begins faults.Elsewhere = inl refl
+begins (faults.Upstream fault) = inr refl
 
 pub returns : goal.returns
 returns c = begins

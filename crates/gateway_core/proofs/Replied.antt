@@ -1,0 +1,30 @@
+-- The bytes and the status of an answer that stands on the schemas of another registry.
+use Rattle.std.proofs.Common.{◌≡◌, ◌⊎◌, ℕ, List, Option, sym, subst, inl, inr}
+use Rattle.gateway_answers.specs.Answer.{Answer, Refused}
+use Rattle.gateway_answers.specs.declared.fault.Fault.{Fault}
+use Rattle.gateway_answers.specs.declared.fault.Fault.TheVariants as faults
+use Rattle.gateway_core.specs.declared.named.Sight.{Sight}
+use Rattle.gateway_core.specs.declared.transcode.TranscodeFault.{TranscodeFault}
+use Rattle.schema_registry.specs.Shared.{Shown}
+use Rattle.gateway_core.specs.NamedServing.{IsNamedAnswer, IsNamedReply}
+use Rattle.gateway_core.specs.Serving.{IsTextOf}
+
+module _ (refuses : Shown → Shown → TranscodeFault → Type 0) {E : Type 0} (cells : List ℕ)
+    (names : ℕ → Shown → E → Type 0) (unnamed : ℕ → Fault → Type 0) (input : Option (List ℕ)) (sight : Sight E)
+    (answer : Answer) where
+  -- another answer, of which the text was made
+  named_shown : (shown : Answer) → (shown ≡ answer) ⊎ (shown ≡ Refused faults.NoMemory)
+      → IsNamedAnswer refuses cells names unnamed input sight answer
+      → IsNamedAnswer refuses cells names unnamed input sight shown
+  named_shown shown (inl same) is =
+      let P : Answer → Type 0 = λ x. IsNamedAnswer refuses cells names unnamed input sight x in subst P (sym same) is
+  named_shown shown (inr memory) is = record { request = is.request; asked = is.asked; answers = inl memory }
+
+  pub named_reply : (bytes : List ℕ) (status : ℕ) → IsNamedAnswer refuses cells names unnamed input sight answer
+      → IsTextOf answer bytes status → IsNamedReply refuses cells names unnamed input bytes status sight
+  named_reply bytes status is text = record {
+    answer = text.0;
+    is_answer = named_shown text.0 text.1 is;
+    status_is = text.3;
+    bytes_are = text.2;
+  }

@@ -1,0 +1,10 @@
+-- The answer to a fault of the request.
+use Rattle.gateway_answers.specs.Answer.{answer_of}
+use Rattle.gateway_core.proofs.Answered.{fault_answered}
+use Rattle.gateway_core.proofs.replying.answer_request.Goals as goal
+
+pub returns-in-Err-clause-answers : goal.returns-in-Err-clause-answers
+returns-in-Err-clause-answers g c = λ input tells.
+    let told = c.refused-in-Err in
+    fault_answered _ _ input told.result.evidence (answer_of told.result.answer) _ c.args.request c.in-Err.is
+    told.ensures.answer tells

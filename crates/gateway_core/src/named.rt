@@ -1,0 +1,213 @@
+//! Answers where another registry names the schemas.
+
+ghost use Rattle.std.specs.Prelude.{◌≡◌, ◌++◌, ◌≤◌, ◌⊎◌, ℕ, IfOk, List, None, Option, length};
+ghost use Rattle.gateway_answers.specs.Answer.{Refused, answer_of};
+ghost use Rattle.gateway_requests.specs.Request.{Transcodes, request_of};
+ghost use Rattle.gateway_requests.specs.Sizes.{IsWithin};
+ghost use Rattle.gateway_requests.specs.declared.limits.TheConstants.{MOST_BODY};
+ghost use Rattle.gateway_core.specs.Gates.{SaidNo};
+ghost use Rattle.gateway_core.specs.NamedServing.{FulfilsNamed, IsNamedAnswer, IsNamedReply, TellsTextOf, TellsUnnamed};
+ghost use Rattle.gateway_core.specs.Serving.{TellsRequest};
+ghost use Rattle.gateway_core.specs.Transcoding.{IsWhyNone};
+
+use crate::app::App;
+use crate::gate::Gate;
+use crate::messages::{NamedPair, Rewritten, Unpaired, rewrite};
+use crate::replying::bytes_of;
+use crate::schemas::{NamedSchema, Schemas};
+use crate::transcode::Transcode;
+use gateway_answers::{Answer, AnswerBytes, Fault, schema_text};
+use gateway_requests::Request;
+use schema_registry::SharedRegistry;
+use std::alloc::{AllocError, Global};
+use std::sync::Wait;
+use wire_frames::Message;
+
+/// The schemas that an answer stands on: the one of the reader, or of the id that is asked for, and the writer's.
+#[derive(Drop)]
+pub struct Sight<E: Drop> {
+    pub reader: Option<NamedSchema<E>>,
+    pub writer: Option<NamedSchema<E>>,
+}
+
+/// An answer, and the schemas that it stands on.
+#[derive(Drop)]
+struct NamedTold<E: Drop> {
+    answer: Answer,
+    sight: Sight<E>,
+}
+
+/// An answer that is not yet written, and the schemas that it stands on.
+#[derive(Drop)]
+pub struct NamedReply<E: Drop> {
+    pub bytes: AnswerBytes,
+    pub status: u16,
+    pub sight: Sight<E>,
+}
+
+/// Returns a fault, which stands on no schema.
+fn refused<E: Drop>(fault: Fault) -> NamedTold<E>
+    ensures reader { result.sight.reader ≡ None }
+    ensures answer { answer_of result.answer ≡ Refused fault }
+{
+    NamedTold {
+        answer: Answer::Fault(fault),
+        sight: Sight {
+            reader: None,
+            writer: None,
+        },
+    }
+}
+
+/// Returns the text of the schema that an id names. The error is want of memory.
+fn tell_text<S: Schemas>(
+    alloc: Global,
+    registry: &SharedRegistry,
+    schemas: &mut S,
+    id: u32,
+) -> Result<NamedTold<S::Seen>, AllocError>
+    requires { S.cells schemas.old ≡ registry.now }
+    ensures { IfOk result (λ told. TellsUnnamed (S.refuses schemas.old) id told.sight (answer_of told.answer)
+        ⊎ TellsTextOf (S.cells schemas.old) (S.names schemas.old) id told.sight (answer_of told.answer)) }
+{
+    match schemas.schema_of(id) {
+        Ok(named) => {
+            let mut named = named;
+            let text = registry.schema(&mut named.receipt).text();
+            let answer = Answer::Reply(schema_text(alloc, text)?);
+            let sight = Sight {
+                reader: Some(named),
+                writer: None,
+            };
+            Ok(NamedTold { answer, sight })
+        }
+        Err(fault) => Ok(refused(fault)),
+    }
+}
+
+/// Returns the answer to a message for the reader of an id.
+fn tell_message<R: Wait, S: Schemas, T: Transcode, G: Gate>(
+    rt: &R,
+    schemas: &mut S,
+    transcoder: &T,
+    seat: &mut T::Seat,
+    gate: &mut G,
+    id: u32,
+    message: Message,
+) -> NamedTold<S::Seen>
+    requires cells { T.cells transcoder.now ≡ S.cells schemas.old }
+    requires seat { T.rests transcoder.now seat.old }
+    requires message { length message ≤ MOST_BODY }
+    ensures seat { T.rests transcoder.now seat.new }
+    ensures told { FulfilsNamed (IsWhyNone (T.refuses transcoder.now seat.old seat.new)
+        (SaidNo G.says gate.old gate.new)) (S.cells schemas.old) (S.names schemas.old) (S.refuses schemas.old)
+        (Transcodes id message) result.sight (answer_of result.answer) }
+{
+    match rewrite(rt, schemas, transcoder, seat, gate, id, message) {
+        Ok(Rewritten { answer, pair }) => {
+            let NamedPair { writer, reader } = pair;
+            let sight = Sight {
+                reader: Some(reader),
+                writer: Some(writer),
+            };
+            NamedTold { answer, sight }
+        }
+        Err(Unpaired { fault, reader }) => match reader {
+            Some(reader) => {
+                let sight = Sight {
+                    reader: Some(reader),
+                    writer: None,
+                };
+                let answer = Answer::Fault(fault);
+                NamedTold { answer, sight }
+            }
+            None => refused(fault),
+        },
+    }
+}
+
+/// Returns the answer to what is asked. The error is want of memory.
+fn answer<R: Wait, S: Schemas, T: Transcode, G: Gate>(
+    rt: &R,
+    app: &App<'_, T>,
+    schemas: &mut S,
+    seat: &mut T::Seat,
+    gate: &mut G,
+    request: Request,
+) -> Result<NamedTold<S::Seen>, AllocError>
+    requires cells { T.cells app.now.transcoder.now ≡ S.cells schemas.old }
+    requires registry { S.cells schemas.old ≡ app.now.registry.now }
+    requires seat { T.rests app.now.transcoder.now seat.old }
+    requires size { IsWithin MOST_BODY (request_of request) }
+    ensures seat { T.rests app.now.transcoder.now seat.new }
+    ensures fulfils { IfOk result (λ told. FulfilsNamed (IsWhyNone (T.refuses app.now.transcoder.now seat.old
+        seat.new) (SaidNo G.says gate.old gate.new)) (S.cells schemas.old) (S.names schemas.old)
+        (S.refuses schemas.old) (request_of request) told.sight (answer_of told.answer)) }
+{
+    match request {
+        Request::Command(_) | Request::Registration { .. } => Ok(refused(Fault::Elsewhere)),
+        Request::Schema { id } => tell_text(app.alloc, app.registry, schemas, id),
+        Request::Transcoding { reader, message } => {
+            let transcoder = app.transcoder;
+            Ok(tell_message(rt, schemas, transcoder, seat, gate, reader, message))
+        }
+    }
+}
+
+/// Returns the answer to a request, or to its fault.
+#[tactic(auto, using(crate::proofs::Faults::memory_or_another))]
+fn answer_request<R: Wait, S: Schemas, T: Transcode, G: Gate>(
+    rt: &R,
+    app: &App<'_, T>,
+    schemas: &mut S,
+    seat: &mut T::Seat,
+    gate: &mut G,
+    request: Result<Request, Fault>,
+) -> NamedTold<S::Seen>
+    requires cells { T.cells app.now.transcoder.now ≡ S.cells schemas.old }
+    requires registry { S.cells schemas.old ≡ app.now.registry.now }
+    requires seat { T.rests app.now.transcoder.now seat.old }
+    requires size { IfOk request (λ r. IsWithin MOST_BODY (request_of r)) }
+    ensures seat { T.rests app.now.transcoder.now seat.new }
+    ensures answers { (input : Option (List ℕ)) → TellsRequest input request
+        → IsNamedAnswer (IsWhyNone (T.refuses app.now.transcoder.now seat.old seat.new)
+        (SaidNo G.says gate.old gate.new)) (S.cells schemas.old) (S.names schemas.old) (S.refuses schemas.old) input
+        result.sight (answer_of result.answer) }
+{
+    match request {
+        Ok(request) => match answer(rt, app, schemas, seat, gate, request) {
+            Ok(told) => told,
+            Err(AllocError) => refused(Fault::NoMemory),
+        },
+        Err(fault) => refused(fault),
+    }
+}
+
+/// Returns the reply to what the bytes of a request asked, or to the first of their faults, where another registry names
+/// the schemas. The error says that not even the answer that memory ran out found memory.
+pub fn reply_named<R: Wait, S: Schemas, T: Transcode, G: Gate>(
+    rt: &R,
+    app: &App<'_, T>,
+    schemas: &mut S,
+    seat: &mut T::Seat,
+    gate: &mut G,
+    request: Result<Request, Fault>,
+) -> Result<NamedReply<S::Seen>, AllocError>
+    requires cells { T.cells app.now.transcoder.now ≡ S.cells schemas.old }
+    requires registry { S.cells schemas.old ≡ app.now.registry.now }
+    requires seat { T.rests app.now.transcoder.now seat.old }
+    requires size { IfOk request (λ r. IsWithin MOST_BODY (request_of r)) }
+    ensures seat { T.rests app.now.transcoder.now seat.new }
+    ensures replied { IfOk result (λ reply. (input : Option (List ℕ)) → TellsRequest input request
+        → IsNamedReply (IsWhyNone (T.refuses app.now.transcoder.now seat.old seat.new)
+        (SaidNo G.says gate.old gate.new)) (S.cells schemas.old) (S.names schemas.old) (S.refuses schemas.old) input
+        (reply.bytes.front.items ++ reply.bytes.rest.items) reply.status reply.sight) }
+{
+    let NamedTold { answer, sight } = answer_request(rt, app, schemas, seat, gate, request);
+    let (bytes, status) = bytes_of(app.alloc, answer)?;
+    Ok(NamedReply {
+        bytes,
+        status,
+        sight,
+    })
+}

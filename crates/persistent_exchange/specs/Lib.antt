@@ -1,0 +1,4 @@
+pub mod Persistent
+pub mod Preparing
+pub mod Scouting
+pub mod Stream

@@ -1,0 +1,48 @@
+-- What came over a connection that stays, and what was sent on it (RFC 9112, section 9.3). Which requests bytes are, and
+-- what was answered to them, is the history of `http_server`; the last answer may be another one. This project's own.
+use Rattle.std.specs.Prelude.{◌≡◌, ◌+◌, ℕ, List, [], ◌++◌, length, take, drop}
+use Rattle.http_server.specs.declared.state.Config.{Config}
+use Rattle.http_server.specs.History.{History}
+use Rattle.persistent_exchange.specs.Scouting.{Scouted}
+
+pub record Persistent : Type 0 where
+  -- what was handed on to the server of the connection, and what came of it
+  pub history : History
+  pub config : Config
+  -- what was seen of the bytes that came
+  pub scouted : Scouted
+  -- the bytes that came and were not handed on, and how many of them were seen
+  pub held : List ℕ
+  pub seen : ℕ
+  -- the last answer, where it is not the server's, and how many of its bytes were sent
+  pub last : List ℕ
+  pub last_sent : ℕ
+
+-- all that came over the connection
+abbrev pub received : Persistent → List ℕ
+received p = p.history.received ++ p.held
+
+-- all that was sent
+abbrev pub sent : Persistent → List ℕ
+sent p = p.history.sent ++ take p.last_sent p.last
+
+-- all that is left to send
+abbrev pub pending : Persistent → List ℕ
+pending p = p.history.pending ++ drop p.last_sent p.last
+
+-- this many of the pending bytes were sent, and nothing else happened
+pub record Sends (old new : Persistent) (count : ℕ) : Type 0 where
+  pub sent_is : sent new ≡ sent old ++ take count (pending old)
+  pub pending_is : pending new ≡ drop count (pending old)
+  pub received_is : received new ≡ received old
+  pub calls_are : new.history.calls ≡ old.history.calls
+
+-- bytes that were seen were handed on, all of them where it says so
+pub record HandsOn (old new : Persistent) : Type 0 where
+  pub handed : ℕ
+  pub history_is : new.history.received ≡ old.history.received ++ take handed old.held
+  pub held_is : new.held ≡ drop handed old.held
+  pub seen_is : new.seen + handed ≡ old.seen
+  pub sent_is : sent new ≡ sent old
+  pub pending_is : pending new ≡ pending old
+  pub calls_are : new.history.calls ≡ old.history.calls

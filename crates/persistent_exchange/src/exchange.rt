@@ -1,0 +1,226 @@
+//! The bytes of a connection that stays.
+
+ghost use Rattle.std.specs.Prelude.{◌≡◌, ◌≢◌, ◌≤◌, ◌<◌, ◌+◌, ◌++◌, ◌↔◌, ℕ, [], IfErr, IfOk, IsTrue, OnErr, OnOk, drop, length, take};
+ghost use Rattle.std.specs.Io.KnownBytes.{Appends, Keeps};
+ghost use Rattle.http1.specs.Server.{new_server};
+ghost use Rattle.http_server.specs.Exchange.{Calls};
+ghost use Rattle.http_server.specs.History.{IsDone, IsServed, Rests, new_history};
+ghost use Rattle.byte_transfer.specs.Moving.{Receives};
+ghost use Rattle.persistent_exchange.specs.Persistent.{HandsOn, Sends, pending, received, sent};
+ghost use Rattle.persistent_exchange.specs.Scouting.{Finds, IsWhyNone};
+
+use crate::prepared::NoAnswer;
+use crate::scout::{Refusal, Scout, Sighting};
+use byte_transfer::write_more;
+use bytes::BytesMut;
+use http_server::{Config, Connection, Service};
+use std::alloc::{AllocError, Global};
+use std::hash::RandomState;
+use std::io;
+use std::io::{Read, Write};
+use std::marker::Model;
+
+/// The number of bytes that a read asks for at least.
+const LEAST_READ: usize = 4_096;
+
+/// The number of bytes that a read asks for at most: twice as many as came by the one before, within these two.
+const MOST_READ: usize = 262_144;
+
+/// The bytes of a connection that stays: those that came, of which a scout sees what they are before they are handed on
+/// to the connection's server, and those that are to be sent.
+#[derive(Drop)]
+pub struct PersistentExchange {
+    connection: Connection,
+    scout: Scout,
+    held: BytesMut,
+    seen: usize,
+    /// The number of bytes that came by the last read.
+    last_read: usize,
+    last: Vec<u8>,
+    last_sent: usize,
+}
+
+impl Model for PersistentExchange {
+    ghost use Rattle.std.specs.Prelude.{◌≡◌, ◌≤◌, ◌<◌, [], length};
+    ghost use Rattle.http_server.specs.Connection.{config_of, history};
+    ghost use Rattle.persistent_exchange.specs.Persistent.{Persistent};
+
+    ghost Value = { Persistent };
+
+    ghost view = { λ e. record {
+      history = history e.connection;
+      config = config_of e.connection;
+      scouted = e.scout;
+      held = e.held.items;
+      seen = e.seen;
+      last = e.last.items;
+      last_sent = e.last_sent;
+    } };
+
+    ghost invariant = { λ e. (e.seen ≤ length e.held.items) × (e.last_sent ≤ length e.last.items)
+        × (0 < e.last_sent → (history e.connection).pending ≡ []) };
+}
+
+impl PersistentExchange {
+    /// Returns a connection over which nothing has come. The peer chooses the names of headers, so their maps take secret
+    /// keys.
+    pub fn new(alloc: Global, keys: RandomState, config: Config) -> PersistentExchange
+        ensures { (result.history ≡ new_history) × (result.config ≡ config) × (result.held ≡ []) × (result.last ≡ [])
+            × (result.scouted ≡ record {
+              server = new_server config.limits;
+              most = config.max_body_len;
+              method = [];
+              target = [];
+              content = [];
+            }) }
+    {
+        PersistentExchange {
+            connection: Connection::new(alloc, keys, config),
+            scout: Scout::new(alloc, config.limits, config.max_body_len),
+            held: BytesMut::new(alloc),
+            seen: 0,
+            last_read: 0,
+            last: Vec::new(alloc),
+            last_sent: 0,
+        }
+    }
+
+    /// Reads once: returns the number of bytes that came, 0 only where the reader has ended. The errors are the reader's,
+    /// and `OutOfMemory` where memory is wanting; then what came before is as it was.
+    pub fn receive<R: Read>(&mut self, reader: &mut R) -> io::Result<usize>
+        ensures received { IfOk result (Receives (R.remaining reader.old) (R.remaining reader.new)
+            (received self.old) (received self.new)) }
+        ensures refused { OnErr result (received self.new ≡ received self.old) }
+        ensures kept { OnErr result (Keeps (R.remaining reader.old) (R.remaining reader.new)) }
+        ensures same { (self.new.history ≡ self.old.history) × (self.new.scouted ≡ self.old.scouted)
+            × (self.new.seen ≡ self.old.seen) × (self.new.last ≡ self.old.last) }
+    {
+        let room = self.last_read.min(MOST_READ / 2) * 2;
+        self.held.reserve(room.max(LEAST_READ))?;
+        let count = self.held.read_from(reader)?;
+        self.last_read = count;
+        Ok(count)
+    }
+
+    /// Looks at the bytes that came and were not seen: returns what is next. The errors are the scout's.
+    pub fn look(&mut self) -> Result<Sighting, Refusal>
+        ensures found { IfOk result (λ sighting. (consumed : ℕ)
+            × Finds self.old.scouted (drop self.old.seen self.old.held) consumed sighting self.new.scouted
+            × (self.new.seen ≡ self.old.seen + consumed)) }
+        ensures refused { IfErr result (IsWhyNone self.old.scouted (drop self.old.seen self.old.held)) }
+        ensures same { (self.new.history ≡ self.old.history) × (self.new.held ≡ self.old.held)
+            × (self.new.last ≡ self.old.last) }
+    {
+        let step = self.scout.look(&self.held.as_slice()[self.seen..])?;
+        self.seen += step.consumed;
+        Ok(step.sighting)
+    }
+
+    /// Returns what has been seen of the request that comes next, or came last.
+    pub fn scout(&self) -> &Scout
+        ensures { result.now ≡ self.now.scouted }
+    {
+        &self.scout
+    }
+
+    /// Hands some of the bytes that were seen on to the server. The error is want of memory.
+    fn hand_some_on(&mut self) -> Result<(), AllocError>
+        requires { 0 < self.old.seen }
+        ensures hands { HandsOn self.old self.new }
+        ensures fewer { OnOk result (self.new.seen < self.old.seen) }
+    {
+        let mut bytes = &self.held.as_slice()[..self.seen];
+        match self.connection.read_from(&mut bytes) {
+            Ok(count) if count > 0 => {
+                self.held.advance(count);
+                self.seen -= count;
+                Ok(())
+            }
+            _ => Err(AllocError),
+        }
+    }
+
+    /// Hands the bytes that were seen on to the server. The error is want of memory; then some of them may be handed on.
+    pub fn hand_on(&mut self) -> Result<(), AllocError>
+        ensures hands { HandsOn self.old self.new }
+        ensures all { OnOk result (self.new.seen ≡ 0) }
+    {
+        while self.seen > 0 {
+            self.hand_some_on()?;
+        }
+        Ok(())
+    }
+
+    /// Has the server answer what was handed on to it, by a service, unless the last answer is there.
+    pub fn advance<S: Service>(&mut self, service: &mut S)
+        ensures served { ∥ IsServed self.new.config self.new.history ∥₁ }
+        ensures calls { Calls S.answers service.old service.new self.old.history.calls self.new.history.calls }
+        ensures received { received self.new ≡ received self.old }
+        ensures sent { sent self.new ≡ sent self.old }
+        ensures rests { self.old.last ≡ [] → Rests self.new.config self.new.history }
+        ensures last { self.old.last ≢ [] → self.new ≡ self.old }
+    {
+        if self.last.is_empty() {
+            self.connection.advance(service);
+        }
+    }
+
+    /// Has the server send `100 Continue` for the request whose head was seen, where its content has not come whole. The
+    /// error is want of memory.
+    pub fn invite(&mut self) -> Result<(), AllocError>
+        ensures received { received self.new ≡ received self.old }
+        ensures sent { sent self.new ≡ sent self.old }
+    {
+        self.hand_on()?;
+        self.advance(&mut NoAnswer);
+        Ok(())
+    }
+
+    /// Takes the last answer, which follows those of the server; one after it is not taken.
+    pub fn end_with(&mut self, answer: Vec<u8>)
+        ensures pending { self.old.last ≡ [] → pending self.new ≡ pending self.old ++ answer.items }
+        ensures sent { sent self.new ≡ sent self.old }
+        ensures same { (self.new.history ≡ self.old.history) × (received self.new ≡ received self.old) }
+        ensures last { self.old.last ≢ [] → self.new ≡ self.old }
+    {
+        if self.last.is_empty() {
+            self.last = answer;
+        }
+    }
+
+    /// Returns whether something is left to send.
+    pub fn wants_write(&self) -> bool
+        ensures { IsTrue result ↔ (0 < length (pending self.now)) }
+    {
+        self.connection.wants_write() || self.last_sent < self.last.len()
+    }
+
+    /// Returns whether nothing more is to be sent or read: the server has closed the connection, or the last answer is
+    /// sent.
+    pub fn is_done(&self) -> bool
+        ensures { IsTrue result → length (pending self.now) ≡ 0 }
+    {
+        if self.last.is_empty() {
+            self.connection.is_done()
+        } else {
+            !self.wants_write()
+        }
+    }
+
+    /// Writes once of what is left to send: returns the number of bytes that the writer took. The errors are the writer's.
+    pub fn send<W: Write>(&mut self, writer: &mut W) -> io::Result<usize>
+        ensures written { IfOk result (λ n. Appends (W.contents writer.old) (W.contents writer.new)
+            (take n (pending self.old))) }
+        ensures sent { IfOk result (Sends self.old self.new) }
+        ensures refused { OnErr result ((self.new ≡ self.old) × Keeps (W.contents writer.old) (W.contents writer.new)) }
+    {
+        if self.connection.wants_write() {
+            let count = write_more(writer, self.connection.output(), 0)?;
+            self.connection.sent(count);
+            return Ok(count);
+        }
+        let count = write_more(writer, &self.last, self.last_sent)?;
+        self.last_sent += count;
+        Ok(count)
+    }
+}

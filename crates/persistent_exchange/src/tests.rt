@@ -1,0 +1,4 @@
+//! Requests that come in parts of any size, one after another.
+
+mod cuts;
+mod refusals;

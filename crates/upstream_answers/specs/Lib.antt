@@ -1,0 +1,5 @@
+pub mod Question
+pub mod Answer
+pub mod Parts
+pub mod Stages
+pub mod Content

@@ -1,0 +1,7 @@
+//! Questions, answers and contents, row by row.
+
+mod answers;
+mod contents;
+mod devices;
+mod large;
+mod questions;

@@ -1,0 +1,25 @@
+//! Edge: HTTP; used by `gateway_server`.
+//!
+//! Asking an upstream registry for the schemas of ids: the queue of the ids that are asked for, the threads that ask
+//! for them, the connections by which they do, and the store that keeps what is answered.
+#![tactic(auto)]
+
+mod dial;
+mod failure;
+mod fetch_list;
+mod fetching;
+mod kept_upstream;
+mod limits;
+mod network;
+mod queue;
+#[cfg(test)]
+mod tests;
+mod timed;
+
+pub use dial::{Dial, MOST_ADDRESSES};
+pub use fetch_list::Asked;
+pub use fetching::{Watcher, run_fetcher};
+pub use kept_upstream::KeptUpstream;
+pub use limits::{FAILURE_TIME, MOST_ASKED, MOST_FAILURES};
+pub use network::Network;
+pub use queue::FetchQueue;

@@ -1,0 +1,20 @@
+//! Registry; used by `gateway_upstream`.
+//!
+//! The schemas that the ids of an upstream registry name: each is asked of that registry once, and then held for good,
+//! under an id of this process's own registry, by which programs and sessions go.
+#![tactic(auto)]
+
+mod hearing;
+mod held;
+mod limits;
+mod recent;
+mod schemas;
+#[cfg(test)]
+mod tests;
+mod upstream;
+
+pub use held::{Held, Named};
+pub use limits::MOST_IDS;
+pub use recent::{FoundSchema, RecentSchemas};
+pub use schemas::UpstreamSchemas;
+pub use upstream::{ExchangeFault, Upstream};
