@@ -30,8 +30,13 @@ def chunked(body, size=7):
     return out + b"0\r\n\r\n"
 
 
-def send_slowly(connection, data, pause):
-    for byte in data:
+def send_slowly(connection, data, pause, most=1000.0):
+    """Sends byte by byte with a pause after each for `most` seconds, and then the rest at once."""
+    begin = time.monotonic()
+    for at, byte in enumerate(data):
+        if time.monotonic() - begin > most:
+            connection.sendall(data[at:])
+            return
         connection.sendall(bytes([byte]))
         time.sleep(pause)
 
@@ -75,13 +80,13 @@ def serve_id(connection, number, times):
     elif case in fixed:
         connection.sendall(fixed[case])
     elif case == 62:
-        send_slowly(connection, answer(200, good), 0.001)
+        send_slowly(connection, answer(200, good), 0.001, 0.5)
     elif case == 63:
         time.sleep(15)
     elif case == 64:
         return
     elif case == 71:
-        time.sleep(1)
+        time.sleep(0.5)
         connection.sendall(answer(200, good))
     elif case == 72:
         connection.sendall(b"H")
