@@ -80,7 +80,7 @@ def serve_id(connection, number, times):
     elif case in fixed:
         connection.sendall(fixed[case])
     elif case == 62:
-        send_slowly(connection, answer(200, good), 0.001, 0.5)
+        send_slowly(connection, answer(200, good), 0.001, 0.2)
     elif case == 63:
         time.sleep(15)
     elif case == 64:

@@ -5,7 +5,7 @@ PROGRAM, HERE = sys.argv[1], os.path.dirname(os.path.abspath(__file__))
 SHORT = bool(os.environ.get("SHORT"))
 MESSAGES, CLIENTS = 2_000 if SHORT else 10_000, 8
 WRONG = 400 if SHORT else 2_000
-HOLD = 2  # seconds that the upstream may take
+HOLD = 4  # seconds that the upstream may take
 random.seed(int(os.environ.get("SEED", "71")))
 ROOM = tempfile.mkdtemp(prefix="upstream-")
 STARTED = []
