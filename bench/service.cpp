@@ -7,6 +7,7 @@
 // Usage: service PORT THREADS   (port 0 is any free one; it prints `listening P`)
 #include <arpa/inet.h>
 #include <netinet/in.h>
+#include <netinet/tcp.h>
 #include <sys/socket.h>
 #include <sys/time.h>
 #include <unistd.h>
@@ -16,6 +17,7 @@
 #include <csignal>
 #include <cstdint>
 #include <cstdio>
+#include <ctime>
 #include <cstdlib>
 #include <cstring>
 #include <mutex>
@@ -156,10 +158,29 @@ std::vector<string> schemas;  // the text of id 1, 2, .. as its request spells i
 
 const char* const JSON = "application/vnd.schemaregistry.v1+json";
 
+bool keeps = false;  // whether connections stay open, each with a thread of its own
+
+// the line of the date, made once a second
+const string& date_line() {
+    static thread_local time_t second = 0;
+    static thread_local string line;
+    time_t now = time(nullptr);
+    if (now != second) {
+        char text[64];
+        tm parts;
+        strftime(text, sizeof text, "date: %a, %d %b %Y %H:%M:%S GMT\r\n", gmtime_r(&now, &parts));
+        second = now, line = text;
+    }
+    return line;
+}
+
 void answer(string& out, const char* status, const char* type, string_view body) {
     out = "HTTP/1.1 ";
-    out.append(status).append("\r\ncontent-type: ").append(type).append("\r\ncontent-length: ").append(std::to_string(body.size()));
-    out.append("\r\nconnection: close\r\n\r\n").append(body);
+    out.append(status).append("\r\ncontent-type: ").append(type).append("\r\n");
+    if (keeps) out.append(date_line());
+    out.append("content-length: ").append(std::to_string(body.size())).append("\r\n");
+    if (!keeps) out.append("connection: close\r\n");
+    out.append("\r\n").append(body);
 }
 
 void refuse(string& out, const char* status, unsigned code, string_view message) {
@@ -295,21 +316,40 @@ void finish(int connection, size_t length) {
     while (Clock::now() < deadline && recv(connection, rest, sizeof rest, 0) > 0) {}
 }
 
+void limit_times(int connection) {
+    timeval limit{5, 0};
+    setsockopt(connection, SOL_SOCKET, SO_RCVTIMEO, &limit, sizeof limit);
+    setsockopt(connection, SOL_SOCKET, SO_SNDTIMEO, &limit, sizeof limit);
+}
+
+// all requests of one connection, which do not come before the answer to the one before
+void stay(int connection) {
+    string request, out;
+    int one = 1;
+    setsockopt(connection, IPPROTO_TCP, TCP_NODELAY, &one, sizeof one);
+    limit_times(connection);
+    while (serve(connection, request, out) && send_all(connection, out)) {}
+    close(connection);
+}
+
 void client(int listener) {
     string request, out;
     for (;;) {
         int connection = accept(listener, nullptr, nullptr);
         if (connection < 0) continue;
-        timeval limit{5, 0};
-        setsockopt(connection, SOL_SOCKET, SO_RCVTIMEO, &limit, sizeof limit);
-        setsockopt(connection, SOL_SOCKET, SO_SNDTIMEO, &limit, sizeof limit);
+        if (keeps) {
+            std::thread(stay, connection).detach();
+            continue;
+        }
+        limit_times(connection);
         if (serve(connection, request, out) && send_all(connection, out)) finish(connection, out.size());
         close(connection);
     }
 }
 
 int main(int argc, char** argv) {
-    if (argc != 3) return fprintf(stderr, "usage: service PORT THREADS\n"), 2;
+    if (argc < 3) return fprintf(stderr, "usage: service PORT THREADS [keep]\n"), 2;
+    keeps = argc > 3;
     int listener = socket(AF_INET, SOCK_STREAM, 0), one = 1;
     setsockopt(listener, SOL_SOCKET, SO_REUSEADDR, &one, sizeof one);
     sockaddr_in address{};

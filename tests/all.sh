@@ -82,6 +82,7 @@ try_built tests/hostile.sh
 try_built tests/registry_lock.sh
 try_built tests/store.sh
 try_built tests/upstream.sh
+try_built tests/http11.sh
 try_built tests/plans.sh
 try_built tests/stack.sh
 try_built tests/allocations.sh

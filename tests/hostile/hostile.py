@@ -1,7 +1,11 @@
-"""The checks of tests/hostile.sh. Usage: hostile.py PROGRAM"""
-import json, os, random, resource, socket, subprocess, sys, threading, time
+"""The checks of tests/hostile.sh. With HTTP11=1 in the environment connections stay open, and each request asks for the
+end of its own. Usage: hostile.py PROGRAM"""
+import json, os, random, re, resource, socket, subprocess, sys, threading, time
 
 PROGRAM = sys.argv[1]
+MODE = ["--http11"] if os.environ.get("HTTP11") else []
+FIELDS = "host: h\r\nconnection: close\r\n" if MODE else ""
+DATE = re.compile(rb"\r\ndate: [^\r]*GMT\r\n")
 CLIENTS, ROUNDS = 64, 4 if os.environ.get("SHORT") else 12
 IDLE_SECONDS, MOST_IDLE_SHARE = 5 if os.environ.get("SHORT") else 10, 0.05  # of processor time, which other load does not add to
 SILENT, TRICKLING, UNREAD = (200, 50, 20) if os.environ.get("SHORT") else (1_000, 200, 50)
@@ -47,7 +51,7 @@ SCHEMAS = [
 class Server:
     def __init__(self, *words, files=None, stderr=None):
         limit = None if files is None else (lambda: resource.setrlimit(resource.RLIMIT_NOFILE, (files, files)))
-        self.process = subprocess.Popen([PROGRAM, "serve", "--port", "0", *words], stdout=subprocess.PIPE, stderr=stderr, preexec_fn=limit)
+        self.process = subprocess.Popen([PROGRAM, "serve", "--port", "0", *MODE, *words], stdout=subprocess.PIPE, stderr=stderr, preexec_fn=limit)
         told = self.process.stdout.readline().split()
         assert told[:1] == [b"listening"], told
         self.port = int(told[1])
@@ -76,15 +80,20 @@ class Server:
                 connection.shutdown(socket.SHUT_WR)
             while piece := connection.recv(1 << 20):
                 got += piece
-        return bytes(got)
+        return without_date(bytes(got))
 
     def close(self):
         self.process.kill()
         self.process.wait()
 
 
+def without_date(got):
+    """The bytes of an answer without the date of its head, which has one where connections stay open."""
+    return DATE.sub(b"\r\n", got[:400], count=1) + got[400:] if MODE else got
+
+
 def request(method, path, body=b""):
-    return ("%s %s HTTP/1.1\r\ncontent-length: %d\r\n\r\n" % (method, path, len(body))).encode() + body
+    return ("%s %s HTTP/1.1\r\n%scontent-length: %d\r\n\r\n" % (method, path, FIELDS, len(body))).encode() + body
 
 
 STATUSES = {200: "OK", 400: "Bad Request", 404: "Not Found", 422: "Unprocessable Entity"}
@@ -205,6 +214,7 @@ def register(server):
 
 
 def check(name, is_right, why=""):
+    name = "with connections that stay: " * bool(MODE) + name
     print("ok " + name if is_right else "FAILED %s: %s" % (name, why), flush=True)
 
 
@@ -263,7 +273,7 @@ def trickle(server, stop):
             got = b""
             while piece := connection.recv(1 << 16):
                 got += piece
-        told("trickling", got, want)
+        told("trickling", without_date(got), want)
 
 
 def crowd():

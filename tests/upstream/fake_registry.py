@@ -62,8 +62,6 @@ def serve_id(connection, number, times):
         55: answer(200, "<html>hello</html>"), 56: answer(200, '{"id":1}'),
         57: answer(404, '{"error_code":40401,"message":"Subject not found"}'),
         60: answer(200, good)[:-5], 61: chunked(good)[:-12],
-        65: answer(200, good, b"X-Long: " + b"y" * 100_000 + b"\r\n"),
-        66: answer(200, json.dumps({"schema": schema_of(number), "pad": "p" * 4_000_000})),
         67: b"\x16\x03\x01garbage\r\n\r\n",
         68: b"HTTP/1.1 103 Early Hints\r\nLink: </x>\r\n\r\n" + answer(200, good),
         69: b"HTTP/1.1 200 OK\r\nTransfer-Encoding: chunked\r\n\r\nxyz\r\n" + good.encode(),
@@ -72,13 +70,19 @@ def serve_id(connection, number, times):
         76: answer(200, good).replace(b"\r\n", b"\n"),
         77: answer(200, json.dumps({"schema": '{"type":"nonsense"}'})),
         78: answer(200, json.dumps({"schema": '{"type":"fixed","name":"F","size":1.5}'})),
-        80: answer(200, good, b"X: " + b"z" * 9_000_000 + b"\r\n"),
-        81: answer(200, json.dumps({"schema": schema_of(number), "pad": "p" * 9_000_000})),
+    }
+    long = {
+        65: lambda: answer(200, good, b"X-Long: " + b"y" * 100_000 + b"\r\n"),
+        66: lambda: answer(200, json.dumps({"schema": schema_of(number), "pad": "p" * 4_000_000})),
+        80: lambda: answer(200, good, b"X: " + b"z" * 9_000_000 + b"\r\n"),
+        81: lambda: answer(200, json.dumps({"schema": schema_of(number), "pad": "p" * 9_000_000})),
     }
     if case < 20:
         connection.sendall(answer(200, good))
     elif case in fixed:
         connection.sendall(fixed[case])
+    elif case in long:
+        connection.sendall(long[case]())
     elif case == 62:
         send_slowly(connection, answer(200, good), 0.001, 0.2)
     elif case == 63:

@@ -518,7 +518,7 @@ def nginx(text):
         for name in ["client_body", "proxy", "fastcgi", "uwsgi", "scgi"]:
             file.write("%s_temp_path %s/%s;\n" % (name, path, name))
         file.write(text + "}\n")
-    process = subprocess.Popen(["nginx", "-e", path + "/error.log", "-p", path, "-c", path + "/nginx.conf"], stderr=subprocess.DEVNULL)
+    process = subprocess.Popen(["nginx", "-e", path + "/error.log", "-p", path, "-c", path + "/nginx.conf"], stdout=subprocess.DEVNULL, stderr=subprocess.DEVNULL)
     STARTED.append(process)
     return process
 
@@ -645,5 +645,10 @@ try:
 finally:
     for process in STARTED:
         with contextlib.suppress(OSError):
-            process.kill()
+            # (nginx ends its workers at SIGTERM alone)
+            process.terminate()
+            try:
+                process.wait(5)
+            except subprocess.TimeoutExpired:
+                process.kill()
     subprocess.run(["rm", "-rf", ROOM])

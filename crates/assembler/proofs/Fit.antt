@@ -1,4 +1,4 @@
--- Numbers that are below the greatest that is told apart.
+-- Numbers that are below the greatest one that can be read.
 use Rattle.std.proofs.Common.{ℕ, ◌^◌, ◌-◌, ◌<◌, List, [], ◌∷◌, ◌++◌, arith}
 use Rattle.std.specs.List.{AllByRecursion}
 use Rattle.outcome.specs.declared.mismatch.Mismatch.{Mismatch}

@@ -1,4 +1,4 @@
--- One line more stands after the others.
+-- One line more comes after the others.
 use Rattle.std.proofs.Common.{◌≡◌, ℕ, zero, suc, ◌+◌, List, [], ◌∷◌, ◌++◌, take, Some, sym, ap, ◌∙◌, append_assoc, add-one, arith, slice_get}
 use Rattle.std.proofs.lemmas.List.{append-nil}
 use Rattle.assembler.specs.Listing.{lines, lines_from}

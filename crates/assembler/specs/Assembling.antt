@@ -29,13 +29,13 @@ abbrev pub Gives : {X Y : Type 0} → (X → Y) → Result X AsmError → Result
 Gives view (Ok x) read = read ≡ Ok (view x)
 Gives view (Err e) read = Fails e read
 
--- a fault in the line of a number, counted from 1
+-- a fault in line `at`, counted from 1
 abbrev pub fault : AsmErrorKind → ℕ → AsmFault
 fault kind at = record { kind = kind; line = at }
 
 -- ---- a thing and its number
 
--- It stands in its place, its number is the next one, and there is room for it.
+-- It is in its place, its number is the next one, and there is room for it.
 abbrev pub checked : ℕ → Bool → ℕ → ℕ → Bool → Result (Unit {0}) AsmFault
 checked at here next number fits =
     if not here then Err (fault BadLine at)
@@ -71,7 +71,7 @@ fits_constant P bytes =
 abbrev pub fits_list : {A : Type 0} → List (List A) → List A → Bool
 fits_list lists list = nat_lt (length lists) MOST_TABLES && nat_le (length list) MOST_ENTRIES
 
--- a list more, if it stands in its place, has the next number, and there is room for it
+-- one list more, if it is in its place, has the next number, and there is room for it
 abbrev pub with_list : {A : Type 0} → ℕ → Bool → List (List A) → ℕ → List A → Bool → Result (List (List A)) AsmFault
 with_list at here lists number list fits = do
   _ ← checked at here (length lists) number (nat_lt (length lists) MOST_TABLES && fits)
@@ -121,7 +121,7 @@ with_words at P (w ∷ ws) =
 
 -- ---- all lines
 
--- Each line is ended by an LF, so that nothing stands in the last part.
+-- Each line is ended by an LF, so that the last part is empty.
 unfoldable pub with_lines : ℕ → Program → List (List ℕ) → Result Program AsmFault
 with_lines at P [] = Ok P
 with_lines at P (line ∷ []) = if length line == 0 then Ok P else Err (fault BadLine at)
@@ -164,7 +164,7 @@ index_of (wrong.Miss miss) = miss
 index_of (wrong.Instr address) = address
 index_of _ = 0
 
--- what passes a limit or is empty was told in reading
+-- what passes a limit or is empty was reported in reading
 abbrev pub fault_of : Program → ProgramError → AsmFault
 fault_of P wrong.NoCode = fault NoCode (line_of_code P)
 fault_of P (wrong.Entry map entry) = fault OutOfRange (line_of_map P + map)

@@ -41,7 +41,7 @@ numbered thing words = do
 
 -- ---- constants
 
--- the bytes whose lower-case hex a word is: one at least
+-- the bytes whose lower-case hex a word is: at least one
 abbrev pub spelled_so : List ℕ → Result (List ℕ) FromHexError → Option (List ℕ)
 spelled_so word (Ok bytes) = if nat_lt 0 (length bytes) && bytes_eq (encode_lower bytes) word then Some bytes else None
 spelled_so word (Err e) = None
@@ -57,7 +57,7 @@ constant_in (word ∷ words) = do
 
 -- ---- maps and jump tables
 
--- `!` stands before the number of a miss
+-- `!` comes before the number of a miss
 unfoldable pub entry_in : List ℕ → Option Entry
 entry_in [] = None
 entry_in (b ∷ rest) =

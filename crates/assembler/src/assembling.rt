@@ -13,7 +13,7 @@ use assembler_lexer::{is_text, split_line};
 use isa::Program;
 use std::alloc::Global;
 
-/// Takes the lines after the header.
+/// Takes the lines after the header into the draft, up to the first fault.
 fn take_lines(draft: &mut Draft, alloc: Global, text: &[u8]) -> Result<(), AsmError>
     requires { draft.old ≡ nothing }
     ensures { Gives (λ _. draft.new) result (with_lines 2 nothing (parts 10 text.now)) }
@@ -31,7 +31,7 @@ fn take_lines(draft: &mut Draft, alloc: Global, text: &[u8]) -> Result<(), AsmEr
     Ok(())
 }
 
-/// Takes a whole listing.
+/// Takes a whole listing into the draft, up to the first fault.
 #[tactic(auto, unfolding(crate::specs::Assembling::with_header))]
 fn take_listing(draft: &mut Draft, alloc: Global, text: &[u8]) -> Result<(), AsmError>
     requires { draft.old ≡ nothing }
@@ -48,7 +48,7 @@ fn take_listing(draft: &mut Draft, alloc: Global, text: &[u8]) -> Result<(), Asm
     take_lines(draft, alloc, lines)
 }
 
-/// The program that a text says, or else the first fault.
+/// Returns the program that a text lists, or the first fault.
 #[tactic(auto, unfolding(crate::specs::Assembling::assembled))]
 fn assemble_whole(alloc: Global, text: &[u8]) -> Result<Program, AsmError>
     ensures { Gives (λ x. x) result (assembled text.now) }
@@ -58,7 +58,7 @@ fn assemble_whole(alloc: Global, text: &[u8]) -> Result<Program, AsmError>
     draft.judge()
 }
 
-/// The program whose listing a text is, or else the first fault.
+/// Returns the program whose listing a text is, or the first fault.
 pub fn assemble(alloc: Global, text: &[u8]) -> Result<Program, AsmError>
     // What is assembled has this text as its listing.
     ensures found { IfOk result (λ P. text.now ≡ listing_of P) }

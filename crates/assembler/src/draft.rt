@@ -22,7 +22,7 @@ use std::marker::Model;
 #[derive(Drop)]
 pub(crate) struct Draft {
     parts: Parts,
-    /// How many bytes more the constants may have.
+    /// How many more bytes the constants may have.
     room: usize,
 }
 
@@ -37,14 +37,15 @@ impl Model for Draft {
     ghost invariant = { λ d. IsDraft (program_of d.parts) d.room };
 }
 
-/// A fault in a line.
+/// Returns the error of a fault in a line.
 pub(crate) fn fault(kind: AsmErrorKind, line: usize) -> AsmError
     ensures { result ≡ errors.Fault (fault kind line) }
 {
     AsmError::Fault(AsmFault { line, kind })
 }
 
-/// Whether a thing stands in its place, has the next number, and has room.
+/// Checks that a line is in its section, has the next number, and has room; `BadLine`, `BadIndex` or `TooLarge` where
+/// not.
 fn check(at: usize, here: bool, next: usize, number: u32, fits: bool) -> Result<(), AsmError>
     ensures { Gives (λ _. tt) result (checked at here next number fits) }
 {
@@ -60,7 +61,7 @@ fn check(at: usize, here: bool, next: usize, number: u32, fits: bool) -> Result<
     Ok(())
 }
 
-/// Adds a list to a table, if it stands in its place, has the next number, and there is room for it.
+/// Appends a list to a table, if its line is in its section, has the next number, and has room; else as `check`.
 fn push_list<T: Copy>(
     table: &mut Lists<T>,
     at: usize,
@@ -90,7 +91,7 @@ struct FirstLines {
 }
 
 impl FirstLines {
-    /// The fault of what keeps parts from being a program.
+    /// Returns the fault for an error of the program that the parts would be, with the line that it is in.
     fn fault_of(self, error: ProgramError) -> AsmFault
         requires fits { self.code + index_of error < 2 ^ 64 }
         requires order { (self.maps ≤ self.jumps) × (self.jumps ≤ self.misses) × (self.misses ≤ self.code) }
@@ -109,7 +110,7 @@ impl FirstLines {
 }
 
 impl Draft {
-    /// Nothing.
+    /// Returns an empty draft.
     pub(crate) fn new(alloc: Global) -> Draft
         ensures { result ≡ nothing }
     {
@@ -149,7 +150,7 @@ impl Draft {
         self.parts.maps.len() == 0 && self.is_before_jumps()
     }
 
-    /// Adds a constant.
+    /// Appends a constant with its number.
     fn push_constant(&mut self, at: usize, number: u32, bytes: &[u8]) -> Result<(), AsmError>
         ensures { Gives (λ _. self.new) result (pushed_constant at self.old number bytes.now) }
     {
@@ -160,7 +161,7 @@ impl Draft {
         Ok(())
     }
 
-    /// Takes the line of a constant, of which the words after the first are left.
+    /// Takes the line of a constant, given the words after the first.
     #[tactic(auto, unfolding(crate::specs::Assembling::with_constant))]
     fn take_constant(&mut self, alloc: Global, at: usize, words: &[u8]) -> Result<(), AsmError>
         ensures { Gives (λ _. self.new) result (with_constant at self.old (later words.now)) }
@@ -171,7 +172,7 @@ impl Draft {
         self.push_constant(at, number, &bytes)
     }
 
-    /// Takes the line of a map.
+    /// Takes the line of a map, given the words after the first.
     #[tactic(auto, unfolding(crate::specs::Assembling::with_map))]
     fn take_map(&mut self, alloc: Global, at: usize, words: &[u8]) -> Result<(), AsmError>
         ensures { Gives (λ _. self.new) result (with_map at self.old (later words.now)) }
@@ -184,7 +185,7 @@ impl Draft {
         push_list(&mut self.parts.maps, at, here, number, &map, fits)
     }
 
-    /// Takes the line of a jump table.
+    /// Takes the line of a jump table, given the words after the first.
     #[tactic(auto, unfolding(crate::specs::Assembling::with_jumps))]
     fn take_jumps(&mut self, alloc: Global, at: usize, words: &[u8]) -> Result<(), AsmError>
         ensures { Gives (λ _. self.new) result (with_jumps at self.old (later words.now)) }
@@ -197,7 +198,7 @@ impl Draft {
         push_list(&mut self.parts.jumps, at, here, number, &table, fits)
     }
 
-    /// Takes the line of a miss.
+    /// Takes the line of a miss, given the words after the first.
     #[tactic(auto, unfolding(crate::specs::Assembling::with_miss, crate::specs::Things::numbered))]
     fn take_miss(&mut self, at: usize, words: &[u8]) -> Result<(), AsmError>
         ensures { Gives (λ _. self.new) result (with_miss at self.old (later words.now)) }
@@ -231,7 +232,7 @@ impl Draft {
         Ok(())
     }
 
-    /// Takes one line more.
+    /// Takes the next line, whose number in the text is `at`.
     #[tactic(auto, unfolding(crate::specs::Assembling::with_words))]
     pub(crate) fn take(&mut self, alloc: Global, at: usize, line: &[u8]) -> Result<(), AsmError>
         ensures { Gives (λ _. self.new) result (with_words at self.old (words line.now)) }
@@ -250,7 +251,7 @@ impl Draft {
         }
     }
 
-    /// Where each section begins.
+    /// Returns the lines in which the sections begin.
     fn first_lines(&self) -> FirstLines
         ensures { AreFirst self.now result }
     {
@@ -266,7 +267,7 @@ impl Draft {
         }
     }
 
-    /// The program that it is, or else what is out of range first.
+    /// Returns the draft as a program, or the fault of the first thing that keeps it from being one.
     pub(crate) fn judge(self) -> Result<Program, AsmError>
         ensures { Gives (λ P. P) result (in_range self (judged self)) }
     {

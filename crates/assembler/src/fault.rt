@@ -6,12 +6,13 @@ ghost use Rattle.assembler.specs.declared.fault.AsmError.TheVariants.{NoMemory};
 use std::alloc::{AllocError, AllocFailed};
 use thiserror::Error;
 
-/// What keeps a text from being a listing. In one line, and of the first four, the one that stands first here is told.
+/// What keeps a text from being a listing. Where a line has several of the first four faults, the one listed first
+/// here is reported.
 #[derive(Clone, Copy, Debug, PartialEq, Eq, Error)]
 pub enum AsmErrorKind {
     #[error("BadHeader")]
     BadHeader,
-    /// There is no such line in this place, or it is not ended.
+    /// There is no such line at this place, or it is not ended.
     #[error("BadLine")]
     BadLine,
     #[error("BadIndex")]
@@ -21,7 +22,7 @@ pub enum AsmErrorKind {
     /// In the line after the last one. All lines are well formed.
     #[error("NoCode")]
     NoCode,
-    /// A number names what there is not. All lines are well formed.
+    /// A number refers to what there is not. All lines are well formed.
     #[error("OutOfRange")]
     OutOfRange,
 }

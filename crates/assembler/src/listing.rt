@@ -161,7 +161,7 @@ fn push_listing(alloc: Global, output: &mut String, program: &Program) -> Result
     push_code(output, program.code())
 }
 
-/// The listing of a program.
+/// Returns the listing of a program.
 pub fn disassemble(alloc: Global, program: &Program) -> Result<String, AllocError>
     ensures { IfOk result (λ text. string_bytes text ≡ listing_of program.now) }
 {

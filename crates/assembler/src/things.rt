@@ -10,7 +10,7 @@ use isa::{Entry, Instr, Shape};
 use outcome::Mismatch;
 use std::alloc::{AllocError, Global};
 
-/// The first number after a space, and what follows it.
+/// Returns the first number after a space, and what follows it; `None` where the next word is no number.
 #[tactic(auto, unfolding(crate::specs::Things::first_number))]
 pub(crate) fn first_number(rest: &[u8]) -> Option<(u32, &[u8])>
     ensures { option_map (λ p. (p.0, later p.1.now)) result ≡ first_number (later rest.now) }
@@ -20,7 +20,7 @@ pub(crate) fn first_number(rest: &[u8]) -> Option<(u32, &[u8])>
     Some((number, rest))
 }
 
-/// The bytes whose lower-case hex a word is: one at least.
+/// Returns the bytes whose lower-case hex a word is; `None` where it is none or empty.
 #[tactic(auto, unfolding(crate::specs::Things::bytes_in))]
 pub fn bytes_of(alloc: Global, word: &[u8]) -> Result<Option<Vec<u8>>, AllocError>
     ensures { IfOk result (λ found. option_map (λ bytes. bytes.items) found ≡ bytes_in word.now) }
@@ -37,7 +37,7 @@ pub fn bytes_of(alloc: Global, word: &[u8]) -> Result<Option<Vec<u8>>, AllocErro
     Ok(Some(bytes))
 }
 
-/// The constant that the words of a line say.
+/// Returns the constant that the words of a line say; `None` where they are not one word of hex.
 #[tactic(auto, unfolding(crate::specs::Things::constant_in))]
 fn constant_of(alloc: Global, rest: &[u8]) -> Result<Option<Vec<u8>>, AllocError>
     ensures { IfOk result (λ found. option_map (λ bytes. bytes.items) found ≡ constant_in (later rest.now)) }
@@ -81,7 +81,7 @@ impl Word for Entry {
     }
 }
 
-/// What each of the words of a line says.
+/// Returns what each of the words of a line says; `None` where a word says nothing of this type.
 fn list_of<T: Word>(alloc: Global, words: &[u8]) -> Result<Option<Vec<T>>, AllocError>
     ensures { IfOk result (λ found. option_map (λ list. list.items) found ≡ each_in T.said (later words.now)) }
 {
@@ -97,7 +97,7 @@ fn list_of<T: Word>(alloc: Global, words: &[u8]) -> Result<Option<Vec<T>>, Alloc
     Ok(Some(list))
 }
 
-/// The number and the constant that the words of a line say.
+/// Returns the number and the constant that the words of a line say, if they say them.
 #[tactic(auto, unfolding(crate::specs::Things::numbered))]
 pub(crate) fn numbered_constant(
     alloc: Global,
@@ -115,7 +115,7 @@ pub(crate) fn numbered_constant(
     }
 }
 
-/// The number and the list that the words of a line say.
+/// Returns the number and the list that the words of a line say, if they say them.
 #[tactic(auto, unfolding(crate::specs::Things::numbered))]
 pub(crate) fn numbered_list<T: Word>(
     alloc: Global,
@@ -133,7 +133,7 @@ pub(crate) fn numbered_list<T: Word>(
     }
 }
 
-/// A thing, where no word is left.
+/// Returns a thing where no word is left, and else `None`.
 fn at_end<T: Copy>(thing: T, rest: &[u8]) -> Option<T>
     ensures { result ≡ at_end thing (later rest.now) }
 {
@@ -143,7 +143,7 @@ fn at_end<T: Copy>(thing: T, rest: &[u8]) -> Option<T>
     }
 }
 
-/// The miss that the words of a line say.
+/// Returns the miss that the words of a line say, if they say one.
 #[tactic(auto, unfolding(crate::specs::Things::miss_in))]
 pub(crate) fn miss_of(rest: &[u8]) -> Option<Mismatch>
     ensures { result ≡ miss_in (later rest.now) }
@@ -160,7 +160,7 @@ pub(crate) fn miss_of(rest: &[u8]) -> Option<Mismatch>
     at_end(miss, rest)
 }
 
-/// The operand that an operation has, or else 0, and what follows it.
+/// Returns the operand that an operation has, or 0 where it has none, and what follows it.
 fn operand_of(shape: Shape, rest: &[u8]) -> Option<(u32, &[u8])>
     ensures { option_map (λ p. (p.0, later p.1.now)) result ≡ operand_in shape (later rest.now) }
 {
@@ -170,7 +170,7 @@ fn operand_of(shape: Shape, rest: &[u8]) -> Option<(u32, &[u8])>
     }
 }
 
-/// The instruction that the words of a line say.
+/// Returns the instruction that the words of a line say, if they say one.
 #[tactic(auto, unfolding(crate::specs::Things::instr_in))]
 pub(crate) fn instr_of(rest: &[u8]) -> Option<Instr>
     ensures { result ≡ instr_in (later rest.now) }

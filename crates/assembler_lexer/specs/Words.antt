@@ -34,7 +34,7 @@ later (space ∷ rest) = words rest
 
 -- ---- numbers
 
--- what every number above it stands for as well: no program names so much
+-- what every greater number is read as: no program names anything with a number so great
 abbrev pub most_number : ℕ
 most_number = 2 ^ 32 - 1
 

@@ -1,6 +1,6 @@
 //! Programs; used by `assembler`, `command_parser`.
 //!
-//! The words of a listing's lines: what stands between separators, numbers, and the words that name an operation or a
+//! The words of a listing's lines: what is between separators, numbers, and the words that name an operation or a
 //! kind.
 #![tactic(auto)]
 

@@ -19,14 +19,14 @@ pub const KINDS: [MismatchKind; 5] = [
     MismatchKind::BytesNotText,
 ];
 
-/// Whether bytes are those of a text.
+/// Returns whether bytes are those of a text.
 pub fn is_text(bytes: &[u8], text: &str) -> bool
     ensures { result ≡ bytes_eq bytes.now text.now }
 {
     bytes == text.as_bytes()
 }
 
-/// The first line that is ended, and what follows it.
+/// Returns the first line, without its line feed, and what follows it; `None` where no line is ended.
 pub fn split_line(text: &[u8]) -> Option<(&[u8], &[u8])>
     ensures { MatchOption result (parts 10 text.now ≡ text.now ∷ [])
         (λ p. (parts 10 text.now ≡ p.0.now ∷ parts 10 p.1.now) × (length p.1.now < length text.now)) }
@@ -37,7 +37,7 @@ pub fn split_line(text: &[u8]) -> Option<(&[u8], &[u8])>
     }
 }
 
-/// The first word, and what follows it from a space on.
+/// Returns the first word, and what follows it from a space on.
 pub fn split_word(line: &[u8]) -> (&[u8], &[u8])
     ensures words { words line.now ≡ result.0.now ∷ later result.1.now }
     ensures len { length result.1.now ≤ length line.now }
@@ -48,7 +48,7 @@ pub fn split_word(line: &[u8]) -> (&[u8], &[u8])
     }
 }
 
-/// The first word after a space, and what follows it from a space on.
+/// Returns the first word after a space, and what follows it from a space on; `None` where nothing is left.
 #[tactic(auto, unfolding(crate::specs::Words::later))]
 pub fn next_word(rest: &[u8]) -> Option<(&[u8], &[u8])>
     ensures { MatchOption result (later rest.now ≡ [])
@@ -60,14 +60,14 @@ pub fn next_word(rest: &[u8]) -> Option<(&[u8], &[u8])>
     }
 }
 
-/// Whether these are digits.
+/// Returns whether all bytes of a word are digits.
 fn are_digits(word: &[u8]) -> bool
     ensures { result ≡ list_all is_ascii_digit word.now }
 {
     word.iter().all(|byte| byte.is_ascii_digit())
 }
 
-/// Whether a word is a number without leading zeros.
+/// Returns whether a word is a number without leading zeros.
 pub fn is_numeral(word: &[u8]) -> bool
     ensures { result ≡ is_numeral word.now }
 {
@@ -77,7 +77,7 @@ pub fn is_numeral(word: &[u8]) -> bool
     }
 }
 
-/// The number that digits write.
+/// Returns the number that digits write, or `u32::MAX` where it is greater.
 fn value_of(digits: &[u8]) -> u32
     requires { list_all is_ascii_digit digits.now ≡ true }
     ensures { result ≡ value_of digits.now }
@@ -91,7 +91,8 @@ fn value_of(digits: &[u8]) -> u32
     value
 }
 
-/// The number that a word is.
+/// Returns the number that a word is, or `u32::MAX` where it is greater; `None` where the word is no number without
+/// leading zeros.
 #[tactic(auto, unfolding(crate::specs::Words::number_in))]
 pub fn number_of(word: &[u8]) -> Option<u32>
     ensures { result ≡ number_in word.now }
@@ -103,7 +104,7 @@ pub fn number_of(word: &[u8]) -> Option<u32>
     }
 }
 
-/// The kind of a miss that has this name.
+/// Returns the kind of a miss that has this name; `None` where no kind has it.
 #[tactic(auto, unfolding(crate::specs::Words::kind_named))]
 pub fn kind_named(word: &[u8]) -> Option<MismatchKind>
     ensures { result ≡ kind_named word.now }
@@ -114,7 +115,7 @@ pub fn kind_named(word: &[u8]) -> Option<MismatchKind>
         .find(|kind| is_text(word, kind.name()))
 }
 
-/// The operation that has this name.
+/// Returns the operation that has this name; `None` where no operation has it.
 #[tactic(auto, unfolding(crate::specs::Words::operation_named))]
 pub fn operation_named(word: &[u8]) -> Option<Operation>
     ensures { result ≡ operation_named word.now }

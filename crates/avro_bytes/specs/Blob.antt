@@ -6,7 +6,7 @@ use Rattle.avro_bytes.specs.Decoding.{Complete, Decoding, Defect, Failed, Malfor
 use Rattle.avro_bytes.specs.Length.{length_at}
 use Rattle.avro_bytes.specs.Number.{IsNumber64}
 
--- ---- fixed: so many bytes are themselves
+-- ---- fixed: the value's own bytes, as many as its size
 
 pub record IsFixed (size : ℕ) (value bytes : List ℕ) : Type 0 where
   pub same : bytes ≡ value
@@ -25,7 +25,7 @@ fixed_at size bytes at m =
 -- ---- bytes after their length
 
 -- the bytes spell the value, after its length
--- This project's own rule: no content is longer than so much.
+-- This project's own rule: no content is longer than `MOST_CONTENT`.
 pub record IsBlob (value bytes : List ℕ) : Type 0 where
   pub len : List ℕ
   pub parts : bytes ≡ len ++ value

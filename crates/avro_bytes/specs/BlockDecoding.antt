@@ -10,16 +10,16 @@ use Rattle.avro_bytes.specs.Number.{long_limit}
 use Rattle.avro_bytes.specs.NumberDecoding.{number_at}
 use Rattle.avro_bytes.specs.Walk.{Walk, first_walk}
 
--- what beginning at an offset answers, where the meter opens so
+-- what beginning at an offset returns, by what opening returned
 abbrev pub Begins : ℕ → Result (Walk × Meter) Fault → Result Meter Fault → Type 0
 Begins at (Ok r) opening = (opening ≡ Ok r.1) × (r.0 ≡ first_walk at)
 Begins at (Err e) opening = opening ≡ Err e
 
--- an item begins, at which the walk is such
+-- an item begins, and the walk that is there
 abbrev pub item_at : Walk → ℕ → Meter → Decoding (Option Walk)
 item_at walk at m = inside (opened_item at m) (λ within. Complete (Some walk) at within)
 
--- whether items of so many bytes have the size that is said, or none is
+-- whether items of `len` bytes have the size that is said, or none is said
 abbrev pub has_size : Option ℤ → ℕ → Bool
 has_size None len = true
 has_size (Some (pos n)) len = n == len
@@ -29,7 +29,7 @@ has_size (Some (negsuc n)) len = false
 abbrev pub is_met : Walk → ℕ → Bool
 is_met walk at = has_size walk.size (at - walk.items_at)
 
--- a block whose size stands at the place, after its count
+-- a block whose size is at the offset, after its count
 unfoldable pub sized_block : List ℕ → ℕ → ℕ → ℕ → Meter → Decoding (Option Walk)
 sized_block bytes count_at left at m = number_at long_limit bytes at m >>= λ size items after.
     item_at (record { left = left; count_at = count_at; items_at = items; size = Some size }) items after
@@ -52,7 +52,7 @@ next_item walk bytes at m = next_left walk.left
     next_left (suc left) = item_at (record walk { left = left }) at m
     next_left zero = if is_met walk at then next_block bytes at m else Failed (Malformed BadBlock walk.count_at)
 
--- what going on answers, and the walk that it leaves
+-- what going on returns, and the walk that it leaves
 abbrev pub Walks : Result (Bool × ℕ × Meter) Fault → Walk → Walk → Decoding (Option Walk) → Type 0
 Walks (Ok r) old new decoding = WalksTo r.0 r.1 r.2 new decoding
   where

@@ -1,5 +1,5 @@
 -- The first fault where a block or the end of the blocks should begin (Avro 1.11, "Binary Encoding", arrays and maps).
--- This project's own rule: which of several faults is told first.
+-- This project's own rule: which of several faults is reported.
 use Rattle.std.specs.Prelude.{◌≡◌, ◌⊎◌, ℕ, suc, List, ◌++◌, length, Option, ℤ, negsuc}
 use Rattle.avro_bytes.specs.declared.meter.Meter.{Meter}
 use Rattle.avro_bytes.specs.Blocks.{IsHead}

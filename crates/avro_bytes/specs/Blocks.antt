@@ -16,17 +16,17 @@ pub record IsSizedHead (count : ℕ) (size : ℤ) (head : List ℕ) : Type 0 whe
   pub number : IsNumber64 (neg_ℤ (pos count)) count_bytes
   pub said : IsNumber64 size size_bytes
 
--- what stands before so many items, where a size is said or none
+-- the head of a block of `count` items, with a size or without one
 abbrev pub IsHead : ℕ → Option ℤ → List ℕ → Type 0
 IsHead count None head = IsNumber64 (pos count) head
 IsHead count (Some size) head = IsSizedHead count size head
 
--- items of so many bytes have the size that is said, or none is
+-- items of `len` bytes have the size that is said, or none is said
 abbrev pub SizeIs : Option ℤ → ℕ → Type 0
 SizeIs None len = Unit {0}
 SizeIs (Some size) len = size ≡ pos len
 
--- blocks of one item at least, one after another, and then bytes that are such
+-- blocks of at least one item, one after another, and then bytes that satisfy `Then`
 abbrev pub BlocksThen : (List ℕ → Type 0) → List (List (List ℕ)) → List ℕ → Type 0
 BlocksThen Then [] bytes = Then bytes
 BlocksThen Then (items ∷ blocks) bytes =

@@ -23,7 +23,7 @@ abbrev pub FaultyBoolean : List ℕ → Defect → Type 0
 FaultyBoolean bytes (Malformed kind offset) = IsAboveOne bytes × (kind ≡ BadBoolean) × (offset ≡ 0)
 FaultyBoolean bytes Need = bytes ≡ []
 
--- the boolean that begins a list, which stands at an offset
+-- the boolean at the front of bytes that begin at an offset
 abbrev pub boolean_of : ℕ → Meter → List ℕ → Decoding Bool
 boolean_of at m [] = Failed Need
 boolean_of at m (byte ∷ rest) =

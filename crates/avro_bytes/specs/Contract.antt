@@ -32,7 +32,7 @@ Anywhere decoding = Unit {0}
 abbrev pub Gathers : {X V : Type 0} → (X → V) → Result (X × ℕ × Meter) Fault → Decoding V → Type 0
 Gathers view = Reads view Anywhere
 
--- a defect as a call tells it
+-- a defect as a call reports it
 abbrev pub fault_of : Defect → Fault
 fault_of (Malformed kind at) = fault.Malformed kind at
 fault_of Need = fault.Need

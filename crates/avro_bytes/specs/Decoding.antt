@@ -6,7 +6,7 @@ use Rattle.avro_bytes.specs.declared.fault.MalformedKind.{MalformedKind}
 use Rattle.avro_bytes.specs.declared.fault.Fault.{Fault}
 use Rattle.avro_bytes.specs.declared.fault.Fault.TheVariants as fault
 
--- a fault, so many bytes from where offsets are counted; or the bytes end inside a part that none of them has made
+-- a fault and its offset, from wherever that is counted; or the bytes end inside a part that none of them has made
 -- faulty
 pub data Defect : Type 0 where
   Malformed : MalformedKind → ℕ → Defect
@@ -43,7 +43,7 @@ abbrev pub inside : {V : Type 0} → Result Meter Fault → (Meter → Decoding 
 inside (Ok m) f = f m
 inside (Err e) f = Failed (defect_of e)
 
--- the bytes from a place up to another are such
+-- the bytes from one offset up to another satisfy `P`
 pub record Stands (P : List ℕ → Type 0) (all : List ℕ) (at to : ℕ) : Type 0 where
   pub bytes : List ℕ
   pub rest : List ℕ

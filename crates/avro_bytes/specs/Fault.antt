@@ -9,7 +9,7 @@ use Rattle.avro_bytes.specs.declared.limits.TheConstants.{MOST_CONTENT}
 use Rattle.avro_bytes.specs.Decoding.{Complete, Decoding, Defect, Failed, Malformed, Need}
 use Rattle.avro_bytes.specs.Number.{IsNumber64, Limit, long_limit}
 
--- the same, after so many bytes more
+-- a defect with `len` added to its offset, if it has one
 abbrev pub shifted : ℕ → Defect → Defect
 shifted len (Malformed kind offset) = Malformed kind (len + offset)
 shifted len Need = Need
@@ -18,7 +18,7 @@ shifted len Need = Need
 abbrev pub failing : {V : Type 0} → ℕ → Defect → Decoding V
 failing at d = Failed (shifted at d)
 
--- where decoding gives no value, the bytes from the place on have such a defect
+-- where decoding gives no value, the bytes from the offset on have such a defect
 abbrev pub HasDefect : {V : Type 0} → Decoding V → ℕ → (Defect → Type 0) → Type 0
 HasDefect (Complete v to m) at P = Unit {0}
 HasDefect (Failed (Malformed kind place)) at P = (offset : ℕ) × (place ≡ at + offset) × P (Malformed kind offset)
@@ -82,7 +82,7 @@ abbrev pub FaultyContent : List ℕ → Defect → Type 0
 FaultyContent bytes (Malformed kind offset) = FaultyLength bytes (Malformed kind offset)
 FaultyContent bytes Need = FaultyLength bytes Need ⊎ ContentNeedsMore bytes
 
--- a whole content that is no UTF-8, and how many bytes stand before it
+-- a whole content that is not UTF-8, and how many bytes come before it
 pub record IsBadText (bytes : List ℕ) (before : ℕ) : Type 0 where
   pub len : List ℕ
   pub content : List ℕ

@@ -35,14 +35,14 @@ opened_blocks at m =
 abbrev pub closed_blocks : Meter → Meter
 closed_blocks m = record { depth = m.depth - 1; units = m.units }
 
--- So many levels and units more stay within the limits after a meter, and the meter after them.
+-- `depth` more levels and `units` more units stay within the limits after a meter, and the meter after them.
 pub record Counts (depth units : ℕ) (m after : Meter) : Type 0 where
   pub deep : depth ≤ MOST_DEPTH - m.depth
   pub many : units ≤ MOST_UNITS - m.units
   pub same_depth : after.depth ≡ m.depth
   pub counted : after.units ≡ m.units + units
 
--- ---- the same as relations, sharing nothing with the function above
+-- ---- meters as relations, which share nothing with the functions above
 
 -- a record begins, and the meter inside it
 pub record OpensRecord (m within : Meter) : Type 0 where

@@ -18,7 +18,7 @@ abbrev pub zigzag : ℤ → ℕ
 zigzag (pos n) = 2 * n
 zigzag (negsuc n) = 2 * n + 1
 
--- how many bytes a number has at most, and how great the last byte of so long a one
+-- how many bytes a number has at most, and how great the last byte is at most, where it has that many
 pub record Limit : Type 0 where
   pub most : ℕ
   pub top : ℕ

@@ -12,7 +12,7 @@ use Rattle.avro_bytes.specs.Decoding.{Complete, Decoding, Failed, Malformed, Nee
 abbrev pub from_zigzag : ℕ → ℤ
 from_zigzag n = if n % 2 == 0 then pos (n / 2) else negsuc (n / 2)
 
--- the bytes of a number that begins a list; or its last byte is too great; or the list ends inside
+-- the bytes of the number at the front of a list; or its last byte is too great; or the list ends inside it
 pub data Front : Type 0 where
   Ends : List ℕ → Front
   TooGreat : Front
@@ -23,7 +23,7 @@ longer b (Ends bytes) = Ends (b ∷ bytes)
 longer b TooGreat = TooGreat
 longer b Open = Open
 
--- of at most so many bytes
+-- for a number of at most n bytes, the nth of which is at most `top`
 unfoldable pub number_front : ℕ → ℕ → List ℕ → Front
 number_front zero top bytes = TooGreat
 number_front (suc left) top [] = Open
@@ -40,7 +40,7 @@ number_of at m Open = Failed Need
 unfoldable pub number_at : Limit → List ℕ → ℕ → Meter → Decoding ℤ
 number_at limit bytes at m = number_of at m (number_front limit.most limit.top (drop at bytes))
 
--- for a private clause: the groups of a number put together, and the offset after its bytes
+-- for a private clause: the groups put together, and the offset after their bytes
 abbrev pub GivesGroups : Result (ℕ × ℕ) Fault → ℕ → Front → Type 0
 GivesGroups (Ok r) at front =
     (bytes : List ℕ) × (front ≡ Ends bytes) × (r.0 ≡ groups_sum bytes) × (r.1 ≡ at + length bytes)

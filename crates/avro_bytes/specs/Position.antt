@@ -1,4 +1,4 @@
--- Positions (Avro 1.11, "Binary Encoding", enum and union): an int, from 0 up to how many symbols or members there are.
+-- Positions (Avro 1.11, "Binary Encoding", enum and union): an int, from 0 and below the count of symbols or branches.
 use Rattle.std.specs.Prelude.{◌≡◌, ◌<◌, ◌⊎◌, ℕ, List, ◌++◌, nat_lt, if◌then◌else◌, ℤ, pos, negsuc}
 use Rattle.avro_bytes.specs.declared.fault.MalformedKind.{MalformedKind}
 use Rattle.avro_bytes.specs.declared.meter.Meter.{Meter}
@@ -11,11 +11,11 @@ abbrev pub IsPosition : ℕ → ℤ → Type 0
 IsPosition many (pos n) = n < many
 IsPosition many (negsuc n) = ⊥
 
--- the bytes spell a position, of so many
+-- the bytes spell position n, one of `many`
 abbrev pub SpellsPosition : ℕ → ℕ → List ℕ → Type 0
 SpellsPosition many n bytes = (n < many) × IsNumber32 (pos n) bytes
 
--- a number that is none of so many positions
+-- a number that is none of `many` positions
 pub record IsBadPosition (many : ℕ) (bytes : List ℕ) : Type 0 where
   pub position : List ℕ
   pub rest : List ℕ
@@ -30,7 +30,7 @@ FaultyPosition bad many bytes (Malformed kind offset) =
     FaultyNumber int_limit bytes (Malformed kind offset) ⊎ (IsBadPosition many bytes × (kind ≡ bad) × (offset ≡ 0))
 FaultyPosition bad many bytes Need = FaultyNumber int_limit bytes Need
 
--- a number, where it is a position, which stands at an offset before
+-- a number that was read at an offset, where it is a position
 abbrev pub position_of : MalformedKind → ℕ → ℕ → ℤ → ℕ → Meter → Decoding ℕ
 position_of bad many at (pos n) to m = if nat_lt n many then Complete n to m else Failed (Malformed bad at)
 position_of bad many at (negsuc n) to m = Failed (Malformed bad at)

@@ -1,10 +1,10 @@
--- The shortest spelling of a number (Avro 1.11, "Binary Encoding", int and long).
+-- The shortest encoding of an int or a long (Avro 1.11, "Binary Encoding", int and long).
 use Rattle.std.specs.List.{AllByRecursion}
 use Rattle.avro_bytes.specs.declared.limits.TheConstants.{LONG_BYTES}
 use Rattle.std.specs.Prelude.{◌⊎◌, length, slice_index, ◌≡◌, ◌<◌, ℕ, zero, suc, ◌+◌, ◌-◌, ◌*◌, ◌/◌, ◌%◌, ◌^◌, List, [], ◌∷◌, ◌++◌, nat_lt, if◌then◌else◌, ℤ}
 use Rattle.avro_bytes.specs.Number.{Limit, zigzag}
 
--- seven bits a byte, the least first, in as few bytes as hold them, of at most so many
+-- seven bits a byte, the least first, in as few bytes as hold them, up to a limit
 unfoldable pub shortest_groups : ℕ → ℕ → List ℕ
 shortest_groups zero n = []
 shortest_groups (suc left) n = if nat_lt n 128 then n ∷ [] else (n % 128 + 128) ∷ shortest_groups left (n / 128)
@@ -16,7 +16,7 @@ shortest n = shortest_groups LONG_BYTES (zigzag n)
 abbrev pub FitsLimit : Limit → ℤ → Type 0
 FitsLimit limit n = zigzag n < (limit.top + 1) * 2 ^ (7 * (limit.most - 1))
 
--- as bytes are
+-- each is below 256, as a byte is
 abbrev pub AreBytes : List ℕ → Type 0
 AreBytes bytes = AllByRecursion (λ b. b < 256) bytes
 

@@ -1,4 +1,4 @@
--- Texts (Avro 1.11, "Binary Encoding", string): a length, then so many bytes of UTF-8.
+-- Texts (Avro 1.11, "Binary Encoding", string): a length, then that many bytes of UTF-8.
 use Rattle.std.specs.Prelude.{◌≡◌, ◌≤◌, ℕ, ◌-◌, List, ◌++◌, length, if◌then◌else◌, pos}
 use Rattle.std.specs.Str.{IsUtf8, is_utf8}
 use Rattle.avro_bytes.specs.declared.fault.MalformedKind.TheVariants.{BadText}

@@ -1,11 +1,11 @@
 -- A walk over the blocks of an array or a map, as its callers see it (Avro 1.11, "Binary Encoding", arrays and maps).
 use Rattle.std.specs.Prelude.{ℕ, ℤ, Option, None}
 
--- where a walk stands in the block that it came to last
+-- where a walk is in the block that it came to last
 pub record Walk : Type 0 where
   -- how many items of the block are still to come
   pub left : ℕ
-  -- where the block's count stands
+  -- where the block's count begins
   pub count_at : ℕ
   -- where its items begin
   pub items_at : ℕ

@@ -27,7 +27,7 @@ Leads walk at next to head =
     (item : List ℕ) (items : List (List ℕ)) (rest : List ℕ) → Remains next (to + length item) items rest
     → Remains walk at (item ∷ items) (head ++ (item ++ rest))
 
--- the next item: what stands before it, and what the walk does there, whatever stands around
+-- the next item: what comes before it, and what the walk does there, whatever bytes are around
 pub record Comes (walk : Walk) (at : ℕ) (item : List ℕ) (items : List (List ℕ)) (bytes : List ℕ) : Type 0 where
   pub next : Walk
   pub head : List ℕ

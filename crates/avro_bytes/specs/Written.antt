@@ -8,7 +8,7 @@ use Rattle.avro_bytes.specs.Shortest.{shortest}
 abbrev pub after_length : List ℕ → List ℕ
 after_length bytes = shortest (pos (length bytes)) ++ bytes
 
--- what stands before the items of the one block: nothing where there are none
+-- the count before the items of the one block: nothing where there are none
 abbrev pub block_count : ℕ → List ℕ
 block_count zero = []
 block_count (suc n) = shortest (pos (suc n))

@@ -15,7 +15,7 @@ use crate::length::read_length;
 use crate::meter::Meter;
 use std::alloc::Global;
 
-/// So many bytes at an offset.
+/// Returns the `size` bytes at an offset, the offset after them, and the meter; `Need` where there are fewer bytes.
 #[tactic(auto, unfolding(crate::specs::Blob::fixed_at))]
 fn fixed(bytes: &[u8], size: usize, at: usize, meter: Meter) -> Result<(&[u8], usize, Meter), Fault>
     requires { at ≤ length bytes.now }
@@ -31,7 +31,8 @@ fn fixed(bytes: &[u8], size: usize, at: usize, meter: Meter) -> Result<(&[u8], u
     Ok((&bytes[at..at + size], at + size, meter))
 }
 
-/// The content after the length at an offset.
+/// Returns the content after the length at an offset, the offset after the content, and the meter; else the first
+/// fault.
 #[tactic(auto, unfolding(crate::specs::Blob::content_at))]
 pub(crate) fn content(bytes: &[u8], at: usize, meter: Meter) -> Result<(&[u8], usize, Meter), Fault>
     requires { at ≤ length bytes.now }
@@ -97,7 +98,7 @@ impl WireForm for Blob {
     }
 }
 
-/// So many bytes, as a fixed has them.
+/// A given number of bytes, as a fixed has them.
 #[derive(Clone, Copy, Debug)]
 pub struct FixedBytes {
     pub alloc: Global,

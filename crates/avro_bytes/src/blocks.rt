@@ -13,9 +13,9 @@ use std::marker::Model;
 pub struct BlockWalk {
     /// How many items of the block are still to come.
     left: u64,
-    /// Where the block's count stands.
+    /// The offset of the block's count.
     count_at: usize,
-    /// Where its items begin.
+    /// The offset where its items begin.
     items_at: usize,
     /// How many bytes the block says that its items have, where it says so.
     size: Option<i64>,
@@ -36,8 +36,8 @@ impl BlockWalk {
     ghost use Rattle.avro_bytes.specs.Contract.{Finds};
     ghost use Rattle.avro_bytes.specs.Meter.{opened_blocks};
 
-    /// A walk over the blocks at an offset, and the meter inside them. `TooDeep` inside `MOST_DEPTH` others, told
-    /// there.
+    /// Returns a walk over the blocks at an offset, and the meter inside them; `TooDeep` at that offset where
+    /// `MOST_DEPTH` others are open.
     pub fn begin(at: usize, meter: Meter) -> Result<(BlockWalk, Meter), Fault>
         ensures { Begins at result (opened_blocks at meter) }
     {
@@ -45,7 +45,7 @@ impl BlockWalk {
         Ok((walk, meter.enter_blocks(at)?))
     }
 
-    /// The walk of these parts.
+    /// Returns the walk with these parts.
     pub fn walk_of(left: u64, count_at: usize, items_at: usize, size: Option<i64>) -> BlockWalk
         ensures { result ≡ record { left = left; count_at = count_at; items_at = items_at; size = size } }
     {
@@ -57,35 +57,37 @@ impl BlockWalk {
         }
     }
 
-    /// How many items of the block are still to come.
+    /// Returns how many items of the block are still to come.
     pub fn left(self) -> u64
         ensures { result ≡ self.left }
     {
         self.left
     }
 
-    /// Where the block's count stands.
+    /// Returns the offset of the block's count.
     pub fn count_at(self) -> usize
         ensures { result ≡ self.count_at }
     {
         self.count_at
     }
 
-    /// Where its items begin.
+    /// Returns the offset where the block's items begin.
     pub fn items_at(self) -> usize
         ensures { result ≡ self.items_at }
     {
         self.items_at
     }
 
-    /// How many bytes the block says that its items have, where it says so.
+    /// Returns how many bytes the block says that its items have, where it says so.
     pub fn size(self) -> Option<i64>
         ensures { result ≡ self.size }
     {
         self.size
     }
 
-    /// Goes to the next item: `true` and the offset where it begins, or `false` and the offset after the last block.
+    /// Moves to the next item, and returns `true` with the offset where it begins, or `false` with the offset after
+    /// the last block, and the meter there.
+    ///
     /// After an `Err` the walk is where it was: `Need` where bytes are missing, `BadNumber` of a count or a size,
     /// `BadBlock` of a block that ends, `TooMany` of an item.
     #[tactic(auto, using(crate::specs::Laws::Walks::item_meter, crate::specs::Laws::Walks::end_meter, crate::specs::Laws::Walks::head_places, crate::specs::Laws::Walks::inside_keeps, crate::specs::Laws::Walks::end_takes))]
@@ -116,7 +118,7 @@ impl BlockWalk {
         }
     }
 
-    /// The walk at the next item, or none after the blocks.
+    /// Returns the walk at the next item, or `None` after the last block; with it the offset and the meter there.
     #[tactic(auto, unfolding(crate::specs::BlockDecoding::next_item))]
     fn step(
         self,
@@ -142,7 +144,7 @@ impl BlockWalk {
         BlockWalk::next_block(bytes, at, meter)
     }
 
-    /// Whether the items that end at an offset have the block's size.
+    /// Returns whether the items that end at an offset have the block's size; `true` where the block has none.
     fn is_met(self, at: usize) -> bool
         ensures { result ≡ is_met self at }
     {
@@ -152,7 +154,7 @@ impl BlockWalk {
         }
     }
 
-    /// The walk inside the block at an offset, or none after the blocks.
+    /// Returns the walk inside the block at an offset, or `None` where the count there is 0 and the blocks end.
     #[tactic(auto, unfolding(crate::specs::BlockDecoding::next_block))]
     fn next_block(
         bytes: &[u8],
@@ -178,7 +180,7 @@ impl BlockWalk {
         BlockWalk::sized_block(bytes, at, -(count + 1) as u64, to, meter)
     }
 
-    /// The walk inside a block whose size follows.
+    /// Returns the walk inside a block whose size is at an offset, with `left` items to come after the first.
     #[tactic(auto, unfolding(crate::specs::BlockDecoding::sized_block))]
     fn sized_block(
         bytes: &[u8],
@@ -195,7 +197,7 @@ impl BlockWalk {
         BlockWalk::walk_of(left, count_at, items_at, Some(size)).item(items_at, meter)
     }
 
-    /// The walk itself, at an item.
+    /// Returns the walk itself at an item that begins at an offset, with the item counted; else `TooMany`.
     fn item(self, at: usize, meter: Meter) -> Result<(Option<BlockWalk>, usize, Meter), Fault>
         ensures finds { Finds (λ walk. walk) result (item_at self at meter) }
         ensures within { IfOk result (λ r. r.1 ≡ at) }

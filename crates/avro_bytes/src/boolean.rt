@@ -13,7 +13,8 @@ use crate::meter::Meter;
 #[derive(Clone, Copy, Debug)]
 pub struct Bool;
 
-/// The boolean at an offset. It takes no memory.
+/// Reads the boolean at an offset: its value, the offset after it, and the meter; else the first fault. Allocates
+/// nothing.
 #[tactic(auto, using(crate::specs::Laws::Booleans::boolean_past, crate::specs::Laws::Booleans::boolean_there))]
 pub fn read_boolean(bytes: &[u8], at: usize, meter: Meter) -> Result<(bool, usize, Meter), Fault>
     requires { at ≤ length bytes.now }

@@ -31,7 +31,8 @@ pub fn limits_are_these()
     ensures int_last { INT_LAST ≡ 15 }
 {}
 
-/// The law that the shortest spelling is a spelling, of the width that holds the number, and that no other is shorter.
+/// The law that the shortest encoding is an encoding, of the width that holds the number, and that no other is
+/// shorter.
 pub fn shortest_spelling_is_shortest()
     ensures long { (n : ℤ) → FitsLimit long_limit n → IsNumber64 n (shortest n) }
     ensures int { (n : ℤ) → FitsLimit int_limit n → IsNumber32 n (shortest n) }
@@ -41,7 +42,7 @@ pub fn shortest_spelling_is_shortest()
         → length (shortest n) ≤ length bytes }
 {}
 
-/// The law that a spelling of one byte, or whose last byte is above 0, is the shortest one.
+/// The law that an encoding of one byte, or whose last byte is above 0, is the shortest one.
 pub fn tight_spelling_is_the_shortest()
     ensures long { (n : ℤ) (bytes : List ℕ) → AreBytes bytes → IsNumber64 n bytes → IsTight bytes
         → bytes ≡ shortest n }
@@ -58,7 +59,7 @@ pub fn content_is_a_length_and_a_fixed()
         content_at bytes at m ≡ Failed d }
 {}
 
-/// The law that a walk over blocks comes to the items that are spelled in them, one after another, and to no others.
+/// The law that a walk over blocks comes to the items that are encoded in them, in order, and to no others.
 pub fn walks_pass_the_items()
     ensures first { (start at : ℕ) (items : List (List ℕ)) (bytes : List ℕ) →
         IsItems items bytes ↔ Remains (first_walk start) at items bytes }
@@ -83,8 +84,8 @@ pub fn walks_pass_the_items()
         Remains walk at [] a → Remains walk at [] b → a ++ x ≡ b ++ y → a ≡ b }
 {}
 
-/// The law of where a walk stands: the head of a block begins where reading began and its items after it, within a
-/// block only the number of items that are left changes, and an end takes at least a byte.
+/// The law of where a walk is: the head of a block begins where reading began and its items after it, within a block
+/// only the number of items that are left changes, and an end takes at least a byte.
 pub fn walks_stand_at_their_blocks()
     ensures head { (walk next : Walk) (all : List ℕ) (at to : ℕ) (m after : Meter) →
         next_item walk all at m ≡ Complete (Some next) to after → walk.left ≡ 0 →
@@ -96,7 +97,7 @@ pub fn walks_stand_at_their_blocks()
         next_item walk all at m ≡ Complete None to after → (walk.left ≡ 0) × (at < to) }
 {}
 
-/// The law that a walk over blocks tells the first fault, and that the first fault is told.
+/// The law that a fault that a walk over blocks reports is the first one, and that the first one is reported.
 pub fn walks_tell_the_first_fault()
     ensures within { (walk : Walk) (all : List ℕ) (at : ℕ) (m : Meter) → 0 < walk.left →
         HasDefect (next_item walk all at m) at (RefusesItem m) }

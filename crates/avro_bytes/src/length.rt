@@ -9,7 +9,8 @@ use crate::limits::MOST_CONTENT;
 use crate::meter::Meter;
 use crate::number::read_long;
 
-/// The length at an offset, of a content that stands after it. It takes no memory.
+/// Reads the length at an offset, of a content that follows it: the length in bytes, the offset after it, and the
+/// meter; else the first fault. Allocates nothing.
 #[tactic(auto, unfolding(crate::specs::Length::length_at))]
 pub fn read_length(bytes: &[u8], at: usize, meter: Meter) -> Result<(usize, usize, Meter), Fault>
     requires { at ≤ length bytes.now }

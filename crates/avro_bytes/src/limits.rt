@@ -1,7 +1,7 @@
 //! The limits of this crate, each a number of its own (`limits_are_these` says which). All but the widths of the
 //! numbers are this project's own rules.
 
-/// How many records, arrays and maps may lie inside each other.
+/// How many records, arrays and maps may be nested in one another.
 pub const MOST_DEPTH: u32 = 1_000;
 
 /// How many records, array items and map pairs a message may have.
@@ -10,14 +10,14 @@ pub const MOST_UNITS: u32 = 1_048_576;
 /// How many bytes the content of a string, of bytes or of a key may have.
 pub const MOST_CONTENT: usize = 16_777_216;
 
-/// How many bytes the spelling of a long may have: seven bits of 64 each.
+/// How many bytes the encoding of a long may have: seven bits of 64 each.
 pub const LONG_BYTES: usize = 10;
 
-/// How great the last byte of so long a long may be: the 64th bit.
+/// How great the last byte of a long of `LONG_BYTES` may be: the 64th bit.
 pub const LONG_LAST: u8 = 1;
 
-/// How many bytes the spelling of an int may have: seven bits of 32 each.
+/// How many bytes the encoding of an int may have: seven bits of 32 each.
 pub const INT_BYTES: usize = 5;
 
-/// How great the last byte of so long an int may be: the last four bits of 32.
+/// How great the last byte of an int of `INT_BYTES` may be: the last four bits of 32.
 pub const INT_LAST: u8 = 15;

@@ -19,16 +19,16 @@ impl Meter {
     /// The meter before a message.
     pub const START: Meter = Meter { depth: 0, units: 0 };
 
-    /// The meter inside a record that begins at an offset. `TooDeep` inside `MOST_DEPTH` others, and else `TooMany`
-    /// after `MOST_UNITS` units, either told there.
+    /// Returns the meter inside a record that begins at an offset. `TooDeep` at that offset where `MOST_DEPTH` others
+    /// are open, else `TooMany` there after `MOST_UNITS` units.
     pub fn enter_record(self, at: usize) -> Result<Meter, Fault>
         ensures { result ≡ opened_record at self }
     {
         self.enter_blocks(at)?.enter_item(at)
     }
 
-    /// The meter at an array item or a map pair that begins at an offset. `TooMany` after `MOST_UNITS` units, told
-    /// there.
+    /// Returns the meter at an array item or a map pair that begins at an offset. `TooMany` there after `MOST_UNITS`
+    /// units.
     pub fn enter_item(self, at: usize) -> Result<Meter, Fault>
         ensures { result ≡ opened_item at self }
     {
@@ -44,7 +44,8 @@ impl Meter {
         })
     }
 
-    /// The meter inside an array or a map that begins at an offset. `TooDeep` inside `MOST_DEPTH` others, told there.
+    /// Returns the meter inside an array or a map that begins at an offset. `TooDeep` there where `MOST_DEPTH` others
+    /// are open.
     pub fn enter_blocks(self, at: usize) -> Result<Meter, Fault>
         ensures { result ≡ opened_blocks at self }
     {

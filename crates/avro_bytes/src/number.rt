@@ -22,7 +22,8 @@ pub struct Int;
 #[derive(Clone, Copy, Debug)]
 pub struct Long;
 
-/// The groups of seven bits of the number at an offset, put together, and the offset after it.
+/// Reads the groups of seven bits of the number at an offset, and returns them put together with the offset after
+/// them. `Need` where bytes are missing, `BadNumber` where byte `most` is above `top`.
 fn read_groups(bytes: &[u8], at: usize, most: usize, top: u8) -> Result<(u64, usize), Fault>
     requires in_bounds { at ≤ length bytes.now }
     requires some { 0 < most }
@@ -55,7 +56,7 @@ fn read_groups(bytes: &[u8], at: usize, most: usize, top: u8) -> Result<(u64, us
     unreachable!()
 }
 
-/// The number that groups of 64 bits stand for.
+/// Returns the number whose zig-zag form is the groups of 64 bits.
 fn signed(groups: u64) -> i64
     ensures { result ≡ from_zigzag groups }
 {
@@ -63,7 +64,7 @@ fn signed(groups: u64) -> i64
     if groups % 2 == 0 { half } else { -half - 1 }
 }
 
-/// The number that groups of 32 bits stand for.
+/// Returns the number whose zig-zag form is the groups of 32 bits.
 fn signed_32(groups: u64) -> i32
     requires { groups < 2 ^ 32 }
     ensures { result ≡ from_zigzag groups }
@@ -72,7 +73,8 @@ fn signed_32(groups: u64) -> i32
     if groups % 2 == 0 { half } else { -half - 1 }
 }
 
-/// The number of 64 bits at an offset. It takes no memory.
+/// Reads the number of 64 bits at an offset: the number, the offset after it, and the meter; else the first fault.
+/// Allocates nothing.
 #[tactic(auto, unfolding(crate::specs::NumberDecoding::number_at))]
 pub fn read_long(bytes: &[u8], at: usize, meter: Meter) -> Result<(i64, usize, Meter), Fault>
     requires { at ≤ length bytes.now }
@@ -85,7 +87,8 @@ pub fn read_long(bytes: &[u8], at: usize, meter: Meter) -> Result<(i64, usize, M
     Ok((signed(groups), to, meter))
 }
 
-/// The number of 32 bits at an offset. It takes no memory.
+/// Reads the number of 32 bits at an offset: the number, the offset after it, and the meter; else the first fault.
+/// Allocates nothing.
 #[tactic(auto, unfolding(crate::specs::NumberDecoding::number_at))]
 pub fn read_int(bytes: &[u8], at: usize, meter: Meter) -> Result<(i32, usize, Meter), Fault>
     requires { at ≤ length bytes.now }

@@ -10,15 +10,16 @@ use crate::form::WireForm;
 use crate::meter::Meter;
 use crate::number::read_int;
 
-/// A position, of so many symbols or members.
+/// The position of one of `many` symbols or branches.
 #[derive(Clone, Copy, Debug)]
 pub struct Position {
-    /// What any other number is.
+    /// The fault to report where a number is no such position.
     pub bad: MalformedKind,
     pub many: usize,
 }
 
-/// The position at an offset, of so many symbols or members; any other number is bad. It takes no memory.
+/// Reads the position at an offset, below `many`, the number of symbols or branches: the position, the offset after
+/// it, and the meter. Any other number is the fault `bad`. Allocates nothing.
 #[tactic(auto, unfolding(crate::specs::Position::position_at))]
 pub fn read_position(
     bad: MalformedKind,

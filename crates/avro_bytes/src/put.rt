@@ -7,7 +7,7 @@ ghost use Rattle.avro_bytes.specs.Shortest.{Extends, shortest, shortest_groups};
 use crate::limits::LONG_BYTES;
 use std::alloc::AllocError;
 
-/// 0, -1, 1, -2, 2 .. as 0, 1, 2, 3, 4 ..
+/// Returns the zig-zag form of an integer: 0, -1, 1, -2, 2 .. as 0, 1, 2, 3, 4 ..
 fn zigzag_of(n: i64) -> u64
     ensures { result ≡ zigzag n }
 {
@@ -18,7 +18,7 @@ fn zigzag_of(n: i64) -> u64
     }
 }
 
-/// Writes seven bits a byte, the least first. An `Err` leaves a beginning of them.
+/// Appends a number in groups of seven bits a byte, the least first. An `Err` leaves a beginning of them.
 fn put_groups(out: &mut Vec<u8>, n: u64) -> Result<(), AllocError>
     ensures ok { OnOk result (out.new.items ≡ out.old.items ++ shortest_groups LONG_BYTES n) }
     ensures err { OnErr result (Extends out.old.items out.new.items) }
@@ -32,7 +32,7 @@ fn put_groups(out: &mut Vec<u8>, n: u64) -> Result<(), AllocError>
     Ok(())
 }
 
-/// How many bytes the groups of a number take.
+/// Returns how many bytes a number takes in groups of seven bits.
 fn groups_len(n: u64) -> usize
     ensures len { result ≡ length (shortest_groups LONG_BYTES n) }
     ensures most { result ≤ LONG_BYTES }
@@ -46,7 +46,7 @@ fn groups_len(n: u64) -> usize
     len
 }
 
-/// How many bytes the shortest spelling of a number has.
+/// Returns how many bytes `number` has in its shortest encoding.
 #[tactic(auto, unfolding(crate::specs::Shortest::shortest))]
 pub fn long_len(number: i64) -> usize
     ensures len { result ≡ length (shortest number) }
@@ -55,7 +55,7 @@ pub fn long_len(number: i64) -> usize
     groups_len(zigzag_of(number))
 }
 
-/// Writes the shortest spelling of a number. An `Err` leaves the vector as it was.
+/// Appends a number in its shortest encoding. An `Err` leaves the vector as it was.
 #[tactic(auto, unfolding(crate::specs::Shortest::shortest))]
 pub fn put_long(out: &mut Vec<u8>, number: i64) -> Result<(), AllocError>
     ensures ok { OnOk result (out.new.items ≡ out.old.items ++ shortest number) }

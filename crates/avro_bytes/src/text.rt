@@ -20,7 +20,8 @@ pub struct Text {
     pub alloc: Global,
 }
 
-/// The text at an offset, in the bytes themselves.
+/// Reads the text after the length at an offset, borrowed from the bytes: the text, the offset after it, and the
+/// meter; else the first fault.
 #[tactic(auto, using(crate::specs::Laws::Texts::text_complete_is, crate::specs::Laws::Texts::text_bad), unfolding(crate::specs::Text::text_at))]
 fn valid_text(bytes: &[u8], at: usize, meter: Meter) -> Result<(&str, usize, Meter), Fault>
     requires { at ≤ length bytes.now }

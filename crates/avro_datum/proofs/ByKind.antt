@@ -50,7 +50,7 @@ reads_leaf r nodes bytes node at m n e l h =
     subst (λ (o : Option Node). Reads datum_of (KindLacks nodes o) r (datum_at nodes bytes node at m)) (sym e)
     (subst (λ (x : Decoding Datum). Reads datum_of (KindLacks nodes (Some n)) r x) (sym (datum_at-leaf nodes bytes node at m n e l)) made)
 
--- what is said where so many more records may be opened, as the meter has it
+-- what is said of a datum at a depth, as the meter has it
 pub at_depth : (depth : ℕ) (r : Result (rust.Datum × ℕ × Meter) Fault) (nodes : List Node) (bytes : List ℕ) (node at : ℕ) (m : Meter) → m.depth ≡ depth → Reads datum_of (Lacks nodes node) r (datum_at nodes bytes node at m) → Gathers datum_of r (node_at (MOST_DEPTH - depth) nodes bytes node at m)
 at_depth depth r nodes bytes node at m e h =
     subst (λ (k : ℕ). Gathers datum_of r (node_at (MOST_DEPTH - k) nodes bytes node at m)) e (gathered datum_of (Lacks nodes node) r (datum_at nodes bytes node at m) h)

@@ -113,7 +113,7 @@ zero_long : length (shortest (pos 0)) ≡ 1
 unfolding shortest
 zero_long = one_group 9 0 (omega arith)
 
--- a count below 0 is shorter by one byte at most, and a size stands after it
+-- a count below 0 is shorter by one byte at most, and a size comes after it
 sized_shorter : (n : ℕ) → length (shortest (pos (suc n))) ≤ length (shortest (negsuc n)) + 1
 unfolding shortest
 sized_shorter n = let e : 2 * suc n ≡ (2 * n + 1) + 1 = omega arith in rw e (one_longer LONG_BYTES (2 * n + 1))

@@ -57,7 +57,7 @@ preceded-push : (front : List rust.Datum) (d : rust.Datum) (x : Decoding Data) �
 preceded-push front d (Complete ds to m) = ap (λ (t : Data). Complete t to m) (ap (λ (t : Data). data_before t ds) (data_of-push front d) ∙ data_before-assoc (data_of front) (more (datum_of d) no_more) ds)
 preceded-push front d (Failed defect) = refl
 
--- ---- where the first so many fields have been read
+-- ---- where the first i fields have been read
 
 pub record SoFar (decoder : Decoder) (fs : List Field) (all : Decoding Data) (i : ℕ) (front : List rust.Datum) (to : ℕ) (m : Meter) : Type 0 where
   pub decoding : preceded front (fields_at decoder (fields_of (drop i fs)) to m) ≡ all

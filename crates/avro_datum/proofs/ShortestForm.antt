@@ -22,7 +22,7 @@ use Rattle.avro_datum.proofs.ByKind.{member_of}
 use Rattle.avro_datum.proofs.Counts.{block_len, items_longer}
 use Rattle.avro_bytes.specs.declared.limits.TheConstants.{MOST_CONTENT}
 
--- ---- the width of a number, and its zig-zag
+-- ---- a number's width, and its zig-zag
 
 int_bits : (n : ℤ) → HasBits 31 n → FitsLimit int_limit n
 int_bits (pos n) h = omega arith

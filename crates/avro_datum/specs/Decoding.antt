@@ -99,13 +99,13 @@ plain_at decoder bytes (Some (MapNode inner)) at m =
 plain_at decoder bytes (Some node) at m = leaf_at bytes node at m
 plain_at decoder bytes None at m = Failed Need
 
--- A datum of a kind. A union's member is no union, and lies no deeper.
+-- A datum of a kind. A union's branch is no union, and is no deeper.
 abbrev pub kind_at : Decoder → List Node → List ℕ → Option Node → ℕ → Meter → Decoding Datum
 kind_at decoder nodes bytes (Some (UnionNode members)) at m =
     union_at (λ node at m. plain_at decoder bytes (slice_get nodes node) at m) bytes members at m
 kind_at decoder nodes bytes o at m = plain_at decoder bytes o at m
 
--- where so many more records, arrays and maps may be opened
+-- where n more records, arrays and maps may be opened
 unfoldable pub node_at : ℕ → List Node → List ℕ → Decoder
 node_at zero nodes bytes node at m = kind_at (λ node at m. Failed Need) nodes bytes (slice_get nodes node) at m
 node_at (suc left) nodes bytes node at m = kind_at (node_at left nodes bytes) nodes bytes (slice_get nodes node) at m

@@ -55,7 +55,7 @@ module _ (nodes : List Node) where
       faulty_enum : {name : Names} {symbols : List (List ℕ)} {default : Option ℕ}
           {bytes : List ℕ} {m : Meter} {d : Defect}
           → FaultyPosition BadEnum (length symbols) bytes d → FaultyKind (EnumNode name symbols default) bytes m d
-      -- a union: its position, or its member after it
+      -- a union: its position, or the branch's datum after it
       faulty_branch : {members : List ℕ} {bytes : List ℕ} {m : Meter} {d : Defect}
           → FaultyPosition BadBranch (length members) bytes d
           → FaultyKind (UnionNode members) bytes m d
@@ -64,11 +64,11 @@ module _ (nodes : List Node) where
           → slice_get members n ≡ Some member → is_union (slice_get nodes member) ≡ false → bytes ≡ front ++ rest
           → SpellsPosition (length members) n front → FaultyDatum member rest m further
           → d ≡ shifted (length front) further → FaultyKind (UnionNode members) bytes m d
-      -- a member that is a union, which no schema has: nothing spells it, and no byte is faulty
+      -- a branch that is a union, which no schema has: nothing spells it, and no byte is faulty
       no_member : {members : List ℕ} {bytes : List ℕ} {m : Meter} (n member : ℕ) (front rest : List ℕ)
           → slice_get members n ≡ Some member → is_union (slice_get nodes member) ≡ true → bytes ≡ front ++ rest
           → SpellsPosition (length members) n front → FaultyKind (UnionNode members) bytes m Need
-      -- an array would be too deep; or what stands around its items, or an item after others
+      -- an array would be too deep; or the fault is around its items, or in an item after others
       refused_array : {inner : ℕ} {bytes : List ℕ} {m : Meter} {d : Defect} → RefusesBlocks m d
           → FaultyKind (ArrayNode inner) bytes m d
       faulty_array : {inner : ℕ} {bytes : List ℕ} {m : Meter} {d : Defect} (inside : Meter) → OpensBlocks m inside
@@ -78,7 +78,7 @@ module _ (nodes : List Node) where
           → OpensBlocks m inside → Begins (Spells nodes inner) depth_of units_of bytes inside front rest opened
           → FaultyDatum inner rest opened further → d ≡ shifted (length front) further
           → FaultyKind (ArrayNode inner) bytes m d
-      -- a map would be too deep; or what stands around its pairs, or a key or a datum after others
+      -- a map would be too deep; or the fault is around its pairs, or in a key or a datum after others
       refused_map : {inner : ℕ} {bytes : List ℕ} {m : Meter} {d : Defect} → RefusesBlocks m d
           → FaultyKind (MapNode inner) bytes m d
       faulty_map : {inner : ℕ} {bytes : List ℕ} {m : Meter} {d : Defect} (inside : Meter) → OpensBlocks m inside
@@ -112,7 +112,7 @@ module _ (nodes : List Node) where
           → Counts (depth_of datum) (units_of datum) m after → FaultyFields fs rest after further
           → d ≡ shifted (length front) further → FaultyFields (f ∷ fs) bytes m d
 
--- bytes stand after the datum of the root
+-- bytes are left after the datum of the root
 pub record IsTrailing (nodes : List Node) (payload : List ℕ) (at : ℕ) : Type 0 where
   pub datum : Datum
   pub front : List ℕ

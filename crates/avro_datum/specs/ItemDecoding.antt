@@ -18,7 +18,7 @@ items_from reader others None at m = Complete [] at m
 items_from reader others (Some walk) at m =
     reader at m >>= λ v to after. map_decoding (λ vs. v ∷ vs) (others walk to after)
 
--- the items that a walk comes to, and the end, in at most so many steps
+-- the items that a walk comes to, and the end, in at most n steps
 unfoldable pub items_at : {A : Type 0} → ℕ → Reader A → List ℕ → Walk → ℕ → Meter → Decoding (List A)
 items_at zero reader bytes walk at m = Failed Need
 items_at (suc left) reader bytes walk at m =

@@ -1,6 +1,6 @@
 -- The first fault of the items of an array or the pairs of a map (Avro 1.11, "Binary Encoding", arrays and maps).
 -- Offsets count from the first byte of the array or the map.
--- This project's own rule: which of several faults is told first.
+-- This project's own rule: which of several faults is reported.
 use Rattle.std.specs.Prelude.{◌≡◌, ◌<◌, ◌⊎◌, ℕ, suc, ◌+◌, max, List, [], ◌∷◌, ◌++◌, length, Option, ℤ, pos}
 use Rattle.avro_bytes.specs.declared.fault.MalformedKind.TheVariants.{BadBlock}
 use Rattle.avro_bytes.specs.declared.meter.Meter.{Meter}
@@ -40,7 +40,7 @@ module _ {A : Type 0} (Spelled : A → List ℕ → Type 0) (deep units : A → 
     pub whole : AreBlocks blocks front
     pub spelled : AreSpelled (joined blocks) m after
 
-  -- a place within a block, of which so many items are spelled and others are still to come
+  -- a place within a block, of which the items `now` are spelled and others are still to come
   pub record AtItem (bytes : List ℕ) (m : Meter) (front rest : List ℕ) (after : Meter) : Type 0 where
     pub blocks : List (List (List ℕ))
     pub now : List (List ℕ)
@@ -74,7 +74,7 @@ module _ {A : Type 0} (Spelled : A → List ℕ → Type 0) (deep units : A → 
     pub refused : RefusesItem after inner
     pub where_it_is : d ≡ shifted (length front) inner
 
-  -- all items of a block are spelled, and its size is not their bytes: told at its count
+  -- all items of a block are spelled, and its size is not that of their bytes: reported at its count
   pub record IsBadBlock (bytes : List ℕ) (m : Meter) (d : Defect) : Type 0 where
     pub blocks : List (List (List ℕ))
     pub now : List (List ℕ)
@@ -91,7 +91,7 @@ module _ {A : Type 0} (Spelled : A → List ℕ → Type 0) (deep units : A → 
     pub wrong : ¬ (size ≡ pos (length (joined now)))
     pub where_it_is : d ≡ Malformed BadBlock (length before)
 
-  -- no item is at fault, but what stands around them
+  -- no item is at fault, but what is around them
   abbrev pub FaultyBlocks : List ℕ → Meter → Defect → Type 0
   FaultyBlocks bytes m d = IsFaultyHead bytes m d ⊎ (IsRefusedItem bytes m d ⊎ IsBadBlock bytes m d)
 

@@ -18,12 +18,12 @@ holds_others (Some (MapNode inner)) = true
 holds_others (Some (RecordNode name fields)) = true
 holds_others _ = false
 
--- a member holds others
+-- a branch holds others
 abbrev pub HoldsOthers : List Node → List ℕ → Type 0
 HoldsOthers nodes members =
     (n : ℕ) × (member : ℕ) × (slice_get members n ≡ Some member) × (holds_others (slice_get nodes member) ≡ true)
 
--- what holds others takes memory as it goes; a union takes some once its member's datum is all there
+-- what holds others takes memory as it goes; a union takes some once its branch's datum is all there
 abbrev pub KindLacks : List Node → Option Node → Decoding Datum → Type 0
 KindLacks nodes (Some (ArrayNode inner)) decoding = Unit {0}
 KindLacks nodes (Some (MapNode inner)) decoding = Unit {0}

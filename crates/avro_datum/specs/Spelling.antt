@@ -12,7 +12,7 @@ use Rattle.avro_types.specs.Datum.{Datum, Data, Pairs, NullDatum, BooleanDatum, 
 use Rattle.avro_bytes.specs.Position.{SpellsPosition}
 
 abbrev mutual
-  -- An enum is its symbol's position; a union its member's position, then the member's datum, and the member is no
+  -- An enum is its symbol's position; a union its branch's position, then the branch's datum, and the branch is no
   -- union; an array or a map is its items in blocks; a record its fields, joined in the order of their declaration.
   pub Spells : List Node → ℕ → Datum → List ℕ → Type 0
   Spells nodes node NullDatum bytes = (slice_get nodes node ≡ Some NullNode) × (bytes ≡ [])

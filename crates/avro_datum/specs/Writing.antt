@@ -33,7 +33,7 @@ unfoldable mutual
   written_pairs no_pairs = []
   written_pairs (pair key d ps) = after_length key ++ (written d ++ written_pairs ps)
 
--- what is left of some room after so many bytes, if they have room there
+-- what is left of some room after `len` bytes, if they fit
 abbrev pub LeavesRoom : Option ℕ → ℕ → ℕ → Type 0
 LeavesRoom result room len = MatchOption result (room < len) (λ left. left + len ≡ room)
 

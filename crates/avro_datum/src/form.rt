@@ -9,7 +9,7 @@ use avro_types::{Datum, Nodes};
 use std::alloc::Global;
 use std::marker::Model;
 
-/// The spelling of the data of a node.
+/// The encoding of the data of a node.
 #[derive(Drop)]
 pub struct NodeForm<'s> {
     alloc: Global,
@@ -33,7 +33,7 @@ impl<'s> Model for NodeForm<'s> {
 }
 
 impl<'s> NodeForm<'s> {
-    /// The form of one of the nodes.
+    /// Returns the form of one of the nodes.
     pub fn new(alloc: Global, nodes: &'s Nodes, node: usize) -> NodeForm<'s>
         requires { node < length nodes.now }
         ensures { result ≡ record { nodes = nodes.now; node = node } }

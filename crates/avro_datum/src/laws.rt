@@ -12,7 +12,7 @@ ghost use Rattle.avro_datum.specs.Payload.{IsPayload};
 ghost use Rattle.avro_datum.specs.Spelling.{Spells, units_of};
 ghost use Rattle.avro_datum.specs.Writing.{written};
 
-/// The law that a payload spells one datum or has one first fault, and never both.
+/// The law that a payload encodes one datum or has one first fault, and never both.
 pub fn payload_is_spelled_or_faulty()
     ensures either { (nodes : List Node) (payload : List ℕ) →
         ((d : datum.Datum) × IsPayload nodes d payload)
@@ -26,8 +26,8 @@ pub fn payload_is_spelled_or_faulty()
         IsPayload nodes d payload → ¬ (FirstFault nodes payload kind at) }
 {}
 
-/// The law that the written form of a node's datum is a spelling of it, where its texts are short enough and a long can
-/// count its items, and that no spelling is shorter.
+/// The law that the written form of a node's datum is an encoding of it, where its texts are short enough and a long
+/// can count its items, and that no encoding is shorter.
 pub fn written_form_is_the_shortest_spelling()
     ensures spelled { (nodes : List Node) (node : ℕ) (d : datum.Datum) →
         IsWellFormed nodes → Conforms nodes node d → IsWritable d → Spells nodes node d (written d) }
@@ -35,7 +35,7 @@ pub fn written_form_is_the_shortest_spelling()
         Spells nodes node d bytes → length (written d) ≤ length bytes }
 {}
 
-/// The law that a datum that is spelled is of its node's type, and can be written again, where a long can count its
+/// The law that a datum that is encoded is of its node's type, and can be written again, where a long can count its
 /// units.
 pub fn spelled_datum_conforms()
     ensures conforms { (nodes : List Node) (node : ℕ) (d : datum.Datum) (bytes : List ℕ) →

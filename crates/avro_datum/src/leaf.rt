@@ -13,7 +13,7 @@ use avro_bytes::{
 use avro_types::{Datum, Kind};
 use std::alloc::Global;
 
-/// The datum of a kind that holds no others.
+/// Reads a datum of a kind that holds no others: the datum, the offset after it, and the meter; else the first fault.
 pub(crate) fn read_leaf(
     alloc: Global,
     kind: &Kind,
@@ -70,7 +70,8 @@ pub(crate) fn read_leaf(
     }
 }
 
-/// The offset after the datum of a kind that holds no others. It takes no memory.
+/// Skips a datum of a kind that holds no others: returns the offset after it and the meter, or the first fault.
+/// Allocates nothing.
 pub(crate) fn skip_leaf(
     alloc: Global,
     kind: &Kind,

@@ -18,7 +18,7 @@ pub enum PayloadError {
     NoMemory,
 }
 
-/// The datum of the root that a whole payload spells, else its first fault.
+/// Reads a whole payload as a datum of the root node, or returns its first fault.
 pub fn read_all(alloc: Global, nodes: &Nodes, payload: &[u8]) -> Result<Datum, PayloadError>
     ensures { ReadsAll nodes.now payload.now result }
 {

@@ -17,7 +17,7 @@ use avro_bytes::{
 use avro_types::{Datum, Field, Kind, Nodes};
 use std::alloc::Global;
 
-/// The datum of a node at an offset.
+/// Reads the datum of a node at an offset: the datum, the offset after it, and the meter; else the first fault.
 #[cycle(read)]
 pub(crate) fn read_node(
     alloc: Global,
@@ -44,7 +44,7 @@ pub(crate) fn read_node(
     Ok((Datum::Union(n, datum), end, last))
 }
 
-/// The datum of a node that is no union.
+/// Reads the datum of a node that is no union.
 #[cycle(read)]
 fn read_plain(
     alloc: Global,
@@ -88,7 +88,7 @@ fn read_plain(
     }
 }
 
-/// The data of fields, one after another.
+/// Reads the data of fields, in order.
 #[cycle(read)]
 fn read_fields(
     alloc: Global,
@@ -118,7 +118,7 @@ fn read_fields(
     Ok((data, to, so_far))
 }
 
-/// The items that a walk over blocks comes to, before any of which it is.
+/// Reads the items that a walk over blocks comes to, from the next one to the end of the last block.
 #[cycle(read)]
 fn read_items(
     alloc: Global,
@@ -155,7 +155,7 @@ fn read_items(
     }
 }
 
-/// The pairs that a walk over blocks comes to, before any of which it is.
+/// Reads the pairs that a walk over blocks comes to, from the next one to the end of the last block.
 #[cycle(read)]
 fn read_pairs(
     alloc: Global,
@@ -192,7 +192,7 @@ fn read_pairs(
     }
 }
 
-/// A key, and the datum of a node after it.
+/// Reads a key, and the datum of a node after it.
 #[cycle(read)]
 fn read_pair(
     alloc: Global,

@@ -14,7 +14,7 @@ use avro_bytes::{
 use avro_types::{Field, Kind, Nodes};
 use std::alloc::Global;
 
-/// The offset after the datum of a node.
+/// Skips the datum of a node at an offset: returns the offset after it and the meter, or the first fault.
 #[cycle(skip)]
 pub(crate) fn skip_node(
     alloc: Global,
@@ -38,7 +38,7 @@ pub(crate) fn skip_node(
     skip_plain(alloc, nodes, members[n as usize], bytes, to, after)
 }
 
-/// The offset after the datum of a node that is no union.
+/// Skips the datum of a node that is no union.
 #[cycle(skip)]
 fn skip_plain(
     alloc: Global,
@@ -80,7 +80,7 @@ fn skip_plain(
     }
 }
 
-/// The offset after the data of fields.
+/// Skips the data of fields, in order.
 #[cycle(skip)]
 fn skip_fields(
     alloc: Global,
@@ -108,7 +108,7 @@ fn skip_fields(
     Ok((to, so_far))
 }
 
-/// The offset after the items that a walk over blocks comes to, before any of which it is.
+/// Skips the items that a walk over blocks comes to, from the next one to the end of the last block.
 #[cycle(skip)]
 fn skip_items(
     alloc: Global,
@@ -143,7 +143,7 @@ fn skip_items(
     }
 }
 
-/// The offset after the pairs that a walk over blocks comes to, before any of which it is.
+/// Skips the pairs that a walk over blocks comes to, from the next one to the end of the last block.
 #[cycle(skip)]
 fn skip_pairs(
     alloc: Global,
@@ -178,7 +178,7 @@ fn skip_pairs(
     }
 }
 
-/// The offset after a key and the datum of a node.
+/// Skips a key, and the datum of a node after it.
 #[cycle(skip)]
 fn skip_pair(
     alloc: Global,

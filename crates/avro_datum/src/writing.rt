@@ -21,14 +21,14 @@ pub enum WriteError {
     NoMemory,
 }
 
-/// What is left of some room after so many bytes, if they have room there.
+/// Returns what is left of `room` bytes after `len` bytes; `None` where they have no room.
 fn left_after(room: usize, len: usize) -> Option<usize>
     ensures { LeavesRoom result room len }
 {
     room.checked_sub(len)
 }
 
-/// What is left of some room after bytes and their length, if they have room there.
+/// Returns what is left of `room` bytes after bytes and their length; `None` where they have no room.
 fn measure_bytes(bytes: &[u8], room: usize) -> Option<usize>
     ensures { LeavesRoom result room (length (after_length bytes.now)) }
 {
@@ -36,7 +36,7 @@ fn measure_bytes(bytes: &[u8], room: usize) -> Option<usize>
     left_after(left, bytes.len())
 }
 
-/// What is left of some room after the count of a block and its end, if they have room there.
+/// Returns what is left of `room` bytes after the count of a block and its end; `None` where they have no room.
 #[tactic(auto, using(crate::proofs::Written::empty_block, crate::proofs::Written::some_count, crate::proofs::Written::no_count))]
 fn measure_block(many: usize, room: usize) -> Option<usize>
     requires { many < 2 ^ 63 }
@@ -49,7 +49,7 @@ fn measure_block(many: usize, room: usize) -> Option<usize>
     left_after(left, long_len(many as i64))
 }
 
-/// What is left of some room after a datum, if it has room there.
+/// Returns what is left of `room` bytes after a datum in its written form; `None` where it has no room.
 #[cycle(measure)]
 #[tactic(auto, using(crate::proofs::Written::record_written, crate::proofs::Written::array_len, crate::proofs::Written::map_len), unfolding(crate::specs::Writing::written))]
 fn measure(datum: &Datum, room: usize) -> Option<usize>
@@ -71,7 +71,7 @@ fn measure(datum: &Datum, room: usize) -> Option<usize>
     }
 }
 
-/// What is left of some room after data.
+/// Returns what is left of `room` bytes after data; `None` where they have no room.
 #[cycle(measure)]
 #[tactic(auto, using(crate::proofs::Written::written_from), unfolding(crate::specs::Writing::written))]
 fn measure_each(each: &[Datum], room: usize) -> Option<usize>
@@ -84,7 +84,7 @@ fn measure_each(each: &[Datum], room: usize) -> Option<usize>
     Some(left)
 }
 
-/// What is left of some room after pairs.
+/// Returns what is left of `room` bytes after the pairs of a map; `None` where they have no room.
 #[cycle(measure)]
 #[tactic(auto, using(crate::proofs::Written::pairs_len_from), unfolding(crate::specs::Writing::written))]
 fn measure_pairs(pairs: &[(String, Datum)], room: usize) -> Option<usize>
@@ -98,7 +98,7 @@ fn measure_pairs(pairs: &[(String, Datum)], room: usize) -> Option<usize>
     Some(left)
 }
 
-/// Writes bytes after their length at the end. An `Err` leaves a beginning of them.
+/// Appends bytes after their length. An `Err` leaves a beginning of them.
 fn put_bytes(out: &mut Vec<u8>, bytes: &[u8]) -> Result<(), AllocError>
     ensures ok { OnOk result (out.new.items ≡ out.old.items ++ after_length bytes.now) }
     ensures err { OnErr result (Extends out.old.items out.new.items) }
@@ -107,7 +107,7 @@ fn put_bytes(out: &mut Vec<u8>, bytes: &[u8]) -> Result<(), AllocError>
     out.extend_from_slice(bytes)
 }
 
-/// Writes the count of a block at the end, and nothing where it has no items. An `Err` leaves the vector as it was.
+/// Appends the count of a block, or nothing where it has no items. An `Err` leaves the vector as it was.
 fn put_count(out: &mut Vec<u8>, many: usize) -> Result<(), AllocError>
     requires { many < 2 ^ 63 }
     ensures ok { OnOk result (out.new.items ≡ out.old.items ++ block_count many) }
@@ -119,7 +119,7 @@ fn put_count(out: &mut Vec<u8>, many: usize) -> Result<(), AllocError>
     put_long(out, many as i64)
 }
 
-/// Writes a datum at the end. An `Err` leaves a beginning of it.
+/// Appends a datum in its written form. An `Err` leaves a beginning of it.
 #[cycle(put)]
 #[tactic(auto, using(crate::proofs::Written::record_written, crate::proofs::Written::array_written, crate::proofs::Written::map_written), unfolding(crate::specs::Writing::written))]
 fn put_datum(out: &mut Vec<u8>, datum: &Datum) -> Result<(), AllocError>
@@ -148,7 +148,7 @@ fn put_datum(out: &mut Vec<u8>, datum: &Datum) -> Result<(), AllocError>
     }
 }
 
-/// Writes items at the end, in one block, and the count 0 after it. An `Err` leaves a beginning of them.
+/// Appends items in one block, and the count 0 after it. An `Err` leaves a beginning of them.
 #[cycle(put)]
 fn put_items(out: &mut Vec<u8>, items: &[Datum]) -> Result<(), AllocError>
     ensures ok { OnOk result (out.new.items
@@ -160,7 +160,7 @@ fn put_items(out: &mut Vec<u8>, items: &[Datum]) -> Result<(), AllocError>
     put_long(out, 0)
 }
 
-/// Writes the pairs of a map at the end, in one block, and the count 0 after it. An `Err` leaves a beginning of them.
+/// Appends the pairs of a map in one block, and the count 0 after it. An `Err` leaves a beginning of them.
 #[cycle(put)]
 fn put_map(out: &mut Vec<u8>, pairs: &[(String, Datum)]) -> Result<(), AllocError>
     ensures ok { OnOk result (out.new.items
@@ -172,7 +172,7 @@ fn put_map(out: &mut Vec<u8>, pairs: &[(String, Datum)]) -> Result<(), AllocErro
     put_long(out, 0)
 }
 
-/// Writes data at the end, one after another. An `Err` leaves a beginning of them.
+/// Appends data, in order. An `Err` leaves a beginning of them.
 #[cycle(put)]
 #[tactic(auto, using(crate::proofs::Written::written_from), unfolding(crate::specs::Writing::written))]
 fn put_each(out: &mut Vec<u8>, each: &[Datum]) -> Result<(), AllocError>
@@ -185,7 +185,7 @@ fn put_each(out: &mut Vec<u8>, each: &[Datum]) -> Result<(), AllocError>
     Ok(())
 }
 
-/// Writes pairs at the end, one after another. An `Err` leaves a beginning of them.
+/// Appends the pairs of a map, in order. An `Err` leaves a beginning of them.
 #[cycle(put)]
 #[tactic(auto, using(crate::proofs::Written::pairs_from), unfolding(crate::specs::Writing::written))]
 fn put_pairs(out: &mut Vec<u8>, pairs: &[(String, Datum)]) -> Result<(), AllocError>
@@ -199,8 +199,10 @@ fn put_pairs(out: &mut Vec<u8>, pairs: &[(String, Datum)]) -> Result<(), AllocEr
     Ok(())
 }
 
-/// Writes a datum at the end of a vector, in its one written form. An `Err` leaves the vector as it was: `TooLarge`,
-/// told before memory is asked for, where the written form has more than `MOST_OUTPUT` bytes, and `NoMemory`.
+/// Appends a datum to a vector, in its one written form.
+///
+/// An `Err` leaves the vector as it was: `TooLarge`, returned before memory is asked for, where the written form has
+/// more than `MOST_OUTPUT` bytes, and `NoMemory`.
 pub fn write(datum: &Datum, out: &mut Vec<u8>) -> Result<(), WriteError>
     ensures { Writes result (datum_of datum.now) out.old.items out.new.items }
 {

@@ -1,4 +1,4 @@
--- What is read from the front is the spelling that stood there, and what is spelled is read again.
+-- What is read from the front is the spelling that was there, and what is spelled is read again.
 use Rattle.std.proofs.Common.{◌≡◌, ℕ, zero, suc, ◌^◌, ◌<◌, ◌≤◌, cond, ltb, List, [], ◌∷◌, ◌++◌, length, Ok, Err, refl, sym, ap, subst, ◌∙◌, append_assoc, arith}
 use Rattle.std.proofs.lemmas.Bool.{ltb-false, le-ltb}
 use Rattle.std.proofs.lemmas.List.Concat.{flat_map-cons}
@@ -14,7 +14,7 @@ use Rattle.avro_loader_format.proofs.Taking.{IsBytes, Takes, Takes-then, Reads}
 use Rattle.avro_loader.specs.Image.{section}
 use Rattle.avro_loader.specs.Reading.{count_at, section_at, things_at}
 
--- ---- so many things
+-- ---- n things
 
 module _ {A : Type 0} (read : List ℕ → Read A) (spell : A → List ℕ) (Fits : A → Type 0) (reads : Reads read spell Fits) where
   pub things_take : (n : ℕ) (bytes : List ℕ) (x : List A × List ℕ) → IsBytes bytes → things_at read n bytes ≡ Ok x → Takes bytes (flat_map spell x.0) x.1 × (length x.0 ≡ n)
@@ -37,7 +37,7 @@ module _ {A : Type 0} (read : List ℕ → Read A) (spell : A → List ℕ) (Fit
       let regrouped : flat_map spell (x ∷ xs) ++ rest ≡ spell x ++ (flat_map spell xs ++ rest) = ap (λ (t : List ℕ). t ++ rest) (flat_map-cons spell x xs) ∙ append_assoc (spell x) (flat_map spell xs) rest in
       ap (things_at read (suc (length xs))) regrouped ∙ rw (reads.again x (flat_map spell xs ++ rest) fits.0, things_again xs rest fits.1) refl
 
--- ---- a count and so many things
+-- ---- a count and that many things
 
 pub count_takes : (f : Format) (most : ℕ) (bytes : List ℕ) (x : ℕ × List ℕ) → IsBytes bytes → count_at f most bytes ≡ Ok x → Takes bytes (long x.0) x.1 × (x.0 ≤ most)
 unfolding count_at

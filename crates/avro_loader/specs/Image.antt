@@ -34,7 +34,7 @@ instr v i = code_of (operation_of i) ∷ operand v (shape_of (operation_of i)) (
 
 -- ---- the image
 
--- a count, and so many things
+-- a count, and that many things
 abbrev pub section : {A : Type 0} → (A → List ℕ) → List A → List ℕ
 section spell things = long (length things) ++ flat_map spell things
 

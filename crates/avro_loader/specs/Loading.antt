@@ -67,14 +67,14 @@ sections_at f bytes = do
 
 -- ---- what is out of range
 
--- the bytes after a count and so many things
+-- the bytes after a count and n things
 unfoldable pub after : {A : Type 0} → (List ℕ → Read A) → ℕ → List ℕ → Result (List ℕ) ImageFault
 after thing n bytes = do
   count ← number_at w32 bytes
   things ← things_at thing n count.1
   Ok things.1
 
--- the bytes from a thing on that is out of range; all other errors were told in reading
+-- the bytes from a thing on that is out of range; all other errors were reported in reading
 unfoldable pub from_wrong : Format → Starts → ProgramError → Result (List ℕ) ImageFault
 from_wrong f s (wrong.Entry map entry) =
     after (section_at f MOST_ENTRIES (entry_at f)) map s.maps >>= after (entry_at f) entry

@@ -73,7 +73,7 @@ count_at f most bytes = do
   n ← number_at w32 bytes
   if nat_lt most n.0 then Err (TooLarge (place f bytes)) else Ok n
 
--- so many things
+-- n things
 unfoldable pub things_at : {A : Type 0} → (List ℕ → Read A) → ℕ → List ℕ → Read (List A)
 things_at thing zero bytes = Ok ([], bytes)
 things_at thing (suc n) bytes = do
@@ -86,7 +86,7 @@ section_at f most thing bytes = do
   n ← count_at f most bytes
   things_at thing n.0 n.1
 
--- a constant of a byte at least, where there is room for so many
+-- a constant of at least one byte and at most `room` bytes
 unfoldable pub constant_at : Format → ℕ → List ℕ → Read (List ℕ)
 constant_at f room bytes = do
   n ← number_at w32 bytes
@@ -95,7 +95,7 @@ constant_at f room bytes = do
       else if nat_lt (length n.1) n.0 then Err Truncated
       else Ok (take n.0 n.1, drop n.0 n.1)
 
--- so many constants, all of which have no more bytes than there is room for
+-- n constants, with at most `room` bytes together
 unfoldable pub constants_at : Format → ℕ → ℕ → List ℕ → Read (List (List ℕ))
 constants_at f room zero bytes = Ok ([], bytes)
 constants_at f room (suc n) bytes = do

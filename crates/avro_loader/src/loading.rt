@@ -20,7 +20,8 @@ use avro_loader_format::{Format, ImageFault, ended, open};
 use isa::{Lists, MOST_TABLES, Parts, Program};
 use std::alloc::Global;
 
-/// Adds what the sections hold to parts that hold nothing. Where they begin, and the bytes after them.
+/// Appends what the sections hold to parts that hold nothing, and returns the bytes from each section on and those
+/// after the last; else the first fault.
 #[tactic(auto, unfolding(crate::specs::Loading::sections_at))]
 fn push_sections<'a>(
     alloc: Global,
@@ -46,7 +47,7 @@ fn push_sections<'a>(
     Ok((starts, rest))
 }
 
-/// A program of parts, or else the place of what is out of range.
+/// Returns the program with these parts, or the offset of what is out of range as a fault.
 fn program_of_parts(
     alloc: Global,
     format: Format,
@@ -64,7 +65,7 @@ fn program_of_parts(
     }
 }
 
-/// The program whose sections these bytes are.
+/// Loads the program whose sections these bytes are, or returns the first fault.
 #[tactic(auto, unfolding(crate::specs::Loading::loaded_as))]
 fn load_as(alloc: Global, format: Format, bytes: &[u8]) -> Result<Program, LoadError>
     ensures { Gives (λ x. x) result (loaded_as format bytes.now) }
@@ -81,7 +82,7 @@ fn load_as(alloc: Global, format: Format, bytes: &[u8]) -> Result<Program, LoadE
     program_of_parts(alloc, format, starts, parts)
 }
 
-/// The program that an image of either version tells, or else the first fault.
+/// Loads the program of an image of either version, or returns the first fault.
 #[tactic(auto, unfolding(crate::specs::Loading::loaded))]
 fn load_whole(alloc: Global, bytes: &[u8]) -> Result<Program, LoadError>
     ensures exact { Gives (λ x. x) result (loaded bytes.now) }
@@ -95,7 +96,7 @@ fn load_whole(alloc: Global, bytes: &[u8]) -> Result<Program, LoadError>
     load_as(alloc, format, rest)
 }
 
-/// The program whose image these bytes are, in either version, or else the first fault.
+/// Loads the program of an image of either version, or returns the first fault.
 pub fn load(alloc: Global, bytes: &[u8]) -> Result<Program, LoadError>
     // What is loaded has these bytes as its image.
     ensures found { IfOk result (λ P. IsImage P bytes.now) }
@@ -109,14 +110,14 @@ pub fn load(alloc: Global, bytes: &[u8]) -> Result<Program, LoadError>
     load_whole(alloc, bytes)
 }
 
-/// The image of a program.
+/// Returns the image of a program, in version 2.
 fn image_of(alloc: Global, program: &Program) -> Result<Vec<u8>, LoadError>
     ensures { Gives (λ made. made.items) result (Ok (image_of program.now)) }
 {
     Ok(save(alloc, program)?)
 }
 
-/// The image of version 2 of the program whose image these bytes are, or else the first fault.
+/// Returns the image of version 2 of the program whose image, of either version, these bytes are, or the first fault.
 pub fn migrate(alloc: Global, bytes: &[u8]) -> Result<Vec<u8>, LoadError>
     ensures found { IfOk result (λ made. (P : Parted) × IsImage P bytes.now × (made.items ≡ image_of P)) }
     ensures exact { Gives (λ made. made.items) result (migrated bytes.now) }

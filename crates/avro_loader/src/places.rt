@@ -21,7 +21,7 @@ pub struct Sections<'a> {
     pub code: &'a [u8],
 }
 
-/// The bytes after a count and so many things.
+/// Skips a count and `number` things, and returns the bytes after them.
 #[tactic(auto, unfolding(crate::specs::Loading::after))]
 fn after<'a, T: Thing>(
     alloc: Global,
@@ -36,7 +36,7 @@ fn after<'a, T: Thing>(
     push_things(format, number, rest, &mut things)
 }
 
-/// The bytes after a count and so many tables.
+/// Skips a count and `number` tables, and returns the bytes after them.
 #[tactic(auto, unfolding(crate::specs::Loading::after))]
 fn after_tables<'a, T: Thing>(
     alloc: Global,
@@ -52,7 +52,7 @@ fn after_tables<'a, T: Thing>(
     push_tables(alloc, format, number, rest, &mut tables)
 }
 
-/// The bytes from the thing on that is out of range.
+/// Returns the bytes from the thing on that is out of range; none for an error that names no such thing.
 #[tactic(auto, unfolding(crate::specs::Loading::from_wrong))]
 pub(crate) fn from_wrong<'a>(
     alloc: Global,

@@ -10,7 +10,7 @@ use avro_loader_format::{Format, ImageFault, u32_at};
 use isa::{Instr, Lists, MOST_CONSTANT_BYTES, MOST_ENTRIES, MOST_TABLES};
 use std::alloc::Global;
 
-/// A count within its limit, and the bytes after it.
+/// Reads a count, which is at most `most`, and returns it with the bytes after it. `TooLarge` where it is greater.
 #[tactic(auto, unfolding(crate::specs::Reading::count_at))]
 fn count_of(format: Format, most: usize, bytes: &[u8]) -> Result<(usize, &[u8]), ImageFault>
     ensures { Tells (λ x. (x.0, x.1.now)) result (count_at format most bytes.now) }
@@ -23,7 +23,7 @@ fn count_of(format: Format, most: usize, bytes: &[u8]) -> Result<(usize, &[u8]),
     Ok((count, rest))
 }
 
-/// Adds so many things to none. The bytes after them.
+/// Reads `count` things into an empty vector, and returns the bytes after them.
 pub(crate) fn push_things<'a, T: Thing>(
     format: Format,
     count: usize,
@@ -42,7 +42,7 @@ pub(crate) fn push_things<'a, T: Thing>(
     Ok(rest)
 }
 
-/// Adds the things of a section, a count and so many, to none. The bytes after them.
+/// Reads a section, a count and that number of things, into an empty vector, and returns the bytes after it.
 #[tactic(auto, unfolding(crate::specs::Reading::section_at))]
 pub(crate) fn push_section<'a, T: Thing>(
     format: Format,
@@ -58,7 +58,7 @@ pub(crate) fn push_section<'a, T: Thing>(
     push_things(format, count, rest, things)
 }
 
-/// Adds so many tables to none. The bytes after them.
+/// Reads `count` tables into an empty list, and returns the bytes after them.
 pub(crate) fn push_tables<'a, T: Thing>(
     alloc: Global,
     format: Format,
@@ -80,7 +80,7 @@ pub(crate) fn push_tables<'a, T: Thing>(
     Ok(rest)
 }
 
-/// Adds the tables of a section, a count and so many, to none. The bytes after them.
+/// Reads a section of tables, a count and that number of tables, into an empty list, and returns the bytes after it.
 #[tactic(auto, unfolding(crate::specs::Reading::section_at))]
 pub(crate) fn push_section_of_tables<'a, T: Thing>(
     alloc: Global,
@@ -96,7 +96,8 @@ pub(crate) fn push_section_of_tables<'a, T: Thing>(
     push_tables(alloc, format, count, rest, tables)
 }
 
-/// A constant, where so many bytes may still come, and the bytes after it.
+/// Reads a constant, of which at most `room` bytes may come, and returns its bytes and those after it. `BadByte` where
+/// it is empty, `TooLarge` where it is longer than `room`, `Truncated` where bytes are missing.
 #[tactic(auto, unfolding(crate::specs::Reading::constant_at))]
 fn constant_of(format: Format, room: usize, bytes: &[u8]) -> Result<(&[u8], &[u8]), ImageFault>
     ensures { Tells (λ x. (x.0.now, x.1.now)) result (constant_at format room bytes.now) }
@@ -115,7 +116,7 @@ fn constant_of(format: Format, room: usize, bytes: &[u8]) -> Result<(&[u8], &[u8
     Ok(rest.split_at(len))
 }
 
-/// Adds so many constants to none. The bytes after them.
+/// Reads `count` constants into an empty list, and returns the bytes after them.
 fn push_constants<'a>(
     format: Format,
     count: usize,
@@ -137,7 +138,7 @@ fn push_constants<'a>(
     Ok(rest)
 }
 
-/// Adds the section of constants to none. The bytes after it.
+/// Reads the section of constants into an empty list, and returns the bytes after it.
 #[tactic(auto, unfolding(crate::specs::Reading::constants_section_at))]
 pub(crate) fn push_section_of_constants<'a>(
     format: Format,
@@ -151,7 +152,7 @@ pub(crate) fn push_section_of_constants<'a>(
     push_constants(format, count, rest, constants)
 }
 
-/// Adds the section of the code to none. The bytes after it.
+/// Reads the section of the code into an empty vector, and returns the bytes after it. `NoCode` where the count is 0.
 #[tactic(auto, unfolding(crate::specs::Reading::code_at))]
 pub(crate) fn push_section_of_code<'a>(
     format: Format,

@@ -8,7 +8,7 @@ use avro_loader_format::put_long;
 use isa::{Lists, Program};
 use std::alloc::{AllocError, Global};
 
-/// A section of things.
+/// Appends a section of things: their count, and each of them.
 fn put_section<T: Thing>(out: &mut Vec<u8>, things: &[T]) -> Result<(), AllocError>
     ensures { OnOk result (out.new.items ≡ out.old.items ++ section T.spelled things.now) }
 {
@@ -19,7 +19,7 @@ fn put_section<T: Thing>(out: &mut Vec<u8>, things: &[T]) -> Result<(), AllocErr
     Ok(())
 }
 
-/// A section of tables.
+/// Appends a section of tables: their count, and each of them.
 fn put_tables<T: Thing>(out: &mut Vec<u8>, tables: &Lists<T>) -> Result<(), AllocError>
     ensures { OnOk result (out.new.items ≡ out.old.items ++ section (section T.spelled) tables.now) }
 {
@@ -30,7 +30,7 @@ fn put_tables<T: Thing>(out: &mut Vec<u8>, tables: &Lists<T>) -> Result<(), Allo
     Ok(())
 }
 
-/// The section of constants.
+/// Appends the section of constants: their count, and each of them after its length.
 fn put_constants(out: &mut Vec<u8>, constants: &Lists<u8>) -> Result<(), AllocError>
     ensures { OnOk result (out.new.items ≡ out.old.items ++ section constant constants.now) }
 {
@@ -43,7 +43,7 @@ fn put_constants(out: &mut Vec<u8>, constants: &Lists<u8>) -> Result<(), AllocEr
     Ok(())
 }
 
-/// Adds the image of a program, in version 2.
+/// Appends the image of a program, in version 2.
 fn put_image(out: &mut Vec<u8>, program: &Program) -> Result<(), AllocError>
     ensures { OnOk result (out.new.items ≡ out.old.items ++ image_of program.now) }
 {
@@ -55,7 +55,7 @@ fn put_image(out: &mut Vec<u8>, program: &Program) -> Result<(), AllocError>
     put_section(out, program.code())
 }
 
-/// The image of a program, in version 2.
+/// Returns the image of a program, in version 2.
 pub fn save(alloc: Global, program: &Program) -> Result<Vec<u8>, AllocError>
     ensures { IfOk result (λ made. made.items ≡ image_of program.now) }
 {

@@ -1,4 +1,4 @@
-//! What stands in a section of an image: constants, entries, addresses, misses, instructions.
+//! What a section of an image holds: constants, entries, addresses, misses, instructions.
 
 ghost use Rattle.std.specs.Prelude.{◌≡◌, ◌++◌, ℕ, List, OnOk, Some, None};
 ghost use Rattle.avro_loader_format.specs.declared.version.Format.{Format};
@@ -13,9 +13,9 @@ use isa::{Entry, Instr, Operation, Shape};
 use outcome::{Mismatch, MismatchKind};
 use std::alloc::AllocError;
 
-/// What stands in a section so many times.
+/// What a section holds a number of.
 pub(crate) trait Thing: Copy {
-    /// One that stands at the front of bytes, and the bytes after it.
+    /// The one at the front of bytes, and the bytes after it.
     ghost thing_at: { Format → List ℕ → Read Self };
 
     /// Its bytes in version 2.
@@ -77,7 +77,7 @@ impl Thing for Entry {
     }
 }
 
-/// The kind of a miss that a byte tells.
+/// Returns the kind of a miss by its code; `None` where no kind has it.
 fn kind_of(byte: u8) -> Option<MismatchKind>
     ensures { result ≡ kind_at byte }
 {

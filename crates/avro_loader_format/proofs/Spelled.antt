@@ -1,4 +1,4 @@
--- Numbers, addresses and operands: what is read from the front is the spelling that stood there, and what is spelled is
+-- Numbers, addresses and operands: what is read from the front is the spelling that was there, and what is spelled is
 -- read again.
 use Rattle.std.proofs.Common.{◌≡◌, ℕ, ◌^◌, ◌<◌, ◌≤◌, false, ltb, List, [], ◌++◌, length, take, drop, Ok, refl, sym, ap, subst, arith}
 use Rattle.std.proofs.lemmas.Bool.{ltb-false, le-ltb}

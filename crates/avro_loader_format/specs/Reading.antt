@@ -1,4 +1,4 @@
--- What stands at the front of an image's bytes, with the first fault that is met. All of this is this project's own.
+-- What is at the front of an image's bytes, with the first fault that is met. All of this is this project's own.
 use Rattle.std.specs.Prelude.{◌≡◌, ℕ, zero, suc, ◌-◌, List, [], ◌∷◌, length, take, drop, Result, Ok, Err, ⊤, nat_lt, ◌==◌, if◌then◌else◌}
 use Rattle.std.specs.Int.{Width, w16, w32, byte_len, from_be_bytes}
 use Rattle.isa.specs.declared.limits.TheConstants.{MOST_INSTRS}
@@ -21,7 +21,7 @@ abbrev pub ◌>>=◌ : {A B : Type 0} → Result A ImageFault → (A → Result 
 (Ok x) >>= f = f x
 (Err e) >>= f = Err e
 
--- what stands at the front of bytes, and the bytes after it
+-- what is at the front of bytes, and the bytes after it
 abbrev pub Read : Type 0 → Type 0
 Read A = Result (A × List ℕ) ImageFault
 
@@ -55,7 +55,7 @@ operand_at f shapes.Address rest = address_at f rest
 
 -- ---- the head
 
--- the version that a byte tells
+-- the version that a byte names
 abbrev pub version_at : List ℕ → Read Version
 version_at [] = Err Truncated
 version_at (suc zero ∷ rest) = Ok (One, rest)

@@ -2,7 +2,8 @@
 
 use thiserror::Error;
 
-/// The first thing in reading order that keeps bytes from being an image. What is out of range is told after all else.
+/// The first thing in reading order that keeps bytes from being an image. What is out of range is reported after all
+/// else.
 #[derive(Clone, Copy, Debug, PartialEq, Eq, Error)]
 pub enum ImageFault {
     #[error("the bytes do not begin as an image")]

@@ -10,7 +10,7 @@ use crate::version::{Format, Version};
 /// The number that every image begins with: the letters AVRP.
 pub const MAGIC: u32 = 0x4156_5250;
 
-/// The version that a byte tells, and the bytes after it.
+/// Returns the version for the first byte, and the bytes after it.
 fn version_of(bytes: &[u8]) -> Result<(Version, &[u8]), ImageFault>
     ensures { Tells (λ x. (x.0, x.1.now)) result (version_at bytes.now) }
 {
@@ -22,7 +22,7 @@ fn version_of(bytes: &[u8]) -> Result<(Version, &[u8]), ImageFault>
     }
 }
 
-/// The version of an image, and the bytes after it.
+/// Reads the head of an image: returns its version, and the bytes after it; else the first fault.
 #[tactic(auto, unfolding(crate::specs::Reading::opened))]
 pub fn open(bytes: &[u8]) -> Result<(Version, &[u8]), ImageFault>
     ensures { Tells (λ x. (x.0, x.1.now)) result (opened bytes.now) }
@@ -34,7 +34,7 @@ pub fn open(bytes: &[u8]) -> Result<(Version, &[u8]), ImageFault>
     version_of(rest)
 }
 
-/// That no bytes are left after an image.
+/// Checks that no bytes are left after an image; `Trailing` with their offset where some are.
 pub fn ended(format: Format, left: &[u8]) -> Result<(), ImageFault>
     ensures { result ≡ ended format left.now }
 {

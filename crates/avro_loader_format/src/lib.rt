@@ -1,7 +1,7 @@
 //! Programs; used by `avro_loader`.
 //!
-//! The words of a program's image: which numbers and operands stand at the front of its bytes, how they are written,
-//! what the head says, and that nothing stands after an image.
+//! The words of a program's image: which numbers and operands are at the front of its bytes, how they are written,
+//! what the head says, and that nothing comes after an image.
 #![tactic(auto)]
 
 mod fault;

@@ -10,7 +10,7 @@ use crate::version::{Format, Version};
 use isa::Shape;
 use std::alloc::AllocError;
 
-/// A number of 2 bytes, and the bytes after it.
+/// Returns the big-endian number of the first 2 bytes, and the bytes after it; `Truncated` where there are fewer.
 pub fn u16_at(bytes: &[u8]) -> Result<(u32, &[u8]), ImageFault>
     ensures { Tells (λ x. (x.0, x.1.now)) result (number_at w16 bytes.now) }
 {
@@ -22,7 +22,7 @@ pub fn u16_at(bytes: &[u8]) -> Result<(u32, &[u8]), ImageFault>
     Ok((number as u32, rest))
 }
 
-/// A number of 4 bytes, and the bytes after it.
+/// Returns the big-endian number of the first 4 bytes, and the bytes after it; `Truncated` where there are fewer.
 pub fn u32_at(bytes: &[u8]) -> Result<(u32, &[u8]), ImageFault>
     ensures { Tells (λ x. (x.0, x.1.now)) result (number_at w32 bytes.now) }
 {
@@ -34,7 +34,7 @@ pub fn u32_at(bytes: &[u8]) -> Result<(u32, &[u8]), ImageFault>
     Ok((number, rest))
 }
 
-/// An address, and the bytes after it.
+/// Returns the address at the front of bytes, in 2 or 4 bytes by the version, and the bytes after it.
 pub fn address_of(format: Format, bytes: &[u8]) -> Result<(u32, &[u8]), ImageFault>
     ensures { Tells (λ x. (x.0, x.1.now)) result (address_at format bytes.now) }
 {
@@ -44,7 +44,7 @@ pub fn address_of(format: Format, bytes: &[u8]) -> Result<(u32, &[u8]), ImageFau
     }
 }
 
-/// The operand of an operation, and the bytes after it.
+/// Returns the operand of an operation, or 0 where it has none, and the bytes after it.
 pub fn operand_of(format: Format, shape: Shape, bytes: &[u8]) -> Result<(u32, &[u8]), ImageFault>
     ensures { Tells (λ x. (x.0, x.1.now)) result (operand_at format shape bytes.now) }
 {
@@ -56,7 +56,7 @@ pub fn operand_of(format: Format, shape: Shape, bytes: &[u8]) -> Result<(u32, &[
     }
 }
 
-/// A number in its lowest 2 bytes.
+/// Appends the lowest 2 bytes of an integer, big-endian. An `Err` leaves the vector as it was.
 pub fn put_short(out: &mut Vec<u8>, number: usize) -> Result<(), AllocError>
     ensures put { OnOk result (out.new.items ≡ out.old.items ++ short number) }
     ensures refused { OnErr result (out.new.items ≡ out.old.items) }
@@ -65,7 +65,7 @@ pub fn put_short(out: &mut Vec<u8>, number: usize) -> Result<(), AllocError>
     out.extend_from_slice(&[high, low])
 }
 
-/// A number in its lowest 4 bytes.
+/// Appends the lowest 4 bytes of an integer, big-endian. An `Err` leaves the vector as it was.
 pub fn put_long(out: &mut Vec<u8>, number: usize) -> Result<(), AllocError>
     ensures put { OnOk result (out.new.items ≡ out.old.items ++ long number) }
     ensures refused { OnErr result (out.new.items ≡ out.old.items) }

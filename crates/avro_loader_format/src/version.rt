@@ -16,7 +16,7 @@ pub enum Version {
 }
 
 impl Version {
-    /// How many instructions an image may have.
+    /// Returns how many instructions an image of this version may have.
     pub fn most_instrs(self) -> usize
         ensures { result ≡ most_instrs self }
     {
@@ -35,7 +35,7 @@ pub struct Format {
 }
 
 impl Format {
-    /// The place of the first of the bytes that are left.
+    /// Returns the offset in the image of the first of the bytes that are left.
     pub fn place(self, left: &[u8]) -> usize
         ensures { result ≡ place self left.now }
     {

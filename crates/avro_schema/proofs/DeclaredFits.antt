@@ -44,9 +44,9 @@ mutual
   few_fields no_more_fields le = omega arith
   few_fields (a_field {before = before} {added = added} {more = more} name rule others at first rest) le = few_both before added more (few first le) (few_fields rest)
 
--- ---- where heads stand
+-- ---- where heads are
 
--- all nodes, some of which stand before the added ones
+-- all nodes, some of which come before the added ones
 abbrev Stands : List Draft → List Draft → List Draft → List Draft → Type 0
 Stands before added more all = all ≡ (before ++ added) ++ more
 
@@ -76,7 +76,7 @@ get-below (x ∷ hs) (suc n) h e = omega (arith, get-below hs n h e)
 heads-all : (before added more all : List Draft) → Stands before added more all → heads_of all ≡ heads_of (before ++ added) ++ heads_of more
 heads-all before added more all e = ap heads_of e ∙ heads_of-append (before ++ added) more
 
--- the node of a name that stands before
+-- the node of a name that comes before
 named_gives : (before more all : List Draft) (n start : ℕ) (d : Draft) (full : List ℕ) → Stands before [] more all → slice_get before n ≡ Some d → head_of d ≡ Named full → Gives start (heads_of all) n
 named_gives before more all n start d full e at is =
     let here = get-head before n d at in

@@ -18,7 +18,7 @@ use Rattle.avro_schema_defaults.proofs.DefaultsRead.{default-read}
 use Rattle.avro_schema_defaults.proofs.FinishedNodes.{in-row, finished-at}
 use Rattle.avro_schema.proofs.ValueTexts.{HasUtf8, ItemsHaveUtf8, MembersHaveUtf8}
 
--- ---- what stands at a key
+-- ---- what is at a key
 
 one-utf8 : (o : Ordering) (rest : Option json.Data) (d : json.Data) → IfSome rest HasUtf8 → HasUtf8 d → IfSome (match_ordering o rest (Some d) rest) HasUtf8
 one-utf8 Less rest d f h = f

@@ -1,4 +1,5 @@
--- No string that a JSON text spells is longer than the text, and the text has no more tokens than bytes, but for the one of a fault.
+-- No string that a JSON text spells is longer than the text, and the text has no more tokens than bytes, but for the
+-- one of a fault.
 use Rattle.std.proofs.Common.{ℕ, suc, ◌+◌, ◌≤◌, List, [], ◌∷◌, length, Bool, true, false, cond, ◌&&◌, ◌==◌, nat_lt, Option, Some, None, option_and_then, arith, length-append}
 use Rattle.std.specs.List.{AllByRecursion}
 use Rattle.std.specs.Char.{encode_utf8}
@@ -229,7 +230,7 @@ module _ (most : ℕ) where
   punctuate-within after_comma (colon ∷ ls) h = (tt, tt)
   punctuate-within after_key (colon ∷ ls) h = punctuate-within fresh ls h.1
 
-  -- so is each token of a row, and no more than that stand behind it
+  -- so is each token of a list, and at most `most` tokens come after it
   abbrev pub TokensWithin : List Token → Type 0
   TokensWithin [] = Unit {0}
   TokensWithin (t ∷ ts) = (TokenWithin most t × (length ts ≤ most)) × TokensWithin ts

@@ -39,7 +39,7 @@ abbrev mutual
   HaveMembersWithin most no_members = Unit {0}
   HaveMembersWithin most (member k d ms) = (length k ≤ most) × HasDataWithin most d × HaveMembersWithin most ms
 
--- the same of what the grammar gives
+-- how many items and members the grammar gives
 abbrev json_items_in : json.Items → ℕ
 json_items_in json.no_items = 0
 json_items_in (json.item j js) = suc (json_items_in js)

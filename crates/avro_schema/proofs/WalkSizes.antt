@@ -26,7 +26,7 @@ module _ (most : ℕ) where
   both-within [] back f g = g
   both-within (d ∷ front) back f g = (f.0, both-within front back f.1 g)
 
-  -- ---- what stands at a key
+  -- ---- what is at a key
 
   one-within : (o : Ordering) (rest : Option Data) (d : Data) → IfSome rest (HasDataWithin most) → HasDataWithin most d → IfSome (match_ordering o rest (Some d) rest) (HasDataWithin most)
   one-within Less rest d f h = f

@@ -213,7 +213,7 @@ each_from P i (x ∷ ds) h (suc j) d e = subst (λ n. P n d) (let z : suc i + j 
 
 -- ---- all nodes
 
--- the heads of nodes and drafts stand at the same places
+-- a node with a full name has a head with that name, and so has the draft at its index
 full_head : (node : Node) (full : List ℕ) → full_name_of (Some node) ≡ Some full → head_of_node node ≡ Named full
 full_head (FixedNode names size) full e = ap Named (some_inside names.full full e)
 full_head (EnumNode names symbols default) full e = ap Named (some_inside names.full full e)

@@ -34,7 +34,7 @@ pub record IsSchema (text : List ℕ) (nodes : List Node) : Type 0 where
 abbrev pub NodesAreThoseDeclared : Type 0
 NodesAreThoseDeclared = (text : List ℕ) (nodes : List Node) → (schema_of text ≡ Ok nodes) ↔ IsSchema text nodes
 
--- and so a fault is told exactly where the text declares none; the walk only decides which comes first
+-- and so a fault is reported exactly where the text declares none; the walk only decides which comes first
 abbrev pub FaultsWhereNoneIsDeclared : Type 0
 FaultsWhereNoneIsDeclared = (text : List ℕ)
     → ((e : SchemaError) × (schema_of text ≡ Err e)) ↔ ((nodes : List Node) → ¬ (IsSchema text nodes))

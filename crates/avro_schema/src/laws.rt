@@ -2,8 +2,8 @@
 
 ghost use Rattle.avro_schema.specs.SchemaLaw.{FaultsWhereNoneIsDeclared, NodesAreThoseDeclared};
 
-/// The law that the nodes of a text are those that it declares, and so that a fault is told exactly where it declares
-/// none.
+/// The law that the nodes of a text are those that it declares, and so that a fault is reported exactly where it
+/// declares none.
 pub fn parsed_schema_is_declared()
     ensures nodes { NodesAreThoseDeclared }
     ensures faults { FaultsWhereNoneIsDeclared }

@@ -6,7 +6,7 @@ ghost use Rattle.serde_json.specs.Written.{has_float, items_have_float, members_
 
 use serde_json::{Map, Value};
 
-/// Whether a number somewhere in a value is held as a float.
+/// Returns whether a number somewhere in a value is held as a float.
 #[cycle(float)]
 pub(crate) fn has_float(value: &Value) -> bool
     ensures { result ≡ has_float (view value.now) }

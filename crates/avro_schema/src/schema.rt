@@ -57,7 +57,7 @@ impl Model for Schema {
 }
 
 impl Schema {
-    /// The schema that a text declares, or the first of its faults.
+    /// Parses the schema that a JSON text declares, or returns the first of its faults.
     pub fn parse(alloc: Global, text: &str) -> Result<Schema, SchemaError>
         ensures schema { Parses result text.now }
         ensures memory { IfErr result (λ e. e ≡ SchemaError.NoMemory → length text.now ≤ MOST_TEXT) }
@@ -74,7 +74,7 @@ impl Schema {
         Ok(Schema::of_parts(alloc, text, Nodes::new(kinds))?)
     }
 
-    /// The schema of a text and the nodes that it gives.
+    /// Returns the schema with a text and the nodes that the text declares.
     fn of_parts(alloc: Global, text: String, nodes: Nodes) -> Result<Schema, AllocError>
         requires { TextGives (string_bytes text) nodes }
         ensures { IfOk result (λ schema. schema ≡ record { text = string_bytes text; nodes = nodes }) }
@@ -83,7 +83,7 @@ impl Schema {
         Ok(Schema { parts })
     }
 
-    /// The same schema once more.
+    /// Returns a copy of the schema, which shares its text and its nodes.
     pub fn copy(&self) -> Result<Schema, AllocError>
         ensures { IfOk result (λ schema. schema ≡ self.now) }
     {
@@ -91,21 +91,21 @@ impl Schema {
         Ok(Schema { parts })
     }
 
-    /// Its compact JSON text: no spaces, the keys of each object sorted.
+    /// Returns its compact JSON text: no spaces, the keys of each object sorted.
     pub fn text(&self) -> &str
         ensures { result.now ≡ self.now.text }
     {
         self.parts.text.as_str()
     }
 
-    /// How many nodes there are.
+    /// Returns the number of its nodes.
     pub fn len(&self) -> usize
         ensures { result ≡ length self.now.nodes }
     {
         self.parts.nodes.len()
     }
 
-    /// What a node is.
+    /// Returns the kind of a node.
     pub fn kind(&self, node: usize) -> &Kind
         requires { node < length self.now.nodes }
         ensures kind { slice_get self.now.nodes node ≡ Some (node_of result.now) }
@@ -114,7 +114,7 @@ impl Schema {
         self.parts.nodes.kind(node)
     }
 
-    /// Its nodes.
+    /// Returns its nodes.
     pub fn nodes(&self) -> &Nodes
         ensures { result.now ≡ self.now.nodes }
     {
@@ -139,7 +139,7 @@ impl Schema {
     }
 }
 
-/// What the nodes are that a JSON value declares.
+/// Returns the kinds of the nodes that a JSON value declares, with their defaults read, or the first fault.
 fn kinds_in(alloc: Global, value: &Value) -> Result<Vec<Kind>, SchemaError>
     ensures declared { Tells (λ kinds. nodes_of kinds.items) result (declared (view value.now)) }
     ensures defaults { IfOk result (λ kinds. DefaultsConform (nodes_of kinds.items)) }
@@ -151,7 +151,7 @@ fn kinds_in(alloc: Global, value: &Value) -> Result<Vec<Kind>, SchemaError>
     Ok(nodes_with(alloc, drafts.into_nodes(), defaults)?)
 }
 
-/// The JSON value of a text.
+/// Parses a text as a JSON value; `NotJson` where it is none.
 fn read_json(alloc: Global, text: &str) -> Result<Value, SchemaError>
     ensures value { Tells view result (ok_or (read text.now) SchemaError.NotJson) }
     ensures nests { IfOk result (λ v. depth (view v) ≤ max_depth) }

@@ -38,7 +38,7 @@ few-at [] n d few is = absurd (let no : ⊥ = cc in no)
 few-at (x ∷ ds) zero d few is = let same : x ≡ d = cc in rw (← same) few.0
 few-at (x ∷ ds) (suc n) d few is = few-at ds n d few.1 is
 
--- ---- an option that is told
+-- ---- an option as a result
 
 pub told-map : {E L : Type 0} (f : E → L) (o : Option E) (d : E) → ok_or o BadDefault ≡ Ok d → ok_or (option_map f o) BadDefault ≡ Ok (f d)
 told-map f None d e = absurd (let no : ⊥ = cc in no)

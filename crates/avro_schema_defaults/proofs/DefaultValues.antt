@@ -14,7 +14,7 @@ use Rattle.avro_schema_defaults.proofs.OneByOne.{before}
 abbrev pub bytes_from : List ℕ → Option (List ℕ)
 bytes_from cs = cond (list_all (λ c. ltb c 256) cs) (Some cs) None
 
--- what is read, behind what was read before
+-- what is read, after what was read before
 abbrev pub bytes_after : List ℕ → Option (List ℕ) → Option (List ℕ)
 bytes_after front o = option_map (λ bs. front ++ bs) o
 

@@ -100,7 +100,7 @@ module _ (nodes : List Draft) where
   array-read vs items h (Whole (ArrayNode m)) t e = let p = map-inv ArrayDatum (items m) t e in rw p.2 (array_default (h m p.0 p.1))
   array-read vs items h d t e = absurd (let no : ⊥ = cc in no)
 
-  -- ---- by the node of a number
+  -- ---- by the node at an index
 
   first-read : (v : json.Data) (reading : Reading) → Reads v reading → (members : List ℕ) (n : ℕ) (t : Datum) → slice_get nodes n ≡ Some (Whole (UnionNode members)) → by_first nodes reading (Some (Whole (UnionNode members))) ≡ Some t → IsDefaultAt nodes n v t
   first-read v reading h [] n t at e = absurd (let no : ⊥ = cc in no)

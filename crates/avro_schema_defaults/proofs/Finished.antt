@@ -1,4 +1,4 @@
--- The defaults of fields and of nodes, one after another, and what stands beside them.
+-- The defaults of fields and of nodes, one after another, and the fields and nodes beside them.
 use Rattle.std.proofs.Common.{◌≡◌, ℕ, ◌+◌, ◌<◌, ◌≤◌, List, [], ◌∷◌, ◌++◌, length, drop, get_or, map, Option, Some, option_map, option_and_then, Ok, Err, refl, ap, ◌∙◌}
 use Rattle.std.specs.Global.{Vec}
 use Rattle.std.specs.List.{zip}

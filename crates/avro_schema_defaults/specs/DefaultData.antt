@@ -18,7 +18,7 @@ AreBytes s = AllByRecursion (λ c. c < 256) (chars s)
 
 module _ (nodes : List Draft) where
   mutual
-    -- by the node of a number
+    -- by the node at an index
     pub data IsDefaultAt : ℕ → json.Data → Datum → Type 0 where
       by_type : {n : ℕ} {draft : Draft} {d : json.Data} {datum : Datum}
           → slice_get nodes n ≡ Some draft → IsDefaultOf draft d datum → IsDefaultAt n d datum
@@ -63,7 +63,7 @@ module _ (nodes : List Draft) where
       one_pair : {n : ℕ} {k : List ℕ} {d : json.Data} {ms : Members} {datum : Datum} {rest : Pairs}
           → IsDefaultAt n d datum → ArePairs n ms rest → ArePairs n (member k d ms) (pair k datum rest)
 
-    -- what stands at the fields' names, one by one
+    -- the members with the fields' names, one by one
     pub data AreFields : Members → List DraftField → Data → Type 0 where
       no_field : {ms : Members} → AreFields ms [] no_more
       one_field : {ms : Members} {f : DraftField} {fs : List DraftField} {d : json.Data} {datum : Datum} {rest : Data}

@@ -27,13 +27,13 @@ by_first drafts reading (Some (Whole (UnionNode (m ∷ ms)))) =
 by_first drafts reading (Some d) = reading d
 by_first drafts reading None = None
 
--- by the node of a number
+-- by the node at an index
 abbrev pub at_node : List Draft → ℕ → Reading → Option Datum
 at_node drafts n reading = by_first drafts reading (slice_get drafts n)
 
 -- ---- values without parts
 
--- a signed number of so many bits, less one
+-- a signed number of `bits` bits beside its sign
 abbrev pub has_bits : ℕ → ℤ → Bool
 has_bits bits (pos n) = nat_lt n (2 ^ bits)
 has_bits bits (negsuc n) = nat_lt n (2 ^ bits)
@@ -109,7 +109,7 @@ unfoldable mutual
   pairs_value (member k d ms) drafts n =
       option_and_then (λ e. option_map (pair k e) (pairs_value ms drafts n)) (at_node drafts n (value_of d drafts))
 
-  -- what stands at a key
+  -- what is at a key
   pub member_value : Members → List Draft → List ℕ → Option Reading
   member_value no_members drafts k = None
   member_value (member l d ms) drafts k =

@@ -16,7 +16,7 @@ use avro_types::{Datum, Kind};
 use serde_json::{Map, Number, Value};
 use std::alloc::Global;
 
-/// The bytes whose code points a text has.
+/// Returns the bytes whose code points a text has; `BadDefault` where a code point is above 255.
 fn bytes_in(alloc: Global, text: &str) -> Result<Vec<u8>, SchemaError>
     ensures { Tells (λ v. v.items) result (ok_or (bytes_in text.now) SchemaError.BadDefault) }
 {
@@ -30,7 +30,7 @@ fn bytes_in(alloc: Global, text: &str) -> Result<Vec<u8>, SchemaError>
     Ok(bytes)
 }
 
-/// The datum that a number is by a kind.
+/// Returns the datum that a number is by a kind, or `BadDefault` where it is none.
 fn number_default(kind: &Kind, number: &Number) -> Result<Datum, SchemaError>
     ensures { Tells datum_of result (ok_or (number_value (number_view number.now) (Whole (node_of kind.now)))
         SchemaError.BadDefault) }
@@ -45,7 +45,7 @@ fn number_default(kind: &Kind, number: &Number) -> Result<Datum, SchemaError>
     }
 }
 
-/// The datum that a text is by a kind.
+/// Returns the datum that a text is by a kind, or `BadDefault` where it is none.
 fn text_default(alloc: Global, kind: &Kind, text: &str) -> Result<Datum, SchemaError>
     requires { HasFewSymbols (Whole (node_of kind.now)) }
     ensures { Tells datum_of result (ok_or (text_value text.now (Whole (node_of kind.now))) SchemaError.BadDefault) }
@@ -68,7 +68,7 @@ fn text_default(alloc: Global, kind: &Kind, text: &str) -> Result<Datum, SchemaE
     }
 }
 
-/// The datum that a value is by a kind that holds no others.
+/// Returns the datum that a value is by a kind that holds no others, or `BadDefault` where it is none.
 fn leaf_default(alloc: Global, kind: &Kind, value: &Value) -> Result<Datum, SchemaError>
     requires few { HasFewSymbols (Whole (node_of kind.now)) }
     ensures { Tells datum_of result (ok_or (leaf_value (view value.now) (Whole (node_of kind.now)))
@@ -83,7 +83,7 @@ fn leaf_default(alloc: Global, kind: &Kind, value: &Value) -> Result<Datum, Sche
     }
 }
 
-/// The datum that a value is by the node of a number, or `BadDefault` where it is none.
+/// Returns the datum that a value is by a node, or `BadDefault` where it is none or there is no such node.
 #[cycle(default)]
 pub fn default_at(
     alloc: Global,
@@ -107,7 +107,7 @@ pub fn default_at(
     }
 }
 
-/// The datum that a value is by a union: one of its first member.
+/// Returns the datum that a value is by a union: one of its first branch.
 #[cycle(default)]
 fn union_default(
     alloc: Global,
@@ -130,7 +130,7 @@ fn union_default(
     Ok(Datum::Union(0, Box::new(alloc, datum)?))
 }
 
-/// The datum that a value is by a node that is no union.
+/// Returns the datum that a value is by a node that is no union.
 #[cycle(default)]
 fn plain_default(
     alloc: Global,
@@ -155,7 +155,7 @@ fn plain_default(
     }
 }
 
-/// The datum that a value is by a kind that is no union.
+/// Returns the datum that a value is by a kind that is no union.
 #[cycle(default)]
 fn whole_default(
     alloc: Global,
@@ -187,7 +187,7 @@ fn whole_default(
     }
 }
 
-/// The data that some values are by one node.
+/// Returns the data that values are by one node, in order.
 #[cycle(default)]
 fn items_default(
     alloc: Global,
@@ -207,7 +207,7 @@ fn items_default(
     Ok(data)
 }
 
-/// The pairs that the members of an object are, the values by one node.
+/// Returns the pairs that the members of an object are, the values by one node.
 #[cycle(default)]
 fn pairs_default(
     alloc: Global,
@@ -228,7 +228,7 @@ fn pairs_default(
     Ok(pairs)
 }
 
-/// The data of a record's fields, each under its name.
+/// Returns the data of a record's fields, each of the value under the field's name; `BadDefault` where one is missing.
 #[cycle(default)]
 fn fields_default(
     alloc: Global,

@@ -14,8 +14,8 @@ use avro_schema_names::SchemaError;
 use avro_types::{Datum, Field, Kind};
 use std::alloc::{AllocError, Global};
 
-/// Returns the datum of a field's default, and `None` where it has no default. `BadDefault` where the default is no value
-/// of the field's type.
+/// Returns the datum of a field's default, or `None` where it has no default. `BadDefault` where the default is no
+/// value of the field's type.
 pub fn field_default(
     alloc: Global,
     drafts: &[Draft],
@@ -34,7 +34,7 @@ pub fn field_default(
     }
 }
 
-/// The data of some fields' defaults.
+/// Returns the data of fields' defaults, each `None` where a field has no default.
 fn field_defaults(
     alloc: Global,
     drafts: &[Draft],
@@ -52,7 +52,7 @@ fn field_defaults(
     Ok(defaults)
 }
 
-/// The data of the defaults of a node's fields.
+/// Returns the data of the defaults of a node's fields; none where the node is no record.
 fn node_defaults(
     alloc: Global,
     drafts: &[Draft],
@@ -68,7 +68,7 @@ fn node_defaults(
     }
 }
 
-/// The data of all nodes' defaults.
+/// Returns the data of the defaults of all nodes' fields, node by node.
 pub fn all_defaults(alloc: Global, drafts: &[Draft]) -> Result<Vec<Vec<Option<Datum>>>, SchemaError>
     requires { HaveFewSymbols (drafts_of drafts.now) }
     ensures { Tells (λ v. map (λ own. map (option_map datum_of) own.items) v.items) result
@@ -82,7 +82,7 @@ pub fn all_defaults(alloc: Global, drafts: &[Draft]) -> Result<Vec<Vec<Option<Da
     Ok(all)
 }
 
-/// The fields with their defaults.
+/// Returns the fields with their defaults.
 fn fields_with(
     alloc: Global,
     fields: Vec<DraftField>,
@@ -103,7 +103,7 @@ fn fields_with(
     Ok(whole)
 }
 
-/// The node with the defaults of its fields.
+/// Returns the node with the defaults of its fields.
 fn node_with(alloc: Global, draft: Draft, defaults: Vec<Option<Datum>>) -> Result<Kind, AllocError>
     ensures { IfOk result (λ k. node_of k ≡ node_with (draft_of draft.entry)
         (map (option_map datum_of) defaults.items)) }
@@ -122,7 +122,7 @@ fn node_with(alloc: Global, draft: Draft, defaults: Vec<Option<Datum>>) -> Resul
     }
 }
 
-/// The nodes with their defaults.
+/// Returns the nodes with the defaults of their fields.
 pub fn nodes_with(
     alloc: Global,
     drafts: Vec<Draft>,

@@ -56,7 +56,7 @@ with-new namespaces full e = rw e refl
 -- ---- one more name
 
 -- one more name, where it is new
--- full is the name of k, which stands behind ks
+-- full is the name of k, which comes after ks
 module _ (namespace last : List ℕ) (none : has_dot last ≡ false) (ruled : is_full_name (inside namespace last) ≡ true) (ks ls : List Draft) (k : Draft)
     (named : head_of k ≡ Named (inside namespace last)) (fresh : defined_at (inside namespace last) (heads_of ks) ≡ None) (behind : ls ≡ ks ++ k ∷ []) where
   abbrev full : List ℕ

@@ -1,4 +1,4 @@
--- What is seen of a node before its parts are known: enough for names, references, and members of one type.
+-- What is seen of a node before its parts are known: enough for names, references, and branches of one type.
 use Rattle.std.specs.Prelude.{◌≡◌, ℕ, List, [], ◌∷◌, ◌++◌, map, Bool, true, false, not, ◌&&◌, Option, slice_index_or}
 use Rattle.std.specs.List.{list_any, position_from}
 use Rattle.std.specs.Str.{bytes_eq}
@@ -73,7 +73,7 @@ is_same_type _ _ = false
 unfoldable pub defined_at : List ℕ → List Head → Option ℕ
 defined_at full heads = position_from (defines full) 0 heads
 
--- the head of a node; that of no node is a union's, which is no union's member
+-- the head of a node; that of no node is a union's, which is no union's branch
 abbrev pub head_at : List Head → ℕ → Head
 head_at heads n = slice_index_or heads n UnionHead
 

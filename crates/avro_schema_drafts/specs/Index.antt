@@ -62,7 +62,7 @@ abbrev pub HasOnlyScope : {A : Type 0} → List ℕ → ℕ → List (BTreeMap (
 HasOnlyScope {A = A} text n before after =
     (map : BTreeMap (String A) ℕ) × HasOnly text n map × (after ≡ before ++ map ∷ [])
 
--- Under each namespace stands its number, and under that, by the last part of a full name, the node that defines it.
+-- Under each namespace is its number, and under that, by the last part of a full name, the node that defines it.
 pub record IsIndexOf {A : Type 0} (numbers : BTreeMap (String A) ℕ) (scopes : List (BTreeMap (String A) ℕ))
     (ds : List Draft) : Type 0 where
   pub numbered : (namespace : List ℕ)

@@ -58,21 +58,21 @@ impl<'v> Drafts<'v> {
         })
     }
 
-    /// How many nodes there are.
+    /// Returns the number of nodes.
     pub fn len(&self) -> usize
         ensures { result ≡ length self.now }
     {
         self.nodes.len()
     }
 
-    /// The nodes, in order.
+    /// Returns the nodes, in order.
     pub fn as_slice(&self) -> &[Draft<'v>]
         ensures { drafts_of result.now ≡ self.now }
     {
         self.nodes.as_slice()
     }
 
-    /// The nodes, in order, with no more names kept beside them.
+    /// Returns the nodes, in order, and drops the index of their names.
     pub fn into_nodes(self) -> Vec<Draft<'v>>
         ensures { drafts_of result.items ≡ self.entry }
     {
@@ -87,7 +87,7 @@ impl<'v> Drafts<'v> {
         let _opened = &self.nodes; // read for the proof
     }
 
-    /// The node of a name that stands in a namespace, given by its last part.
+    /// Returns the node of the name with a last part in a namespace; `None` where no node has it.
     pub fn defined_in(&self, enclosing: &Namespace, last: &str) -> Option<usize>
         requires known { IsNamespaceOf enclosing.now self.now }
         requires undotted { has_dot last.now ≡ false }
@@ -96,14 +96,14 @@ impl<'v> Drafts<'v> {
         self.scopes[enclosing.number].get(last).copied()
     }
 
-    /// The number of a namespace that has names.
+    /// Returns the number of a namespace; `None` where it has no names.
     pub fn number_of(&self, namespace: &str) -> Option<usize>
         ensures { result ≡ place_of namespace.now (namespaces_of (heads_of self.now)) }
     {
         self.numbers.get(namespace).copied()
     }
 
-    /// The node of a name, given by its namespace and its last part.
+    /// Returns the node of the name with a namespace and a last part; `None` where no node has it.
     pub fn defined_by(&self, namespace: &str, last: &str) -> Option<usize>
         requires undotted { has_dot last.now ≡ false }
         ensures { result ≡ defined_at (inside namespace.now last.now) (heads_of self.now) }
@@ -114,7 +114,7 @@ impl<'v> Drafts<'v> {
         }
     }
 
-    /// Adds a node of a kind that has no name.
+    /// Appends a node of a kind that has no name. An `Err` leaves the drafts as they were.
     pub fn push(&mut self, kind: Kind) -> Result<(), AllocError>
         requires { IsUnnamed (head_of_node (node_of kind)) }
         ensures nodes { OnOk result (self.new ≡ self.old ++ Whole (node_of kind) ∷ []) }
@@ -124,8 +124,8 @@ impl<'v> Drafts<'v> {
         Ok(())
     }
 
-    /// Adds the node that defines a full name, which is new, and answers the number of its namespace, where it is given
-    /// if there is one.
+    /// Appends the node that defines a full name, which is new, and returns the number of its namespace. The number is
+    /// passed where the namespace has one already. An `Err` leaves the drafts as they were.
     pub fn define(
         &mut self,
         alloc: Global,
@@ -154,7 +154,7 @@ impl<'v> Drafts<'v> {
         }
     }
 
-    /// Adds the node that defines a name in a namespace that has a number.
+    /// Appends the node that defines a name in a namespace that has a number.
     fn define_in(
         &mut self,
         alloc: Global,
@@ -175,7 +175,7 @@ impl<'v> Drafts<'v> {
         Ok(())
     }
 
-    /// Adds the node that defines the first name of a namespace.
+    /// Appends the node that defines the first name of a namespace.
     fn define_first(
         &mut self,
         alloc: Global,
@@ -194,7 +194,7 @@ impl<'v> Drafts<'v> {
         Ok(())
     }
 
-    /// Puts a node in the place of one with the same head.
+    /// Replaces a node by one with the same head.
     pub fn set(&mut self, node: usize, draft: Draft<'v>)
         requires { slice_get (heads_of self.old) node ≡ Some (head_of (draft_of draft)) }
         ensures { self.new ≡ set self.old node (draft_of draft.entry) }
@@ -236,28 +236,28 @@ impl<'v> FieldList<'v> {
         }
     }
 
-    /// How many fields there are.
+    /// Returns the number of fields.
     pub fn len(&self) -> usize
         ensures { result ≡ length self.now }
     {
         self.fields.len()
     }
 
-    /// The fields, in order, with no more names kept beside them.
+    /// Returns the fields, in order, and drops the index of their names.
     pub fn into_fields(self) -> Vec<DraftField<'v>>
         ensures { map draft_field_of result.items ≡ self.entry }
     {
         self.fields
     }
 
-    /// Whether one of the fields has a name.
+    /// Returns whether one of the fields has a name.
     pub fn is_used(&self, name: &str) -> bool
         ensures { result ≡ is_used name.now (field_names self.now) }
     {
         self.names.contains(name)
     }
 
-    /// Adds a field.
+    /// Appends a field. An `Err` leaves the fields as they were.
     pub fn push(&mut self, field: DraftField<'v>) -> Result<(), AllocError>
         ensures fields { OnOk result (self.new ≡ self.old ++ draft_field_of field.entry ∷ []) }
         ensures refused { OnErr result (self.new ≡ self.old) }

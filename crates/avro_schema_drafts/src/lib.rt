@@ -1,7 +1,7 @@
 //! Schemas; used by `avro_schema_names`, `avro_schema_walk`, `avro_schema_defaults`, `avro_schema`.
 //!
 //! Drafts of a schema's nodes, and where each name is defined (Avro 1.11 Specification, "Names"): what the walk over a
-//! schema stands on.
+//! schema is built on.
 #![tactic(auto)]
 
 mod draft;

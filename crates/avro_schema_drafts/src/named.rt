@@ -1,4 +1,5 @@
-//! Values in a row, whose numbers stand in maps under their names. Generic, so that a proof sees nothing of a value.
+//! Values in order, whose indices are kept in maps under their names. Generic, so that a proof sees nothing of a
+//! value.
 
 ghost use Rattle.std.specs.Prelude.{◌≡◌, ◌++◌, ◌∷◌, [], length, set, ◌<◌, Some, IfOk, OnErr, OnOk, string_bytes};
 ghost use Rattle.std.specs.BTreeMap.{IsUnchanged, UpdatesBy};
@@ -10,7 +11,7 @@ ghost use Rattle.avro_schema_drafts.specs.Index.{HasOnly, HasOnlyScope};
 use std::alloc::{AllocError, Global};
 use std::collections::BTreeMap;
 
-/// Adds a value, and its number to a scope under a name.
+/// Appends a value, and adds its index to a scope under a name. An `Err` leaves both as they were.
 pub(crate) fn add_named<T: Drop>(
     alloc: Global,
     values: &mut Vec<T>,
@@ -31,7 +32,7 @@ pub(crate) fn add_named<T: Drop>(
     Ok(())
 }
 
-/// A scope with one name alone.
+/// Returns a scope with one name alone.
 fn scope_of(alloc: Global, name: &str, number: usize) -> Result<BTreeMap<String, usize>, AllocError>
     ensures { IfOk result (HasOnly name.now number) }
 {
@@ -40,7 +41,8 @@ fn scope_of(alloc: Global, name: &str, number: usize) -> Result<BTreeMap<String,
     Ok(scope)
 }
 
-/// Adds a value, and its number to a scope of its own under a name; and that scope's number to the namespaces.
+/// Appends a value, and adds its index to a new scope under a name, and that scope's index to the namespaces. An `Err`
+/// leaves all three as they were.
 pub(crate) fn add_first_named<T: Drop>(
     alloc: Global,
     values: &mut Vec<T>,
@@ -68,7 +70,7 @@ pub(crate) fn add_first_named<T: Drop>(
     Ok(())
 }
 
-/// Puts a value in the place of another.
+/// Replaces the value at an index.
 pub(crate) fn put<T: Drop>(values: &mut Vec<T>, number: usize, value: T)
     requires { number < length values.old.items }
     ensures { values.new.items ≡ set values.old.items number value }

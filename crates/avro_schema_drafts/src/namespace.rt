@@ -1,4 +1,4 @@
-//! Namespaces, under the numbers that their names are kept by.
+//! Namespaces, under the numbers by which their names are kept.
 
 ghost use Rattle.std.specs.Prelude.{◌≡◌, [], IfOk, true};
 ghost use Rattle.std.specs.Arc.{arc_str_bytes};
@@ -8,7 +8,7 @@ use avro_types::Name;
 use std::alloc::{AllocError, Global};
 use std::sync::ArcStr;
 
-/// A namespace, under the number that its names are kept by.
+/// A namespace, under the number by which its names are kept.
 #[derive(Drop)]
 pub struct Namespace {
     pub text: ArcStr,
@@ -17,7 +17,7 @@ pub struct Namespace {
 }
 
 impl Namespace {
-    /// The null namespace, whose number is 0.
+    /// Returns the null namespace, whose number is 0.
     pub fn null(alloc: Global) -> Result<Namespace, AllocError>
         ensures text { IfOk result (λ s. arc_str_bytes s.text ≡ []) }
         ensures number { IfOk result (λ s. s.number ≡ 0) }
@@ -28,7 +28,7 @@ impl Namespace {
         })
     }
 
-    /// The namespace of a name, under its number.
+    /// Returns the namespace of a name, under a number.
     pub fn of_name(name: &Name, number: usize) -> Result<Namespace, AllocError>
         ensures text { IfOk result (λ s. arc_str_bytes s.text ≡ namespace_of name.now) }
         ensures number { IfOk result (λ s. s.number ≡ number) }

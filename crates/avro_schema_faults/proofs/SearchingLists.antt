@@ -15,7 +15,7 @@ use Rattle.avro_schema_faults.specs.Faults.{field_after, first_field, first_memb
 use Rattle.avro_schema_faults.specs.Searching.{Behind, SoughtIn, SoughtInField, SoughtInFields, SoughtInMembers}
 use Rattle.avro_schema_faults.proofs.Searching.{InTwo, get-behind, in-two, moved, new_of}
 
--- ---- numbers and drafts behind others
+-- ---- numbers and drafts after others
 
 here-draft : (front back new : List Draft) (k : ℕ) → front ++ back ≡ new → k < length front → slice_get front k ≡ slice_get new k
 here-draft front back new k is lt = sym (get-front front back k lt) ∙ ap (λ (xs : List Draft). slice_get xs k) is

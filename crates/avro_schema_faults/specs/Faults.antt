@@ -20,7 +20,7 @@ use Rattle.avro_schema_paths.specs.declared.step.Step.TheVariants as steps
 use Rattle.avro_schema_walk.specs.Walk.{field, fields, walk}
 
 -- A value as the walk comes to it, in a namespace and after nodes of which these heads are seen: a schema, the list of
--- a record's fields, or a field after those of such names.
+-- a record's fields, or a field after those with the given names.
 pub data Visit : Type 0 where
   schema : Data → List ℕ → List Head → Visit
   listing : Data → List ℕ → List Head → Visit
@@ -40,7 +40,7 @@ pub record IsOfForm (f : Form) (d : Data) : Type 0 where
   pub object : IsObject d
   pub form : form_of (get (codes "type") d) ≡ f
 
--- the walk of members, one after another, comes to the one at a position, after these heads
+-- the walk of branches, one after another, comes to the one at a position, after these heads
 pub data MemberAt (enclosing : List ℕ) : Items → List Head → ℕ → Data → List Head → Type 0 where
   first_member : {d : Data} {ds : Items} {heads : List Head} → MemberAt enclosing (item d ds) heads 0 d heads
   next_member : {c d : Data} {ds : Items} {heads more : List Head} {n i : ℕ} {added : List Draft}

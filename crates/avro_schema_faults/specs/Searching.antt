@@ -1,4 +1,4 @@
--- The search for the value that declares the node of a number.
+-- The search for the value that declares the node at an index.
 use Rattle.std.specs.Prelude.{◌≡◌, ◌<◌, ⊤, ℕ, ◌+◌, List, [], ◌∷◌, ◌++◌, length, Bool, true, false, Option, Some, None, Result, Ok, Err, slice_get}
 use Rattle.serde_json.specs.Data.{Data, Items}
 use Rattle.avro_schema_drafts.specs.Draft.{Draft, DraftField, RecordDraft}
@@ -62,7 +62,7 @@ abbrev pub Behind : Step → (Option ℕ → Path → Type 0) → Option ℕ →
 Behind step S (Some rest) path = S (Some rest) []
 Behind step S None path = (q : Path) × (path ≡ step ∷ q) × S None q
 
--- in one of these members, of which the first has the position `i`
+-- in one of these branches, of which the first has the position `i`
 pub record IsInMember (enclosing : List ℕ) (ds : Items) (heads : List Head) (i node : ℕ) (draft : Option Draft)
     (path : Path) : Type 0 where
   pub j : ℕ

@@ -25,7 +25,7 @@ abbrev pub LeavesFrom : {R : Type 0} → Step → Result R SchemaError → Visit
 LeavesFrom step (Ok r) v before after = after ≡ before
 LeavesFrom step (Err e) v before after = e ≢ NoMemory → Ends e v (before ++ step ∷ []) after
 
--- one of these members is at fault
+-- one of these branches is at fault
 pub record EndsInMember (e : SchemaError) (ds : Items) (enclosing : List ℕ) (heads : List Head) (before after : Path)
     : Type 0 where
   pub i : ℕ

@@ -29,7 +29,7 @@ fn is_bad(alloc: Global, drafts: &[Draft], field: &DraftField) -> Result<bool, A
     }
 }
 
-/// Returns the position of the first field that has one. `None` where none has.
+/// Returns the index of the first field with a bad default; `None` where no field has one.
 fn bad_among(
     alloc: Global,
     drafts: &[Draft],
@@ -47,7 +47,7 @@ fn bad_among(
     Ok(None)
 }
 
-/// Returns the position of the first field of a node that has one. `None` where none has.
+/// Returns the index of the first field of a node with a bad default; `None` where no field has one.
 fn bad_field(alloc: Global, drafts: &[Draft], draft: &Draft) -> Result<Option<usize>, AllocError>
     requires { HaveFewSymbols (drafts_of drafts.now) }
     ensures { IfOk result (λ found. found ≡ bad_field (drafts_of drafts.now) (draft_of draft.now)) }

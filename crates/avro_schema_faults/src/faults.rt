@@ -69,13 +69,13 @@ fn fault_in(alloc: Global, value: &Value) -> Result<Option<Fault>, AllocError>
     }
 }
 
-/// Returns the first fault of a text, in the order in which `Schema::parse` finds them. `None` where the text is a
+/// Returns the first fault of a text, in the order in which `Schema::parse` finds them; `None` where the text is a
 /// schema (Avro 1.11 Specification, "Schema Declaration").
 ///
-/// The path of a default that is no value of its type is that of its field, as `/fields/3` behind the path of the
-/// record that declares the field; the first default counts, by the numbers of the records and then by the positions of
-/// the fields. Where a number is a fraction or out of range the path leads to the smallest value that has one, as far
-/// as steps lead. The path is empty where the text is too long or no JSON.
+/// The path of a default that is no value of its type is that of its field, as `/fields/3` after the path of the
+/// record that declares the field; the first default counts, by the numbers of the records and then by the positions
+/// of the fields. Where a number is a fraction or out of range the path leads to the smallest value that has one, as
+/// far as steps lead. The path is empty where the text is too long or no JSON.
 pub fn fault_of(alloc: Global, text: &str) -> Result<Option<Fault>, AllocError>
     ensures { Finds result text.now }
 {

@@ -25,7 +25,7 @@ fn has_float_at(value: &Value, step: Step) -> bool
     }
 }
 
-/// Returns the step to the first element with such a number. `None` where none has one.
+/// Returns the step to the first element with a number in it that is held as a float; `None` where no element has one.
 fn element_with_float(items: &[Value]) -> Option<Step>
     ensures { LeadsToFloat result (array (items_view items.now)) }
 {
@@ -37,8 +37,8 @@ fn element_with_float(items: &[Value]) -> Option<Step>
     None
 }
 
-/// Returns the step to the first of an object's `type`, `items`, `values` and `fields` with such a number. `None` where
-/// none has one.
+/// Returns the step to the first of an object's `type`, `items`, `values` and `fields` with a number in it that is
+/// held as a float; `None` where none of them has one.
 fn attribute_with_float(value: &Value) -> Option<Step>
     requires { IsObject (view value.now) }
     ensures { LeadsToFloat result (view value.now) }
@@ -56,7 +56,8 @@ fn attribute_with_float(value: &Value) -> Option<Step>
     }
 }
 
-/// Returns the step to the first value one step away with such a number. `None` where none has one.
+/// Returns the step to the first value one step away with a number in it that is held as a float; `None` where no such
+/// value has one.
 fn step_to_float(value: &Value) -> Option<Step>
     ensures { LeadsToFloat result (view value.now) }
 {

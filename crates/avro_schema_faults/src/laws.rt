@@ -15,8 +15,8 @@ pub fn each_fault_has_one_place()
     ensures one { EachFaultHasOnePlace }
 {}
 
-/// The law that the path of a record, behind which the place of a bad default is that of its field, leads to an object
-/// whose `type` is that of records.
+/// The law that the path of a record, to which the path of a bad default adds the steps to its field, leads to an
+/// object whose `type` is that of records.
 pub fn record_paths_lead_to_records()
     ensures { RecordPathsLeadToRecords }
 {}

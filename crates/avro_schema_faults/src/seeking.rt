@@ -21,7 +21,7 @@ fn is_leaf(text: &str) -> bool
     Word::of_text(text).leaf().is_some()
 }
 
-/// Returns what is left of a number of nodes after that which a text declares: a name declares none ("Primitive Types",
+/// Returns what is left of `left` nodes after those that a text declares: a name declares none ("Primitive Types",
 /// "Names"). `None` where the text declares the node after them.
 fn seek_in_text(text: &str, left: usize) -> Option<usize>
     ensures { SoughtIn (string text.now) left result [] }
@@ -86,7 +86,7 @@ fn seek_in_union(
     seek_in_members(items, left - 1, trail)
 }
 
-/// Searches the members of a union, one after another.
+/// Searches the branches of a union, in order.
 #[cycle(seek)]
 fn seek_in_members(
     items: &[Value],
@@ -222,7 +222,7 @@ fn seek_in_fields(
     }
 }
 
-/// Searches the fields, one after another.
+/// Searches the fields, in order.
 #[cycle(seek)]
 fn seek_in_listed(
     items: &[Value],

@@ -71,7 +71,7 @@ fn walk_part<'v>(
     Ok(node)
 }
 
-/// Returns the node of a union, after it added that node and those of its members ("Unions").
+/// Returns the node of a union, after it added that node and those of its branches ("Unions").
 #[cycle(walk)]
 fn walk_union<'v>(
     alloc: Global,
@@ -97,7 +97,7 @@ fn walk_union<'v>(
     Ok(node)
 }
 
-/// Returns the nodes of a union's members, one after another.
+/// Returns the nodes of a union's branches, in order.
 #[cycle(walk)]
 fn walk_members<'v>(
     alloc: Global,
@@ -295,7 +295,7 @@ fn walk_fields<'v>(
     }
 }
 
-/// Returns the fields, one after another.
+/// Returns the fields, in order.
 #[cycle(walk)]
 fn walk_listed<'v>(
     alloc: Global,
@@ -320,8 +320,8 @@ fn walk_listed<'v>(
     Ok(list.into_fields())
 }
 
-/// Returns a field, after others. `Unknown` where it is no object or has no `type`, `TooLarge` where there are as many
-/// before it as a record may have.
+/// Returns a field that comes after others. `Unknown` where it is no object or has no `type`, `TooLarge` where there
+/// are as many before it as a record may have.
 #[cycle(walk)]
 fn walk_field<'v>(
     alloc: Global,

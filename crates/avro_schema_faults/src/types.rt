@@ -16,7 +16,7 @@ use avro_types::{Kind, MOST_NODES};
 use serde_json::Value;
 use std::alloc::Global;
 
-/// Returns the number of one more node. `TooLarge` where there are as many as a schema may have.
+/// Returns the number that the next node gets. `TooLarge` where there are as many as a schema may have.
 pub(crate) fn next_node(drafts: &Drafts) -> Result<usize, SchemaError>
     ensures node { IfOk result (λ n. n ≡ length drafts.now) }
     ensures room { IfOk result (λ n. n < MOST_NODES) }

@@ -15,7 +15,7 @@ names ts = map string_bytes ts
 
 -- ---- texts that a value lists
 
--- what is listed, behind what was listed before
+-- what is listed, after what was listed before
 abbrev pub listed : List (List ℕ) → Result (List (List ℕ)) SchemaError → Result (List (List ℕ)) SchemaError
 listed front (Ok ss) = Ok (front ++ ss)
 listed front (Err e) = Err e

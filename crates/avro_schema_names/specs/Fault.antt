@@ -12,7 +12,7 @@ abbrev pub require : Bool → SchemaError → Result ⊤ SchemaError
 require true e = Ok tt
 require false e = Err e
 
--- the answer is what was told, unless memory ran out
+-- the answer, seen by `f`, is the given result, unless memory ran out
 abbrev pub Tells : {R A : Type 0} → (R → A) → Result R SchemaError → Result A SchemaError → Type 0
 Tells f (Ok r) told = told ≡ Ok (f r)
 Tells f (Err e) told = e ≢ NoMemory → told ≡ Err e

@@ -22,7 +22,7 @@ abbrev pub given_namespace : Option Data → List ℕ → Result (List ℕ) Sche
 given_namespace None enclosing = Ok enclosing
 given_namespace (Some d) enclosing = text_of (Some d)
 
--- the namespace in which a name stands; with a dot it is a full name, and none counts
+-- the namespace in which a name is; with a dot it is a full name, and the attribute does not count
 abbrev pub own_namespace : List ℕ → Option Data → List ℕ → Result (List ℕ) SchemaError
 own_namespace s namespace enclosing = if has_dot s then Ok enclosing else given_namespace namespace enclosing
 

@@ -1,4 +1,4 @@
--- The types of members of a union: those that have no name, and which of them have one.
+-- The types of a union's branches: those that have no name, and which of them have one.
 use Rattle.std.specs.Prelude.{◌≡◌, ℕ, ◌==◌, ◌&&◌, List}
 use Rattle.std.specs.BTreeSet.{BTreeSet, contains}
 use Rattle.std.specs.List.{list_any}
@@ -19,7 +19,7 @@ unnamed_head unnamed.Array = ArrayHead
 unnamed_head unnamed.Map = MapHead
 unnamed_head unnamed.Union = UnionHead
 
--- the set has those of the members that have names
+-- the set has those of the branches that have names
 abbrev pub AreNamedMembers : BTreeSet ℕ → List ℕ → List Head → Type 0
 AreNamedMembers named members heads = (n : ℕ)
     → contains nat_cmp named n ≡ (is_named_head (head_at heads n) && list_any (λ m. n == m) members)

@@ -1,4 +1,4 @@
-//! The aliases that an attribute gives.
+//! The aliases that an attribute lists.
 
 ghost use Rattle.std.specs.Prelude.{◌≡◌, IfOk, None, codes, map, string_bytes};
 ghost use Rattle.serde_json.specs.Find.{get};
@@ -20,7 +20,8 @@ use avro_types::{Aliases, Name};
 use serde_json::Value;
 use std::alloc::Global;
 
-/// The texts that `aliases` lists, where it is there.
+/// Returns the texts that `aliases` lists, or none where the attribute is missing; `Unknown` where it is no list of
+/// texts.
 fn alias_texts(alloc: Global, value: Option<&Value>) -> Result<Vec<String>, SchemaError>
     ensures { Tells (λ v. map string_bytes v.items) result (alias_texts (data_at value.entry)) }
 {
@@ -30,14 +31,14 @@ fn alias_texts(alloc: Global, value: Option<&Value>) -> Result<Vec<String>, Sche
     }
 }
 
-/// Whether each text is a full name by the rule.
+/// Returns whether each text is a full name by the rule.
 fn are_full_names(texts: &[String]) -> bool
     ensures { result ≡ list_all (λ s. is_full_name (string_bytes s)) texts.now }
 {
     texts.iter().all(|text| is_full_name(text))
 }
 
-/// The aliases of a type, as full names.
+/// Returns the aliases of a type, as full names.
 #[tactic(auto, unfolding(crate::specs::Aliases::type_aliases))]
 fn type_aliases(alloc: Global, name: &Name, value: Option<&Value>) -> Result<Aliases, SchemaError>
     ensures { Tells (λ a. a) result (type_aliases name.now (data_at value.entry)) }
@@ -50,7 +51,8 @@ fn type_aliases(alloc: Global, name: &Name, value: Option<&Value>) -> Result<Ali
     Ok(Aliases::of_texts(alloc, namespace, texts)?)
 }
 
-/// The aliases of a field. `Unknown` where the attribute is no list of texts, `BadName` where one of them is no name.
+/// Returns the aliases of a field. `Unknown` where the attribute is no list of texts, `BadName` where a text is no
+/// name.
 #[tactic(auto, using(crate::proofs::Texts::all_names), unfolding(crate::specs::Aliases::field_aliases))]
 pub fn field_aliases(alloc: Global, value: Option<&Value>) -> Result<Vec<String>, SchemaError>
     ensures { Tells (λ v. map string_bytes v.items) result (field_aliases (data_at value.entry)) }
@@ -70,8 +72,10 @@ pub struct NewNames {
     pub number: Option<usize>,
 }
 
-/// The new name that the attributes of a type define, and its aliases. Errors of the name (`new_name`) come before
-/// those of the aliases: `Unknown` where they are no list of texts, `BadName` where one of them is no full name.
+/// Returns the new name that the attributes of a type define, and its aliases.
+///
+/// Errors of the name (`new_name`) come before those of the aliases: `Unknown` where they are no list of texts,
+/// `BadName` where one of them is no full name.
 #[tactic(auto, unfolding(crate::specs::Aliases::new_names))]
 pub fn new_names(
     alloc: Global,

@@ -34,7 +34,7 @@ impl SchemaError {
     ghost use Rattle.std.specs.Prelude.{◌≡◌};
     ghost use Rattle.avro_schema_names.specs.SchemaError.{name_of};
 
-    /// Its name, as programs print it.
+    /// Returns its name, as programs print it.
     pub fn name(self) -> &'static str
         ensures { result.now ≡ name_of self }
     {

@@ -1,7 +1,8 @@
 //! Schemas; used by `avro_schema_walk`, `avro_schema_defaults`, `avro_schema` and others.
 //!
-//! Names, attributes and aliases of a schema's parts; which members of a union are apart, and which member its defaults
-//! are of; and what is wrong with a schema (Avro 1.11 Specification, "Names", "Aliases", "Complex Types", "Unions").
+//! Names, attributes and aliases of a schema's parts; which branches of a union are apart, and which branch its
+//! defaults are of; and what is wrong with a schema (Avro 1.11 Specification, "Names", "Aliases", "Complex Types",
+//! "Unions").
 #![tactic(auto)]
 
 mod aliases;

@@ -1,4 +1,4 @@
-//! The rule for names, and the names that attributes give.
+//! The rule for names, and the names that attributes define.
 
 ghost use Rattle.std.specs.Prelude.{◌≡◌, ◌≢◌, ◌&&◌, Err, IfOk, None, false, not, option_map, option_and_then, string_bytes};
 ghost use Rattle.std.specs.List.{list_all};
@@ -38,7 +38,7 @@ fn are_letters_or_digits(text: &[u8]) -> bool
     text.iter().all(|c| is_letter_or_digit(*c))
 }
 
-/// Whether the bytes of a text are a name by the rule.
+/// Returns whether the bytes of a text are a name by the rule.
 pub fn is_name(text: &[u8]) -> bool
     ensures { result ≡ is_name text.now }
 {
@@ -48,7 +48,7 @@ pub fn is_name(text: &[u8]) -> bool
     }
 }
 
-/// Whether a text is names joined by dots.
+/// Returns whether a text is names joined by dots.
 pub fn is_full_name(text: &str) -> bool
     ensures { result ≡ is_full_name text.now }
 {
@@ -62,28 +62,28 @@ pub fn is_full_name(text: &str) -> bool
     is_name(rest.as_bytes())
 }
 
-/// Whether a text is the null namespace, or names joined by dots.
+/// Returns whether a text is the null namespace, or names joined by dots.
 pub fn is_namespace(text: &str) -> bool
     ensures { result ≡ is_namespace text.now }
 {
     text.is_empty() || is_full_name(text)
 }
 
-/// Whether a text may be the last part of a type's name.
+/// Returns whether a text may be the last part of a type's name.
 fn is_last_part(text: &str) -> bool
     ensures { result ≡ (is_name text.now && not (is_primitive (word_of text.now))) }
 {
     is_name(text.as_bytes()) && !Word::of_text(text).is_primitive()
 }
 
-/// The text at an attribute.
+/// Returns the text at an attribute; `None` where the attribute is missing or no text.
 pub fn text_at(value: Option<&Value>) -> Option<&str>
     ensures { option_map (λ s. s.now) result ≡ option_and_then as_str (data_at value.entry) }
 {
     value?.as_str()
 }
 
-/// The text at an attribute that has to be there, or `Unknown`.
+/// Returns the text at an attribute, or `Unknown` where the attribute is missing or no text.
 pub fn text_of(value: Option<&Value>) -> Result<&str, SchemaError>
     ensures told { Tells (λ s. s.now) result (text_of (data_at value.entry)) }
     ensures room { result ≢ Err NoMemory }
@@ -101,7 +101,8 @@ pub struct NewName {
     pub number: Option<usize>,
 }
 
-/// The new name of a last part in the enclosing namespace.
+/// Returns the new name with a last part in the enclosing namespace; `BadName` where it is against the rule,
+/// `Redefined` where the full name has a node.
 #[tactic(auto, unfolding(crate::specs::Names::if_new))]
 fn inherited_name(
     alloc: Global,
@@ -130,7 +131,8 @@ fn inherited_name(
     })
 }
 
-/// The new name of a last part in a namespace of its own.
+/// Returns the new name with a last part in a namespace of its own; `BadName` where it is against the rule,
+/// `Redefined` where the full name has a node.
 #[tactic(auto, unfolding(crate::specs::Names::if_new))]
 fn own_name(
     alloc: Global,
@@ -155,8 +157,10 @@ fn own_name(
     Ok(NewName { name, number })
 }
 
-/// The full name that the attributes of a type define. `Unknown` where `name` is no text, or `namespace`, where that
-/// counts; `BadName` where the full name is against the rule, or a primitive type's; `Redefined` where it has a node.
+/// Returns the full name that the attributes of a type define.
+///
+/// `Unknown` where `name` is no text, or `namespace`, where that counts; `BadName` where the full name is against the
+/// rule, or a primitive type's; `Redefined` where it has a node.
 #[tactic(auto, unfolding(crate::specs::Names::new_name))]
 pub fn new_name(
     alloc: Global,
@@ -186,7 +190,7 @@ pub fn new_name(
     }
 }
 
-/// The node of the name that a text means in a namespace.
+/// Returns the node of the full name that a text means in a namespace; `None` where no node has it.
 pub fn defined_node(text: &str, enclosing: &Namespace, drafts: &Drafts) -> Option<usize>
     requires { IsNamespaceOf enclosing.now drafts.now }
     ensures { result ≡ defined_at (full_name (text_of_namespace enclosing.now) text.now) (heads_of drafts.now) }
@@ -203,7 +207,8 @@ pub fn defined_node(text: &str, enclosing: &Namespace, drafts: &Drafts) -> Optio
     }
 }
 
-/// The name of a field after others. `Unknown` where it is no text, `BadName` where it is no name or another field's.
+/// Returns the name of a field that comes after others. `Unknown` where it is no text, `BadName` where it is no name
+/// or another field's.
 #[tactic(auto, unfolding(crate::specs::Names::field_name))]
 pub fn field_name(
     alloc: Global,

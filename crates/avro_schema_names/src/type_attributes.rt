@@ -16,7 +16,7 @@ use avro_types::{MOST_FIXED, MOST_SYMBOLS, Symbols};
 use serde_json::Value;
 use std::alloc::Global;
 
-/// The texts that some values are.
+/// Returns the texts that values are; `Unknown` where a value is no text.
 fn texts_in(alloc: Global, items: &[Value]) -> Result<Vec<String>, SchemaError>
     ensures { Tells (λ v. map string_bytes v.items) result (texts_in (items_view items.now)) }
 {
@@ -28,7 +28,7 @@ fn texts_in(alloc: Global, items: &[Value]) -> Result<Vec<String>, SchemaError>
     Ok(texts)
 }
 
-/// The texts that the value at an attribute lists, or `Unknown` where it is no list of texts.
+/// Returns the texts that the value at an attribute lists, or `Unknown` where it is no list of texts.
 pub fn texts_of(alloc: Global, value: Option<&Value>) -> Result<Vec<String>, SchemaError>
     ensures { Tells (λ v. map string_bytes v.items) result (texts_of (data_at value.entry)) }
 {
@@ -38,14 +38,14 @@ pub fn texts_of(alloc: Global, value: Option<&Value>) -> Result<Vec<String>, Sch
     }
 }
 
-/// Whether each text is a name.
+/// Returns whether each text is a name.
 pub fn are_names(texts: &[String]) -> bool
     ensures { result ≡ list_all (λ s. is_name (string_bytes s)) texts.now }
 {
     texts.iter().all(|text| is_name(text.as_bytes()))
 }
 
-/// Texts as symbols, which are names, and each another.
+/// Returns texts as symbols; `BadSymbols` where one is no name or occurs twice.
 #[tactic(auto, using(crate::proofs::Texts::all_names))]
 fn as_symbols(alloc: Global, texts: Vec<String>) -> Result<Symbols, SchemaError>
     ensures { Tells (λ s. s) result (if list_all is_name (map string_bytes texts.items) && are_distinct
@@ -60,8 +60,8 @@ fn as_symbols(alloc: Global, texts: Vec<String>) -> Result<Symbols, SchemaError>
     }
 }
 
-/// The symbols of an enum. `Unknown` where they are no list of texts, `BadSymbols` where one is no name or comes twice,
-/// and else `TooLarge` where there are more than `MOST_SYMBOLS`.
+/// Returns the symbols of an enum. `Unknown` where they are no list of texts, `BadSymbols` where one is no name or
+/// occurs twice, and else `TooLarge` where there are more than `MOST_SYMBOLS`.
 #[tactic(auto, unfolding(crate::specs::Attributes::symbols_of))]
 pub fn symbols_of(alloc: Global, value: Option<&Value>) -> Result<Symbols, SchemaError>
     ensures symbols { Tells (λ s. s) result (symbols_of (data_at value.entry)) }
@@ -74,8 +74,8 @@ pub fn symbols_of(alloc: Global, value: Option<&Value>) -> Result<Symbols, Schem
     Ok(symbols)
 }
 
-/// The position of the symbol that `default` names, where there is one. `Unknown` where it is no text, `BadSymbols`
-/// where it is none of the symbols.
+/// Returns the position of the symbol that `default` names, or `None` where the attribute is missing. `Unknown` where
+/// it is no text, `BadSymbols` where it is none of the symbols.
 pub fn default_symbol(symbols: &Symbols, value: Option<&Value>) -> Result<Option<u32>, SchemaError>
     requires { length (symbols.now) ≤ MOST_SYMBOLS }
     ensures told { Tells (λ n. n) result (default_symbol (symbols.now) (data_at value.entry)) }
@@ -91,8 +91,8 @@ pub fn default_symbol(symbols: &Symbols, value: Option<&Value>) -> Result<Option
     }
 }
 
-/// The number of bytes of a fixed. `Unknown` where there is none, `BadNumber` where it is no whole number from 0 on,
-/// `TooLarge` where it passes `MOST_FIXED`.
+/// Returns the size of a fixed in bytes. `Unknown` where the attribute is missing, `BadNumber` where it is no whole
+/// number from 0 on, `TooLarge` where it is above `MOST_FIXED`.
 pub fn size_of(value: Option<&Value>) -> Result<usize, SchemaError>
     ensures told { Tells (λ n. n) result (size_of (data_at value.entry)) }
     ensures room { result ≢ Err NoMemory }

@@ -1,4 +1,4 @@
-//! Which members of a union are apart.
+//! Which branches of a union are apart.
 
 ghost use Rattle.std.specs.Prelude.{◌≡◌, ◌++◌, ◌∷◌, ◌&&◌, [], map, not, slice_get, true, IfOk, MatchOption};
 ghost use Rattle.std.specs.List.{list_any};
@@ -25,7 +25,7 @@ pub enum Unnamed {
     Union,
 }
 
-/// The type of a node, where it has no name.
+/// Returns the type of a node, where it has no name; `None` of a fixed, an enum or a record.
 fn unnamed_type(draft: &Draft) -> Option<Unnamed>
     ensures { MatchOption result (is_named_head (head_of (draft_of draft.now)) ≡ true)
         (λ one. head_of (draft_of draft.now) ≡ unnamed_head one) }
@@ -45,7 +45,7 @@ fn unnamed_type(draft: &Draft) -> Option<Unnamed>
     }
 }
 
-/// Whether a node is of a type that has no name.
+/// Returns whether a node is of a type that has no name.
 fn is_same_type(one: Unnamed, other: &Draft) -> bool
     ensures { result ≡ is_same_type (unnamed_head one) (head_of (draft_of other.now)) }
 {
@@ -68,8 +68,7 @@ fn is_union(one: Unnamed) -> bool
     matches!(one, Unnamed::Union)
 }
 
-/// Whether the node of a number, which is that of a member, is of a type that has no name. A number of no node counts
-/// as a union's.
+/// Returns whether the node of a branch is of a type that has no name. A branch without a node counts as a union.
 fn is_of_type(member: usize, one: Unnamed, drafts: &[Draft]) -> bool
     ensures { result ≡ is_same_type (unnamed_head one) (head_at (heads_of (drafts_of drafts.now)) member) }
 {
@@ -79,7 +78,7 @@ fn is_of_type(member: usize, one: Unnamed, drafts: &[Draft]) -> bool
     is_same_type(one, &drafts[member])
 }
 
-/// Whether one of the members is of a type that has no name.
+/// Returns whether one of the branches is of a type that has no name.
 fn has_type(members: &[usize], one: Unnamed, drafts: &[Draft]) -> bool
     ensures { result ≡ list_any (λ n. is_same_type (unnamed_head one)
         (head_at (heads_of (drafts_of drafts.now)) n)) members.now }
@@ -89,8 +88,11 @@ fn has_type(members: &[usize], one: Unnamed, drafts: &[Draft]) -> bool
         .any(|member| is_of_type(*member, one, drafts))
 }
 
-/// Whether a member is no union, and of the type of none of the others, whose nodes with names are given. Its own goes
-/// to them: a full name is defined once, so that named types are one where they are one node.
+/// Returns whether a branch is no union, and not of the type of any of the others, and adds its node to `named` if it
+/// has a name.
+///
+/// `named` holds the nodes of the others that have names: a full name is defined once, so that named types are one
+/// where they are one node.
 fn is_apart(
     member: usize,
     others: &[usize],
@@ -114,14 +116,14 @@ fn is_apart(
     }
 }
 
-/// The member of a union whose data its defaults are: the first.
+/// Returns the branch of a union that its defaults are data of: the first.
 pub fn default_member(members: &[usize]) -> Option<usize>
     ensures { result ≡ slice_get members.now 0 }
 {
     members.first().copied()
 }
 
-/// Whether no member is a union, nor of the type of one before.
+/// Returns whether no branch is a union, nor of the type of one before it.
 pub fn are_apart(alloc: Global, members: &[usize], drafts: &Drafts) -> Result<bool, AllocError>
     ensures { IfOk result (λ b. b ≡ are_apart [] (map (head_at (heads_of drafts.now)) members.now)) }
 {

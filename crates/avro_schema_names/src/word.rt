@@ -29,7 +29,7 @@ pub enum Word {
 }
 
 impl Word {
-    /// The word that a text is.
+    /// Returns the word that a text is; `Other` where it names no type.
     pub fn of_text(text: &str) -> Word
         ensures { result ≡ word_of text.now }
     {
@@ -52,7 +52,7 @@ impl Word {
         }
     }
 
-    /// Whether it names a primitive type of Avro.
+    /// Returns whether it names a primitive type of Avro.
     pub fn is_primitive(self) -> bool
         ensures { result ≡ is_primitive self }
     {
@@ -69,14 +69,14 @@ impl Word {
         )
     }
 
-    /// Whether it names a primitive type that is left out.
+    /// Returns whether it names a primitive type that is left out.
     pub fn is_left_out(self) -> bool
         ensures { result ≡ is_left_out self }
     {
         matches!(self, Word::Float | Word::Double)
     }
 
-    /// The node that it is by itself.
+    /// Returns the node that the word is by itself; `None` where it is none.
     pub fn leaf(self) -> Option<Kind>
         ensures { option_map node_of result ≡ leaf_of self }
     {
@@ -102,12 +102,12 @@ pub enum Form {
     Map,
     /// A record of a protocol's errors.
     Error,
-    /// The object stands for the schema at `type`.
+    /// The object is the schema at `type`.
     Other,
 }
 
 impl Form {
-    /// The form of an object with this value at `type`.
+    /// Returns the form of an object with this value at `type`.
     pub fn of_type(value: Option<&Value>) -> Form
         ensures { result ≡ form_of (data_at value.entry) }
     {

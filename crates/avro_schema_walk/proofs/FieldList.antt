@@ -21,7 +21,7 @@ use Rattle.avro_schema_walk.specs.Walk.{Walk, added, done, followed_by, or_unkno
 use Rattle.avro_schema_walk.proofs.Members.{field-object}
 use Rattle.avro_schema_walk.proofs.Runs.{run-followed_by, run-done, run-mapped}
 
--- what was walked, behind what was walked before
+-- what was walked, after what was walked before
 abbrev pub behind : {A : Type 0} → List A → Result (List A × List Draft) SchemaError → Result (List A × List Draft) SchemaError
 behind front (Ok p) = Ok (front ++ p.0, p.1)
 behind front (Err e) = Err e

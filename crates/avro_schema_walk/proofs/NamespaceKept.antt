@@ -12,7 +12,7 @@ use Rattle.avro_schema_drafts.proofs.Index.{heads-behind}
 use Rattle.avro_schema_drafts.proofs.DraftLists.{heads_of-append}
 use Rattle.avro_schema_drafts.proofs.Namespaces.{namespaces-keep}
 
--- behind one more node
+-- after one more node
 pub enclosing-pushed : (enclosing : Namespace) (ks ls : List Draft) (k : Draft) → IsNamespaceOf enclosing ks → ls ≡ ks ++ k ∷ [] → IsNamespaceOf enclosing ls
 enclosing-pushed enclosing ks ls k known e = rw (e, heads-behind ks k) (namespaces-keep (heads_of ks) (head_of k ∷ []) enclosing.number (arc_str_bytes enclosing.text) known)
 
@@ -27,7 +27,7 @@ kept enclosing ns (Ok p) a ms known e =
     rw (← same, heads_of-append ns p.1) (namespaces-keep (heads_of ns) (heads_of p.1) enclosing.number (arc_str_bytes enclosing.text) known)
 kept enclosing ns (Err x) a ms known e = absurd (let no : ⊥ = cc in no)
 
--- behind what a walk adds
+-- after what a walk adds
 pub enclosing-walked : {A : Type 0} (w : Walk A) (text : List ℕ) (enclosing : Namespace) (ks ls : List Draft) (a : A) → IsNamespaceOf enclosing ks → run w text ks ≡ Ok (a, ls) → IsNamespaceOf enclosing ls
 unfolding run
 enclosing-walked w text enclosing ks ls a known e = kept enclosing ks (w text (heads_of ks)) a ls known e

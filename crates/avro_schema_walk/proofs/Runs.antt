@@ -1,4 +1,4 @@
--- Walks run behind nodes that are already there.
+-- Walks run after nodes that are already there.
 use Rattle.avro_schema_drafts.proofs.DraftLists.{length-heads_of, heads_of-append}
 use Rattle.std.proofs.Common.{◌≡◌, ℕ, ◌<◌, ◌≤◌, List, [], ◌∷◌, ◌++◌, length, Some, Result, Ok, Err, slice_get, refl, sym, ap, subst, ◌∙◌, append_assoc, append-nil, set}
 use Rattle.std.proofs.lemmas.Bool.{lt-ltb, le-ltb}

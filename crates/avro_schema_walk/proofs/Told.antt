@@ -1,4 +1,4 @@
--- What holds of what is told, if anything is.
+-- What holds of the value of a result that is no error.
 use Rattle.std.proofs.Common.{Result, Ok, Err}
 use Rattle.avro_schema_names.specs.declared.error.SchemaError.{SchemaError}
 

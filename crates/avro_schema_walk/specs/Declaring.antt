@@ -1,5 +1,5 @@
 -- What a JSON value declares, and which nodes (Avro 1.11, "Schema Declaration" and "Names"). Nothing is said of
--- defaults but where they stand.
+-- defaults but where they are.
 use Rattle.std.specs.Prelude.{◌≡◌, ◌≢◌, ℕ, ◌<◌, ◌≤◌, List, [], ◌∷◌, ◌++◌, length, map, true, false, Option, Some, None, codes}
 use Rattle.std.specs.List.{AllByRecursion, IsDistinct}
 use Rattle.std.specs.Str.{bytes_eq}
@@ -66,7 +66,7 @@ pub record DefinesNames (ms : Members) (enclosing : List ℕ) (before : List Dra
 abbrev pub IsOf : List ℕ → Members → Type 0
 IsOf word ms = get_member (codes "type") ms ≡ Some (string word)
 
--- a `type` that is none of these words stands for a schema of its own
+-- a `type` that is none of these words is a schema of its own
 abbrev pub words : List (List ℕ)
 words = codes "record" ∷ codes "enum" ∷ codes "fixed" ∷ codes "array" ∷ codes "map" ∷ codes "error" ∷ []
 
@@ -76,14 +76,14 @@ IsNoWord d = AllByRecursion (λ w. d ≢ string w) words
 abbrev pub AreTypesApart : List Head → Type 0
 AreTypesApart types = AllByRecursion (λ h. is_union_head h ≡ false) types × IsDistinct is_same_type types
 
--- among these nodes, the members are of different types, and none is a union
+-- among these nodes, the branches are of different types, and none is a union
 abbrev pub AreApart : List Draft → List ℕ → Type 0
 AreApart nodes members = AreTypesApart (map (head_at (heads_of nodes)) members)
 
 -- ---- values
 
 mutual
-  -- In an enclosing namespace, after the nodes before, the value is the node of that number, and adds those nodes.
+  -- In an enclosing namespace, after the nodes before, the value is the node at that index, and adds those nodes.
   pub data Declares : Data → List ℕ → List Draft → ℕ → List Draft → Type 0 where
     -- "Primitive Types": "Primitive type names are also defined type names"
     a_primitive : {s enclosing : List ℕ} {before : List Draft} {node : Node}
@@ -93,7 +93,7 @@ mutual
     a_reference : {s enclosing : List ℕ} {before : List Draft} {n : ℕ}
         → IsNoPrimitive s → IsDefinedAt (full_name enclosing s) before n
         → Declares (string s) enclosing before n []
-    -- "Unions"; that there may be no member is this project's own rule
+    -- "Unions"; that there may be no branch is this project's own rule
     a_union : {ds : Items} {enclosing : List ℕ} {before added : List Draft} {ns : List ℕ}
         → HasRoom before
         → DeclareMembers ds enclosing (before ++ Whole (UnionNode ns) ∷ []) ns added
@@ -109,7 +109,7 @@ mutual
         → IsOf (codes "map") ms → HasRoom before → get_member (codes "values") ms ≡ Some d
         → Declares d enclosing (before ++ Whole (MapNode n) ∷ []) n added
         → Declares (object ms) enclosing before (length before) (Whole (MapNode n) ∷ added)
-    -- "Records": its fields stand after it, in its own namespace; how many there may be is this project's own rule
+    -- "Records": its fields come after it, in its own namespace; how many there may be is this project's own rule
     a_record : {ms : Members} {ds : Items} {enclosing : List ℕ} {names : Names} {before added : List Draft}
         {fs : List DraftField}
         → IsOf (codes "record") ms → HasRoom before → DefinesNames ms enclosing before names
@@ -129,12 +129,12 @@ mutual
         → IsOf (codes "fixed") ms → HasRoom before → DefinesNames ms enclosing before names
         → IsSize (get_member (codes "size") ms) size
         → Declares (object ms) enclosing before (length before) (Whole (FixedNode names size) ∷ [])
-    -- an object that stands for another schema, whatever that is (this project's own rule)
+    -- an object whose `type` is another schema, whatever that is (this project's own rule)
     another : {ms : Members} {d : Data} {enclosing : List ℕ} {before added : List Draft} {n : ℕ}
         → get_member (codes "type") ms ≡ Some d → IsNoWord d → Declares d enclosing before n added
         → Declares (object ms) enclosing before n added
 
-  -- the elements are the members, one by one, each after the nodes of those before it
+  -- the elements are the branches, one by one, each after the nodes of those before it
   pub data DeclareMembers : Items → List ℕ → List Draft → List ℕ → List Draft → Type 0 where
     no_more_members : {enclosing : List ℕ} {before : List Draft} → DeclareMembers no_items enclosing before [] []
     a_member : {d : Data} {ds : Items} {enclosing : List ℕ} {before added more : List Draft} {n : ℕ} {ns : List ℕ}

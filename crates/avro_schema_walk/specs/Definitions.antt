@@ -4,7 +4,7 @@ use Rattle.std.specs.List.{AllByRecursion}
 use Rattle.avro_schema_drafts.specs.Draft.{Draft}
 use Rattle.avro_schema_drafts.specs.Head.{Named, head_of}
 
--- the node of that number is the record, enum or fixed of this full name
+-- the node at that index is the record, enum or fixed of this full name
 abbrev pub IsDefinedAt : List ℕ → List Draft → ℕ → Type 0
 IsDefinedAt full nodes n = (d : Draft) × (slice_get nodes n ≡ Some d) × (head_of d ≡ Named full)
 

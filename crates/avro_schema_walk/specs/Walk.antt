@@ -81,7 +81,7 @@ named s = if is_left_out (word_of s) then fault OutOfProfile else leaf_or_refere
 
 -- ---- named types
 
--- a record's name is defined before its fields, which stand in its namespace
+-- a record's name is defined before its fields, which are in its namespace
 unfoldable pub record_of : Option Data → Option Data → Option Data → Option (Walk (List DraftField)) → Walk ℕ
 record_of name namespace aliases fields enclosing heads = do
   names ← new_names name namespace aliases enclosing heads
@@ -102,7 +102,7 @@ fixed_of name namespace aliases size enclosing heads = do
 
 -- ---- unions
 
--- once all members are there
+-- once all branches are there
 abbrev pub apart_union : List Head → List Head → List ℕ → List Draft → Result (ℕ × List Draft) SchemaError
 apart_union heads all members added =
     if are_apart [] (map (head_at all) members) then Ok (length heads, Whole (UnionNode members) ∷ added) else Err
@@ -159,7 +159,7 @@ unfoldable mutual
       declared_by (form_of (get_member (codes "type") ms)) (λ k. get_member k ms) (walk_member ms) (walk_fields ms)
   walk _ = fault Unknown
 
-  -- the members of a union
+  -- the branches of a union
   pub members : Items → Walk (List ℕ)
   members no_items = done []
   members (item d ds) = followed_by (walk d) (λ n. followed_by (members ds) (λ ns. done (n ∷ ns)))
@@ -181,7 +181,7 @@ unfoldable mutual
   fields (array ds) = fields_after ds []
   fields _ = fault Unknown
 
-  -- the fields, after those of such names
+  -- the fields, after those with the names `before`
   pub fields_after : Items → List (List ℕ) → Walk (List DraftField)
   fields_after no_items before = done []
   fields_after (item d ds) before =

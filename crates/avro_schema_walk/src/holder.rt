@@ -14,7 +14,7 @@ pub enum Holder {
 }
 
 impl Holder {
-    /// The kind that holds values of the type of a node.
+    /// Returns the kind that holds values of a node's type.
     pub fn kind(self, inner: usize) -> Kind
         ensures { node_of result ≡ holder_node self inner }
     {

@@ -2,7 +2,7 @@
 
 ghost use Rattle.avro_schema_walk.specs.DeclaringLaws.{DeclaresWhatIsGiven, GivesWhatIsDeclared};
 
-/// The law that the walk gives the nodes that a value declares, and no others.
+/// The law that the walk returns the nodes that a value declares, and no others.
 pub fn walk_gives_what_is_declared()
     ensures sound { DeclaresWhatIsGiven }
     ensures complete { GivesWhatIsDeclared }

@@ -20,7 +20,7 @@ use avro_types::{Aliases, Kind, MOST_FIELDS, MOST_NODES};
 use serde_json::Value;
 use std::alloc::Global;
 
-/// The number of one more node, where there is room for it.
+/// Returns the number that the next node gets; `TooLarge` where there are `MOST_NODES` nodes.
 fn next_node(drafts: &Drafts) -> Result<usize, SchemaError>
     ensures node { IfOk result (λ n. n ≡ length drafts.now) }
     ensures room { IfOk result (λ n. n < MOST_NODES) }
@@ -34,7 +34,7 @@ fn next_node(drafts: &Drafts) -> Result<usize, SchemaError>
     Ok(node)
 }
 
-/// The new node of a kind that holds no others.
+/// Adds a node of a kind that holds no others, and returns its number.
 fn walk_leaf(kind: Kind, drafts: &mut Drafts) -> Result<usize, SchemaError>
     requires { IsUnnamed (head_of_node (node_of kind)) }
     ensures { (enclosing : List ℕ) → Walks (λ n. n) result (leaf (node_of kind)) enclosing drafts.old drafts.new }
@@ -44,7 +44,7 @@ fn walk_leaf(kind: Kind, drafts: &mut Drafts) -> Result<usize, SchemaError>
     Ok(node)
 }
 
-/// The node of the type that a text refers to.
+/// Returns the node of the type that a text refers to; `Unknown` where none is defined.
 fn walk_reference(
     text: &str,
     enclosing: &Namespace,
@@ -59,7 +59,7 @@ fn walk_reference(
     }
 }
 
-/// The node that a text names.
+/// Returns the node that a text names: a new one for a primitive type, and else the one that is defined.
 fn walk_text(text: &str, enclosing: &Namespace, drafts: &mut Drafts) -> Result<usize, SchemaError>
     requires known { IsNamespaceOf enclosing.now drafts.old }
     ensures { Walks (λ n. n) result (named text.now) (text_of_namespace enclosing.now) drafts.old drafts.new }
@@ -74,7 +74,7 @@ fn walk_text(text: &str, enclosing: &Namespace, drafts: &mut Drafts) -> Result<u
     }
 }
 
-/// The node of an enum.
+/// Adds the node of an enum, and returns its number.
 fn walk_enum(
     alloc: Global,
     value: &Value,
@@ -99,7 +99,7 @@ fn walk_enum(
     Ok(node)
 }
 
-/// The node of a fixed.
+/// Adds the node of a fixed, and returns its number.
 fn walk_fixed(
     alloc: Global,
     value: &Value,
@@ -122,8 +122,10 @@ fn walk_fixed(
     Ok(node)
 }
 
-/// The node of the schema that a value is; it and its parts go after the nodes that are there. An `Err` is the first
-/// fault in the order of the walk, and of the drafts nothing is said then.
+/// Adds the node of the schema that a value declares and those of its parts after the nodes that are there, and
+/// returns its number; of a reference, returns the node that is defined.
+///
+/// An `Err` is the first fault in the order of the walk; nothing is known of the drafts then.
 #[cycle(walk)]
 pub fn walk<'v>(
     alloc: Global,
@@ -142,7 +144,7 @@ pub fn walk<'v>(
     }
 }
 
-/// The node of the schema at an attribute.
+/// Walks the schema at an attribute, and returns its node; `Unknown` where the attribute is missing.
 #[cycle(walk)]
 fn walk_at<'v>(
     alloc: Global,
@@ -160,7 +162,7 @@ fn walk_at<'v>(
     }
 }
 
-/// The node of a union, which stands before its members'.
+/// Adds the node of a union, before those of its branches, and returns its number.
 #[cycle(walk)]
 fn walk_union<'v>(
     alloc: Global,
@@ -182,7 +184,7 @@ fn walk_union<'v>(
     Ok(node)
 }
 
-/// The nodes of a union's members, one after another.
+/// Walks the branches of a union in order, and returns their nodes.
 #[cycle(walk)]
 fn walk_members<'v>(
     alloc: Global,
@@ -202,7 +204,7 @@ fn walk_members<'v>(
     Ok(members)
 }
 
-/// The node of an object.
+/// Walks an object by the form that its `type` makes of it, and returns its node.
 #[cycle(walk)]
 fn walk_object<'v>(
     alloc: Global,
@@ -225,7 +227,7 @@ fn walk_object<'v>(
     }
 }
 
-/// The node of an array or a map, which stands before that of the type at its attribute.
+/// Adds the node of an array or a map, before that of the type at its attribute, and returns its number.
 #[cycle(walk)]
 fn walk_holder<'v>(
     alloc: Global,
@@ -245,7 +247,7 @@ fn walk_holder<'v>(
     Ok(node)
 }
 
-/// The node of a record, which stands before its fields'.
+/// Adds the node of a record, before those of its fields, and returns its number.
 #[cycle(walk)]
 fn walk_record<'v>(
     alloc: Global,
@@ -276,7 +278,7 @@ fn walk_record<'v>(
     Ok(node)
 }
 
-/// The fields that the value at `fields` lists.
+/// Walks the fields that the value at `fields` lists, and returns them; `Unknown` where it is no list.
 #[cycle(walk)]
 fn walk_fields<'v>(
     alloc: Global,
@@ -298,7 +300,7 @@ fn walk_fields<'v>(
     }
 }
 
-/// The fields, one after another.
+/// Walks listed fields in order, and returns them.
 #[cycle(walk)]
 fn walk_listed<'v>(
     alloc: Global,
@@ -318,7 +320,7 @@ fn walk_listed<'v>(
     Ok(list.into_fields())
 }
 
-/// A field, after others.
+/// Walks a field that comes after others, and returns it.
 #[cycle(walk)]
 fn walk_field<'v>(
     alloc: Global,

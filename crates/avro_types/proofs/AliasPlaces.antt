@@ -44,7 +44,7 @@ no-length : (s : List ℕ) → eqb (length s) 0 ≡ true → s ≡ []
 no-length [] z = refl
 no-length (c ∷ cs) z = absurd (omega (arith, eqb-true (length (c ∷ cs)) 0 z))
 
--- what begins with its only dot is behind no namespace
+-- what begins with its only dot is no undotted part in a namespace
 beginning : (back space last : List ℕ) → has_dot back ≡ false → has_dot last ≡ false → bytes_eq (46 ∷ back) (inside space last) ≡ false
 beginning back [] last none undotted =
     false_by (bytes_eq (46 ∷ back) last)
@@ -132,7 +132,7 @@ found-on own ts i t lt is relative more qualified others found put space last un
     ∙ ap (λ b. b || bytes_eq (full_name own (string_bytes t)) (inside space last)) (found space last undotted)
     ∙ sym (put space last undotted)
 
--- ---- before the first text, and behind the last
+-- ---- before the first text, and after the last
 
 pub none-found : (own : List ℕ) (ts : List (String Global)) (relative : Lasts) (qualified : Under) → set.IsEmpty relative → qualified.entries ≡ [] → AreFound own (take 0 ts) relative qualified
 none-found own ts relative qualified no_relative no_qualified space last undotted = rw (no_relative, no_qualified) (nothing (bytes_eq space own))

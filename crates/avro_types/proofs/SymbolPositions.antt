@@ -34,7 +34,7 @@ pub new-step : (before : List (List ℕ)) (ts : List (String Global)) (i : ℕ) 
     → are_new before (names (drop i ts)) ≡ (not (is_used (string_bytes t) before) && are_new (before ++ string_bytes t ∷ []) (names (drop (i + 1) ts)))
 new-step before ts i t lt is = rw (drop-cons ts i t lt, ← is, add-one i) refl
 
--- ---- where each stands
+-- ---- the position of each
 
 pub position-within : (s : List ℕ) (xs : List (List ℕ)) (o : Option ℕ) → o ≡ place_of s xs → IfSome o (λ n. n < length xs)
 position-within s xs None e = tt
@@ -50,7 +50,7 @@ all-taken [] (suc i) le = refl
 all-taken (x ∷ xs) zero le = absurd (omega arith)
 all-taken (x ∷ xs) (suc i) le = ap (λ ys. x ∷ ys) (all-taken xs i (omega arith))
 
--- the text at a place, behind those before it
+-- the text at index i, after those before it
 module _ (ts : List (String Global)) (i : ℕ) (t : String Global) (lt : i < length ts) (is : t ≡ get_or ts i t) where
   pub comes-twice : (o : Option ℕ) → o ≡ place_of (string_bytes t) (names (take i ts)) → is_some o ≡ true → are_new (names (take i ts)) (names (drop i ts)) ≡ false
   comes-twice o at some =

@@ -19,7 +19,7 @@ has_last (Some lasts) last = contains_text lasts last
 abbrev pub stands_under : {A B : Type 0} → BTreeMap (String A) (BTreeSet (String B)) → List ℕ → List ℕ → Bool
 stands_under qualified namespace last = has_last (get_by_text qualified namespace) last
 
--- the last part is a relative alias, and the namespace is that of the type, or it stands under the namespace
+-- the last part is a relative alias, and the namespace is that of the type; or it is under the namespace
 abbrev pub is_found : {A B C : Type 0} → List ℕ
     → BTreeSet (String A) → BTreeMap (String B) (BTreeSet (String C)) → List ℕ → List ℕ → Bool
 is_found own relative qualified namespace last =

@@ -5,7 +5,7 @@ use Rattle.std.specs.Str.{IsUtf8}
 use Rattle.avro_types.specs.Node.{Node, Names, FieldNode, NullNode, BooleanNode, IntNode, LongNode, BytesNode, TextNode, FixedNode, EnumNode, ArrayNode, MapNode, UnionNode, RecordNode}
 use Rattle.avro_types.specs.Datum.{Datum, Data, Pairs, NullDatum, BooleanDatum, IntDatum, LongDatum, BytesDatum, TextDatum, FixedDatum, EnumDatum, ArrayDatum, MapDatum, UnionDatum, RecordDatum, no_more, more, no_pairs, pair}
 
--- a signed number of so many bits, less one
+-- a signed number of `bits` bits beside its sign
 abbrev pub HasBits : ℕ → ℤ → Type 0
 HasBits bits (pos n) = n < 2 ^ bits
 HasBits bits (negsuc n) = n < 2 ^ bits

@@ -16,7 +16,7 @@ mutual
     EnumDatum : ℕ → Datum
     ArrayDatum : Data → Datum
     MapDatum : Pairs → Datum
-    -- the position of the member
+    -- the position of the branch
     UnionDatum : ℕ → Datum → Datum
     RecordDatum : Data → Datum
 
@@ -38,7 +38,7 @@ abbrev pub how_many_pairs : Pairs → ℕ
 how_many_pairs no_pairs = 0
 how_many_pairs (pair key d ps) = suc (how_many_pairs ps)
 
--- the tree that a value of the program stands for
+-- the tree that a value of the program represents
 abbrev mutual
   pub datum_of : rust.Datum → Datum
   datum_of rust.Null = NullDatum

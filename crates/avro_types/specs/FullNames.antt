@@ -34,7 +34,7 @@ namespace_of full = before_last is_dot full
 abbrev pub unqualified : List ℕ → List ℕ
 unqualified full = after_last is_dot full
 
--- behind its namespace, which may be the null one
+-- a last part after its namespace, which may be the null one
 abbrev pub inside : List ℕ → List ℕ → List ℕ
 inside [] s = s
 inside (c ∷ cs) s = (c ∷ cs) ++ dot ∷ s

@@ -34,7 +34,7 @@ pub data Node : Type 0 where
   ArrayNode : ℕ → Node
   -- the node of the values
   MapNode : ℕ → Node
-  -- the nodes of the members
+  -- the nodes of the branches
   UnionNode : List ℕ → Node
   -- the names, and the fields
   RecordNode : Names → List FieldNode → Node

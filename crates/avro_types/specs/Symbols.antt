@@ -1,4 +1,4 @@
--- Texts in a row, as the symbols of an enum (Avro 1.11, "Enums"): where each stands, and whether one comes twice.
+-- Lists of texts, as the symbols of an enum (Avro 1.11, "Enums"): the position of each, and whether one comes twice.
 use Rattle.std.specs.Prelude.{◌≡◌, ℕ, ◌&&◌, List, [], ◌∷◌, ◌++◌, map, Bool, true, not, Option, String, string_bytes}
 use Rattle.std.specs.BTreeMap.{BTreeMap, get_by_text}
 use Rattle.std.specs.List.{list_any, position_from}
@@ -15,10 +15,10 @@ are_new before (s ∷ ss) = not (is_used s before) && are_new (before ++ s ∷ [
 abbrev pub are_distinct : List (List ℕ) → Bool
 are_distinct texts = are_new [] texts
 
--- where a text first stands, from 0
+-- the position of a text's first occurrence, from 0
 abbrev pub place_of : List ℕ → List (List ℕ) → Option ℕ
 place_of text texts = position_from (λ other. bytes_eq other text) 0 texts
 
--- under each text stands the position where it comes first
+-- under each text is the position where it comes first
 abbrev pub ArePositionsOf : {A : Type 0} → BTreeMap (String A) ℕ → List (String A) → Type 0
 ArePositionsOf positions texts = (text : List ℕ) → get_by_text positions text ≡ place_of text (map string_bytes texts)

@@ -5,7 +5,7 @@ use Rattle.std.specs.Str.{bytes_eq}
 use Rattle.avro_types.specs.Node.{Node, FieldNode, NullNode, BooleanNode, IntNode, LongNode, BytesNode, TextNode, FixedNode, EnumNode, ArrayNode, MapNode, UnionNode, RecordNode}
 use Rattle.avro_types.specs.declared.limits.TheConstants.{MOST_FIELDS, MOST_FIXED, MOST_NODES, MOST_SYMBOLS}
 
--- the types of the fields are among the first so many nodes
+-- the types of the fields are among the first `len` nodes
 abbrev pub FieldsBelow : ℕ → List FieldNode → Type 0
 FieldsBelow len fs = AllByRecursion (λ f. f.node < len) fs
 
@@ -44,7 +44,7 @@ are_of_one_type w r = have_one_name (full_name_of w) (full_name_of r)
     have_one_name (Some full) (Some other) = bytes_eq full other
     have_one_name _ _ = false
 
--- the node of items, values or a member of the node own: it comes later, or is of a named type, so that each
+-- the node of items, values or a branch of the node own: it comes later, or is of a named type, so that each
 -- recursion goes by a name
 abbrev pub IsPartOf : List Node → ℕ → ℕ → Type 0
 IsPartOf nodes own part = (own < part) ⊎ (is_named (slice_get nodes part) ≡ true)
@@ -54,13 +54,13 @@ pub record HoldsItem (nodes : List Node) (own item : ℕ) : Type 0 where
   pub below : item < length nodes
   pub part : IsPartOf nodes own item
 
--- a member of the union own: "Unions may not immediately contain other unions"
+-- a branch of the union own: "Unions may not immediately contain other unions"
 pub record IsMember (nodes : List Node) (own member : ℕ) : Type 0 where
   pub below : member < length nodes
   pub no_union : is_union (slice_get nodes member) ≡ false
   pub part : IsPartOf nodes own member
 
--- no two members are of one type
+-- no two branches are of one type
 abbrev pub AreApart : List Node → List ℕ → Type 0
 AreApart nodes members = IsDistinct are_of_one_type (map (slice_get nodes) members)
 

@@ -17,7 +17,7 @@ use std::sync::ArcStr;
 /// The aliases of a record, an enum or a fixed, each of which is found by its full name (Avro 1.11, "Aliases"). Callers
 /// see them as full names, in their order.
 ///
-/// One that is written without a dot stands in the namespace of the type, whose text it shares.
+/// One that is written without a dot is in the namespace of the type, whose text it shares.
 #[derive(Debug, Drop)]
 pub struct Aliases {
     namespace: ArcStr,
@@ -40,7 +40,7 @@ impl Model for Aliases {
     ghost invariant = { λ a. AreFound (arc_str_bytes a.namespace) a.texts.items a.relative a.qualified };
 }
 
-/// Puts a last part under its namespace.
+/// Adds a last part under its namespace.
 fn put_qualified(
     alloc: Global,
     qualified: &mut BTreeMap<String, BTreeSet<String>>,
@@ -59,8 +59,8 @@ fn put_qualified(
     Ok(())
 }
 
-/// Puts what a text means where it is found: among the relative ones where it has no dot, and else under its namespace.
-/// A text that begins with its only dot is no name, and is found nowhere.
+/// Adds a text to where it is found: to the relative ones where it has no dot, and else under its namespace. A text
+/// that begins with its only dot is no name, and is found nowhere.
 fn put(
     alloc: Global,
     relative: &mut BTreeSet<String>,
@@ -83,14 +83,14 @@ fn put(
     Ok(())
 }
 
-/// Whether a namespace is the type's own, and a last part is a relative alias.
+/// Returns whether a namespace is the type's own, and a last part is a relative alias.
 fn is_relative(own: &ArcStr, relative: &BTreeSet<String>, namespace: &str, last: &str) -> bool
     ensures { result ≡ (bytes_eq namespace.now (arc_str_bytes own.now) && contains_text relative.now last.now) }
 {
     relative.contains(last) && namespace == own.as_str()
 }
 
-/// Whether a last part stands under a namespace.
+/// Returns whether a last part is among those under a namespace.
 fn stands_under(qualified: &BTreeMap<String, BTreeSet<String>>, namespace: &str, last: &str) -> bool
     ensures { result ≡ stands_under qualified.now namespace.now last.now }
 {
@@ -100,7 +100,7 @@ fn stands_under(qualified: &BTreeMap<String, BTreeSet<String>>, namespace: &str,
     }
 }
 
-/// What stands after the last dot of a text, which is all of it where it has none.
+/// Returns what follows the last dot of a text, or the whole text where it has none.
 fn last_of(text: &str) -> &str
     ensures { (own : List ℕ) → result.now ≡ unqualified (full_name own text.now) }
 {
@@ -111,7 +111,8 @@ fn last_of(text: &str) -> &str
 }
 
 impl Aliases {
-    /// What texts mean for a type in a namespace: a text without a dot a name in that namespace, another itself.
+    /// Returns texts as the aliases of a type in a namespace: a text without a dot is a name in that namespace, any
+    /// other is a full name itself.
     pub fn of_texts(
         alloc: Global,
         namespace: ArcStr,
@@ -133,21 +134,22 @@ impl Aliases {
         })
     }
 
-    /// How many there are.
+    /// Returns the number of aliases.
     pub fn len(&self) -> usize
         ensures { result ≡ length self.now }
     {
         self.texts.len()
     }
 
-    /// Whether there are none.
+    /// Returns whether there are none.
     pub fn is_empty(&self) -> bool
         ensures { result ≡ (length self.now == 0) }
     {
         self.texts.is_empty()
     }
 
-    /// The unqualified name of the one at a position, from 0: what stands after its last dot.
+    /// Returns the unqualified name of the alias at an index: what follows its last dot. `None` where there is no such
+    /// alias.
     pub fn last(&self, position: usize) -> Option<&str>
         ensures { option_map (λ last. last.now) result ≡ option_map unqualified (slice_get self.now position) }
     {
@@ -157,7 +159,7 @@ impl Aliases {
         }
     }
 
-    /// Whether a full name is one of them.
+    /// Returns whether a full name is one of them.
     pub fn contains(&self, name: &Name) -> bool
         ensures { result ≡ is_used name.now self.now }
     {

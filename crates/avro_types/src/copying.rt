@@ -6,7 +6,7 @@ ghost use Rattle.avro_types.specs.Datum.{data_of, datum_of, pairs_of};
 use crate::datum::Datum;
 use std::alloc::{AllocError, Global};
 
-/// The same data once more.
+/// Returns copies of data, in their order.
 #[cycle(copy)]
 #[tactic(auto, using(crate::proofs::Copies::one_more))]
 fn copy_each(alloc: Global, all: &[Datum]) -> Result<Vec<Datum>, AllocError>
@@ -20,7 +20,7 @@ fn copy_each(alloc: Global, all: &[Datum]) -> Result<Vec<Datum>, AllocError>
     Ok(copies)
 }
 
-/// The same keys with their data once more.
+/// Returns copies of the pairs of a map, in their order.
 #[cycle(copy)]
 #[tactic(auto, using(crate::proofs::Copies::one_pair_more))]
 fn copy_pairs(alloc: Global, pairs: &[(String, Datum)]) -> Result<Vec<(String, Datum)>, AllocError>
@@ -35,7 +35,7 @@ fn copy_pairs(alloc: Global, pairs: &[(String, Datum)]) -> Result<Vec<(String, D
     Ok(copies)
 }
 
-/// The same datum once more.
+/// Returns a copy of a datum.
 #[cycle(copy)]
 #[tactic(auto, using(crate::proofs::Copies::record_tree, crate::proofs::Copies::array_tree, crate::proofs::Copies::map_tree))]
 fn copy_datum(alloc: Global, datum: &Datum) -> Result<Datum, AllocError>
@@ -61,7 +61,7 @@ fn copy_datum(alloc: Global, datum: &Datum) -> Result<Datum, AllocError>
 }
 
 impl Datum {
-    /// The same datum once more.
+    /// Returns a copy of the datum.
     pub fn copy(&self, alloc: Global) -> Result<Datum, AllocError>
         ensures { IfOk result (λ d. datum_of d ≡ datum_of self.now) }
     {

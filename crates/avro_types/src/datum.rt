@@ -14,9 +14,9 @@ pub enum Datum {
     /// The position of the symbol.
     Enum(u32),
     Array(Vec<Datum>),
-    /// The pairs in the order in which they came; a key may come again.
+    /// The pairs in the order in which they came; a key may occur several times.
     Map(Vec<(String, Datum)>),
-    /// The position of the member, and its datum.
+    /// The position of the branch, and its datum.
     Union(u32, Box<Datum>),
     /// The data of its fields, in the order of their declaration.
     Record(Vec<Datum>),

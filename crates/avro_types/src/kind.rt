@@ -14,14 +14,14 @@ pub enum Kind {
     Long,
     Bytes,
     Text,
-    /// A fixed under its full name, with its aliases as full names, of so many bytes.
+    /// A fixed under its full name, with its aliases as full names, and its size in bytes.
     Fixed {
         name: Name,
         aliases: Aliases,
         size: usize,
     },
-    /// An enum under its full name, with its aliases as full names, its symbols, and the position of the one that
-    /// stands for unknown ones.
+    /// An enum under its full name, with its aliases as full names, its symbols, and the position of the one that is
+    /// taken for unknown ones.
     Enum {
         name: Name,
         aliases: Aliases,
@@ -32,7 +32,7 @@ pub enum Kind {
     Array(usize),
     /// The number of the values' node.
     Map(usize),
-    /// The numbers of the members' nodes.
+    /// The numbers of the branches' nodes.
     Union(Vec<usize>),
     /// A record under its full name, with its aliases as full names, and its fields in the order of their declaration.
     Record {

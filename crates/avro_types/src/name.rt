@@ -30,7 +30,7 @@ impl Model for Name {
 }
 
 impl Name {
-    /// The name of a last part in a namespace.
+    /// Returns the name of a last part in a namespace.
     pub fn new(namespace: ArcStr, last: String) -> Name
         requires { AreParts (arc_str_bytes namespace) (string_bytes last) }
         ensures { result ≡ inside (arc_str_bytes namespace) (string_bytes last) }
@@ -38,7 +38,7 @@ impl Name {
         Name { namespace, last }
     }
 
-    /// The same name, of the same namespace.
+    /// Returns a copy of the name, which shares the namespace.
     pub fn copy(&self) -> Result<Name, AllocError>
         ensures { IfOk result (λ name. name ≡ self.now) }
     {
@@ -47,7 +47,7 @@ impl Name {
         Ok(Name { namespace, last })
     }
 
-    /// Its namespace, shared with it.
+    /// Returns its namespace, shared with the name.
     pub fn shared_namespace(&self) -> Result<ArcStr, AllocError>
         ensures text { IfOk result (λ namespace. arc_str_bytes namespace ≡ namespace_of self.now) }
         ensures by_rule { IfOk result (λ namespace. is_namespace (arc_str_bytes namespace) ≡ true) }
@@ -63,14 +63,14 @@ impl Name {
         let _opened = &self.last; // read for the proof
     }
 
-    /// What stands before the last dot; the null namespace is the empty text.
+    /// Returns its namespace: what is before the last dot, or the empty text for the null namespace.
     pub fn namespace(&self) -> &str
         ensures { result.now ≡ namespace_of self.now }
     {
         self.namespace.as_str()
     }
 
-    /// What stands after the last dot: the unqualified name.
+    /// Returns the unqualified name: what follows the last dot.
     pub fn last(&self) -> &str
         ensures { result.now ≡ unqualified self.now }
     {

@@ -35,7 +35,7 @@ impl Model for Nodes {
 }
 
 impl Nodes {
-    /// The nodes of these kinds, each under its position.
+    /// Returns the nodes of these kinds, each numbered by its position.
     pub fn new(kinds: Vec<Kind>) -> Nodes
         requires { AreValid (nodes_of kinds.items) }
         ensures { result ≡ nodes_of kinds.items }
@@ -43,14 +43,14 @@ impl Nodes {
         Nodes { kinds }
     }
 
-    /// How many nodes there are.
+    /// Returns the number of nodes.
     pub fn len(&self) -> usize
         ensures { result ≡ length self.now }
     {
         self.kinds.len()
     }
 
-    /// What a node is.
+    /// Returns the kind of a node.
     pub fn kind(&self, node: usize) -> &Kind
         requires { node < length self.now }
         ensures kind { slice_get self.now node ≡ Some (node_of result.now) }
@@ -60,7 +60,7 @@ impl Nodes {
     }
 
     /// The law that nodes name nodes of the same schema, the root is one, names are defined once, and the fields of a
-    /// record, the symbols of an enum and the members of a union are apart.
+    /// record, the symbols of an enum and the branches of a union are apart.
     pub fn is_well_formed(&self)
         ensures { IsWellFormed self.now }
     {

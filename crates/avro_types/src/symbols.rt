@@ -26,7 +26,7 @@ impl Model for Symbols {
 }
 
 impl Symbols {
-    /// Texts as symbols, in their order; `None` where one comes twice.
+    /// Returns texts as symbols, in their order; `None` where a text occurs twice.
     pub fn of_texts(alloc: Global, texts: Vec<String>) -> Result<Option<Symbols>, AllocError>
         ensures distinct { IfOk result (λ o. is_some o ≡ are_distinct (map string_bytes texts.items)) }
         ensures same { IfOk result (λ o. IfSome o (λ symbols. symbols ≡ map string_bytes texts.items)) }
@@ -41,14 +41,14 @@ impl Symbols {
         Ok(Some(Symbols { texts, positions }))
     }
 
-    /// How many there are.
+    /// Returns the number of symbols.
     pub fn len(&self) -> usize
         ensures { result ≡ length self.now }
     {
         self.texts.len()
     }
 
-    /// The symbol of a position.
+    /// Returns the symbol at a position; `None` where there is none.
     pub fn get(&self, position: usize) -> Option<&str>
         ensures { option_map (λ text. text.now) result ≡ slice_get self.now position }
     {
@@ -58,7 +58,7 @@ impl Symbols {
         }
     }
 
-    /// The position of a symbol.
+    /// Returns the position of a symbol; `None` where a text is no symbol of the enum.
     pub fn position_of(&self, text: &str) -> Option<usize>
         ensures place { result ≡ place_of text.now self.now }
         ensures within { IfSome result (λ n. n < length self.now) }
@@ -66,7 +66,7 @@ impl Symbols {
         self.positions.get(text).copied()
     }
 
-    /// Their texts, in order.
+    /// Returns their texts, in order.
     pub fn as_slice(&self) -> &[String]
         ensures { map string_bytes result.now ≡ self.now }
     {

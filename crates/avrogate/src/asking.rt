@@ -5,7 +5,8 @@ use command_line::Explanation;
 use commands::Status;
 use schema_commands::{Form, Level, Question, Verdict, run};
 
-/// Answers a question about the schemas on standard input. Where the answer is no, that is a status of its own.
+/// Prints the answer to a question about the schemas on standard input. Where the answer is no, that is a status of
+/// its own.
 fn ask(rt: &(impl Input + Print + AllocGlobal), question: Question) -> Status {
     let mut reader = rt.reader();
     let mut writer = std::io::writer(rt);

@@ -6,7 +6,7 @@ ghost use Rattle.commands.specs.declared.status.Status.TheVariants.{BadTraffic, 
 use commands::{RunError, Status};
 use std::fmt::Display;
 
-/// How the program ends after a run.
+/// Returns how the program ends after a run.
 pub(crate) fn status_of(done: Result<Status, RunError>) -> Status
     ensures ended { IfOk done (λ status. result ≡ status) }
     ensures memory { done ≡ Err RunError.NoMemory → result ≡ NoMemory }
@@ -19,7 +19,7 @@ pub(crate) fn status_of(done: Result<Status, RunError>) -> Status
     }
 }
 
-/// Tells by a line on standard output why nothing was done, and returns how the program ends.
+/// Prints a line on standard output that says why nothing was done, and returns how the program ends.
 pub(crate) fn told(rt: &impl Print, why: &impl Display) -> Status {
     let _ = println!(rt; "{why}");
     Status::BadTraffic

@@ -23,14 +23,14 @@ use std::rt::{Clock, Env};
 use std::sync::Wait;
 use std::thread::Threads;
 
-/// Does to the lines of standard input what the words ask for.
+/// Executes what the words ask for on the lines of standard input.
 fn obey(rt: &(impl Input + Print + AllocGlobal), verb: &Verb) -> Status {
     let mut reader = rt.reader();
     let mut writer = std::io::writer(rt);
     status_of(run(rt.alloc(), verb, &mut reader, &mut writer))
 }
 
-/// Reads the words of the command line, and does what they ask for. `host` opens files.
+/// Reads the words of the command line, and does what they ask for. Returns how the program ends. `host` opens files.
 fn status<
     R: Net<Listener = TcpListener, Stream = TcpStream>
         + Threads

@@ -6,9 +6,10 @@ use crate::ending::{status_of, told};
 use crate::upstream::{HostDial, Side, hold_kept, side_of};
 use command_line::ServeWords;
 use commands::Status;
-use gateway_server::{ServeOptions, Source, serve_beside, serve_on};
+use gateway_server::{Persistence, ServeOptions, Source, serve_beside, serve_on};
 use schema_registry::{Keeper, SharedRegistry};
 use std::alloc::AllocError;
+use std::hash::RandomState;
 use std::net::{Net, SocketAddr, TcpListener, TcpStream};
 use std::rt::Clock;
 use std::sync::Wait;
@@ -16,17 +17,39 @@ use std::thread::Threads;
 use std::time::Duration;
 use store_commands::{StoreRefusal, open_registry};
 use upstream_answers::Place;
-use upstream_fetching::{Dial, KeptUpstream, Network};
+use upstream_fetching::{Beginning, Dial, KeptUpstream, Network};
 use upstream_schemas::{Upstream, UpstreamSchemas};
-use upstream_store::KeptSchema;
 use upstream_url::Target;
 
-/// How many times as long as the upstream registry may take a request waits for it: it may have to wait for its turn.
+/// How many times as long as the upstream registry may take a request waits for it, which may have to wait for its
+/// turn.
 const PATIENCE: u64 = 2;
 
-/// Returns how a service is to run by its words.
-fn options_of(words: &ServeWords<'_>) -> ServeOptions {
-    ServeOptions {
+/// Returns how connections stay by the words of a service. `None` where they do not. An `Err` is the end of the
+/// program: that the system gave no random bytes was printed.
+fn persistence_of(
+    host: &HostRuntime,
+    words: &ServeWords<'_>,
+) -> Result<Option<Persistence>, Status> {
+    if !words.is_persistent {
+        return Ok(None);
+    }
+    match RandomState::new(host) {
+        Ok(keys) => Ok(Some(Persistence {
+            keys,
+            idle: Duration::from_secs(u64::from(words.idle_timeout)),
+        })),
+        Err(error) => {
+            let _ = println!(host; "no random bytes: {error}");
+            Err(Status::BadTraffic)
+        }
+    }
+}
+
+/// Returns how a service is to run by its words. An `Err` is the end of the program, as of `persistence_of`.
+fn options_of(host: &HostRuntime, words: &ServeWords<'_>) -> Result<ServeOptions, Status> {
+    let persistence = persistence_of(host, words)?;
+    Ok(ServeOptions {
         clients: words.clients,
         workers: words.workers,
         each: words.each,
@@ -34,8 +57,9 @@ fn options_of(words: &ServeWords<'_>) -> ServeOptions {
         head_timeout: Duration::from_secs(u64::from(words.head_timeout)),
         request_timeout: Duration::from_secs(u64::from(words.request_timeout)),
         patience: Duration::from_secs(u64::from(words.upstream_timeout) * PATIENCE),
+        persistence,
         is_logged: words.is_logged,
-    }
+    })
 }
 
 /// Returns the registry that is served: that of the file that the words name, or an empty one that ends with the
@@ -78,12 +102,15 @@ fn serve_registry<
         + Sync
         + Print
         + AllocGlobal,
->(rt: &R, words: &ServeWords<'_>, registry: &SharedRegistry) -> Status {
+>(rt: &R, host: &HostRuntime, words: &ServeWords<'_>, registry: &SharedRegistry) -> Status {
     let listener = match listener_of(rt, words) {
         Ok(listener) => listener,
         Err(status) => return status,
     };
-    let options = options_of(words);
+    let options = match options_of(host, words) {
+        Ok(options) => options,
+        Err(status) => return status,
+    };
     if !options.is_within() {
         return Status::BadWords;
     }
@@ -96,14 +123,14 @@ fn serve_registry<
 
 /// What is kept of an upstream registry: under which URL, in which store, and the schemas that the store had.
 #[derive(Drop)]
-struct Kept<'x, K: Keeper> {
+struct Kept<'x, K: Keeper, B: Beginning> {
     url: &'x str,
     store: Option<K>,
-    schemas: &'x [KeptSchema],
+    beginning: &'x B,
 }
 
-/// Serves HTTP by the ids of an upstream registry at a place, over a registry of this process that holds its schemas; at
-/// first those that a store had.
+/// Serves HTTP by the ids of an upstream registry at a place, over a registry of this process that holds its schemas;
+/// at first those that a store had.
 fn serve_held<
     R: Net<Listener = TcpListener, Stream = TcpStream>
         + Threads
@@ -113,26 +140,30 @@ fn serve_held<
         + Print
         + AllocGlobal,
     U: Upstream + Send + Sync,
+    B: Beginning + Send + Sync,
 >(
     rt: &R,
     host: &HostRuntime,
     words: &ServeWords<'_>,
     upstream: &U,
     place: Place,
-    kept: &[KeptSchema],
+    beginning: &B,
 ) -> Result<Status, AllocError>
-    requires { (id : ℕ) (text : List ℕ) → U.kept id text }
+    requires { (id : ℕ) (text : List ℕ) → B.said id text → U.kept id text }
 {
     let registry = SharedRegistry::new(rt.alloc())?;
     let schemas = UpstreamSchemas::new(rt, rt.alloc(), &registry, place)?;
-    if let Err(status) = hold_kept(host, rt, &schemas, kept) {
+    if let Err(status) = hold_kept(host, rt, &schemas, beginning) {
         return Ok(status);
     }
     let listener = match listener_of(rt, words) {
         Ok(listener) => listener,
         Err(status) => return Ok(status),
     };
-    let options = options_of(words);
+    let options = match options_of(host, words) {
+        Ok(options) => options,
+        Err(status) => return Ok(status),
+    };
     if !options.is_within() {
         return Ok(Status::BadWords);
     }
@@ -160,16 +191,17 @@ fn serve_by_ids<
         + AllocGlobal,
     U: Upstream + Send + Sync,
     K: Keeper + Send + Drop,
+    B: Beginning + Send + Sync,
 >(
     rt: &'x R,
     host: &HostRuntime,
     words: &ServeWords<'_>,
     network: &'x U,
     place: Place,
-    kept: Kept<'x, K>,
+    kept: Kept<'x, K, B>,
 ) -> Result<Status, AllocError> {
-    let upstream = KeptUpstream::new(rt, network, kept.url, kept.store);
-    serve_held(rt, host, words, &upstream, place, kept.schemas)
+    let upstream = KeptUpstream::<'_, R, U, K, B>::new(rt, network, kept.url, kept.store);
+    serve_held(rt, host, words, &upstream, place, kept.beginning)
 }
 
 /// Serves HTTP by the ids of an upstream registry.
@@ -196,7 +228,7 @@ fn serve_upstream<
         url,
         credentials,
         store,
-        kept,
+        beginning,
     } = side;
     let Target {
         authority,
@@ -220,7 +252,7 @@ fn serve_upstream<
     let kept = Kept {
         url: url.as_str(),
         store,
-        schemas: &kept,
+        beginning: &beginning,
     };
     serve_by_ids(rt, host, words, &network, place, kept)
 }
@@ -244,7 +276,7 @@ pub(crate) fn serve<
         };
     }
     match registry_of(host, words) {
-        Ok(registry) => Ok(serve_registry(rt, words, &registry)),
+        Ok(registry) => Ok(serve_registry(rt, host, words, &registry)),
         Err(StoreRefusal::NoMemory) => Ok(Status::NoMemory),
         Err(refusal) => Ok(told(rt, &refusal)),
     }

@@ -4,7 +4,8 @@ use crate::ending::{status_of, told};
 use commands::Status;
 use store_commands::{ExportFault, ImportFault, export, import};
 
-/// Prints the commands of the store on standard input. One that is damaged is told, and is bad traffic.
+/// Prints the commands of the store on standard input. Where that is damaged, the fault is printed, and is bad
+/// traffic.
 pub(crate) fn export_store(rt: &(impl Input + Print + AllocGlobal)) -> Status {
     let mut reader = rt.reader();
     let mut writer = std::io::writer(rt);
@@ -15,7 +16,7 @@ pub(crate) fn export_store(rt: &(impl Input + Print + AllocGlobal)) -> Status {
     }
 }
 
-/// Makes a store at a path, of the lines on standard input. What is refused is told, and is bad traffic.
+/// Makes a store at a path, of the lines on standard input. What is refused is printed, and is bad traffic.
 pub(crate) fn import_store(host: &HostRuntime, path: &str) -> Status {
     let mut reader = host.reader();
     let mut writer = std::io::writer(host);

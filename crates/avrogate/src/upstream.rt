@@ -12,7 +12,7 @@ use std::sync::Wait;
 use std::time::Duration;
 use std::{fs, io};
 use store_commands::{FileSchemas, FileStore, StoreRefusal, TimedProgress, open_schemas};
-use upstream_fetching::{Dial, MOST_ADDRESSES};
+use upstream_fetching::{Beginning, Dial, MOST_ADDRESSES};
 use upstream_schemas::{Upstream, UpstreamSchemas};
 use upstream_store::KeptSchema;
 use upstream_url::{Target, UrlFault, credentials_of, target_of};
@@ -61,6 +61,23 @@ fn credentials_in(host: &HostRuntime, path: Option<&str>) -> Result<String, Stat
     }
 }
 
+/// The schemas that the file of a store had when it was opened; `UpstreamStore::open` says that they are the file's.
+#[derive(Drop)]
+pub(crate) struct StoredSchemas {
+    pub(crate) schemas: Vec<KeptSchema>,
+}
+
+impl Beginning for StoredSchemas {
+    ghost use Rattle.std.specs.Prelude.{⊤};
+
+    // What a file has at a moment has no model here: all that is proved is proved for every `Beginning`.
+    ghost said = { λ id text. ⊤ };
+
+    fn schemas(&self) -> &[KeptSchema] {
+        &self.schemas
+    }
+}
+
 /// The upstream registry: what connects, where it is, who asks, and the store of its schemas where the words name one.
 #[derive(Drop)]
 pub(crate) struct Side<'a, D: Dial, K: Keeper> {
@@ -71,7 +88,7 @@ pub(crate) struct Side<'a, D: Dial, K: Keeper> {
     pub(crate) credentials: String,
     pub(crate) store: Option<K>,
     /// The schemas that the store had.
-    pub(crate) kept: Vec<KeptSchema>,
+    pub(crate) beginning: StoredSchemas,
 }
 
 /// Returns the store of the schemas of the upstream registry of a URL, or none where the words name none. An `Err` is
@@ -105,15 +122,16 @@ fn unheld(host: &HostRuntime, number: usize, fault: Fault) -> Status {
 
 /// Holds the schemas that a store has, each for its id, in the order of its lines. An `Err` is the end of the program:
 /// a schema that is not held was printed.
-pub(crate) fn hold_kept<R: Wait, U: Upstream>(
+pub(crate) fn hold_kept<R: Wait, U: Upstream, B: Beginning>(
     host: &HostRuntime,
     rt: &R,
     schemas: &UpstreamSchemas<'_, U>,
-    kept: &[KeptSchema],
+    beginning: &B,
 ) -> Result<(), Status>
-    requires { (id : ℕ) (text : List ℕ) → U.kept id text }
+    requires { (id : ℕ) (text : List ℕ) → B.said id text → U.kept id text }
 {
     let mut progress = TimedProgress::new(host);
+    let kept = beginning.schemas();
     let mut number: usize = 0;
     for schema in kept {
         number = number.saturating_add(1);
@@ -125,8 +143,9 @@ pub(crate) fn hold_kept<R: Wait, U: Upstream>(
     Ok(())
 }
 
-/// Returns the upstream registry of a URL, with the credentials and the store of the files that the words name. An `Err`
-/// is the end of the program: what is wrong was printed; a bad URL are bad words.
+/// Returns the upstream registry of a URL, with the credentials and the store of the files that the words name.
+///
+/// An `Err` is the end of the program: what is wrong was printed; a bad URL is reported as bad words.
 pub(crate) fn side_of<'a>(
     host: &HostRuntime,
     dial: &'a HostDial<'a>,
@@ -145,7 +164,7 @@ pub(crate) fn side_of<'a>(
         return Err(Status::NoMemory);
     };
     let credentials = credentials_in(host, words.upstream_credentials)?;
-    let (store, kept) = match store_of(host, words.store, url.as_str())? {
+    let (store, schemas) = match store_of(host, words.store, url.as_str())? {
         Some(found) => (Some(found.store), found.schemas),
         None => (None, Vec::new(host.alloc())),
     };
@@ -155,6 +174,6 @@ pub(crate) fn side_of<'a>(
         url,
         credentials,
         store,
-        kept,
+        beginning: StoredSchemas { schemas },
     })
 }

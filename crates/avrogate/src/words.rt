@@ -1,4 +1,4 @@
-//! The words of the command line, and what is told of them.
+//! The words of the command line, and what is printed of them.
 
 use clap::error::ErrorKind;
 use command_line::{Task, cli, task_of};
@@ -6,7 +6,7 @@ use commands::Status;
 use std::io;
 use std::rt::Env;
 
-/// Tells what is wrong with the words, or the help that they ask for.
+/// Prints what is wrong with the words, or the help that they ask for.
 fn explain(rt: &(impl Print + Eprint), error: &clap::Error) -> Status {
     if error.kind() == ErrorKind::OutOfMemory {
         return Status::NoMemory;
@@ -21,7 +21,7 @@ fn explain(rt: &(impl Print + Eprint), error: &clap::Error) -> Status {
     }
 }
 
-/// Tells why the words cannot be read.
+/// Prints why the words cannot be read.
 pub(crate) fn refuse(rt: &impl Eprint, error: &io::Error) -> Status {
     if error.kind() == io::ErrorKind::InvalidData {
         let _ = eprintln!(rt; "error: a word of the command line is no UTF-8");
@@ -30,14 +30,14 @@ pub(crate) fn refuse(rt: &impl Eprint, error: &io::Error) -> Status {
     Status::NoMemory
 }
 
-/// Tells that the address of a service is none.
+/// Prints that the address of a service is none.
 fn refuse_address(rt: &impl Eprint) -> Status {
     let _ = eprintln!(rt; "error: '--address <IP>' takes an address such as 127.0.0.1 or ::1");
     Status::BadWords
 }
 
-/// Returns what the words ask for; or the status, where it was told what is wrong with them or the help that they ask
-/// for.
+/// Returns what the words ask for; or the status, where it was printed what is wrong with them or the help that they
+/// ask for.
 pub(crate) fn task_in<'w>(
     rt: &(impl Print + Eprint + AllocGlobal),
     words: &'w [String],

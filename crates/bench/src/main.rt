@@ -6,7 +6,7 @@
 //! - `--passes N`, `--dump`: transcodes the messages of standard input N times, or once (`bench/transcoding.sh`).
 //! - `assemble`, `load`: reads a program from standard input, a listing or an image, and prints how many instructions
 //!   it has (`bench/programs.sh`).
-//! - `registry COUNT FINDS`: registers so many schemas, and finds so many ids (`bench/registry.sh`).
+//! - `registry COUNT FINDS`: registers COUNT schemas, and finds FINDS ids (`bench/registry.sh`).
 #![tactic(auto)]
 
 mod messages;
@@ -28,7 +28,7 @@ enum Asked {
     Registry { count: u32, finds: u32 },
 }
 
-/// What the words of the command line ask for.
+/// Returns what the words of the command line ask for. `None` where they ask for nothing.
 fn asked_of(words: &[String]) -> Option<Asked> {
     match (words.get(1)?.as_str(), words.get(2)) {
         ("--dump", None) => Some(Asked::Transcoding(Task::Dump)),
@@ -55,7 +55,7 @@ fn tell_len(rt: &impl Print, len: usize) -> Option<()> {
     println!(rt; "{len}").ok()
 }
 
-/// Measures, and prints what came of it.
+/// Measures what is asked, and prints the result.
 fn obey<R: Input + Print + Eprint + Clock + Wait + AllocGlobal>(
     rt: &R,
     asked: &Asked,
@@ -71,7 +71,7 @@ fn obey<R: Input + Print + Eprint + Clock + Wait + AllocGlobal>(
     }
 }
 
-/// The words of the command line.
+/// Returns the words of the command line.
 fn words_of(rt: &(impl Env + AllocGlobal)) -> io::Result<Vec<String>> {
     let words = std::env::args(rt)?;
     Ok(words.collect(rt.alloc())?)

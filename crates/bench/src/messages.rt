@@ -3,7 +3,7 @@
 use byteorder::{ByteOrder, LittleEndian};
 use std::alloc::Global;
 
-/// The first bytes, so many, and what follows them.
+/// Returns the first `at` bytes, and what follows them. `None` where there are fewer.
 fn split(bytes: &[u8], at: usize) -> Option<(&[u8], &[u8])> {
     if at > bytes.len() {
         return None;
@@ -11,7 +11,7 @@ fn split(bytes: &[u8], at: usize) -> Option<(&[u8], &[u8])> {
     Some(bytes.split_at(at))
 }
 
-/// A number of 32 bits, and what follows it.
+/// Returns a number of 32 bits, and what follows it. `None` where there are fewer than four bytes.
 fn split_number(bytes: &[u8]) -> Option<(usize, &[u8])> {
     if bytes.len() < 4 {
         return None;
@@ -28,19 +28,19 @@ pub(crate) struct Messages<'a> {
 }
 
 impl<'a> Messages<'a> {
-    /// The messages of a container. None where it does not have so many lengths.
+    /// Returns the messages of a container. `None` where it has fewer lengths than it says.
     pub(crate) fn of(container: &'a [u8]) -> Option<Messages<'a>> {
         let (count, rest) = split_number(container)?;
         let (lengths, bytes) = split(rest, count.checked_mul(4)?)?;
         Some(Messages { lengths, bytes })
     }
 
-    /// How many there are.
+    /// Returns the number of messages.
     pub(crate) fn len(&self) -> usize {
         self.lengths.len() / 4
     }
 
-    /// Each of them. None where one is not whole.
+    /// Returns each of the messages. `None` where one is not whole, or memory ran out.
     pub(crate) fn split(&self, alloc: Global) -> Option<Vec<&'a [u8]>> {
         let mut messages = Vec::with_capacity(alloc, self.len()).ok()?;
         let mut rest = self.bytes;
@@ -54,7 +54,7 @@ impl<'a> Messages<'a> {
     }
 }
 
-/// A number of 32 bits after others. None where it has more, or for want of memory.
+/// Appends a number of 32 bits. `None` where it has more bits, or memory ran out.
 pub(crate) fn put_number(bytes: &mut Vec<u8>, number: usize) -> Option<()> {
     let number = u32::try_from(number).ok()?;
     let mut spelled = [0; 4];

@@ -1,6 +1,6 @@
-//! Registers schemas in a shared registry: so many under one subject, then the same once more, then under 16 others in
-//! turn; and finds so many ids. Prints the last id of each round and how many ids showed a schema, and to the standard
-//! error the microseconds of each.
+//! Registers schemas in a shared registry: `count` under one subject, then these once more, then under 16 others in
+//! turn; and finds `finds` ids. Prints the last id of each round and how many ids showed a schema, and to the
+//! standard error the microseconds of each.
 
 use schema_registry::{Refusal, SharedRegistry};
 use std::alloc::{AllocError, Global};
@@ -9,20 +9,20 @@ use std::rt::Clock;
 use std::sync::Wait;
 use std::time::Instant;
 
-/// The text of a record that is compatible with the others, and another schema.
+/// Returns the text of a record that is compatible with the others, and is another schema for each number.
 fn text_of(alloc: Global, number: u32) -> Result<String, AllocError> {
     format!(in alloc;
         "{{\"type\":\"record\",\"name\":\"R\",\"fields\":[{{\"name\":\"a\",\"type\":\"long\",\"default\":{number}}}]}}"
     )
 }
 
-/// One of so many subjects, by a number that goes round.
+/// Returns the name of one of `subjects` subjects, by a number that goes round.
 fn subject_of(alloc: Global, subjects: u32, number: u32) -> Result<String, AllocError> {
     let place = number % subjects.max(1);
     format!(in alloc; "s{subjects}.{place}")
 }
 
-/// Registers so many schemas as versions of so many subjects in turn, and tells the id of the last.
+/// Registers `count` schemas as versions of `subjects` subjects in turn, and returns the id of the last.
 fn register_all<R: Wait>(
     rt: &R,
     alloc: Global,
@@ -38,14 +38,14 @@ fn register_all<R: Wait>(
     Ok(last)
 }
 
-/// How many of so many ids, which go round, show a schema.
+/// Returns how many of `finds` ids, which go round from 1 to `count`, show a schema.
 fn find_all(shared: &SharedRegistry, count: u32, finds: u32) -> usize {
     (0..finds)
         .filter(|turn| shared.find(turn % count.max(1) + 1).is_some())
         .count()
 }
 
-/// Tells what a part came to, and how long it took.
+/// Prints the result of a part, and how long it took.
 fn tell(
     rt: &(impl Print + Eprint + Clock + AllocGlobal),
     part: &str,
@@ -57,7 +57,7 @@ fn tell(
     eprintln!(rt; "{part} {micros}")
 }
 
-/// Registers, registers again, registers under other subjects, and finds.
+/// Measures registering schemas, registering them again and under other subjects, and finding ids.
 pub(crate) fn measure<R: Wait + Print + Eprint + Clock + AllocGlobal>(
     rt: &R,
     count: u32,

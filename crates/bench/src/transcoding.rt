@@ -1,6 +1,6 @@
-//! Transcodes messages in process: the writer's schema and the reader's stand in the first two lines of an input, and
-//! then the container of the messages. All of them are transcoded so many times by one transcoder, and it is told how
-//! many were answered by bytes, and how many bytes; or once, and the container of the answers is told.
+//! Transcodes messages in process. The first two lines of an input are the writer's schema and the reader's, and then
+//! comes the container of the messages. All of them are transcoded a number of times by one transcoder, and it is
+//! printed how many were answered by bytes, and how many bytes; or once, and the container of the answers is printed.
 
 use crate::messages::{Messages, put_number};
 use avro_schema::Schema;
@@ -24,14 +24,14 @@ struct Tally {
     bytes: u64,
 }
 
-/// A line as a schema, and what follows it.
+/// Returns a line as a schema, and what follows it.
 fn split_schema(alloc: Global, input: &[u8]) -> Option<(Schema, &[u8])> {
     let end = memchr(b'\n', input)?;
     let line = std::str::from_utf8(&input[..end]).ok()?;
     Some((Schema::parse(alloc, line).ok()?, &input[end + 1..]))
 }
 
-/// A message, transcoded to bytes, in the place of another outcome.
+/// Returns a message transcoded to bytes, which replace another outcome. `None` where the outcome is no payload.
 fn answer<'o>(
     transcoder: &mut Transcoder<'_>,
     message: &[u8],
@@ -63,7 +63,7 @@ fn pass(
     Some(tally)
 }
 
-/// Transcodes all messages so many times.
+/// Transcodes all messages `count` times, and counts the answers.
 fn passes(
     alloc: Global,
     transcoder: &mut Transcoder<'_>,
@@ -80,7 +80,7 @@ fn passes(
     Some(tally)
 }
 
-/// The container of the answers.
+/// Returns the container of the answers.
 fn dump(alloc: Global, transcoder: &mut Transcoder<'_>, messages: &[&[u8]]) -> Option<Vec<u8>> {
     let mut container = Vec::new(alloc);
     let mut answers = Vec::new(alloc);
@@ -95,14 +95,14 @@ fn dump(alloc: Global, transcoder: &mut Transcoder<'_>, messages: &[&[u8]]) -> O
     Some(container)
 }
 
-/// The line that tells what was answered.
+/// Returns the line that says what was answered.
 fn line_of(alloc: Global, tally: Tally) -> Option<Vec<u8>> {
     let (answers, bytes) = (tally.answers, tally.bytes);
     let line = format!(in alloc; "answers {answers} bytes {bytes}\n").ok()?;
     Some(line.into_bytes())
 }
 
-/// What to print for a pair of schemas and messages.
+/// Returns what to print for a pair of schemas and messages.
 fn output_of_messages(
     alloc: Global,
     task: &Task,
@@ -117,7 +117,7 @@ fn output_of_messages(
     }
 }
 
-/// What to print for an input.
+/// Returns what to print for an input.
 pub(crate) fn output_of(alloc: Global, task: &Task, input: &[u8]) -> Option<Vec<u8>> {
     let (writer, rest) = split_schema(alloc, input)?;
     let (reader, container) = split_schema(alloc, rest)?;

@@ -1,4 +1,4 @@
--- What stands in a room after a part of it was written and the rest cut off.
+-- What is in a room after a part of it was written and the rest cut off.
 use Rattle.std.proofs.Common.{◌≡◌, ℕ, ◌+◌, ◌≤◌, List, ◌++◌, length, take, drop, sym, ap, ◌∙◌, arith}
 use Rattle.std.proofs.lemmas.List.{length-append, length-take, length-take-le, take-append-drop, take-append-le, take_at, take_all}
 use Rattle.std.proofs.Math.Seq.{take-append-add}
@@ -9,7 +9,7 @@ pub take_take : (n m : ℕ) (xs : List ℕ) → n ≤ length (take m xs) → tak
 take_take n m xs few =
     sym (ap (λ (z : List ℕ). take n z) (sym (take-append-drop m xs)) ∙ take-append-le n (take m xs) (drop m xs) few)
 
--- bytes that were written behind the first of a room, and the first of these
+-- the first bytes of a room, once some were written after the first `had`
 pub written_behind : (had k count : ℕ) (room bytes : List ℕ) → had ≤ length room → count ≤ length bytes
     → take (had + count) (put_mid had k room bytes) ≡ take had room ++ take count bytes
 written_behind had k count room bytes fits few =
@@ -18,7 +18,7 @@ written_behind had k count room bytes fits few =
     ∙ take-append-add (take had room) (bytes ++ post_of had k room) count
     ∙ ap (λ (z : List ℕ). take had room ++ z) (take-append-le count bytes (post_of had k room) few)
 
--- so many bytes there are at least
+-- there are at least `had + count` bytes
 pub long_enough : (had k count : ℕ) (room bytes : List ℕ) → had ≤ length room → count ≤ length bytes
     → had + count ≤ length (put_mid had k room bytes)
 long_enough had k count room bytes fits few =
@@ -27,7 +27,7 @@ long_enough had k count room bytes fits few =
     let back = length-append bytes (post_of had k room) in
     omega (arith, front, whole, back, few)
 
--- a room of so many bytes, of which the first are kept and some more written
+-- a room cut off at `most` bytes, of which the first are kept and some more written
 pub moved : (had k count most : ℕ) (room bytes rest : List ℕ) → had ≤ length room → count ≤ length bytes
     → had + count ≤ most
     → take (had + count) (take most (put_mid had k room bytes ++ rest)) ≡ take had room ++ take count bytes

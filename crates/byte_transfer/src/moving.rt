@@ -13,10 +13,10 @@ const LEAST_STEP: usize = 4_096;
 /// The number of bytes that a read asks for at most.
 const MOST_STEP: usize = 262_144;
 
-/// Reads once, and appends what came: returns the number of bytes, 0 only where the reader has ended. It asks for as
-/// many bytes as have come, so that memory at most doubles, and for no more than `wanted` in all.
+/// Reads once, appends what came, and returns the number of bytes, 0 only where the reader has ended.
 ///
-/// The errors are the reader's, and `OutOfMemory` where memory is wanting; then the bytes are as they were.
+/// It asks for as many bytes as have come, so that memory at most doubles, and for no more than `wanted` in all. The
+/// errors are the reader's, and `OutOfMemory` where memory runs out; then the bytes are as they were.
 pub fn read_more<R: Read>(reader: &mut R, bytes: &mut Vec<u8>, wanted: usize) -> io::Result<usize>
     requires { vec_len bytes.old < wanted }
     ensures received { IfOk result
@@ -40,8 +40,8 @@ pub fn read_more<R: Read>(reader: &mut R, bytes: &mut Vec<u8>, wanted: usize) ->
     }
 }
 
-/// Writes once what follows the first `sent` bytes: returns the number of bytes that the writer took. The errors are the
-/// writer's.
+/// Writes once what follows the first `sent` bytes, and returns the number of bytes that the writer took. The errors
+/// are the writer's.
 pub fn write_more<W: Write>(writer: &mut W, bytes: &[u8], sent: usize) -> io::Result<usize>
     requires { sent ≤ length bytes.now }
     ensures written { WriteAppends (W.contents writer.old) (W.contents writer.new) result (drop sent bytes.now) }

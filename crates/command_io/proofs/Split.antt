@@ -44,7 +44,7 @@ pub lines_empty : (xs : List ℕ) → nat_eq (length xs) 0 ≡ true → lines xs
 lines_empty [] h = lines_none
 lines_empty (x ∷ xs) h = let e = eqb-true (length (x ∷ xs)) 0 h in absurd (omega (arith, e))
 
--- bytes without an LF, and nothing behind them
+-- bytes without an LF, and nothing after them
 pub lines_last : (xs : List ℕ) → nat_eq (length xs) 0 ≡ false → ((j : ℕ) → j < length xs → nat_eq (get_or xs j 0) 10 ≡ true → ⊥)
     → (lines xs ≡ xs ∷ lines (drop (length xs) xs)) × (length (drop (length xs) xs) < length xs)
 lines_last [] h none = absurd (cc)
@@ -52,7 +52,7 @@ lines_last (x ∷ xs) h none =
     let nothing : drop (length xs) xs ≡ [] = drop_all (length xs) xs (omega arith) in
     rw nothing (rw lines_none (lines_whole (x ∷ xs) (omega arith) none), omega arith)
 
--- ---- where the first line stands
+-- ---- where the first line ends
 
 parted : (xs : List ℕ) (k : ℕ) → k < length xs → nat_eq (get_or xs k 0) 10 ≡ true → xs ≡ take k xs ++ 10 ∷ drop (suc k) xs
 parted [] k h here = absurd (omega arith)

@@ -6,7 +6,7 @@ unfoldable pub in_front : ℕ → List (List ℕ) → List (List ℕ)
 in_front byte [] = (byte ∷ []) ∷ []
 in_front byte (line ∷ later) = (byte ∷ line) ∷ later
 
--- Each LF, 10, ends a line. The last line may lack it, and an empty rest behind the last LF is no line.
+-- Each LF, 10, ends a line. The last line may lack it, and an empty rest after the last LF is no line.
 unfoldable pub lines : List ℕ → List (List ℕ)
 lines [] = []
 lines (byte ∷ rest) = if byte == 10 then [] ∷ lines rest else in_front byte (lines rest)

@@ -1,4 +1,4 @@
--- What stands in known bytes where a write was broken off. This project's own.
+-- What known bytes are where a write was broken off. This project's own.
 use Rattle.std.specs.Prelude.{◌≡◌, ℕ, List, ◌++◌, ⊤, Option, Some, None}
 
 -- known bytes grew by a beginning of these

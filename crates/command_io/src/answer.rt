@@ -28,7 +28,7 @@ fn push_payload_answer(
     }
 }
 
-/// Appends the answer to a line, without its LF. What an `Err` leaves of the text is not said.
+/// Appends the answer to a line, without its LF. It is not specified what an `Err` leaves of the text.
 pub fn push_answer(
     alloc: Global,
     transcoder: &mut Transcoder,

@@ -12,7 +12,7 @@ pub const MOST_READS: u64 = 1_073_741_824;
 /// How many bytes a reader is asked for at once.
 const PIECE: usize = 65_536;
 
-/// All that the reader has left. It fails, too, where the reader has not ended after `MOST_READS` reads.
+/// Returns all that the reader has left. It fails, too, where the reader has not ended after `MOST_READS` reads.
 pub fn read_all<R: Read>(alloc: Global, reader: &mut R) -> Result<Vec<u8>, RunError>
     ensures ok { IfOk result (λ all. IfSome (R.remaining reader.old) (λ input. all.items ≡ input)) }
     ensures fault { IfErr result (λ e. (e ≡ RunError.Read) ⊎ (e ≡ RunError.NoMemory)) }
@@ -21,7 +21,7 @@ pub fn read_all<R: Read>(alloc: Global, reader: &mut R) -> Result<Vec<u8>, RunEr
     read_by_pieces(alloc, reader, &mut buffer)
 }
 
-/// The same, read into a piece of memory at a time.
+/// Returns all that the reader has left, as `read_all` does, by reads into `piece`.
 fn read_by_pieces<R: Read>(
     alloc: Global,
     reader: &mut R,

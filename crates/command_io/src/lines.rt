@@ -5,7 +5,7 @@ ghost use Rattle.command_io.specs.Lines.{IsFirst, line_at, lines};
 
 use memchr::memchr;
 
-/// The first line without its LF, and what follows it.
+/// Returns the first line without its LF, and what follows it; `None` where there are no bytes.
 pub fn split_line(bytes: &[u8]) -> Option<(&[u8], &[u8])>
     ensures place { IfSome result (λ p. IsFirst bytes.now p.0.now p.1.now) }
     ensures lines { MatchOption result (lines bytes.now ≡ [])
@@ -18,7 +18,7 @@ pub fn split_line(bytes: &[u8]) -> Option<(&[u8], &[u8])>
     }
 }
 
-/// The same, where a line that is missing is the empty text.
+/// Returns the first line and what follows it, as `split_line` does; both are empty where there are no bytes.
 pub fn split_line_or_empty(bytes: &[u8]) -> (&[u8], &[u8])
     ensures first { result.0.now ≡ line_at (lines bytes.now) 0 }
     ensures rest { lines result.1.now ≡ drop 1 (lines bytes.now) }

@@ -9,7 +9,7 @@ use outcome::Outcome;
 use std::alloc::{AllocError, Global};
 use std::fmt::Write;
 
-/// How many bytes are brought into hexadecimal at a time: their digits are held twice.
+/// How many bytes are converted to hexadecimal at a time: their digits are held twice.
 const PIECE: usize = 65_536;
 
 /// Appends bytes in hexadecimal.
@@ -43,7 +43,7 @@ pub(crate) fn push_done(alloc: Global, output: &mut String, bytes: &[u8]) -> Res
     push_hex(alloc, output, bytes)
 }
 
-/// Appends the line of an outcome, without its LF. What an `Err` leaves of the text is not said.
+/// Appends the line of an outcome, without its LF. It is not specified what an `Err` leaves of the text.
 pub fn push_outcome(alloc: Global, output: &mut String, outcome: &Outcome) -> Result<(), AllocError>
     ensures { OnOk result (string_bytes output.new ≡ string_bytes output.old ++ line_of (outcome_of outcome.now)) }
 {

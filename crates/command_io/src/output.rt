@@ -31,7 +31,7 @@ pub fn write_whole<W: Write>(writer: &mut W, bytes: &[u8]) -> Result<(), RunErro
     Err(RunError::Write)
 }
 
-/// Passes on what the writer holds back.
+/// Flushes the writer.
 fn flush<W: Write>(writer: &mut W) -> Result<(), RunError>
     ensures fault { IfErr result (λ e. e ≡ RunError.Write) }
     ensures kept { Keeps (W.contents writer.old) (W.contents writer.new) }

@@ -7,7 +7,7 @@ ghost use Rattle.command_io.specs.Payload.{is_upper, payload_of};
 use hex::FromHexError;
 use std::alloc::{AllocError, Global};
 
-/// The payload that a line spells.
+/// Returns the payload that a line spells; `None` where it spells none.
 pub fn payload_of(alloc: Global, line: &[u8]) -> Result<Option<Vec<u8>>, AllocError>
     ensures { IfOk result (λ r. payload_of line.now ≡ option_map (λ payload. payload.items) r) }
 {
@@ -21,7 +21,7 @@ pub fn payload_of(alloc: Global, line: &[u8]) -> Result<Option<Vec<u8>>, AllocEr
     }
 }
 
-/// Whether a byte of the line is in upper case.
+/// Returns whether a byte of the line is an upper-case letter.
 fn has_upper(line: &[u8]) -> bool
     ensures { result ≡ list_any is_upper line.now }
 {

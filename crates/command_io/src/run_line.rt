@@ -10,7 +10,7 @@ use outcome::Outcome;
 use std::alloc::{AllocError, Global};
 use std::fmt::Write;
 
-/// The name of a trap.
+/// Returns the name of a trap.
 fn name_of_trap(trap: Trap) -> &'static str
     ensures { result.now ≡ name_of_trap trap }
 {
@@ -44,7 +44,7 @@ fn push_end(alloc: Global, output: &mut String, machine: &Machine) -> Result<(),
     }
 }
 
-/// Appends the line of a run, without its LF. What an `Err` leaves of the text is not said.
+/// Appends the line of a run, without its LF. It is not specified what an `Err` leaves of the text.
 pub fn push_run(alloc: Global, output: &mut String, machine: &Machine) -> Result<(), AllocError>
     ensures { OnOk result (string_bytes output.new ≡ string_bytes output.old ++ line_of_run machine.now.state) }
 {

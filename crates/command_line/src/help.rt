@@ -96,6 +96,7 @@ A file that cannot be opened, or is no store, is told by a line with its name, a
 With --upstream it has no ids of its own: it asks the registry at that URL, by http, for the schema of an id
 once, and rewrites messages by its ids; with --store too these schemas are in the file, for a later start.
 The file of credentials has one line, `user:password`.
+With --http11 connections stay open for more requests, contents may come in chunks, and Expect is answered.
 With --log each answer is a line on standard error: METHOD PATH STATUS RECEIVED SENT MICROSECONDS;
 and each question to the registry at that URL: fetch ID CODE MICROSECONDS.
 

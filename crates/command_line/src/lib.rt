@@ -21,7 +21,7 @@ const STEPS: &str = "1000000";
 /// The version of the program.
 const VERSION: &str = "0.1.0";
 
-/// The subcommand that prints a program, with its flag.
+/// Returns the subcommand that prints a program, with its flag.
 fn compile<'a>(alloc: Global) -> Result<Command<'a>, AllocError> {
     let image = Arg::new(alloc, "image")
         .long("image")
@@ -33,7 +33,7 @@ fn compile<'a>(alloc: Global) -> Result<Command<'a>, AllocError> {
         .arg(image)
 }
 
-/// The subcommand that runs a listed program, with its number of rows.
+/// Returns the subcommand that runs a listed program, with its number of rows.
 fn run<'a>(alloc: Global) -> Result<Command<'a>, AllocError> {
     let steps = Arg::new(alloc, "steps")
         .long("steps")
@@ -66,7 +66,7 @@ const MOST_CONNECTIONS: i64 = 65_536;
 /// The greatest number of seconds that a request may take, an hour.
 const MOST_TIMEOUT: i64 = 3_600;
 
-/// A word with a number from one to another, and its number where the word is not there.
+/// Returns the word with a number from `least` to `most`, which is `default` where the word is not there.
 fn numbered<'a>(
     alloc: Global,
     name: &'a str,
@@ -84,7 +84,7 @@ fn numbered<'a>(
         .help(help)
 }
 
-/// The address that a service listens on.
+/// Returns the word with the address that a service listens on.
 fn address<'a>(alloc: Global) -> Arg<'a> {
     Arg::new(alloc, "address")
         .long("address")
@@ -112,7 +112,7 @@ fn upstream<'a>(alloc: Global) -> Arg<'a> {
         .help("Rewrites messages by the ids of the schema registry at this URL")
 }
 
-/// Returns the word with the path of the credentials of an upstream registry. The error is want of memory.
+/// Returns the word with the path of the credentials of an upstream registry. The error is that memory ran out.
 fn credentials<'a>(alloc: Global) -> Result<Arg<'a>, AllocError> {
     Arg::new(alloc, "upstream-credentials")
         .long("upstream-credentials")
@@ -122,7 +122,15 @@ fn credentials<'a>(alloc: Global) -> Result<Arg<'a>, AllocError> {
         .requires_arg("upstream")
 }
 
-/// Whether a service logs its answers.
+/// Returns the word by which connections stay for more than one request.
+fn http11<'a>(alloc: Global) -> Arg<'a> {
+    Arg::new(alloc, "http11")
+        .long("http11")
+        .action(ArgAction::SetTrue)
+        .help("Serves connections that stay, as HTTP/1.1 has them")
+}
+
+/// Returns the word by which a service logs its answers.
 fn log<'a>(alloc: Global) -> Arg<'a> {
     Arg::new(alloc, "log")
         .long("log")
@@ -130,7 +138,7 @@ fn log<'a>(alloc: Global) -> Arg<'a> {
         .help("Writes a line for each answer to standard error")
 }
 
-/// The subcommand that serves HTTP, with its numbers.
+/// Returns the subcommand that serves HTTP, with its numbers.
 fn serve<'a>(alloc: Global) -> Result<Command<'a>, AllocError> {
     let port = "The port, 0 for any that is free";
     let clients = "How many threads answer requests";
@@ -141,6 +149,7 @@ fn serve<'a>(alloc: Global) -> Result<Command<'a>, AllocError> {
     let request = "How many seconds a request may take to come, and its answer to go";
     let kept = "Keeps the registry in this file, which is made where there is none";
     let waited = "How many seconds the registry at that URL may take to answer";
+    let idle = "How many seconds a connection that stays may wait for its next request";
     Command::new(alloc, "serve")
         .about("Serves the schema registry's API over HTTP, and rewrites messages")
         .after_help(help::SERVE)
@@ -163,6 +172,8 @@ fn serve<'a>(alloc: Global) -> Result<Command<'a>, AllocError> {
         .arg(upstream(alloc))?
         .arg(numbered(alloc, "upstream-timeout", 1, MOST_TIMEOUT, "5", waited))?
         .arg(credentials(alloc)?)?
+        .arg(http11(alloc))?
+        .arg(numbered(alloc, "idle-timeout", 1, MOST_TIMEOUT, "60", idle))?
         .arg(log(alloc))
 }
 
@@ -178,7 +189,7 @@ fn import<'a>(alloc: Global) -> Result<Command<'a>, AllocError> {
 /// The levels at which schemas are checked.
 const LEVELS: &[&str] = &["BACKWARD", "FORWARD", "FULL"];
 
-/// The greatest number of a node that may be asked for.
+/// The greatest index of a node that may be asked for.
 const MOST_NODE: i64 = 4_294_967_295;
 
 /// Returns the subcommand that checks two schemas, with the level at which it does.
@@ -217,12 +228,12 @@ fn explain<'a>(alloc: Global) -> Result<Command<'a>, AllocError> {
         .arg(node)
 }
 
-/// A subcommand without flags, what it does and what lines it reads and writes.
+/// Returns a subcommand without flags, by what it does and what lines it reads and writes.
 fn of_lines<'a>(alloc: Global, name: &'a str, about: &'a str, lines: &'a str) -> Command<'a> {
     Command::new(alloc, name).about(about).after_help(lines)
 }
 
-/// The command line: its subcommands, their flags and values, and their help.
+/// Returns the command line: its subcommands, their flags and values, and their help.
 pub fn cli<'a>(alloc: Global) -> Result<Command<'a>, AllocError> {
     let transcode = "Transcodes payloads from a writer's schema to a reader's";
     let debug = "Obeys the commands of a debugger on a payload, between two schemas";
@@ -246,7 +257,7 @@ pub fn cli<'a>(alloc: Global) -> Result<Command<'a>, AllocError> {
         .subcommand(import(alloc)?)
 }
 
-/// Returns a number of the words that were read. `None` where it is not there.
+/// Returns a number in the words that were read, by the name of its word. `None` where it is not there.
 fn number_of(words: &ArgMatches<'_>, name: &str) -> Option<u32> {
     let number: u64 = words.get_one(name)?;
     u32::try_from(number).ok()
@@ -267,6 +278,8 @@ fn serve_words_of<'w>(words: &ArgMatches<'w>) -> Option<ServeWords<'w>> {
         upstream: words.get_str("upstream"),
         upstream_timeout: number_of(words, "upstream-timeout")?,
         upstream_credentials: words.get_str("upstream-credentials"),
+        is_persistent: words.get_flag("http11"),
+        idle_timeout: number_of(words, "idle-timeout")?,
         is_logged: words.get_flag("log"),
     })
 }
@@ -301,7 +314,8 @@ pub fn task_of<'w>(matches: &ArgMatches<'w>) -> Option<Task<'w>> {
     }
 }
 
-/// What the words that were read ask for of the lines of standard input.
+/// Returns what the words that were read ask for of the lines of standard input. `None` where they ask for something
+/// else.
 fn verb_of(matches: &ArgMatches<'_>) -> Option<Verb> {
     match matches.subcommand() {
         Some(("transcode", _)) => Some(Verb::Transcode),

@@ -12,7 +12,7 @@ pub enum Task<'w> {
     Serve(ServeWords<'w>),
     /// To list the nodes of the schema on standard input.
     Nodes,
-    /// To check the two schemas on standard input, at the level of this name.
+    /// To check the two schemas on standard input, at the level with this name.
     Check(&'w str),
     /// To explain what becomes of messages between the two schemas on standard input.
     Explain(Explanation),
@@ -60,6 +60,10 @@ pub struct ServeWords<'w> {
     pub upstream_timeout: u32,
     /// The path of the file with the credentials by which the upstream registry is asked.
     pub upstream_credentials: Option<&'w str>,
+    /// Whether connections stay for more than one request.
+    pub is_persistent: bool,
+    /// The number of seconds that such a connection may wait for its next request.
+    pub idle_timeout: u32,
     /// Whether each answer is logged.
     pub is_logged: bool,
 }

@@ -25,7 +25,7 @@ pub(crate) const DEBUG_KINDS: [DebugKind; 6] = [
 ];
 
 impl DebugKind {
-    /// Its word.
+    /// Returns its word.
     fn name(self) -> &'static str
         ensures { result.now ≡ debug_kind_name self }
     {
@@ -39,7 +39,7 @@ impl DebugKind {
         }
     }
 
-    /// The kind that a word names.
+    /// Returns the kind that a word names; `None` where it names none.
     #[tactic(auto, unfolding(crate::specs::Reading::debug_kind_named))]
     pub(crate) fn named(word: &str) -> Option<DebugKind>
         ensures { result ≡ debug_kind_named word.now }

@@ -15,17 +15,17 @@ pub enum DebugLine {
     Break(u32),
     /// Clears the breakpoint at an address.
     Clear(u32),
-    /// Rows, at most so many, whatever breakpoints are set.
+    /// Takes at most this many rows, whatever breakpoints are set.
     Step(u64),
-    /// Rows, at most so many, of which the first alone may be at a breakpoint at which no content is begun.
+    /// Takes at most this many rows, of which the first alone may be at a breakpoint at which no content is begun.
     Go(u64),
-    /// The state is to be told.
+    /// Asks for the state.
     Show,
-    /// The listing of the program is to be told.
+    /// Asks for the listing of the program.
     List,
 }
 
-/// The line of a kind, by the words that are left.
+/// Returns the line of a kind, by the words that are left; `None` where they do not fit it.
 fn line_of_kind(kind: DebugKind, left: Option<&str>) -> Option<DebugLine>
     ensures { result ≡ debug_line_of_kind kind (words_left left.entry) }
 {
@@ -39,7 +39,7 @@ fn line_of_kind(kind: DebugKind, left: Option<&str>) -> Option<DebugLine>
     }
 }
 
-/// What a line of `debug` asks for. None where it has none of the forms, or is no text.
+/// Returns what a line of `debug` asks for. `None` where it has none of the forms, or is no text.
 #[tactic(auto, unfolding(crate::specs::Reading::debug_line, crate::specs::Reading::debug_line_in))]
 pub fn read_debug_line(line: &[u8]) -> Option<DebugLine>
     ensures { result ≡ debug_line line.now }

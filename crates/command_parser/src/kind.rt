@@ -45,7 +45,7 @@ pub(crate) const KINDS: [Kind; 16] = [
 ];
 
 impl Kind {
-    /// Its word.
+    /// Returns its word.
     fn name(self) -> &'static str
         ensures { result.now ≡ kind_name self }
     {
@@ -69,7 +69,7 @@ impl Kind {
         }
     }
 
-    /// The kind that a word names.
+    /// Returns the kind that a word names; `None` where it names none.
     #[tactic(auto, unfolding(crate::specs::Reading::kind_named))]
     pub(crate) fn named(word: &str) -> Option<Kind>
         ensures { result ≡ kind_named word.now }

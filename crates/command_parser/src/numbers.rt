@@ -6,7 +6,7 @@ ghost use Rattle.command_parser.specs.Words.{first_number, last_number, last_row
 use crate::words::{next_word, only_word};
 use assembler_lexer::is_numeral;
 
-/// The number below 2^32 that a word is.
+/// Returns the number below 2^32 that a word is; `None` where it is none.
 fn number_of(word: &str) -> Option<u32>
     ensures { result ≡ number_below (2 ^ 32) word.now }
 {
@@ -17,7 +17,7 @@ fn number_of(word: &str) -> Option<u32>
     }
 }
 
-/// The number below 2^64 that a word is.
+/// Returns the number below 2^64 that a word is; `None` where it is none.
 fn rows_of(word: &str) -> Option<u64>
     ensures { result ≡ number_below (2 ^ 64) word.now }
 {
@@ -28,7 +28,7 @@ fn rows_of(word: &str) -> Option<u64>
     }
 }
 
-/// The first number, and what is left after it.
+/// Returns the first number, and what is left after it; `None` where the first word is no number.
 #[tactic(auto, unfolding(crate::specs::Words::first_number))]
 pub(crate) fn first_number(left: Option<&str>) -> Option<(u32, Option<&str>)>
     ensures { option_map (λ p. (p.0, words_left p.1)) result ≡ first_number (words_left left.entry) }
@@ -38,7 +38,7 @@ pub(crate) fn first_number(left: Option<&str>) -> Option<(u32, Option<&str>)>
     Some((number, left))
 }
 
-/// The number that alone is left.
+/// Returns the one number that is left; `None` where other words are left.
 #[tactic(auto, unfolding(crate::specs::Words::last_number))]
 pub(crate) fn last_number(left: Option<&str>) -> Option<u32>
     ensures { result ≡ last_number (words_left left.entry) }
@@ -47,7 +47,7 @@ pub(crate) fn last_number(left: Option<&str>) -> Option<u32>
     number_of(word)
 }
 
-/// The two numbers that are left.
+/// Returns the two numbers that are left; `None` where other words are left.
 #[tactic(auto, unfolding(crate::specs::Words::two_numbers))]
 pub(crate) fn pair(left: Option<&str>) -> Option<(u32, u32)>
     ensures { result ≡ two_numbers (words_left left.entry) }
@@ -57,7 +57,7 @@ pub(crate) fn pair(left: Option<&str>) -> Option<(u32, u32)>
     Some((first, second))
 }
 
-/// The number of rows that alone is left.
+/// Returns the one number of rows that is left; `None` where other words are left.
 #[tactic(auto, unfolding(crate::specs::Words::last_rows))]
 pub(crate) fn last_rows(left: Option<&str>) -> Option<u64>
     ensures { result ≡ last_rows (words_left left.entry) }
@@ -66,7 +66,7 @@ pub(crate) fn last_rows(left: Option<&str>) -> Option<u64>
     rows_of(word)
 }
 
-/// The number and the number of rows that are left.
+/// Returns the number and the number of rows that are left; `None` where other words are left.
 #[tactic(auto, unfolding(crate::specs::Words::number_and_rows))]
 pub(crate) fn number_and_rows(left: Option<&str>) -> Option<(u32, u64)>
     ensures { result ≡ number_and_rows (words_left left.entry) }

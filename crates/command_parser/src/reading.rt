@@ -14,7 +14,7 @@ use crate::words::first_word;
 use session_core::{Act, Event};
 use std::alloc::{AllocError, Global};
 
-/// An act on the session of a number.
+/// Returns the request for an act on the session at an index.
 pub(crate) fn on_session(session: u32, act: Act) -> Request
     ensures { request_of result ≡ on_session session (act_of act) }
 {
@@ -24,7 +24,7 @@ pub(crate) fn on_session(session: u32, act: Act) -> Request
     })
 }
 
-/// A session, a worker and a number of rows.
+/// Returns the request for a slice, by a session, a worker and a number of rows; `None` where other words are left.
 #[tactic(auto, unfolding(crate::specs::Reading::slice_in))]
 fn slice_of(left: Option<&str>) -> Option<Request>
     ensures { option_map request_of result ≡ slice_in (words_left left.entry) }
@@ -34,7 +34,7 @@ fn slice_of(left: Option<&str>) -> Option<Request>
     Some(on_session(session, Act::Slice { worker, rows }))
 }
 
-/// What a line of a kind asks for, by the words that are left.
+/// Returns what a line of a kind asks for, by the words that are left; `None` where they do not fit it.
 fn request_of_kind(
     alloc: Global,
     kind: Kind,
@@ -84,7 +84,7 @@ fn request_of_kind(
     }
 }
 
-/// What a line of `replay` asks for. None where it has none of the forms, or is no text.
+/// Returns what a line of `replay` asks for. `None` where it has none of the forms, or is no text.
 #[tactic(auto, unfolding(crate::specs::Reading::replay_line, crate::specs::Reading::replay_line_in, crate::specs::Reading::kind_in))]
 pub fn read_replay_line(alloc: Global, line: &[u8]) -> Result<Option<Request>, AllocError>
     ensures line { IfOk result (λ found. option_map request_of found ≡ replay_line line.now) }

@@ -9,10 +9,10 @@ pub enum Request {
     Event(Event),
     /// A level was to be set by a word that names none; this is why it is not.
     NoLevel(Refusal),
-    /// The state of the session of this number.
+    /// Asks for the state of the session at this index.
     Show(usize),
-    /// The listing of its program.
+    /// Asks for the listing of its program.
     List(usize),
-    /// How it ended.
+    /// Asks how it ended.
     Result(usize),
 }

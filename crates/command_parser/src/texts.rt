@@ -16,7 +16,7 @@ use schema_registry::{Level, Refusal, is_subject};
 use session_core::{Act, Event};
 use std::alloc::{AllocError, Global};
 
-/// The event that registers a text.
+/// Returns the event that registers a text for a subject, as a request.
 fn register(alloc: Global, subject: &str, text: &str) -> Result<Request, AllocError>
     ensures { IfOk result (λ request. request_of request ≡ Happen (Register subject.now text.now)) }
 {
@@ -25,7 +25,8 @@ fn register(alloc: Global, subject: &str, text: &str) -> Result<Request, AllocEr
     Ok(Request::Event(Event::Register { subject, text }))
 }
 
-/// A subject, and a schema's text, which is all after the space behind it.
+/// Returns the request that registers a text, by a subject, and a schema's text, which is all after the next space;
+/// `None` where these are not left.
 #[tactic(auto, unfolding(crate::specs::Reading::register_in))]
 pub(crate) fn register_of(alloc: Global, left: Option<&str>) -> Result<Option<Request>, AllocError>
     ensures line { IfOk result (λ found. option_map request_of found ≡ register_in (words_left left.entry)) }
@@ -38,14 +39,14 @@ pub(crate) fn register_of(alloc: Global, left: Option<&str>) -> Result<Option<Re
     Ok(Some(line))
 }
 
-/// The level of a name.
+/// Returns the level with a name; `None` where no level has it.
 fn level_of(word: &str) -> Option<Level>
     ensures { result ≡ level_named word.now }
 {
     Level::parse(word).ok()
 }
 
-/// The subject of a word, which is none for the global level.
+/// Returns the subject that a word names, which is `None` for `*`, the global level.
 fn subject_of(alloc: Global, word: &str) -> Result<Option<String>, AllocError>
     ensures subject { IfOk result (λ subject. option_map string_bytes subject ≡ subject_in word.now) }
     ensures memory { IfErr result (λ e. IsSome (subject_in word.now)) }
@@ -57,7 +58,8 @@ fn subject_of(alloc: Global, word: &str) -> Result<Option<String>, AllocError>
     Ok(Some(subject))
 }
 
-/// Why a level is not set by a word that names none: the subject is looked at first.
+/// Returns why a level is not set by a word that names none: `BadSubject` where the subject has no valid name, else
+/// `BadLevel`.
 fn no_level(subject: &str) -> Refusal
     ensures { result ≡ no_level (subject_in subject.now) }
 {
@@ -68,7 +70,7 @@ fn no_level(subject: &str) -> Refusal
     }
 }
 
-/// The event that sets a level, or why none is set.
+/// Returns the event that sets a level, or why none is set, as a request.
 fn set_level(alloc: Global, subject: &str, level: &str) -> Result<Request, AllocError>
     ensures line { IfOk result
         (λ request. request_of request ≡ set_level (subject_in subject.now) (level_named level.now)) }
@@ -82,7 +84,7 @@ fn set_level(alloc: Global, subject: &str, level: &str) -> Result<Request, Alloc
     Ok(Request::Event(Event::Level { subject, level }))
 }
 
-/// A subject and the name of a level.
+/// Returns the request that sets a level, by a subject and the name of a level; `None` where other words are left.
 #[tactic(auto, unfolding(crate::specs::Reading::level_in))]
 pub(crate) fn level_line_of(
     alloc: Global,
@@ -98,7 +100,7 @@ pub(crate) fn level_line_of(
     Ok(Some(line))
 }
 
-/// The bytes of the word that alone is left.
+/// Returns the bytes that the one word that is left spells; `None` where it spells none, or other words are left.
 #[tactic(auto, unfolding(crate::specs::Words::last_bytes))]
 fn last_bytes(alloc: Global, left: Option<&str>) -> Result<Option<Vec<u8>>, AllocError>
     ensures { IfOk result (λ found. option_map (λ bytes. bytes.items) found ≡ last_bytes (words_left left.entry)) }
@@ -109,7 +111,8 @@ fn last_bytes(alloc: Global, left: Option<&str>) -> Result<Option<Vec<u8>>, Allo
     }
 }
 
-/// The number of a session, and bytes.
+/// Returns the request that adds a piece to a session, by its index and the piece's bytes; `None` where other words
+/// are left.
 #[tactic(auto, unfolding(crate::specs::Reading::piece_in))]
 pub(crate) fn piece_of(alloc: Global, left: Option<&str>) -> Result<Option<Request>, AllocError>
     ensures { IfOk result (λ found. option_map request_of found ≡ piece_in (words_left left.entry)) }

@@ -21,7 +21,7 @@ use Rattle.command_sessions.specs.Folding.{AnswersAll}
 use Rattle.command_sessions.specs.Telling.{bad_line, refused_line}
 use Rattle.debugger.specs.Sessions.{Lists, Shows}
 
--- what is done is not told
+-- a command that is done answers nothing
 abbrev pub done_line : {E : Type 0} → (E → List ℕ) → Result (Unit {0}) E → List ℕ
 done_line name (Ok u) = []
 done_line name (Err e) = refused_line (name e)

@@ -61,7 +61,7 @@ fn push_cleared(session: &mut Session, address: u32, output: &mut String) -> Res
     }
 }
 
-/// Does what a line asks for, and appends what is told of it.
+/// Executes what a line asks for, and appends the answer to it.
 fn obey(
     alloc: Global,
     session: &mut Session,
@@ -103,7 +103,7 @@ fn push_answer(
     }
 }
 
-/// A session that has its whole payload.
+/// Returns a session that has its whole payload.
 fn given<'p>(
     alloc: Global,
     program: &'p PlannedProgram,
@@ -124,7 +124,7 @@ fn given<'p>(
     Ok(session)
 }
 
-/// The answers to commands, on a program and its payload.
+/// Returns the answers to commands, on a program and its payload.
 fn answers(
     alloc: Global,
     program: &PlannedProgram,
@@ -145,8 +145,8 @@ fn answers(
     Ok(output)
 }
 
-/// The answers to the commands of a debugger, a line each, which follow the line of a payload. The payload is there
-/// whole before the first command.
+/// Returns the answers to the commands of a debugger, a line each, which follow the line of a payload. The payload is
+/// there whole before the first command.
 pub fn debug(
     alloc: Global,
     writer: &Nodes,

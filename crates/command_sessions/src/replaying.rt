@@ -76,7 +76,7 @@ fn push_answer<'p>(
     }
 }
 
-/// The answers to lines, whose programs stand in a row.
+/// Returns the answers to lines, whose programs are in a row.
 fn answers<'p>(alloc: Global, programs: &'p PairRow, input: &[u8]) -> Result<String, AllocError>
     ensures { IfOk result (λ output. IsReplayed (lines input.now) (string_bytes output)) }
 {
@@ -90,8 +90,8 @@ fn answers<'p>(alloc: Global, programs: &'p PairRow, input: &[u8]) -> Result<Str
     Ok(output)
 }
 
-/// The answers to lines, each of which is an event of a world, or asks for a text of one of its sessions. The world has
-/// room for as many programs as there are lines.
+/// Returns the answers to lines, each of which is an event of a world, or asks for a text of one of its sessions. The
+/// world has room for as many programs as there are lines.
 pub fn replay(alloc: Global, input: &[u8]) -> Result<String, AllocError>
     ensures { IfOk result (λ output. IsReplayed (lines input.now) (string_bytes output)) }
 {

@@ -1,4 +1,5 @@
--- Each input has just one output: line by line, since each payload has just one outcome, and each run one state in which it stops.
+-- Each input has just one output: line by line, since each payload has just one outcome, and each run just one state in
+-- which it stops.
 use Rattle.std.proofs.Common.{◌≡◌, ℕ, Bool, true, false, List, [], ◌∷◌, ◌++◌, length, Option, Some, None, Result, Ok, Err, MatchBool, MatchOption, MatchResult, nat_lt, drop, codes, refl, sym, ap, ◌∙◌}
 use Rattle.std.specs.List.{concat}
 use Rattle.avro_types.specs.Node.{Node}

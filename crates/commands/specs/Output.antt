@@ -82,7 +82,7 @@ IsOutput (Run steps) = IsRun steps
 IsOutput Debug = IsForSchemas IsDebug
 IsOutput Replay = IsReplay
 
--- Not what tells of want of memory in the midst of an input.
+-- not a verb whose output may report want of memory in the midst of an input
 abbrev pub IsSettled : Verb → Type 0
 IsSettled Debug = ⊥
 IsSettled Replay = ⊥

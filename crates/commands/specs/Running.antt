@@ -14,8 +14,8 @@ use Rattle.command_io.specs.RunLine.{line_of_run}
 abbrev pub pieces_of : List ℕ → Option (List (List ℕ))
 pieces_of line = each_in payload_of (parts 124 line)
 
--- The state in which a run on a whole payload stops that may take so many rows: it is the program run alone, as many
--- rows on as it has counted, and fewer than it may take only where it has ended.
+-- The state in which a run on a whole payload stops, of at most `steps` rows: it is the program run alone, as many rows
+-- on as it has counted, and fewer than `steps` only where it has ended.
 pub record StopsIn (P : Program) (payload : List ℕ) (steps : ℕ) (s : State) : Type 0 where
   pub alone : run_alone P payload true s.count ≡ Some s
   pub most : s.count ≤ steps

@@ -13,7 +13,7 @@ use Rattle.commands.specs.declared.refusal.Refusal.TheVariants.{BadSchema}
 abbrev pub schema_of_line : List ℕ → Result (List Node) SchemaError
 schema_of_line line = if is_utf8 line then schema_of line else Err NotJson
 
--- where either may be bad, the writer's is told first
+-- where both are bad, the writer's is reported
 abbrev pub both : Result (List Node) SchemaError → Result (List Node) SchemaError
     → Result (List Node × List Node) Refusal
 both (Err error) reader = Err (BadSchema 1 error)

@@ -20,7 +20,7 @@ use command_sessions::replay;
 use std::alloc::{AllocError, Global};
 use std::io::{Read, Write};
 
-/// The output for an input that is answered.
+/// Returns the output for an input that is answered, or why it is not.
 fn answered(alloc: Global, verb: &Verb, input: &[u8]) -> Result<String, Refusal>
     ensures ok { IfOk result (λ output. IsOutput verb.now input.now (string_bytes output) Answered) }
     ensures err { IfErr result (λ e. e ≢ Refusal.NoMemory →
@@ -47,7 +47,7 @@ fn answered(alloc: Global, verb: &Verb, input: &[u8]) -> Result<String, Refusal>
     }
 }
 
-/// The output for an input, and the status.
+/// Returns the output for an input, and the status.
 fn output_of(alloc: Global, verb: &Verb, input: &[u8]) -> Result<(String, Status), AllocError>
     ensures { IfOk result (λ r. IsOutput verb.now input.now (string_bytes r.0) r.1) }
 {
@@ -57,7 +57,7 @@ fn output_of(alloc: Global, verb: &Verb, input: &[u8]) -> Result<(String, Status
     }
 }
 
-/// Reads the whole input, makes the whole output, and then writes it.
+/// Reads the whole input, makes the whole output, and then writes it. Returns the status.
 ///
 /// After `Read` or `NoMemory` nothing is written, after `Write` a beginning of the output.
 pub fn run<R: Read, W: Write>(

@@ -15,7 +15,7 @@ use isa::Program;
 use program_compiler::CompileError;
 use std::alloc::{AllocError, Global};
 
-/// The image of a program, in one line of hexadecimal.
+/// Returns the image of a program, in one line of hexadecimal.
 fn image_line(alloc: Global, program: &Program) -> Result<String, AllocError>
     ensures { IfOk result (λ line. string_bytes line ≡ encode_lower (image_of program.now) ++ 10 ∷ []) }
 {
@@ -25,7 +25,7 @@ fn image_line(alloc: Global, program: &Program) -> Result<String, AllocError>
     Ok(line)
 }
 
-/// The text of a program: its listing, or its image.
+/// Returns the text of a program: its image where `image` says so, else its listing.
 fn text_of_program(alloc: Global, program: &Program, image: bool) -> Result<String, AllocError>
     ensures { IfOk result (λ text. string_bytes text ≡ text_of_program image program.now) }
 {
@@ -36,7 +36,7 @@ fn text_of_program(alloc: Global, program: &Program, image: bool) -> Result<Stri
     }
 }
 
-/// The text of the program of a pair of schemas.
+/// Returns the text of the program of a pair of schemas, as `text_of_program` has it.
 pub(crate) fn compile(
     alloc: Global,
     writer: &Nodes,

@@ -11,7 +11,7 @@ use avro_types::Nodes;
 use command_sessions::DebugError;
 use std::alloc::Global;
 
-/// The answers to the commands of a debugger, which follow the line of a payload.
+/// Returns the answers to the commands of a debugger, which follow the line of a payload.
 pub(crate) fn debug(
     alloc: Global,
     writer: &Nodes,

@@ -7,14 +7,14 @@ ghost use Rattle.commands.specs.Listed.{listed};
 
 use command_io::split_line;
 
-/// Whether a line ends the listing.
+/// Returns whether a line ends the listing.
 fn is_end(line: &[u8]) -> bool
     ensures { result ≡ bytes_eq line.now (codes "end") }
 {
     line == "end".as_bytes()
 }
 
-/// The listing of an input, and what follows the first line `end`.
+/// Returns the listing of an input, and what follows the first line `end`.
 pub(crate) fn split_listing(input: &[u8]) -> (&[u8], &[u8])
     ensures { listed input.now ≡ (result.0.now, lines result.1.now) }
 {

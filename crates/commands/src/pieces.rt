@@ -9,7 +9,7 @@ use isa::Lists;
 use memchr::memchr;
 use std::alloc::{AllocError, Global};
 
-/// The text before the first bar, and what follows the bar.
+/// Returns the text before the first bar, and what follows the bar; `None` where there is no bar.
 fn split_bar(line: &[u8]) -> (&[u8], Option<&[u8]>)
     ensures { MatchOption result.1 (parts 124 line.now ≡ result.0.now ∷ [])
         (λ later. (parts 124 line.now ≡ result.0.now ∷ parts 124 later.now) × (length later.now < length line.now)) }
@@ -20,7 +20,7 @@ fn split_bar(line: &[u8]) -> (&[u8], Option<&[u8]>)
     }
 }
 
-/// The pieces that a line spells, which are parted by bars.
+/// Returns the pieces that a line spells, which are separated by bars; `None` where one of them spells no bytes.
 pub(crate) fn pieces_of(alloc: Global, line: &[u8]) -> Result<Option<Lists<u8>>, AllocError>
     ensures { IfOk result (λ found. pieces_of line.now ≡ found) }
 {

@@ -46,7 +46,7 @@ impl<T: Drop> From<AllocFailed<T>> for Refusal {
     }
 }
 
-/// The line of a bad schema.
+/// Returns the line that reports a bad schema.
 fn bad_schema(alloc: Global, line: u8, error: SchemaError) -> Result<String, AllocError>
     ensures { IfOk result (λ text. string_bytes text ≡ text_of (Refusal.BadSchema line error) ++ 10 ∷ []) }
 {
@@ -55,7 +55,7 @@ fn bad_schema(alloc: Global, line: u8, error: SchemaError) -> Result<String, All
     Ok(text)
 }
 
-/// The name of what is wrong with a listing.
+/// Returns the name of what is wrong with a listing.
 fn name_of_fault(kind: AsmErrorKind) -> &'static str
     ensures { result.now ≡ name_of_fault kind }
 {
@@ -69,7 +69,7 @@ fn name_of_fault(kind: AsmErrorKind) -> &'static str
     }
 }
 
-/// The line of a bad listing.
+/// Returns the line that reports a bad listing.
 fn bad_listing(alloc: Global, fault: AsmFault) -> Result<String, AllocError>
     ensures { IfOk result (λ text. string_bytes text ≡ text_of (Refusal.BadListing fault) ++ 10 ∷ []) }
 {
@@ -80,7 +80,7 @@ fn bad_listing(alloc: Global, fault: AsmFault) -> Result<String, AllocError>
 }
 
 impl Refusal {
-    /// The refusal of the schema in a line. Memory that ran out is no fault of a schema.
+    /// Returns the refusal of the schema in a line. Memory that ran out is no fault of a schema.
     pub(crate) fn of_schema(line: u8, error: SchemaError) -> Refusal
         ensures memory { error ≡ SchemaError.NoMemory → result ≡ Refusal.NoMemory }
         ensures bad { error ≢ SchemaError.NoMemory → result ≡ Refusal.BadSchema line error }
@@ -92,7 +92,7 @@ impl Refusal {
         }
     }
 
-    /// Its line, where memory did not run out.
+    /// Returns its line. The error is that memory ran out, also where that is the refusal itself.
     pub(crate) fn line(self, alloc: Global) -> Result<String, AllocError>
         ensures memory { IfOk result (λ _. self ≢ Refusal.NoMemory) }
         ensures text { IfOk result (λ line. string_bytes line ≡ text_of self ++ 10 ∷ []) }

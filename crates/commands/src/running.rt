@@ -21,7 +21,7 @@ use machine::{PlannedProgram, Run, Why};
 use outcome::MOST_PAYLOAD;
 use std::alloc::{AllocError, Global};
 
-/// Takes rows until so many were taken in all, or no more are there.
+/// Takes rows until `steps` were taken in all, or no more are there.
 fn take_rows(run: &mut Run, steps: u64) -> Result<(), AllocError>
     requires { run.old.machine.state.count ≤ steps }
     ensures most { run.new.machine.state.count ≤ steps }
@@ -94,7 +94,7 @@ fn push_line_answer(
     }
 }
 
-/// The answers to payload lines.
+/// Returns the answers to payload lines.
 fn answers(
     alloc: Global,
     program: &PlannedProgram,
@@ -114,7 +114,7 @@ fn answers(
     Ok(output)
 }
 
-/// The answers to payload lines of the program whose listing stands before them.
+/// Returns the answers to payload lines of the program whose listing precedes them.
 pub(crate) fn run_listed(alloc: Global, input: &[u8], steps: u64) -> Result<String, Refusal>
     ensures ok { IfOk result (λ output. (P : Parted) × (assembled (listed input.now).0 ≡ Ok P)
         × AreAnswers (IsRunLine P steps) (listed input.now).1 (string_bytes output)) }

@@ -18,7 +18,7 @@ pub(crate) struct Schemas<'a> {
     pub(crate) later: &'a [u8],
 }
 
-/// The schema of a line.
+/// Returns the schema of a line.
 fn schema_of_line(alloc: Global, line: &[u8]) -> Result<Schema, SchemaError>
     ensures ok { IfOk result (λ schema. schema_of_line line.now ≡ Ok schema.nodes) }
     ensures err { IfErr result (λ e. e ≢ NoMemory → schema_of_line line.now ≡ Err e) }
@@ -29,7 +29,7 @@ fn schema_of_line(alloc: Global, line: &[u8]) -> Result<Schema, SchemaError>
     }
 }
 
-/// The schemas in the first two lines of an input.
+/// Returns the schemas in the first two lines of an input, and what follows these.
 pub(crate) fn schemas_of<'a>(alloc: Global, input: &'a [u8]) -> Result<Schemas<'a>, Refusal>
     ensures ok { IfOk result (λ s. schemas_of (lines input.now) ≡ Ok (s.writer.nodes, s.reader.nodes)) }
     ensures later { IfOk result (λ s. lines s.later.now ≡ drop 2 (lines input.now)) }

@@ -18,7 +18,7 @@ pub enum Status {
 }
 
 impl Status {
-    /// Its number, as a program exits with it.
+    /// Returns its number, as a program exits with it.
     pub fn code(self) -> u8
         ensures { result ≡ exit_code_of self }
     {

@@ -13,7 +13,7 @@ use machine::Transcoder;
 use program_compiler::CompileError;
 use std::alloc::{AllocError, Global};
 
-/// The answers to payload lines.
+/// Returns the answers to payload lines.
 fn answers(
     alloc: Global,
     transcoder: &mut Transcoder,
@@ -32,7 +32,7 @@ fn answers(
     Ok(output)
 }
 
-/// The answers to payload lines, by the program of the pair of schemas.
+/// Returns the answers to payload lines, by the program of the pair of schemas.
 pub(crate) fn transcode(
     alloc: Global,
     writer: &Nodes,

@@ -7,7 +7,7 @@ use program_compiler::{CompileError, compile};
 use std::alloc::{AllocError, Global};
 use std::process::Abort;
 
-/// A schema, parsed again where memory ran out the first time.
+/// Returns a schema, parsed again where memory ran out the first time.
 pub(crate) fn parsed(alloc: Global, text: &str) -> Result<Schema, SchemaError> {
     match Schema::parse(alloc, text) {
         Err(SchemaError::NoMemory) => Schema::parse(alloc, text),
@@ -22,14 +22,14 @@ pub(crate) struct Pair {
     pub(crate) reader: Schema,
 }
 
-/// The schemas of two texts.
+/// Returns the schemas of two texts.
 pub(crate) fn pair_of(alloc: Global, writer: &str, reader: &str) -> Result<Pair, SchemaError> {
     let writer = parsed(alloc, writer)?;
     let reader = parsed(alloc, reader)?;
     Ok(Pair { writer, reader })
 }
 
-/// A program, compiled again where memory ran out the first time.
+/// Returns the program of a pair, compiled again where memory ran out the first time.
 pub(crate) fn compiled(alloc: Global, pair: &Pair) -> Result<Program, CompileError> {
     let (w, r) = (pair.writer.nodes(), pair.reader.nodes());
     match compile(alloc, w, r) {
@@ -38,7 +38,7 @@ pub(crate) fn compiled(alloc: Global, pair: &Pair) -> Result<Program, CompileErr
     }
 }
 
-/// The program of the schemas of two texts.
+/// Returns the program of the schemas of two texts.
 pub(crate) fn program_of(
     rt: &(impl Abort + AllocGlobal),
     writer: &str,
@@ -49,7 +49,7 @@ pub(crate) fn program_of(
     PlannedProgram::new(rt.alloc(), program)
 }
 
-/// A transcoder, made again where memory ran out the first time.
+/// Returns the transcoder of a pair, made again where memory ran out the first time.
 pub(crate) fn transcoder(alloc: Global, pair: &Pair) -> Result<Transcoder<'_>, CompileError> {
     let (w, r) = (pair.writer.nodes(), pair.reader.nodes());
     match Transcoder::new(alloc, w, r) {
@@ -58,7 +58,7 @@ pub(crate) fn transcoder(alloc: Global, pair: &Pair) -> Result<Transcoder<'_>, C
     }
 }
 
-/// The outcome of one payload of several, asked again where memory ran out the first time.
+/// Returns the outcome of one payload of several, asked for again where memory ran out the first time.
 pub(crate) fn outcome(
     transcoder: &mut Transcoder<'_>,
     payload: &[u8],
@@ -69,7 +69,7 @@ pub(crate) fn outcome(
     }
 }
 
-/// The outcome of one payload, asked again where memory ran out the first time.
+/// Returns the outcome of one payload, asked for again where memory ran out the first time.
 pub(crate) fn transcoded(alloc: Global, pair: &Pair, payload: &[u8]) -> Result<Outcome, PairError> {
     let (w, r) = (pair.writer.nodes(), pair.reader.nodes());
     match transcode(alloc, w, r, payload) {
@@ -78,7 +78,7 @@ pub(crate) fn transcoded(alloc: Global, pair: &Pair, payload: &[u8]) -> Result<O
     }
 }
 
-/// More bytes for a run that takes some, given again where memory ran out the first time.
+/// Appends bytes to a run that takes some, again where memory ran out the first time.
 pub(crate) fn pushed(run: &mut Run<'_>, piece: &[u8]) -> Result<(), AllocError> {
     if run.is_closed() {
         return Ok(());

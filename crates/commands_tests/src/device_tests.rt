@@ -10,7 +10,7 @@ const EXAMPLE: &[u8] = b"\"long\"\n\"long\"\n02\n7f\n";
 
 const EXAMPLE_OUTPUT: &[u8] = b"done 02\ndone 7f\n";
 
-/// Whether a run that is read by a device ends so and writes an output, and how often the device is called.
+/// Asserts that a run that is read by a device ends so and writes an output. Returns how often the device is called.
 fn assert_reads(
     rt: &(impl Abort + AllocGlobal),
     fails_at: usize,
@@ -37,18 +37,18 @@ fn fails_at_each_read_in_turn(rt: HostRuntime) {
     }
 }
 
-/// How a run ends that is written to a device.
+/// Returns how a run ends that is written to a device.
 fn drips(alloc: Global, writer: &mut Drip) -> Result<Status, RunError> {
     let mut reader = EXAMPLE;
     run(alloc, &Verb::Transcode, &mut reader, writer)
 }
 
-/// Whether a device took all, and it was passed on.
+/// Returns whether a device took all, and was flushed.
 fn has_all(writer: &Drip) -> bool {
     writer.taken.as_slice() == EXAMPLE_OUTPUT && writer.passed_on == EXAMPLE_OUTPUT.len()
 }
 
-/// Whether a run to a device that never fails writes all, and how often the device is called.
+/// Asserts that a run to a device that never fails writes all. Returns how often the device is called.
 fn assert_writes_all(rt: &(impl Abort + AllocGlobal)) -> usize {
     let mut writer = Drip::new(rt.alloc(), NEVER);
     let done = drips(rt.alloc(), &mut writer);
@@ -56,7 +56,7 @@ fn assert_writes_all(rt: &(impl Abort + AllocGlobal)) -> usize {
     writer.calls
 }
 
-/// Whether a device took what comes before a call, at which it failed, and nothing was passed on.
+/// Returns whether a device took what comes before a call, at which it failed, and nothing was flushed.
 fn is_cut(writer: &Drip, call: usize) -> bool {
     let interrupted = call.wrapping_add(1) / 3;
     writer.passed_on == 0
@@ -64,7 +64,7 @@ fn is_cut(writer: &Drip, call: usize) -> bool {
         && writer.taken.len() + interrupted == call
 }
 
-/// Whether a run to a device that fails at a call ends so.
+/// Asserts that a run to a device that fails at a call ends so.
 fn assert_fails_at(rt: &(impl Abort + AllocGlobal), call: usize) {
     let mut writer = Drip::new(rt.alloc(), call);
     let done = drips(rt.alloc(), &mut writer);

@@ -1,9 +1,9 @@
-//! Devices that give and take little, and fail.
+//! Devices that return and take little, and fail.
 
 use std::alloc::{AllocError, Global};
 use std::io::{self, ErrorKind, Read, Write};
 
-/// A number of a call that is never reached.
+/// The index of a call that is never reached.
 pub(crate) const NEVER: usize = usize::MAX;
 
 /// Counts a call of a device, which fails where it is the one that is to fail.
@@ -24,7 +24,7 @@ fn begin_call(calls: &mut usize, fails_at: usize) -> io::Result<()> {
     Ok(())
 }
 
-/// A reader of memory that gives a byte at a time, fails at one call, and is interrupted at each third one.
+/// A reader of memory that returns a byte at a time, fails at one call, and is interrupted at each third one.
 #[derive(Drop)]
 pub(crate) struct Trickle<'a> {
     pub(crate) left: &'a [u8],

@@ -10,7 +10,7 @@ use outcome::MOST_OUTPUT;
 use std::alloc::{AllocError, Global};
 use std::test::Fail;
 
-/// Answers whether the plan of a program finds an output of a payload where exactly its bytes may be put, and nothing
+/// Returns whether the plan of a program finds an output of a payload where exactly its bytes may be put, and nothing
 /// where one byte fewer may.
 fn is_limited(
     alloc: Global,
@@ -44,7 +44,7 @@ fn rows_limited(alloc: Global) -> Result<usize, AllocError> {
     Ok(ROWS.len())
 }
 
-/// The number of records of a long message, as it is spelled.
+/// The number of records of a long message, as it is encoded.
 const MANY: &[u8] = &[0xc0, 0xb8, 0x02];
 
 /// Appends `item`, 20,000 times, as an array's one block.
@@ -64,8 +64,8 @@ fn program_of_arrays(alloc: Global) -> Result<PlannedProgram, AllocError> {
     planned_program(alloc, writer.as_str(), reader.as_str())
 }
 
-/// Answers whether one slice of just its rows takes a message of 2 MB whole, by its program's plan: the arena is then
-/// the output, whose fields lie in the reader's order. One row at a time, they would lie there in the writer's.
+/// Returns whether one slice of just its rows takes a message of 2 MB whole, by its program's plan: the arena is then
+/// the output, whose fields are in the reader's order. One row at a time, they would be there in the writer's.
 fn is_taken_whole(alloc: Global) -> Result<bool, AllocError> {
     let Some(text) = letters(alloc, 100)? else {
         return Ok(false);

@@ -31,13 +31,13 @@ const ROWS: [(&str, &str, &[u8], &str); 4] = [
     ("\"int\"", "\"int\"", &[0x80, 0x00], "done 00"),
 ];
 
-/// Whether the outcome of a payload of a pair is that one.
+/// Returns whether the outcome of a payload of a pair is that one.
 fn is_told(alloc: Global, pair: &Pair, payload: &[u8], want: &str) -> Result<bool, AllocError> {
     let told = pair_words(alloc, pair, payload)?;
     Ok(told.as_str() == want)
 }
 
-/// Whether the outcome of a payload of the schemas of two texts is that one.
+/// Returns whether the outcome of a payload of the schemas of two texts is that one.
 fn is_row(
     alloc: Global,
     writer: &str,
@@ -60,7 +60,7 @@ fn payloads_by_themselves(rt: HostRuntime) -> Result<(), AllocError> {
     Ok(())
 }
 
-/// A text, so many times another with the numbers from 1 on in place of `%`, and a last one.
+/// Returns a text, then another `many` times with the numbers from 1 on in place of `%`, and a last one.
 fn wide(
     alloc: Global,
     first: &str,
@@ -78,7 +78,7 @@ fn wide(
     Ok(text)
 }
 
-/// A union of 648 records R without fields, and a record R of 200 fields, all by default.
+/// Returns a union of 648 records R without fields, and a record R of 200 fields, all by default.
 fn wide_pair(alloc: Global) -> Result<Pair, Fail> {
     let writer = wide(
         alloc,
@@ -97,7 +97,7 @@ fn wide_pair(alloc: Global) -> Result<Pair, Fail> {
     Ok(pair_of(alloc, &writer, &reader)?)
 }
 
-/// Whether the program of a pair is too large.
+/// Returns whether the program of a pair is too large.
 fn has_no_program(alloc: Global, pair: &Pair) -> Result<bool, AllocError> {
     let is_refused = compiled(alloc, pair).err() == Some(CompileError::ProgramTooLarge);
     Ok(is_refused && is_told(alloc, pair, &[0], "program too large")?)
@@ -110,14 +110,14 @@ fn programs_too_large(rt: HostRuntime) -> Result<(), Fail> {
     Ok(())
 }
 
-/// Whether a payload that is too large is refused, and the next one is taken.
+/// Returns whether a payload that is too large is refused, and the next one is taken.
 fn refuses(transcoder: &mut Transcoder<'_>, long: &[u8]) -> bool {
     let refused = outcome(transcoder, long).err() == Some(TranscodeError::TooLarge);
     let next = outcome(transcoder, &[2]);
     refused && matches!(&next, Ok(Outcome::Done(bytes)) if bytes.as_slice() == [2].as_slice())
 }
 
-/// The same of a transcoder of a pair of ints, and of a payload by itself.
+/// Returns whether a transcoder of a pair of ints refuses so, and a payload by itself is refused too.
 fn is_refused(alloc: Global, pair: &Pair, long: &[u8]) -> Result<bool, AllocError> {
     let refuses = match transcoder(alloc, pair) {
         Ok(made) => {
@@ -129,7 +129,7 @@ fn is_refused(alloc: Global, pair: &Pair, long: &[u8]) -> Result<bool, AllocErro
     Ok(refuses && is_told(alloc, pair, long, "payload too large")?)
 }
 
-/// The same of the texts of two ints.
+/// Returns whether the same is true of the pair of the texts of two ints.
 fn is_refused_for_ints(alloc: Global, long: &[u8]) -> Result<bool, AllocError> {
     match pair_of(alloc, "\"int\"", "\"int\"") {
         Ok(pair) => is_refused(alloc, &pair, long),

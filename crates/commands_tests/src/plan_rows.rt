@@ -84,7 +84,8 @@ pub(crate) const ROWS: &[Row] = &[
         payload: &[0x00],
         planned: Planned::Output(&[0x00]),
     },
-    // (a block with its size, two blocks, both with sizes, a count spelled longer than it need be, and the count 0 so)
+    // (a block with its size, two blocks, both with sizes, a count encoded longer than it need be, and the count 0
+    // so)
     Row {
         writer: LONGS,
         reader: LONGS,
@@ -305,7 +306,7 @@ pub(crate) const ROWS: &[Row] = &[
             0x08, 0x04, 0x04, 0x0a, 0x0a, 0x02, 0x02, 0x6b, 0x00, 0x00, 0x00,
         ]),
     },
-    // (a list that a reader lets go of)
+    // (a list that a reader discards)
     Row {
         writer: WITH_TREE,
         reader: WITHOUT_TREE,

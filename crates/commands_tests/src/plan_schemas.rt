@@ -4,7 +4,7 @@
 pub(crate) const RECORD: &str =
     r#"{"type":"record","name":"T","fields":[{"name":"a","type":"long"},{"name":"b","type":"string"}]}"#;
 
-/// The same with its fields the other way round, and an int by default between them.
+/// That record with its fields the other way round, and an int by default between them.
 pub(crate) const EVOLVED: &str =
     r#"{"type":"record","name":"T","fields":[{"name":"b","type":"string"},
 {"name":"d","type":"int","default":7},{"name":"a","type":"long"}]}"#;
@@ -25,7 +25,7 @@ pub(crate) const ONE_OF_THREE: &str = r#"["null","boolean","string"]"#;
 /// One of three symbols.
 pub(crate) const ENUM: &str = r#"{"type":"enum","name":"E","symbols":["A","B","C"]}"#;
 
-/// The same symbols, the other way round.
+/// The three symbols, the other way round.
 pub(crate) const RENUMBERED: &str = r#"{"type":"enum","name":"E","symbols":["C","B","A"]}"#;
 
 /// The first two of them.
@@ -42,7 +42,7 @@ pub(crate) const RECORDS: &str = r#"{"type":"array","items":
 pub(crate) const PAIRS: &str = r#"{"type":"array","items":
 {"type":"record","name":"T","fields":[{"name":"a","type":"long"},{"name":"b","type":"string"}]}}"#;
 
-/// The same with their fields the other way round, and an int by default between them.
+/// Those records with their fields the other way round, and an int by default between them.
 pub(crate) const EVOLVED_PAIRS: &str = r#"{"type":"array","items":
 {"type":"record","name":"T","fields":[{"name":"b","type":"string"},
 {"name":"d","type":"int","default":7},{"name":"a","type":"long"}]}}"#;
@@ -72,7 +72,7 @@ pub(crate) const WIDE: &str =
 pub(crate) const OPTIONAL_PAIRS: &str = r#"{"type":"array","items":["null",
 {"type":"record","name":"T","fields":[{"name":"a","type":"long"},{"name":"b","type":"string"}]}]}"#;
 
-/// The same with their fields the other way round.
+/// Those records, or nulls, with their fields the other way round.
 pub(crate) const EVOLVED_OPTIONAL_PAIRS: &str = r#"{"type":"array","items":["null",
 {"type":"record","name":"T","fields":[{"name":"b","type":"string"},{"name":"a","type":"long"}]}]}"#;
 
@@ -81,7 +81,7 @@ pub(crate) const ROWS_OF_LONGS: &str =
     r#"{"type":"array","items":{"type":"record","name":"T","fields":[
 {"name":"a","type":"long"},{"name":"c","type":{"type":"array","items":"long"}}]}}"#;
 
-/// The same with their fields the other way round.
+/// Those records with their fields the other way round.
 pub(crate) const TURNED_ROWS_OF_LONGS: &str =
     r#"{"type":"array","items":{"type":"record","name":"T","fields":[
 {"name":"c","type":{"type":"array","items":"long"}},{"name":"a","type":"long"}]}}"#;
@@ -101,12 +101,12 @@ pub(crate) const LIST_OF_PAIRS: &str =
     r#"{"type":"record","name":"L","fields":[{"name":"a","type":"long"},
 {"name":"b","type":"string"},{"name":"next","type":["null","L"]}]}"#;
 
-/// The same with its strings first.
+/// That list with its strings first.
 pub(crate) const TURNED_LIST_OF_PAIRS: &str =
     r#"{"type":"record","name":"L","fields":[{"name":"b","type":"string"},
 {"name":"a","type":"long"},{"name":"next","type":["null","L"]}]}"#;
 
-/// The same with what follows first.
+/// That list with what follows first.
 pub(crate) const LIST_FROM_ITS_END: &str =
     r#"{"type":"record","name":"L","fields":[{"name":"next","type":["null","L"]},
 {"name":"a","type":"long"},{"name":"b","type":"string"}]}"#;
@@ -117,7 +117,7 @@ pub(crate) const WITH_TREE: &str =
 {"name":"tree","type":["null",{"type":"record","name":"N","fields":[{"name":"value","type":"long"},
 {"name":"left","type":["null","N"]},{"name":"right","type":["null","N"]}]}]},{"name":"b","type":"boolean"}]}"#;
 
-/// The same without the tree.
+/// That record without the tree.
 pub(crate) const WITHOUT_TREE: &str =
     r#"{"type":"record","name":"T","fields":[{"name":"a","type":"long"},
 {"name":"b","type":"boolean"}]}"#;
@@ -139,7 +139,7 @@ pub(crate) const MAP: &str = r#"{"type":"map","values":"string"}"#;
 pub(crate) const RECORDS_OR_LONGS: &str = r#"{"type":"array","items":[
 {"type":"record","name":"T","fields":[{"name":"a","type":"long"},{"name":"b","type":"string"}]},"long"]}"#;
 
-/// The same, where a reader has ints for the strings, which do not match.
+/// Those records or longs, where a reader has ints for the strings, which do not match.
 pub(crate) const UNMATCHED_RECORDS_OR_LONGS: &str = r#"{"type":"array","items":[
 {"type":"record","name":"T","fields":[{"name":"a","type":"long"},{"name":"b","type":"int"}]},"long"]}"#;
 
@@ -151,7 +151,7 @@ pub(crate) const UNMATCHED_RECORD: &str =
 pub(crate) const HOLDERS: &str = r#"{"type":"record","name":"H","fields":[
 {"name":"l","type":{"type":"array","items":"long"}},{"name":"m","type":{"type":"map","values":"string"}}]}"#;
 
-/// The same with its fields the other way round.
+/// Those records with their fields the other way round.
 pub(crate) const TURNED_HOLDERS: &str = r#"{"type":"record","name":"H","fields":[
 {"name":"m","type":{"type":"map","values":"string"}},{"name":"l","type":{"type":"array","items":"long"}}]}"#;
 

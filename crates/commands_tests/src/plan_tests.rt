@@ -15,7 +15,7 @@ use std::alloc::{AllocError, Global};
 use std::mem;
 use std::test::Fail;
 
-/// The program of the schemas of two texts, with its plan.
+/// Returns the program of the schemas of two texts, with its plan.
 pub(crate) fn planned_program(
     alloc: Global,
     writer: &str,
@@ -30,7 +30,7 @@ pub(crate) fn planned_program(
     Ok(PlannedProgram::new(alloc, program))
 }
 
-/// Whether that comes of the plan of a program.
+/// Returns whether this comes of the plan of a program.
 fn is_planned(alloc: Global, program: &PlannedProgram, payload: &[u8], planned: Planned) -> bool {
     if !program.has_plan() {
         return planned == Planned::NoPlan;
@@ -44,13 +44,13 @@ fn is_planned(alloc: Global, program: &PlannedProgram, payload: &[u8], planned: 
     }
 }
 
-/// Whether a row comes out.
+/// Returns whether a row comes out.
 fn is_row(alloc: Global, row: &Row) -> Result<bool, AllocError> {
     let program = planned_program(alloc, row.writer, row.reader)?;
     Ok(is_planned(alloc, &program, row.payload, row.planned))
 }
 
-/// A list of so many longs.
+/// Returns a list of `longs` longs.
 fn list_of(alloc: Global, longs: usize) -> Result<Vec<u8>, AllocError> {
     let mut list = Vec::new(alloc);
     for _ in 1..longs {
@@ -60,7 +60,7 @@ fn list_of(alloc: Global, longs: usize) -> Result<Vec<u8>, AllocError> {
     Ok(list)
 }
 
-/// A tree of so many longs, each but the first to the left of another.
+/// Returns a tree of `longs` longs, each but the first to the left of another.
 fn left_tree_of(alloc: Global, longs: usize) -> Result<Vec<u8>, AllocError> {
     let mut tree = list_of(alloc, longs)?;
     for _ in 0..longs {
@@ -69,7 +69,8 @@ fn left_tree_of(alloc: Global, longs: usize) -> Result<Vec<u8>, AllocError> {
     Ok(tree)
 }
 
-/// Arrays in one another, so many deep, of which the innermost is empty, each the only value of the one around it.
+/// Returns arrays in one another, `deep` of them, of which the innermost is empty, each the only value of the one
+/// around it.
 fn values_of(alloc: Global, deep: usize) -> Result<Vec<u8>, AllocError> {
     let mut values = Vec::new(alloc);
     for _ in 1..deep {
@@ -82,7 +83,7 @@ fn values_of(alloc: Global, deep: usize) -> Result<Vec<u8>, AllocError> {
     Ok(values)
 }
 
-/// Whether the plan of a list whose reader puts its strings first finds one of so many records.
+/// Returns whether the plan of a list whose reader puts its strings first finds one of `records` records.
 fn is_turned(alloc: Global, records: usize) -> Result<bool, AllocError> {
     let program = planned_program(alloc, LIST_OF_PAIRS, TURNED_LIST_OF_PAIRS)?;
     let (mut list, mut wanted) = (Vec::new(alloc), Vec::new(alloc));
@@ -96,8 +97,8 @@ fn is_turned(alloc: Global, records: usize) -> Result<bool, AllocError> {
     Ok(found && output == wanted)
 }
 
-/// Records in one another, so many deep, each but the last the only item of the array of the one before it, in a block with
-/// its size, and the last with a text.
+/// Returns `deep` records in one another, each but the last the only item of the array of the one before it, in a
+/// block with its size, and the last with a text.
 fn sized_of(alloc: Global, deep: usize, text: &[u8]) -> Result<Vec<u8>, AllocError> {
     let mut payload = Vec::new(alloc);
     payload.extend_from_slice(text)?;
@@ -126,7 +127,7 @@ fn is_walked(alloc: Global, depth: u8) -> Result<bool, AllocError> {
     Ok(found && output.len() < payload.len() && output.len() == 8_000 + 3 * depth)
 }
 
-/// Whether the plan of a schema to itself finds a payload.
+/// Returns whether the plan of a schema to itself finds a payload.
 fn is_found(alloc: Global, schema: &str, payload: &[u8]) -> Result<bool, AllocError> {
     let program = planned_program(alloc, schema, schema)?;
     if !program.has_plan() {
@@ -137,7 +138,7 @@ fn is_found(alloc: Global, schema: &str, payload: &[u8]) -> Result<bool, AllocEr
     Ok(found && output.as_slice() == payload)
 }
 
-/// An enum of so many symbols.
+/// Returns an enum of `symbols` symbols.
 fn enum_of(alloc: Global, symbols: usize) -> Result<String, AllocError> {
     let mut text = String::from_str(alloc, r#"{"type":"enum","name":"E","symbols":["S0""#)?;
     for symbol in 1..symbols {
@@ -148,7 +149,7 @@ fn enum_of(alloc: Global, symbols: usize) -> Result<String, AllocError> {
     Ok(text)
 }
 
-/// A union of so many fixed types of one byte, from the first on or from the last.
+/// Returns a union of `members` fixed types of one byte, from the first on or from the last.
 fn union_of(alloc: Global, members: usize, is_turned: bool) -> Result<String, AllocError> {
     let mut text = String::from_str(alloc, "[")?;
     for i in 0..members {
@@ -163,8 +164,8 @@ fn union_of(alloc: Global, members: usize, is_turned: bool) -> Result<String, Al
     Ok(text)
 }
 
-/// Whether the plan of unions of 70 members finds one at a position, and puts it at that of the same member for a reader
-/// that has them the other way round.
+/// Returns whether the plan of unions of 70 branches finds one at a position, and puts it at that of the same branch
+/// for a reader that has them the other way round.
 fn is_moved(alloc: Global, payload: &[u8], turned: &[u8]) -> Result<bool, AllocError> {
     let (writer, reader) = (union_of(alloc, 70, false)?, union_of(alloc, 70, true)?);
     let program = planned_program(alloc, writer.as_str(), reader.as_str())?;
@@ -173,8 +174,8 @@ fn is_moved(alloc: Global, payload: &[u8], turned: &[u8]) -> Result<bool, AllocE
     Ok(found && output.as_slice() == turned && is_found(alloc, writer.as_str(), payload)?)
 }
 
-/// Positions among 200 symbols, and whether a plan finds them: the first of two bytes, the last, one that no symbol has,
-/// and one that is spelled longer than it need be.
+/// Positions among 200 symbols, and whether a plan finds them: the first of two bytes, the last, one that no symbol
+/// has, and one that is encoded longer than it need be.
 const POSITIONS: &[Among] = &[
     Among {
         number: &[0x80, 0x01],
@@ -194,7 +195,7 @@ const POSITIONS: &[Among] = &[
     },
 ];
 
-/// For how many of these positions the plan does as it says, from the first on.
+/// Returns for how many of these positions the plan does as it says, from the first on.
 fn positions_right(alloc: Global) -> Result<usize, AllocError> {
     let text = enum_of(alloc, 200)?;
     for (number, among) in POSITIONS.iter().enumerate() {
@@ -211,8 +212,8 @@ struct Among {
     found: bool,
 }
 
-/// Numbers of one, of nine and of ten bytes, the greatest of these, one that is greater, one of eleven bytes, and some
-/// that are spelled longer than they need be.
+/// Numbers of one, of nine and of ten bytes, the greatest of these, one that is greater, one of eleven bytes, and
+/// some that are encoded longer than they need be.
 const AMONG: &[Among] = &[
     Among {
         number: &[0x01],
@@ -250,7 +251,7 @@ const AMONG: &[Among] = &[
     },
 ];
 
-/// An array of 60 longs, of which one stands behind so many others, of five bytes and of two.
+/// Returns an array of 60 longs, of which one comes after `before` others, of five bytes and of two.
 fn array_with(alloc: Global, number: &[u8], before: usize) -> Result<Vec<u8>, AllocError> {
     let mut array = Vec::new(alloc);
     array.push(0x78)?;
@@ -266,7 +267,8 @@ fn array_with(alloc: Global, number: &[u8], before: usize) -> Result<Vec<u8>, Al
     Ok(array)
 }
 
-/// For how many numbers the plan of arrays of longs does as it says, from the first on, each being at each place.
+/// Returns for how many numbers the plan of arrays of longs does as it says, from the first on, each being at each
+/// place.
 fn arrays_right(alloc: Global) -> Result<usize, AllocError> {
     for (number, among) in AMONG.iter().enumerate() {
         for before in 0..60 {
@@ -279,7 +281,7 @@ fn arrays_right(alloc: Global) -> Result<usize, AllocError> {
     Ok(AMONG.len())
 }
 
-/// A text of so many letters, behind its length. None where that takes more than two bytes.
+/// Returns a text of `length` letters, after its length. `None` where that takes more than two bytes.
 pub(crate) fn letters(alloc: Global, length: usize) -> Result<Option<Vec<u8>>, AllocError> {
     let mut text = Vec::new(alloc);
     let low = (length % 64) as u8 * 2;
@@ -294,7 +296,7 @@ pub(crate) fn letters(alloc: Global, length: usize) -> Result<Option<Vec<u8>>, A
     Ok(Some(text))
 }
 
-/// Whether the plan of the program from `RECORD` to `EVOLVED` puts a text where it belongs.
+/// Returns whether the plan of the program from `RECORD` to `EVOLVED` puts a text where it belongs.
 fn is_put(alloc: Global, program: &PlannedProgram, text: &[u8]) -> Result<bool, AllocError> {
     if !program.has_plan() {
         return Ok(false);
@@ -309,7 +311,7 @@ fn is_put(alloc: Global, program: &PlannedProgram, text: &[u8]) -> Result<bool, 
     Ok(found && output == wanted)
 }
 
-/// How many texts are put where they belong, from the empty one on, each a letter longer than the one before.
+/// Returns how many texts are put where they belong, from the empty one on, each a letter longer than the one before.
 fn texts_right(alloc: Global, lengths: usize) -> Result<usize, AllocError> {
     let program = planned_program(alloc, RECORD, EVOLVED)?;
     for length in 0..lengths {
@@ -323,7 +325,7 @@ fn texts_right(alloc: Global, lengths: usize) -> Result<usize, AllocError> {
     Ok(lengths)
 }
 
-/// How many rows come out, from the first on.
+/// Returns how many rows of the table come out, from the first on.
 fn rows_right(alloc: Global) -> Result<usize, AllocError> {
     for (number, row) in ROWS.iter().enumerate() {
         if !is_row(alloc, row)? {
@@ -333,7 +335,7 @@ fn rows_right(alloc: Global) -> Result<usize, AllocError> {
     Ok(ROWS.len())
 }
 
-/// How many rows a run takes on a payload, one by one, before the one that ends it.
+/// Returns how many rows a run takes on a payload, one by one, before the one that ends it.
 pub(crate) fn rows_alone(
     alloc: Global,
     program: &PlannedProgram,
@@ -345,7 +347,7 @@ pub(crate) fn rows_alone(
     Ok(run.slice(&[NOWHERE], u64::MAX).rows.saturating_sub(1))
 }
 
-/// Whether the plan of a program counts as many rows on a payload as a run takes.
+/// Returns whether the plan of a program counts as many rows on a payload as a run takes.
 fn is_counted(alloc: Global, program: &PlannedProgram, payload: &[u8]) -> Result<bool, AllocError> {
     let (mut scratch, mut output) = (Scratch::new(alloc), Vec::new(alloc));
     let rows = rows_alone(alloc, program, payload)?;
@@ -355,8 +357,8 @@ fn is_counted(alloc: Global, program: &PlannedProgram, payload: &[u8]) -> Result
     }
 }
 
-/// For how many of the rows above, from the first on, the rows of the program are counted right, where its plan finds
-/// an output.
+/// Returns for how many rows of the table, from the first on, the rows of the program are counted correctly, where
+/// its plan finds an output.
 fn rows_counted(alloc: Global) -> Result<usize, AllocError> {
     for (number, row) in ROWS.iter().enumerate() {
         let Planned::Output(_) = row.planned else {
@@ -370,7 +372,8 @@ fn rows_counted(alloc: Global) -> Result<usize, AllocError> {
     Ok(ROWS.len())
 }
 
-/// For how many texts the same holds, from the empty one on, each a letter longer than the one before.
+/// Returns for how many texts the rows are counted correctly, from the empty one on, each a letter longer than the
+/// one before.
 fn texts_counted(alloc: Global, lengths: usize) -> Result<usize, AllocError> {
     let program = planned_program(alloc, STRING_ALONE, STRING_ALONE)?;
     for length in 0..lengths {
@@ -461,12 +464,12 @@ fn plans_find_symbols_whose_positions_have_two_bytes(rt: HostRuntime) -> Result<
 
 #[test]
 fn plans_find_branches_whose_positions_have_two_bytes(rt: HostRuntime) -> Result<(), Fail> {
-    // (the members 63, 64 and 69, which the reader has at 6, 5 and 0, and the member 0 at 69)
+    // (the branches 63, 64 and 69, which the reader has at 6, 5 and 0, and the branch 0 at 69)
     assert!(rt; is_moved(rt.alloc(), &[0x7e, 0x61], &[0x0c, 0x61])?);
     assert!(rt; is_moved(rt.alloc(), &[0x80, 0x01, 0x61], &[0x0a, 0x61])?);
     assert!(rt; is_moved(rt.alloc(), &[0x8a, 0x01, 0x61], &[0x00, 0x61])?);
     assert!(rt; is_moved(rt.alloc(), &[0x00, 0x61], &[0x8a, 0x01, 0x61])?);
-    // (a position that is spelled longer than it need be, and one that no member has)
+    // (a position that is encoded longer than it need be, and one that no branch has)
     assert!(rt; !is_moved(rt.alloc(), &[0x80, 0x00, 0x61], &[0x8a, 0x01, 0x61])?);
     assert!(rt; !is_moved(rt.alloc(), &[0x8c, 0x01, 0x61], &[0x00, 0x61])?);
     Ok(())

@@ -39,7 +39,7 @@ result 3
 result 4
 "#;
 
-/// What is answered to events, asked again where memory ran out for the answers.
+/// Returns what is answered to events, asked again where memory ran out for the answers.
 fn answered(alloc: Global, events: &str) -> Result<String, AllocError> {
     match replay(alloc, events.as_bytes()) {
         Err(AllocError) => replay(alloc, events.as_bytes()),
@@ -47,8 +47,8 @@ fn answered(alloc: Global, events: &str) -> Result<String, AllocError> {
     }
 }
 
-/// How many lines tell an end on the payload, and how many that memory ran out: for a session, or for an event, which
-/// then changed nothing.
+/// Returns how many lines report an end on the payload, and how many that memory ran out: for a session, or for an
+/// event, which then changed nothing.
 fn ends(answers: &str) -> (usize, usize) {
     let done = answers.lines().filter(|line| line.starts_with("done ")
         && line.ends_with(" count 10"));

@@ -17,6 +17,6 @@ pub(crate) const COUNTS: &str = r#""string"|"string"|00|done 00 count 2
 pub(crate) const BOTH: &str =
     r#"{"type":"record","name":"T","fields":[{"name":"a","type":"long"},{"name":"b","type":"string"}]}"#;
 
-/// The same record with its fields swapped.
+/// That record with its fields swapped.
 pub(crate) const SWAPPED: &str =
     r#"{"type":"record","name":"T","fields":[{"name":"b","type":"string"},{"name":"a","type":"long"}]}"#;

@@ -11,7 +11,7 @@ use std::test::Fail;
 /// More slices than any row takes.
 const TURNS: usize = 20_000;
 
-/// Rows until the run ends or waits, in slices of so many.
+/// Takes rows until the run ends or waits, in slices of at most `k`.
 fn advance(run: &mut Run<'_>, k: u64) {
     for _turn in 0..TURNS {
         if matches!(run.slice(&[], k).why, Why::Ended | Why::Waits) {
@@ -20,15 +20,15 @@ fn advance(run: &mut Run<'_>, k: u64) {
     }
 }
 
-/// Whether a run has taken no more rows than as many as its program has instructions for each unit and for the whole,
-/// and one for each byte.
+/// Returns whether a run has taken no more rows than its bound: as many as its program has instructions for each unit
+/// and for the whole, and one for each byte.
 fn is_within_bound(run: &Run<'_>) -> bool {
     let parts = run.machine().units() as u64 + 1;
     let most = parts.saturating_mul(run.program().len() as u64);
     run.machine().count() <= most.saturating_add(run.input().len() as u64)
 }
 
-/// What a run shows, in words.
+/// Returns what a run shows, in words.
 fn words(alloc: Global, run: &Run<'_>) -> Result<String, AllocError> {
     if !is_within_bound(run) {
         return String::from_str(alloc, "past the row bound");
@@ -37,7 +37,7 @@ fn words(alloc: Global, run: &Run<'_>) -> Result<String, AllocError> {
     format!(in alloc; "{end} count {}", run.machine().count())
 }
 
-/// Takes a payload in pieces and slices of so many, to its end.
+/// Takes a payload in pieces of `size` bytes, and rows in slices of at most `k`, to the end.
 fn drive(run: &mut Run<'_>, payload: &[u8], size: usize, k: u64) -> Result<(), AllocError> {
     for piece in payload.chunks(size.max(1)) {
         advance(run, k);
@@ -49,7 +49,7 @@ fn drive(run: &mut Run<'_>, payload: &[u8], size: usize, k: u64) -> Result<(), A
     Ok(())
 }
 
-/// What a run shows on a payload in pieces and slices of so many.
+/// Returns what a run shows on a payload in pieces of `size` bytes, and slices of at most `limit` rows.
 pub(crate) fn cut_run(
     alloc: Global,
     program: &PlannedProgram,
@@ -62,7 +62,7 @@ pub(crate) fn cut_run(
     words(alloc, &run)
 }
 
-/// Whether one way to cut a payload and its rows comes to that answer.
+/// Returns whether one way to cut a payload and its rows comes to that answer.
 fn is_cut_answer(
     alloc: Global,
     program: &PlannedProgram,
@@ -74,7 +74,7 @@ fn is_cut_answer(
     Ok(found.as_str() == answer)
 }
 
-/// Whether each way comes to that answer.
+/// Returns whether each way to cut a payload and its rows comes to that answer.
 fn is_answer(
     alloc: Global,
     program: &PlannedProgram,
@@ -89,7 +89,7 @@ fn is_answer(
     Ok(true)
 }
 
-/// The same of a payload in hexadecimal.
+/// Returns whether each way to cut a payload in hexadecimal comes to that answer.
 fn is_hex_answer(
     alloc: Global,
     program: &PlannedProgram,
@@ -100,7 +100,7 @@ fn is_hex_answer(
     Ok(is_answer(alloc, program, &payload, answer)?)
 }
 
-/// Whether each way to cut a payload of a pair comes to that answer.
+/// Returns whether each way to cut a payload of a pair comes to that answer.
 fn is_texts_answer(
     rt: &(impl Abort + AllocGlobal),
     writer: &str,
@@ -112,7 +112,7 @@ fn is_texts_answer(
     is_hex_answer(rt.alloc(), &program, hex, answer)
 }
 
-/// Whether a row is true.
+/// Returns whether a row is true.
 fn is_true(rt: &(impl Abort + AllocGlobal), row: &str) -> Result<bool, Fail> {
     let mut parts = row.split('|');
     let (Some(writer), Some(reader), Some(hex), Some(answer)) = (
@@ -134,7 +134,7 @@ fn cuts_and_slices_change_nothing(rt: HostRuntime) -> Result<(), Fail> {
     Ok(())
 }
 
-/// Whether a new run takes one row, waits, and ends with another one once it is closed, and can be used again.
+/// Asserts that a new run takes one row, waits, and ends with another one once it is closed, and can be used again.
 fn assert_waits<'p>(rt: &impl Abort, run: &mut Run<'p>, program: &'p PlannedProgram) {
     let waits = Slice {
         rows: 1,
@@ -152,7 +152,7 @@ fn assert_waits<'p>(rt: &impl Abort, run: &mut Run<'p>, program: &'p PlannedProg
     assert!(rt; run.machine().count() == 0);
 }
 
-/// The same for a run of a program.
+/// Asserts that a new run of a program does what `assert_waits` says.
 fn assert_run_waits(rt: &(impl Abort + AllocGlobal), program: &PlannedProgram) {
     let mut run = Run::new(rt.alloc(), program);
     assert_waits(rt, &mut run, program);
@@ -165,11 +165,12 @@ fn a_run_waits_for_bytes(rt: HostRuntime) {
     assert_run_waits(&rt, &program);
 }
 
-/// A breakpoint where no instruction stands. Where there is one, nothing is looked for ahead, and contents lie in the
-/// arena in the order in which they were read.
+/// A breakpoint at which there is no instruction. Where a breakpoint is set, nothing is looked for ahead, and
+/// contents are in the arena in the order in which they were read.
 pub(crate) const NOWHERE: u32 = u32::MAX;
 
-/// Whether the arena of a run on a payload is the payload, after so many rows, with nothing looked for ahead.
+/// Returns whether the arena of a run on a payload is the payload, after at most `k` rows, with nothing looked for
+/// ahead.
 fn has_arena(run: &mut Run<'_>, payload: &[u8], k: u64) -> Result<bool, AllocError> {
     pushed(run, payload)?;
     run.close();
@@ -177,7 +178,7 @@ fn has_arena(run: &mut Run<'_>, payload: &[u8], k: u64) -> Result<bool, AllocErr
     Ok(run.machine().arena() == payload)
 }
 
-/// The same for a run of a program.
+/// Returns whether the arena of a new run of a program is the payload, as `has_arena` says.
 fn is_arena(
     alloc: Global,
     program: &PlannedProgram,

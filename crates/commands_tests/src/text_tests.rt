@@ -10,10 +10,10 @@ use std::test::Fail;
 const AMONG_NUMBERS: &str =
     r#"{"type":"record","name":"T","fields":[{"name":"n","type":"long"},{"name":"t","type":"string"},{"name":"m","type":"long"}]}"#;
 
-/// The greatest length that one byte spells.
+/// The greatest length that one byte encodes.
 const MOST_LETTERS: u8 = 63;
 
-/// Bytes of a payload, of which the text has so many letters `a`.
+/// Returns the bytes of a payload, of which the text has `letters` letters `a`.
 fn payload(
     alloc: Global,
     before: &[u8],
@@ -30,7 +30,7 @@ fn payload(
     Ok(payload)
 }
 
-/// Whether the outcome of a payload is the payload itself.
+/// Returns whether the outcome of a payload is the payload itself.
 fn is_kept(transcoder: &mut Transcoder<'_>, payload: &[u8]) -> bool {
     match outcome(transcoder, payload) {
         Ok(Outcome::Done(bytes)) => bytes.as_slice() == payload,
@@ -38,7 +38,7 @@ fn is_kept(transcoder: &mut Transcoder<'_>, payload: &[u8]) -> bool {
     }
 }
 
-/// Whether the text of a payload, which begins at a place, is told to be none.
+/// Returns whether the text of a payload, which begins at an offset, is reported to be none.
 fn is_bad_text(transcoder: &mut Transcoder<'_>, payload: &[u8], begins: usize) -> bool {
     match outcome(transcoder, payload) {
         Ok(Outcome::Malformed { kind, at }) => kind.name() == "BadText" && at == begins,
@@ -46,7 +46,7 @@ fn is_bad_text(transcoder: &mut Transcoder<'_>, payload: &[u8], begins: usize) -
     }
 }
 
-/// Whether a byte in place of a letter makes the text none, wherever it stands, and no letter does.
+/// Returns whether a byte in place of a letter makes the text none, wherever it is, and no letter does.
 fn each_place_counts(
     transcoder: &mut Transcoder<'_>,
     payload: &mut Vec<u8>,
@@ -74,7 +74,7 @@ fn each_place_counts(
     true
 }
 
-/// Whether a character of two bytes is kept, wherever it stands.
+/// Returns whether a character of two bytes is kept, wherever it is.
 fn each_character_counts(
     transcoder: &mut Transcoder<'_>,
     payload: &mut Vec<u8>,
@@ -98,7 +98,7 @@ fn each_character_counts(
     true
 }
 
-/// Whether texts of each length come out right between these bytes.
+/// Asserts that texts of each length come out right between these bytes.
 fn assert_lengths(
     rt: &(impl Abort + AllocGlobal),
     transcoder: &mut Transcoder<'_>,
@@ -115,7 +115,7 @@ fn assert_lengths(
     Ok(())
 }
 
-/// The same between numbers of a few bytes and of many.
+/// Asserts that texts of each length come out right between numbers of a few bytes and of many.
 fn assert_among_numbers(
     rt: &(impl Abort + AllocGlobal),
     transcoder: &mut Transcoder<'_>,
@@ -133,7 +133,7 @@ fn assert_among_numbers(
     Ok(())
 }
 
-/// The same with a pair of schemas.
+/// Asserts what `assert_among_numbers` does, with a transcoder of a pair of schemas.
 fn assert_pair(rt: &(impl Abort + AllocGlobal), pair: &Pair) -> Result<(), AllocError> {
     match transcoder(rt.alloc(), pair) {
         Ok(made) => {

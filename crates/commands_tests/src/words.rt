@@ -4,13 +4,13 @@ use crate::again::{Pair, transcoded};
 use machine::{EndView, Outcome, PairError};
 use std::alloc::{AllocError, Global};
 
-/// An output.
+/// Returns an output in words.
 fn done_words(alloc: Global, bytes: &[u8]) -> Result<String, AllocError> {
     let hex = hex::encode(alloc, bytes)?;
     format!(in alloc; "done {hex}")
 }
 
-/// The outcome of a payload.
+/// Returns the outcome of a payload in words.
 pub(crate) fn outcome_words(alloc: Global, outcome: &Outcome) -> Result<String, AllocError> {
     match outcome {
         Outcome::Done(bytes) => done_words(alloc, bytes.as_slice()),
@@ -29,7 +29,7 @@ pub(crate) fn outcome_words(alloc: Global, outcome: &Outcome) -> Result<String, 
     }
 }
 
-/// How a run stands.
+/// Returns the end of a run in words, or that it is still running.
 pub(crate) fn end_words(alloc: Global, end: Option<EndView<'_>>) -> Result<String, AllocError> {
     match end {
         Some(EndView::Done(bytes)) => done_words(alloc, bytes),
@@ -43,7 +43,7 @@ pub(crate) fn end_words(alloc: Global, end: Option<EndView<'_>>) -> Result<Strin
     }
 }
 
-/// The outcome of a payload by itself, or why there is none.
+/// Returns the outcome of a payload by itself, or why there is none, in words.
 pub(crate) fn pair_words(alloc: Global, pair: &Pair, payload: &[u8]) -> Result<String, AllocError> {
     match transcoded(alloc, pair, payload) {
         Ok(outcome) => outcome_words(alloc, &outcome),

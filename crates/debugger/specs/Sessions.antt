@@ -1,11 +1,11 @@
--- What a debugger tells of a session. All of this is this project's own.
+-- What a debugger shows of a session. All of this is this project's own.
 use Rattle.std.specs.Prelude.{◌≡◌, ℕ, List, Some}
 use Rattle.assembler.specs.Listing.{listing_of}
 use Rattle.isa.specs.State.{State}
 use Rattle.session_state.specs.Session.{Session, state_of}
 use Rattle.debugger.specs.Show.{shown}
 
--- the text of the state that its machine is in, and of want of memory where that ended it
+-- the text of the state that its machine is in, and that memory ran out where that ended it
 abbrev pub Shows : Session → List ℕ → Type 0
 Shows s text = (state : State) × (state_of s ≡ Some state) × (text ≡ shown state s.out_of_memory)
 

@@ -14,7 +14,7 @@ name_of_end (Some (Out (Malformed kind at))) = codes "malformed"
 name_of_end (Some (Out OutputTooLarge)) = codes "output"
 name_of_end (Some (Trapped t)) = codes "trap"
 
--- the same, where memory may have run out before
+-- how a run ended, where memory may have run out before
 abbrev pub name_of_state : Bool → Option End → List ℕ
 name_of_state true end = codes "memory"
 name_of_state false end = name_of_end end
@@ -27,7 +27,7 @@ places s =
     codes "count" ++ number s.count ++ codes " pc" ++ number s.pc ++ codes " pos" ++ number s.pos
     ++ codes " units" ++ number s.units
 
--- what stands open, and what was told
+-- the content that is open, the mark, and whether the output is over its limit
 abbrev pub told : State → List ℕ
 told s =
     codes " part" ++ moving_content s.content ++ codes " mark" ++ number_or_none s.store.mark

@@ -14,12 +14,12 @@ abbrev pub number_or_none : Option ℕ → List ℕ
 number_or_none (Some n) = number n
 number_or_none None = codes " -"
 
--- the same with its sign
+-- a number with its sign, and `-` for none
 abbrev pub size_or_none : Option ℤ → List ℕ
 size_or_none (Some n) = codes " " ++ signed_decimal n
 size_or_none None = codes " -"
 
--- how many bytes of a content are still to move, and where its first byte stands
+-- how many bytes of a content are still to move, and where its first byte is
 abbrev pub moving_content : Option Content → List ℕ
 moving_content (Some p) = number p.left ++ number p.from
 moving_content None = codes " -"
@@ -33,6 +33,6 @@ abbrev pub bytes : List ℕ → List ℕ
 bytes [] = codes " -"
 bytes (byte ∷ rest) = codes " " ++ encode_lower (byte ∷ rest)
 
--- a walk over blocks: items to come, where the count and the items stand, and the size that is said
+-- a walk over blocks: items to come, where the count and the items begin, and the size that is said
 abbrev pub walk : Walk → List ℕ
 walk w = number w.left ++ number w.count_at ++ number w.items_at ++ size_or_none w.size

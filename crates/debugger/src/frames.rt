@@ -14,7 +14,7 @@ use machine_store::{BufferAt, FrameView};
 use std::alloc::{AllocError, Global};
 use std::fmt::Write;
 
-/// Appends the slots of a frame, of which there are so many.
+/// Appends the bytes of each slot of a frame, which has `slots` slots.
 fn push_slots(
     alloc: Global,
     output: &mut String,
@@ -82,7 +82,7 @@ fn push_skip_blocks(output: &mut String, over: BlockWalk) -> Result<(), AllocErr
     output.push_str("\n")
 }
 
-/// Appends the line of a frame, where there is one of this number.
+/// Appends the line of the frame at an index, counted from the oldest, or nothing where there is none.
 fn push_frame(
     alloc: Global,
     output: &mut String,
@@ -122,7 +122,7 @@ pub(crate) fn push_frames(
     Ok(())
 }
 
-/// Appends the line of a call, where there is one of this number.
+/// Appends the line of the call at an index, counted from the oldest, or nothing where there is none.
 fn push_call(output: &mut String, machine: &Machine, number: usize) -> Result<(), AllocError>
     ensures { OnOk result (string_bytes output.new ≡ string_bytes output.old
         ++ flat_map call_line (option_to_list (slice_get (reverse machine.now.state.calls) number))) }

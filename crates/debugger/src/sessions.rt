@@ -7,14 +7,14 @@ use crate::showing::{list_program, show_machine};
 use session_state::Session;
 use std::alloc::{AllocError, Global};
 
-/// The text of a session's state.
+/// Returns the text of a session's state.
 pub fn show(alloc: Global, session: &Session) -> Result<String, AllocError>
     ensures { IfOk result (λ text. Shows session.now (string_bytes text)) }
 {
     show_machine(alloc, session.machine(), session.no_memory())
 }
 
-/// The listing of a session's program.
+/// Returns the listing of a session's program.
 pub fn list(alloc: Global, session: &Session) -> Result<String, AllocError>
     ensures { IfOk result (λ text. Lists session.now (string_bytes text)) }
 {

@@ -13,7 +13,7 @@ use machine_store::BufferAt;
 use std::alloc::{AllocError, Global};
 use std::fmt::Write;
 
-/// Whether a run goes on, or how it ended.
+/// Returns the name of a run's state: whether it goes on, or how it ended.
 fn name_of_state(machine: &Machine, no_memory: bool) -> &'static str
     ensures { result.now ≡ name_of_state no_memory machine.now.state.end }
 {
@@ -39,7 +39,7 @@ fn push_places(output: &mut String, machine: &Machine) -> Result<(), AllocError>
     write!(output, "count {count} pc {pc} pos {pos} units {units}")
 }
 
-/// Appends what stands open, and what was told.
+/// Appends the content that moves, the mark, and whether the output passed its limit.
 fn push_told(output: &mut String, machine: &Machine) -> Result<(), AllocError>
     ensures { OnOk result (string_bytes output.new ≡ string_bytes output.old ++ told machine.now.state) }
 {
@@ -76,7 +76,7 @@ fn push_out(alloc: Global, output: &mut String, machine: &Machine) -> Result<(),
     output.push_str("\n")
 }
 
-/// The text of a machine's state, with `no_memory` where memory was refused for the last row.
+/// Returns the text of a machine's state, with `no_memory` where memory was refused for the last row.
 pub fn show_machine(alloc: Global, machine: &Machine, no_memory: bool) -> Result<String, AllocError>
     ensures { IfOk result (λ text. string_bytes text ≡ shown machine.now.state no_memory) }
 {
@@ -88,7 +88,7 @@ pub fn show_machine(alloc: Global, machine: &Machine, no_memory: bool) -> Result
     Ok(output)
 }
 
-/// The listing of a program.
+/// Returns the listing of a program.
 pub fn list_program(alloc: Global, program: &Program) -> Result<String, AllocError>
     ensures { IfOk result (λ text. string_bytes text ≡ listing_of program.now) }
 {

@@ -11,7 +11,7 @@ use machine_store::BufferAt;
 use std::alloc::{AllocError, Global};
 use std::fmt::Write;
 
-/// Appends a number, and `-` for none.
+/// Appends a number, or `-` for none.
 pub(crate) fn push_number(output: &mut String, number: Option<usize>) -> Result<(), AllocError>
     ensures { OnOk result (string_bytes output.new ≡ string_bytes output.old ++ number_or_none number) }
 {
@@ -21,7 +21,7 @@ pub(crate) fn push_number(output: &mut String, number: Option<usize>) -> Result<
     }
 }
 
-/// Appends the number of a miss, and `-` for none.
+/// Appends the index of a miss, or `-` for none.
 pub(crate) fn push_mark(output: &mut String, mark: Option<u32>) -> Result<(), AllocError>
     ensures { OnOk result (string_bytes output.new ≡ string_bytes output.old ++ number_or_none mark) }
 {
@@ -31,7 +31,7 @@ pub(crate) fn push_mark(output: &mut String, mark: Option<u32>) -> Result<(), Al
     }
 }
 
-/// Appends a size, and `-` for none.
+/// Appends a size, or `-` for none.
 fn push_size(output: &mut String, size: Option<i64>) -> Result<(), AllocError>
     ensures { OnOk result (string_bytes output.new ≡ string_bytes output.old ++ size_or_none size) }
 {
@@ -41,7 +41,7 @@ fn push_size(output: &mut String, size: Option<i64>) -> Result<(), AllocError>
     }
 }
 
-/// Appends what is left of a content, and where it began.
+/// Appends what is left of a content, and where it began, or `-` for none.
 pub(crate) fn push_moving(output: &mut String, moving: Option<Content>) -> Result<(), AllocError>
     ensures { OnOk result
         (string_bytes output.new ≡ string_bytes output.old ++ moving_content (option_map content_of moving)) }
@@ -55,14 +55,14 @@ pub(crate) fn push_moving(output: &mut String, moving: Option<Content>) -> Resul
     }
 }
 
-/// Appends whether something is true.
+/// Appends 1 for true and 0 for false.
 pub(crate) fn push_truth(output: &mut String, value: bool) -> Result<(), AllocError>
     ensures { OnOk result (string_bytes output.new ≡ string_bytes output.old ++ truth value) }
 {
     output.push_str(if value { " 1" } else { " 0" })
 }
 
-/// Appends bytes in hexadecimal.
+/// Appends bytes in hexadecimal, or `-` for none.
 fn push_bytes(alloc: Global, output: &mut String, content: &[u8]) -> Result<(), AllocError>
     ensures { OnOk result (string_bytes output.new ≡ string_bytes output.old ++ bytes content.now) }
 {

@@ -1,4 +1,4 @@
--- What a batch has reported of its first items stays true while a later output is written behind theirs, and so it is
+-- What a batch has reported of its first items stays true while a later output is written after theirs, and so it is
 -- one item more that it has reported.
 use Rattle.std.proofs.Common.{◌≡◌, ◌≤◌, ◌<◌, ◌+◌, ◌-◌, ℕ, List, [], ◌∷◌, ◌++◌, length, take, drop, refl, sym, ap, ◌∙◌, subst, arith}
 use Rattle.std.proofs.lemmas.List.{drop-take, length-drop, length-take-le, take-take}

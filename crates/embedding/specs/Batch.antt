@@ -45,7 +45,7 @@ IsBatch pair payloads room at [] = Unit {0}
 IsBatch pair payloads room at (item ∷ items) = IsItem pair payloads room at item
     × IsBatch pair payloads room (at + output_length item) items
 
--- what a batch reports to whoever holds the transcoder of a pair; to whoever holds none it tells that it is closed
+-- what a batch reports on a handle with the transcoder of a pair; on one with none it reports that it is closed
 abbrev pub ReportsBatch : Option Pair → List ℕ → List ℕ → List BatchItem → ℕ → Type 0
 ReportsBatch (Some pair) payloads room items status =
     (status ≡ code_of statuses.Done) × IsBatch pair payloads room 0 items

@@ -1,5 +1,5 @@
--- What is told of two texts: their pair, or why they make none; and whether one can read what the other writes. All of
--- this is this project's own.
+-- What is reported of two texts: their pair, or why they make none; and whether one can read what the other writes. All
+-- of this is this project's own.
 use Rattle.std.specs.Prelude.{◌≡◌, ◌≢◌, ◌↔◌, ℕ, List, Bool, true, false, IsTrue, Option, Some, None, Result, Ok, Err}
 use Rattle.std.specs.Str.{IsUtf8}
 use Rattle.avro_schema.specs.Schema.{Declaration, schema_of}
@@ -84,7 +84,7 @@ abbrev pub TellsSafety : List ℕ → List ℕ → Result Bool OpenError → Typ
 TellsSafety w r (Ok safe) = (pair : Pair) × IsPairOfTexts w r pair × (IsTrue safe ↔ IsSafe pair.writer pair.reader)
 TellsSafety w r (Err e) = IsOpenError w r e
 
--- These numbers tell that the texts' pair is open now; or why none is.
+-- These numbers report that the texts' pair is open now; or why none is.
 abbrev pub TellsOpening : List ℕ → List ℕ → Option Pair → ℕ → ℕ → Type 0
 TellsOpening w r (Some pair) status fault = IsPairOfTexts w r pair × (status ≡ code_of statuses.Done) × (fault ≡ 0)
 TellsOpening w r None status fault = (e : OpenError) × IsOpenError w r e × (status ≡ code_of (status_of e))
@@ -100,7 +100,7 @@ abbrev pub fault_of_reading : Result Bool OpenError → ℕ
 fault_of_reading (Ok safe) = 0
 fault_of_reading (Err e) = fault_of e
 
--- These numbers tell whether the reader is safe with the writer, or why there is no pair.
+-- These numbers report whether the reader is safe with the writer, or why there is no pair.
 abbrev pub TellsReading : List ℕ → List ℕ → ℕ → ℕ → Type 0
 TellsReading w r status fault = (answer : Result Bool OpenError) × TellsSafety w r answer
     × (status ≡ code_of (status_of_reading answer)) × (fault ≡ fault_of_reading answer)

@@ -58,7 +58,7 @@ abbrev pub ReportsMessage : Option Pair → Ids → List ℕ → List ℕ → Re
 ReportsMessage (Some pair) ids message room report = IsMessageReport pair ids message room report
 ReportsMessage None ids message room report = report ≡ reports.Closed
 
--- these numbers tell a report of which something holds
+-- these numbers are those of a report of which something holds
 abbrev pub Tells : (Report → Type 0) → ℕ → ReportNumbers → Type 0
 Tells Holds status numbers =
     (report : Report) × Holds report × (numbers ≡ numbers_of report) × (status ≡ numbers.status)

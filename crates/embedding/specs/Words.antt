@@ -1,4 +1,4 @@
--- The words of a status in a caller's room, as C has a text: with a byte 0 behind it. This project's own.
+-- The words of a status in a caller's room, as C has a text: with a byte 0 after it. This project's own.
 use Rattle.std.specs.Prelude.{◌≡◌, ◌<◌, ◌+◌, ℕ, List, [], ◌∷◌, ◌++◌, length, take}
 use Rattle.embedding.specs.declared.status.Status.{Status}
 use Rattle.embedding.specs.Status.{code_of, words_of}

@@ -7,7 +7,7 @@ use crate::numbers::ReportNumbers;
 use crate::owning::OwningTranscoder;
 use crate::report::{PayloadReport, Report};
 
-/// An item of a batch: where its payload lies in a buffer that the items share, where its output begins in a room that
+/// An item of a batch: where its payload is in a buffer that the items share, where its output begins in a room that
 /// they share, and what is reported of it.
 #[repr(C)]
 #[derive(Clone, Copy, Debug, PartialEq, Eq, Drop)]
@@ -19,7 +19,7 @@ pub struct BatchItem {
 }
 
 impl BatchItem {
-    /// Returns its payload; None where that does not lie within the buffer.
+    /// Returns its payload; `None` where that is not within the buffer.
     fn payload<'b>(&self, payloads: &'b [u8]) -> Option<&'b [u8]>
         ensures { MatchOption result (length payloads.now < self.now.payload_offset + self.now.payload_length)
             (λ payload. (self.now.payload_offset + self.now.payload_length ≤ length payloads.now)

@@ -8,7 +8,7 @@ use crate::status::Status;
 use avro_bytes::MalformedKind;
 use wire_frames::EnvelopeError;
 
-/// The numbers that tell a report. A part that a report does not have is 0.
+/// The numbers that represent a report. A part that a report does not have is 0.
 #[repr(C)]
 #[derive(Clone, Copy, Debug, PartialEq, Eq, Drop)]
 pub struct ReportNumbers {
@@ -68,7 +68,7 @@ impl ReportNumbers {
 }
 
 impl PayloadReport {
-    /// Returns the numbers that tell it.
+    /// Returns the numbers that represent it.
     fn numbers(self) -> ReportNumbers
         ensures { result ≡ payload_numbers self }
     {
@@ -100,7 +100,7 @@ impl PayloadReport {
 }
 
 impl Report {
-    /// Returns the numbers that tell it.
+    /// Returns the numbers that represent it.
     pub fn numbers(self) -> ReportNumbers
         ensures { result ≡ numbers_of self }
     {

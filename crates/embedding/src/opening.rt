@@ -149,7 +149,8 @@ pub fn can_read(alloc: Global, writer: &[u8], reader: &[u8]) -> Result<bool, Ope
     }
 }
 
-/// Returns by its number whether a reader can read all data of a writer, and writes the fault of a text.
+/// Returns the number of the status of whether a reader can read all data of a writer, and writes the number of a
+/// text's fault to `fault`, 0 where there is none.
 pub fn report_reading(alloc: Global, writer: &[u8], reader: &[u8], fault: &mut u32) -> u32
     ensures { TellsReading writer.now reader.now result fault.new }
 {

@@ -18,7 +18,7 @@ use std::marker::Model;
 use wire_frames::{PREFIX_LENGTH, open_envelope};
 
 /// A pair of schemas with its program, and room to transcode one payload after another. It borrows nothing, so it can
-/// lie in a box that outlives the call that made it. Callers see it as the pair.
+/// be in a box that outlives the call that made it. Callers see it as the pair.
 #[derive(Drop)]
 pub struct OwningTranscoder {
     pair: PairProgram,
@@ -92,7 +92,7 @@ fn message_head(id: u32) -> [u8; PREFIX_LENGTH]
 
 impl OwningTranscoder {
     /// Makes the transcoder of a pair. `ProgramTooLarge` where its program would pass a limit, and then the pair has
-    /// none; `NoMemory` where memory ran out.
+    /// none; `NoMemory` where an allocation failed.
     pub fn new(
         alloc: Global,
         writer: &Schema,

@@ -7,9 +7,9 @@ use wire_frames::EnvelopeError;
 /// What is reported of a payload and the room that was given for its output.
 #[derive(Clone, Copy, Debug, PartialEq, Eq)]
 pub enum PayloadReport {
-    /// The output lies at the room's front, and is so long.
+    /// The output is at the room's front, with this length.
     Done { length: usize },
-    /// The output is so long, which the room is not.
+    /// The output has this length, and the room is shorter.
     RoomTooSmall { length: usize },
     Mismatch(Mismatch),
     /// The first fault, and its offset in the payload.
@@ -29,7 +29,7 @@ pub enum Report {
     BadEnvelope(EnvelopeError),
     /// The message names another writer, by this id.
     OtherWriter { id: u32 },
-    /// The item's payload does not lie within the buffer.
+    /// The item's payload is not within the buffer.
     OutOfRange,
 }
 

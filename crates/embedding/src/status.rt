@@ -48,7 +48,7 @@ impl Status {
         }
     }
 
-    /// Returns the status of a number; None where the number is no status's.
+    /// Returns the status with this number; `None` where no status has it.
     pub fn of_code(code: u32) -> Option<Status>
         ensures known { (status : Known) → code_of status ≡ code → result ≡ Some status }
         ensures is { IfSome result (λ status. code_of status ≡ code) }

@@ -19,8 +19,8 @@ fn write_text(text: &str, room: &mut [u8]) -> usize
     text.len()
 }
 
-/// Writes the words of a status, by its number, and a byte 0 to the room's front, where both fit. Returns how long the
-/// words are: 0 where the number is no status's.
+/// Writes the words of the status with this number, and a byte 0, to the room's front, where both fit. Returns how
+/// long the words are: 0 where no status has the number.
 pub fn write_words(code: u32, room: &mut [u8]) -> usize
     ensures { WritesWords code room.new result }
 {

@@ -9,7 +9,7 @@ use Rattle.session_pool.specs.declared.refusals.OpenError.TheVariants as opening
 use Rattle.session_pool.specs.Opening.{IsWhyNotOpened}
 use Rattle.gateway.specs.Stopping.{LetsGo}
 
--- no session was opened, for the reason that the pool has for this; of the others the gate and memory are the reason
+-- a refusal of the pool to open a session has the pool's reason; of the other two nothing is said here
 abbrev pub IsWhyRefused : TranscodeFault → Shown → Shown → ClientSeat → ClientSeat → Type 0
 IsWhyRefused faults.ProgramTooLarge writer reader old new =
     IsWhyNotOpened opening.ProgramTooLarge writer.schema reader.schema old new
@@ -18,12 +18,13 @@ IsWhyRefused faults.Full writer reader old new = IsWhyNotOpened opening.Full wri
 IsWhyRefused faults.NotFinished writer reader old new = ⊤
 IsWhyRefused faults.NoMemory writer reader old new = ⊤
 
--- a call that took the first seat and left the second refuses the pair for this fault, and leaves no session behind
+-- a call that took the first seat and left the second refuses the pair for this fault; the second has the passes that
+-- the first had, or the slot of a session stays taken
 pub record Refuses (old new : ClientSeat) (writer reader : Shown) (fault : TranscodeFault) : Type 0 where
   pub why : IsWhyRefused fault writer reader old new
   pub lets_go : LetsGo old new
 
--- each refusal of the pool is told as itself
+-- each refusal of the pool becomes the fault of the same name
 abbrev pub fault_of : OpenError → TranscodeFault
 fault_of opening.ProgramTooLarge = faults.ProgramTooLarge
 fault_of opening.Clash = faults.Clash

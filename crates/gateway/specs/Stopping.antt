@@ -16,7 +16,7 @@ IsWhyStopped said_no ProgramTooLarge = ⊥
 IsWhyStopped said_no Clash = ⊥
 IsWhyStopped said_no Full = ⊥
 
--- so many calls, one after another, found that a worker had the session of the pass
+-- n calls, one after another, found that a worker had the session of the pass
 pub data FindsBusy (pass : Pass) : ℕ → ClientSeat → ClientSeat → Type 0 where
   no_call : {seat : ClientSeat} → FindsBusy pass 0 seat seat
   one_more : {count : ℕ} {first before after : ClientSeat} → FindsBusy pass count first before

@@ -1,4 +1,4 @@
-//! What requests are answered from.
+//! What requests are answered with.
 
 ghost use Rattle.std.specs.Prelude.{◌≡◌, IfOk};
 
@@ -8,8 +8,8 @@ use schema_registry::SharedRegistry;
 use session_pool::SessionPool;
 use std::alloc::{AllocError, Global};
 
-/// What requests are answered from: a registry, a cache of the programs of its schemas, and a pool of sessions of these
-/// programs.
+/// What requests are answered with: a registry, a cache of the programs of its schemas, and a pool of sessions of
+/// these programs.
 #[derive(Drop)]
 pub struct App<'a, 'p> {
     pub registry: &'a SharedRegistry,
@@ -22,7 +22,8 @@ pub struct App<'a, 'p> {
 }
 
 impl<'a, 'p> App<'a, 'p> {
-    /// Puts a registry, a cache over it and a pool over that together. The error is want of memory for the routes.
+    /// Returns an app of a registry, a cache over it and a pool over that. The error is that there was no memory for
+    /// the routes.
     pub fn new(
         alloc: Global,
         registry: &'a SharedRegistry,

@@ -1,4 +1,4 @@
-//! The end of a session: its outcome, or giving it up.
+//! The end of a session: its outcome, or that it is abandoned.
 
 ghost use Rattle.std.specs.Prelude.{◌≡◌, IfErr, IfOk, OnErr};
 ghost use Rattle.session_pool.specs.Seats.{IsPassOf, Rests, told};
@@ -11,11 +11,11 @@ use outcome::Outcome;
 use session_pool::{ClientSeat, Finished, Pass, SessionEnd, SessionPool};
 use std::sync::Wait;
 
-/// How often a session is tried to be given up at most.
+/// How many times it is tried, at most, to abandon a session.
 pub const MOST_ABANDONS: u32 = 1_000;
 
-/// Gives a session up. While a worker has it, it asks the gate and tries again, whatever the gate says; a session that
-/// a worker still has at the last try leaves its slot taken for good.
+/// Abandons a session. While a worker has it, it asks the gate and tries again, whatever the gate says; a session
+/// that a worker still has at the last try leaves its slot taken for good.
 pub(crate) fn abandon<'p, G: Gate>(
     pool: &SessionPool<'p>,
     seat: &mut ClientSeat<'p>,
@@ -38,9 +38,9 @@ pub(crate) fn abandon<'p, G: Gate>(
     }
 }
 
-/// The outcome that a session comes to, of all that it was sent. Until it is there it asks the gate and tries again.
-/// The error is `NotFinished` where the gate says no, and then the session is given up; `NoMemory` where memory ended
-/// it.
+/// Returns the outcome that a session comes to, of all that it was sent. Until it is there it asks the gate and tries
+/// again. The error is `NotFinished` where the gate says no, and then the session is abandoned; `NoMemory` where
+/// memory ended it.
 pub(crate) fn finish<'p, R: Wait, G: Gate>(
     rt: &R,
     pool: &SessionPool<'p>,

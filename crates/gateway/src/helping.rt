@@ -1,4 +1,4 @@
-//! A gate of whoever waits for a session, by which he runs sessions himself.
+//! A gate of a client that waits for a session, by which the client runs sessions itself.
 
 ghost use Rattle.std.specs.Prelude.{IsTrue};
 ghost use Rattle.session_pool.specs.Seats.{RestsWorker};
@@ -6,9 +6,11 @@ ghost use Rattle.session_pool.specs.Seats.{RestsWorker};
 use gateway_core::{Gate, Place};
 use session_pool::{SessionPool, Turn, WorkerSeat};
 
-/// The number of rows that a client's turn takes at most. Ours: what a plan finds is used where all its rows are within
-/// one turn, so a message of 16 MiB should be; rows that are found ahead take some milliseconds a million, and those
-/// that are taken one by one up to a tenth of a second.
+/// The number of rows that a client's turn takes at most.
+///
+/// This limit is ours: what a plan finds is used where all its rows are within one turn, so a message of 16 MiB
+/// should be; rows that are found ahead take some milliseconds a million, and those that are taken one by one up to a
+/// tenth of a second.
 pub const SLICE: u64 = 10_000_000;
 
 /// A gate that takes a turn each time it is asked. It always says yes.
@@ -20,7 +22,7 @@ pub struct Helping<'a, 'p> {
 }
 
 impl<'a, 'p> Helping<'a, 'p> {
-    /// A gate that takes turns by a worker's seat of the pool.
+    /// Returns a gate that takes turns by a worker's seat of the pool.
     pub fn new(pool: &'a SessionPool<'p>, seat: WorkerSeat<'p>) -> Helping<'a, 'p>
         requires { RestsWorker pool.now seat }
     {

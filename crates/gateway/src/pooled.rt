@@ -17,13 +17,13 @@ use schema_registry::Receipt;
 use session_pool::{ClientSeat, OpenError, Pass, SessionPool};
 use std::sync::Wait;
 
-/// Transcoding by sessions of a pool: one for each payload, which whoever takes it runs.
+/// A transcoder that works by sessions of a pool: one for each payload, which whoever takes it runs.
 #[derive(Drop)]
 pub struct Pooled<'a, 'p> {
     pub pool: &'a SessionPool<'p>,
 }
 
-/// The fault that tells why no session was opened.
+/// Returns the fault that says why no session was opened.
 fn fault_of(error: OpenError) -> TranscodeFault
     ensures { result ≡ fault_of error }
 {
@@ -35,7 +35,8 @@ fn fault_of(error: OpenError) -> TranscodeFault
     }
 }
 
-/// The outcome of a payload by a session that has just begun. Where it is not fed in whole it is given up.
+/// Returns the outcome of a payload by a session that has just begun. Where not all of the payload is sent, the
+/// session is abandoned.
 fn outcome_by<'p, R: Wait, G: Gate>(
     rt: &R,
     transcoder: &Pooled<'_, 'p>,

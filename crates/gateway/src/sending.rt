@@ -49,8 +49,8 @@ fn send<'p, R: Wait, G: Gate>(
     unreachable!()
 }
 
-/// Tells a session that it has the whole payload. While a worker has the session it asks the gate and tries again:
-/// `NotFinished` where the gate says no.
+/// Ends a session's payload, of which it has all bytes. While a worker has the session it asks the gate and tries
+/// again: `NotFinished` where the gate says no.
 fn close<'p, R: Wait, G: Gate>(
     rt: &R,
     pool: &SessionPool<'p>,
@@ -78,8 +78,8 @@ fn close<'p, R: Wait, G: Gate>(
     unreachable!()
 }
 
-/// Sends a session that has just begun a payload, and tells it that this is the whole. `NotFinished` where the gate
-/// says no, `NoMemory` where memory ran out.
+/// Sends a session that has just begun a whole payload, and ends it. `NotFinished` where the gate says no, `NoMemory`
+/// where memory ran out.
 pub(crate) fn feed<'p, R: Wait, G: Gate>(
     rt: &R,
     pool: &SessionPool<'p>,

@@ -1,13 +1,14 @@
 //! One request answered, from a pool: of those that were received, or read and written.
 
-ghost use Rattle.std.specs.Prelude.{◌≡◌, ◌++◌, ℕ, IfErr, IfOk, List, Option};
-ghost use Rattle.gateway_requests.specs.Request.{request_of};
+ghost use Rattle.std.specs.Prelude.{◌≡◌, ◌++◌, ℕ, IfErr, IfOk, List, Option, Result};
+ghost use Rattle.gateway_requests.specs.Request.{Request as Asked, request_of};
 ghost use Rattle.gateway_requests.specs.Sizes.{IsWithin};
+ghost use Rattle.gateway_requests.specs.Steps.{Tells};
 ghost use Rattle.gateway_requests.specs.declared.limits.TheConstants.{MOST_BODY};
 ghost use Rattle.session_pool.specs.Seats.{Rests};
 ghost use Rattle.gateway_core.specs.Gates.{SaidNo};
-ghost use Rattle.gateway_core.specs.NamedServing.{IsNamedReply};
-ghost use Rattle.gateway_core.specs.Serving.{IsFault, IsReplied, IsServed, ServesSome, TellsRequest};
+ghost use Rattle.gateway_core.specs.NamedServing.{IsNamedReply, IsNamedReplyTo};
+ghost use Rattle.gateway_core.specs.Serving.{IsFault, IsReplied, IsReplyTo, IsServed, ServesSome, TellsRequest};
 ghost use Rattle.gateway_core.specs.Transcoding.{IsWhyNone};
 ghost use Rattle.gateway.specs.Refusing.{Refuses};
 
@@ -21,8 +22,8 @@ use std::alloc::AllocError;
 use std::io::{Read, Write};
 use std::sync::Wait;
 
-/// Returns the reply to what the bytes of a request asked, or to the first of their faults, whoever received them. The
-/// error says that not even the answer that memory ran out found memory.
+/// Returns the reply to what the bytes of a request asked, or to the first of their faults, whoever received them. It
+/// is an error where even the answer that memory ran out found no memory.
 pub fn reply_to<'p, R: Wait, G: Gate>(
     rt: &R,
     app: &App<'_, 'p>,
@@ -36,6 +37,9 @@ pub fn reply_to<'p, R: Wait, G: Gate>(
     ensures replied { IfOk result (λ reply. (input : Option (List ℕ)) → TellsRequest input request
         → IsReplied (IsWhyNone (Refuses seat.old seat.new) (SaidNo G.says gate.old gate.new)) app.now.registry.now
         input (reply.bytes.front.items ++ reply.bytes.rest.items) reply.status reply.evidence) }
+    ensures told { IfOk result (λ reply. (asked : Result Asked Fault) → Tells request_of request asked
+        → IsReplyTo (IsWhyNone (Refuses seat.old seat.new) (SaidNo G.says gate.old gate.new)) app.now.registry.now
+        asked (reply.bytes.front.items ++ reply.bytes.rest.items) reply.status reply.evidence) }
 {
     let transcoder = Pooled { pool: app.pool };
     let answering = gateway_core::App {
@@ -47,8 +51,8 @@ pub fn reply_to<'p, R: Wait, G: Gate>(
     gateway_core::reply_to(rt, &answering, seat, gate, request)
 }
 
-/// Returns the reply to what the bytes of a request asked, or to the first of their faults, where another registry names
-/// the schemas. The error says that not even the answer that memory ran out found memory.
+/// Returns the reply to what the bytes of a request asked, or to the first of their faults, where another registry
+/// names the schemas. It is an error where even the answer that memory ran out found no memory.
 pub fn reply_named<'p, R: Wait, S: Schemas, G: Gate>(
     rt: &R,
     app: &App<'_, 'p>,
@@ -65,6 +69,10 @@ pub fn reply_named<'p, R: Wait, S: Schemas, G: Gate>(
         → IsNamedReply (IsWhyNone (Refuses seat.old seat.new) (SaidNo G.says gate.old gate.new))
         (S.cells schemas.old) (S.names schemas.old) (S.refuses schemas.old) input
         (reply.bytes.front.items ++ reply.bytes.rest.items) reply.status reply.sight) }
+    ensures told { IfOk result (λ reply. (asked : Result Asked Fault) → Tells request_of request asked
+        → IsNamedReplyTo (IsWhyNone (Refuses seat.old seat.new) (SaidNo G.says gate.old gate.new))
+        (S.cells schemas.old) (S.names schemas.old) (S.refuses schemas.old) asked
+        (reply.bytes.front.items ++ reply.bytes.rest.items) reply.status reply.sight) }
 {
     let transcoder = Pooled { pool: app.pool };
     let answering = gateway_core::App {
@@ -76,11 +84,11 @@ pub fn reply_named<'p, R: Wait, S: Schemas, G: Gate>(
     gateway_core::reply_named(rt, &answering, schemas, seat, gate, request)
 }
 
-/// Reads one request and writes one answer: the status, and the receipts that the answer stands on.
+/// Reads one request and writes one answer, and returns its status and the receipts that it rests on.
 ///
-/// `Closed` where no byte came, `ReadFault` where the reader failed, `NoMemory` where not even a fault's text found
+/// `Closed` where no byte came, `ReadFault` where the reader failed, `NoMemory` where even a fault's text found no
 /// memory: then nothing is written. `CutShort` where the writer failed, after the first bytes of an answer, with the
-/// receipts that this answer stands on.
+/// receipts that this answer rests on.
 pub fn serve_and_tell<'p, R: Wait, I: Read, O: Write, G: Gate>(
     rt: &R,
     app: &App<'_, 'p>,
@@ -108,8 +116,8 @@ pub fn serve_and_tell<'p, R: Wait, I: Read, O: Write, G: Gate>(
     gateway_core::serve_and_tell(rt, &answering, seat, reader, writer, gate)
 }
 
-/// Reads one request and writes one answer, as `serve_and_tell` does: the status alone, and the receipts are let go.
-/// The errors are those of `serve_and_tell`, with `WriteFault` for `CutShort`.
+/// Reads one request and writes one answer, as `serve_and_tell` does, and returns the status alone, without the
+/// receipts. The errors are those of `serve_and_tell`, with `WriteFault` for `CutShort`.
 pub fn serve_one<'p, R: Wait, I: Read, O: Write, G: Gate>(
     rt: &R,
     app: &App<'_, 'p>,

@@ -6,8 +6,10 @@ use gateway_core::{Gate, Place};
 use session_pool::{SessionPool, WorkerSeat};
 use std::sync::Wait;
 
-/// Takes turns of at most `limit` rows. It asks the gate before each turn, and ends where that says no; and once it has
-/// taken a session, before the first row, and ends after that turn where it says no.
+/// Takes turns of at most `limit` rows, until the gate says no.
+///
+/// It asks the gate before each turn, and ends where that says no; and once it has taken a session, before the first
+/// row, and ends after that turn where it says no.
 pub fn work<'p, R: Wait, G: Gate>(
     rt: &R,
     pool: &SessionPool<'p>,

@@ -1,5 +1,5 @@
--- The codes, statuses and texts of faults (Confluent Schema Registry API, "Errors"; 41301 and those from 42250 on are
--- this project's own, and so are the texts).
+-- The codes, statuses and texts of faults (Confluent Schema Registry API, "Errors"; 41301, those from 42250 on and 501
+-- are this project's own, and so are the texts).
 use Rattle.std.specs.Prelude.{◌≡◌, ◌⊎◌, ◌/◌, ℕ, List, ◌++◌, codes, decimal}
 use Rattle.avro_bytes.specs.MalformedKind.{name_of as name_of_kind}
 use Rattle.outcome.specs.MismatchKind.{name_of as name_of_mismatch}
@@ -21,6 +21,7 @@ code_of faults.NoVersion = 40402
 code_of faults.NoSchema = 40403
 code_of faults.Incompatible = 409
 code_of faults.TooLarge = 41301
+code_of faults.UnknownCoding = 501
 code_of faults.BadBody = 42201
 code_of (faults.BadSchema error) = 42201
 code_of faults.NotAvro = 42201
@@ -50,6 +51,7 @@ status_of faults.NoVersion = statuses.NotFound
 status_of faults.NoSchema = statuses.NotFound
 status_of faults.Incompatible = statuses.Conflict
 status_of faults.TooLarge = statuses.PayloadTooLarge
+status_of faults.UnknownCoding = statuses.NotImplemented
 status_of faults.BadBody = statuses.UnprocessableEntity
 status_of (faults.BadSchema error) = statuses.UnprocessableEntity
 status_of faults.NotAvro = statuses.UnprocessableEntity
@@ -70,7 +72,7 @@ status_of faults.NotStored = statuses.ServiceUnavailable
 status_of faults.Elsewhere = statuses.NotFound
 status_of (faults.Upstream fault) = statuses.ServiceUnavailable
 
--- a code is its status, or has two digits behind it
+-- a code is its status, or its status followed by two digits
 abbrev pub CodesBeginWithTheirStatus : Type 0
 CodesBeginWithTheirStatus = (fault : Fault)
     → (code_of fault ≡ number_of (status_of fault)) ⊎ (code_of fault / 100 ≡ number_of (status_of fault))
@@ -84,6 +86,7 @@ message_of faults.NoVersion = codes "version not found"
 message_of faults.NoSchema = codes "schema not found"
 message_of faults.Incompatible = codes "incompatible schema"
 message_of faults.TooLarge = codes "too large"
+message_of faults.UnknownCoding = codes "unknown transfer coding"
 message_of faults.BadBody = codes "invalid schema: Body"
 message_of (faults.BadSchema error) = codes "invalid schema: " ++ name_of_schema_error error
 message_of faults.NotAvro = codes "invalid schema: NotAvro"

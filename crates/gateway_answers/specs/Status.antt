@@ -12,6 +12,7 @@ number_of statuses.Conflict = 409
 number_of statuses.PayloadTooLarge = 413
 number_of statuses.UnprocessableEntity = 422
 number_of statuses.InternalServerError = 500
+number_of statuses.NotImplemented = 501
 number_of statuses.ServiceUnavailable = 503
 
 abbrev pub reason_of : Status → List ℕ
@@ -23,4 +24,5 @@ reason_of statuses.Conflict = codes "Conflict"
 reason_of statuses.PayloadTooLarge = codes "Payload Too Large"
 reason_of statuses.UnprocessableEntity = codes "Unprocessable Entity"
 reason_of statuses.InternalServerError = codes "Internal Server Error"
+reason_of statuses.NotImplemented = codes "Not Implemented"
 reason_of statuses.ServiceUnavailable = codes "Service Unavailable"

@@ -1,8 +1,11 @@
-//! An answer: its status, and all its bytes.
+//! What a request is answered: its status, and its bytes.
 
 ghost use Rattle.std.specs.Prelude.{◌≡◌, ◌+◌, ◌++◌, ◌<◌, ◌^◌, IfOk, length, string_bytes, vec_len};
-ghost use Rattle.gateway_answers.specs.Answer.{answer_of, answer_text, content_type_of, head_of, status_line_of, status_of_answer};
+ghost use Rattle.gateway_answers.specs.Answer.{answer_of, answer_text, content_type_of, status_of_answer};
+ghost use Rattle.gateway_answers.specs.Head.{head_named, head_of, status_line_of};
 
+use crate::answer_bytes::AnswerBytes;
+use crate::content_type::ContentType;
 use crate::fault::Fault;
 use crate::replies::fault_text;
 use crate::status::Status;
@@ -22,17 +25,8 @@ pub enum Answer {
     Fault(Fault),
 }
 
-/// All bytes of an answer, in two pieces: a long body is no copy, but the memory that the answer had it in.
-#[derive(Drop)]
-pub struct AnswerBytes {
-    /// The head, and the first bytes of the body.
-    pub front: Vec<u8>,
-    /// The other bytes of the body.
-    pub rest: Vec<u8>,
-}
-
 impl Answer {
-    /// Its status.
+    /// Returns its status.
     pub fn status(&self) -> Status
         ensures { result ≡ status_of_answer (answer_of self.now) }
     {
@@ -42,13 +36,13 @@ impl Answer {
         }
     }
 
-    /// The type of its content.
-    fn content_type(&self) -> &'static str
-        ensures { result.now ≡ content_type_of (answer_of self.now) }
+    /// Returns the type of its content.
+    fn content_type(&self) -> ContentType
+        ensures { result ≡ content_type_of (answer_of self.now) }
     {
         match self {
-            Answer::Reply(_) | Answer::Fault(_) => "application/vnd.schemaregistry.v1+json",
-            Answer::Message { .. } => "application/octet-stream",
+            Answer::Reply(_) | Answer::Fault(_) => ContentType::Json,
+            Answer::Message { .. } => ContentType::OctetStream,
         }
     }
 
@@ -72,33 +66,49 @@ impl Answer {
     }
 }
 
-/// Returns the head of a body, and the body after it, which is a prefix and the rest. A rest of more than
-/// `MOST_COPIED` bytes is the second piece as it is; else all is the first piece.
+/// Returns the head of a body, and the body after it, which is a prefix and the rest.
+///
+/// A rest of more than `MOST_COPIED` bytes is the second piece as it is; else all is the first piece.
 fn framed(
     alloc: Global,
     status: Status,
-    content_type: &str,
+    content_type: ContentType,
     prefix: &[u8],
     rest: Vec<u8>,
 ) -> Result<AnswerBytes, AllocError>
     requires { length prefix.now < 2 ^ 10 }
     ensures { IfOk result (λ bytes. bytes.front.items ++ bytes.rest.items
-        ≡ head_of status content_type.now (length prefix.now + vec_len rest) ++ (prefix.now ++ rest.items)) }
+        ≡ head_of status content_type (length prefix.now + vec_len rest) ++ (prefix.now ++ rest.items)) }
 {
-    let head = head(alloc, status, content_type, prefix.len() + rest.len())?;
-    let mut front = head.into_bytes();
+    let text = head(
+        alloc,
+        status,
+        content_type.name(),
+        prefix.len() + rest.len(),
+    )?;
+    let mut front = text.into_bytes();
+    let head = front.len();
     front.extend_from_slice(prefix)?;
     if rest.len() > MOST_COPIED {
-        return Ok(AnswerBytes { front, rest });
+        return Ok(AnswerBytes {
+            front,
+            rest,
+            head,
+            status,
+            content_type,
+        });
     }
     front.extend_from_slice(&rest)?;
     Ok(AnswerBytes {
         front,
         rest: Vec::new(alloc),
+        head,
+        status,
+        content_type,
     })
 }
 
-/// The number and the reason of a status line.
+/// Returns the number and the reason of a status line.
 fn status_line(alloc: Global, status: Status) -> Result<String, AllocError>
     ensures { IfOk result (λ text. string_bytes text ≡ status_line_of status) }
 {
@@ -106,14 +116,14 @@ fn status_line(alloc: Global, status: Status) -> Result<String, AllocError>
     Ok(format!(in alloc; "{number} {reason}")?)
 }
 
-/// The head before a body of so many bytes.
+/// Returns the head before a body of `length` bytes.
 fn head(
     alloc: Global,
     status: Status,
     content_type: &str,
     length: usize,
 ) -> Result<String, AllocError>
-    ensures { IfOk result (λ text. string_bytes text ≡ head_of status content_type.now length) }
+    ensures { IfOk result (λ text. string_bytes text ≡ head_named status content_type.now length) }
 {
     let line = status_line(alloc, status)?;
     let line = line.as_str();

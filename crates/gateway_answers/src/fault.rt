@@ -28,6 +28,8 @@ pub enum Fault {
     Incompatible,
     /// The body passes its limit.
     TooLarge,
+    /// The body has a transfer coding other than `chunked`.
+    UnknownCoding,
     /// The body's JSON object has no text of an Avro schema without references.
     BadBody,
     /// The text in the body is no schema.
@@ -39,9 +41,10 @@ pub enum Fault {
     BadVersion,
     BadLevel,
     BadSubject,
-    /// The payload is no datum of the writer's schema: the kind of its first fault, and how many bytes stand before it.
+    /// The payload is no datum of the writer's schema: the kind of its first fault, and the number of bytes before
+    /// it.
     Malformed { kind: MalformedKind, at: usize },
-    /// The payload's datum has no place with the reader's schema.
+    /// The payload's datum does not fit the reader's schema.
     Mismatch(Mismatch),
     /// The answer would pass its limit.
     OutputTooLarge,
@@ -65,7 +68,8 @@ pub enum Fault {
 }
 
 impl Fault {
-    /// The code in its answer: the status, or the status with two digits behind it (Confluent Schema Registry API).
+    /// Returns the code in its answer: the status, or the status followed by two digits (Confluent Schema Registry
+    /// API).
     pub fn code(self) -> u32
         ensures { result ≡ code_of self }
     {
@@ -78,6 +82,7 @@ impl Fault {
             Fault::NoSchema => 40403,
             Fault::Incompatible => 409,
             Fault::TooLarge => 41301,
+            Fault::UnknownCoding => 501,
             Fault::BadBody | Fault::BadSchema(_) | Fault::NotAvro | Fault::HasReferences => 42201,
             Fault::BadVersion => 42202,
             Fault::BadLevel => 42203,
@@ -96,7 +101,7 @@ impl Fault {
         }
     }
 
-    /// The status of its answer.
+    /// Returns the status of its answer.
     pub fn status(self) -> Status
         ensures { result ≡ status_of self }
     {
@@ -110,6 +115,7 @@ impl Fault {
             Fault::NotAllowed => Status::MethodNotAllowed,
             Fault::Incompatible => Status::Conflict,
             Fault::TooLarge => Status::PayloadTooLarge,
+            Fault::UnknownCoding => Status::NotImplemented,
             Fault::BadBody
             | Fault::BadSchema(_)
             | Fault::NotAvro
@@ -131,7 +137,7 @@ impl Fault {
         }
     }
 
-    /// Its text.
+    /// Returns its text.
     pub fn message(self, alloc: Global) -> Result<String, AllocError>
         ensures { IfOk result (λ text. string_bytes text ≡ message_of self) }
     {
@@ -145,7 +151,7 @@ impl Fault {
         }
     }
 
-    /// The text of a fault that has no parts; empty for the others.
+    /// Returns the text of a fault that has no parts; empty for the others.
     fn fixed_message(self) -> &'static str
         ensures { HasFixedText self → result.now ≡ message_of self }
     {
@@ -158,6 +164,7 @@ impl Fault {
             Fault::NoSchema => "schema not found",
             Fault::Incompatible => "incompatible schema",
             Fault::TooLarge => "too large",
+            Fault::UnknownCoding => "unknown transfer coding",
             Fault::BadBody => "invalid schema: Body",
             Fault::NotAvro => "invalid schema: NotAvro",
             Fault::HasReferences => "invalid schema: References",

@@ -5,13 +5,17 @@
 #![tactic(auto)]
 
 mod answer;
+mod answer_bytes;
+mod content_type;
 mod fault;
 mod laws;
 mod replies;
 mod status;
 mod upstream_fault;
 
-pub use answer::{Answer, AnswerBytes};
+pub use answer::Answer;
+pub use answer_bytes::AnswerBytes;
+pub use content_type::ContentType;
 pub use fault::Fault;
 pub use laws::codes_begin_with_their_status;
 pub use replies::{

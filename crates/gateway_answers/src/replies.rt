@@ -1,5 +1,5 @@
-//! The JSON of replies and faults: compact, the keys of each object sorted. A pair of functions each, of which the
-//! first writes the value that the second makes.
+//! The JSON of replies and faults: compact, with the keys of each object sorted. There are two functions for each:
+//! the first returns the text of the value that the second makes.
 
 ghost use Rattle.std.specs.Prelude.{◌≡◌, IfOk, codes, map, string_bytes};
 ghost use Rattle.serde_json.specs.Written.{compact_text};
@@ -11,7 +11,7 @@ use crate::fault::Fault;
 use serde_json::{Value, json};
 use std::alloc::{AllocError, Global};
 
-/// `{"error_code":..,"message":".."}`
+/// Returns the text `{"error_code":..,"message":".."}` of a fault.
 pub fn fault_text(alloc: Global, fault: Fault) -> Result<String, AllocError>
     ensures { IfOk result (λ text. string_bytes text ≡ compact_text (fault_data fault)) }
 {
@@ -27,7 +27,7 @@ fn fault_value(alloc: Global, code: u32, message: &String) -> Result<Value, Allo
     json!(in alloc; {"error_code": code, "message": message})
 }
 
-/// `{"id":..}`
+/// Returns the text `{"id":..}`.
 pub fn id_text(alloc: Global, id: u32) -> Result<String, AllocError>
     ensures { IfOk result (λ text. string_bytes text ≡ compact_text (id_data id)) }
 {
@@ -41,7 +41,7 @@ fn id_value(alloc: Global, id: u32) -> Result<Value, AllocError>
     json!(in alloc; {"id": id})
 }
 
-/// `{"schema":".."}`
+/// Returns the text `{"schema":".."}`.
 pub fn schema_text(alloc: Global, schema: &str) -> Result<String, AllocError>
     ensures { IfOk result (λ text. string_bytes text ≡ compact_text (schema_data schema.now)) }
 {
@@ -55,7 +55,7 @@ fn schema_value(alloc: Global, schema: &str) -> Result<Value, AllocError>
     json!(in alloc; {"schema": schema})
 }
 
-/// `{"id":..,"schema":"..","subject":"..","version":..}`
+/// Returns the text `{"id":..,"schema":"..","subject":"..","version":..}`.
 pub fn entry_text(
     alloc: Global,
     id: u32,
@@ -81,7 +81,7 @@ fn entry_value(
     json!(in alloc; {"id": id, "schema": schema, "subject": subject, "version": version})
 }
 
-/// `{"is_compatible":..}`
+/// Returns the text `{"is_compatible":..}`.
 pub fn compatibility_text(alloc: Global, is_compatible: bool) -> Result<String, AllocError>
     ensures { IfOk result (λ text. string_bytes text ≡ compact_text (compatibility_data is_compatible)) }
 {
@@ -95,7 +95,7 @@ fn compatibility_value(alloc: Global, is_compatible: bool) -> Result<Value, Allo
     json!(in alloc; {"is_compatible": is_compatible})
 }
 
-/// `{"compatibilityLevel":".."}`, of a level that was asked for.
+/// Returns the text `{"compatibilityLevel":".."}` of a level that was asked for.
 pub fn level_text(alloc: Global, level: &str) -> Result<String, AllocError>
     ensures { IfOk result (λ text. string_bytes text ≡ compact_text (level_data level.now)) }
 {
@@ -109,7 +109,7 @@ fn level_value(alloc: Global, level: &str) -> Result<Value, AllocError>
     json!(in alloc; {"compatibilityLevel": level})
 }
 
-/// `{"compatibility":".."}`, of a level that was set.
+/// Returns the text `{"compatibility":".."}` of a level that was set.
 pub fn new_level_text(alloc: Global, level: &str) -> Result<String, AllocError>
     ensures { IfOk result (λ text. string_bytes text ≡ compact_text (new_level_data level.now)) }
 {
@@ -123,7 +123,7 @@ fn new_level_value(alloc: Global, level: &str) -> Result<Value, AllocError>
     json!(in alloc; {"compatibility": level})
 }
 
-/// An array of names.
+/// Returns the text of an array of names.
 #[tactic(auto, using(crate::proofs::Floats::names_have_no_float))]
 pub fn names_text(alloc: Global, names: &[String]) -> Result<String, AllocError>
     ensures { IfOk result (λ text. string_bytes text ≡ compact_text (names_data (map string_bytes names.now))) }
@@ -138,7 +138,7 @@ fn names_value(alloc: Global, names: &[String]) -> Result<Value, AllocError>
     Ok(Value::Array(name_values(alloc, names)?))
 }
 
-/// The names as JSON strings, in their order.
+/// Returns the names as JSON strings, in their order.
 fn name_values(alloc: Global, names: &[String]) -> Result<Vec<Value>, AllocError>
     ensures { IfOk result (λ values. map view values.items ≡ map string (map string_bytes names.now)) }
 {
@@ -149,7 +149,7 @@ fn name_values(alloc: Global, names: &[String]) -> Result<Vec<Value>, AllocError
     Ok(values)
 }
 
-/// An array of numbers.
+/// Returns the text of an array of numbers.
 #[tactic(auto, using(crate::proofs::Floats::numbers_have_no_float))]
 pub fn numbers_text(alloc: Global, numbers: &[u32]) -> Result<String, AllocError>
     ensures { IfOk result (λ text. string_bytes text ≡ compact_text (numbers_data numbers.now)) }
@@ -164,7 +164,7 @@ fn numbers_value(alloc: Global, numbers: &[u32]) -> Result<Value, AllocError>
     Ok(Value::Array(number_values(alloc, numbers)?))
 }
 
-/// The numbers as JSON numbers, in their order.
+/// Returns the numbers as JSON numbers, in their order.
 fn number_values(alloc: Global, numbers: &[u32]) -> Result<Vec<Value>, AllocError>
     ensures { IfOk result (λ values. map view values.items ≡ map whole numbers.now) }
 {

@@ -14,11 +14,12 @@ pub enum Status {
     PayloadTooLarge,
     UnprocessableEntity,
     InternalServerError,
+    NotImplemented,
     ServiceUnavailable,
 }
 
 impl Status {
-    /// Its number.
+    /// Returns its number.
     pub fn number(self) -> u16
         ensures { result ≡ number_of self }
     {
@@ -31,11 +32,12 @@ impl Status {
             Status::PayloadTooLarge => 413,
             Status::UnprocessableEntity => 422,
             Status::InternalServerError => 500,
+            Status::NotImplemented => 501,
             Status::ServiceUnavailable => 503,
         }
     }
 
-    /// Its reason phrase, which stands behind the number in a status line.
+    /// Returns its reason phrase, which follows the number in a status line.
     pub fn reason(self) -> &'static str
         ensures { result.now ≡ reason_of self }
     {
@@ -48,6 +50,7 @@ impl Status {
             Status::PayloadTooLarge => "Payload Too Large",
             Status::UnprocessableEntity => "Unprocessable Entity",
             Status::InternalServerError => "Internal Server Error",
+            Status::NotImplemented => "Not Implemented",
             Status::ServiceUnavailable => "Service Unavailable",
         }
     }

@@ -1,4 +1,4 @@
--- What is answered and written, from what is asked and told.
+-- What is answered and written, from what is asked and returned.
 use Rattle.std.proofs.Common.{◌≡◌, ◌≢◌, ◌⊎◌, ℕ, List, Option, Result, Err, sym, subst, inl, inr, ◌∙◌, ap}
 use Rattle.gateway_answers.specs.Answer.{Answer, Refused}
 use Rattle.gateway_answers.specs.declared.fault.Fault.{Fault}
@@ -10,7 +10,7 @@ use Rattle.gateway_requests.specs.Request.{Request, request_of}
 use Rattle.gateway_requests.specs.Steps.{Tells}
 use Rattle.gateway_requests.specs.declared.request.Request as rust
 use Rattle.gateway_core.specs.Answering.{Answers}
-use Rattle.gateway_core.specs.Serving.{IsAnswer, IsReplied, IsTextOf, TellsRequest}
+use Rattle.gateway_core.specs.Serving.{IsAnswer, IsAnswerTo, IsReplied, IsReplyTo, IsTextOf, TellsRequest}
 use Rattle.gateway_core.proofs.Faults.{memory_or_another}
 
 module _ (refuses : Shown → Shown → TranscodeFault → Type 0)
@@ -46,3 +46,26 @@ module _ (refuses : Shown → Shown → TranscodeFault → Type 0)
         asked = told.2;
         answers = fault_answers fault is told.0 (subst P failed told.1) (memory_or_another fault);
       }
+
+  pub fault_told : (fault : Fault) (result : Result rust.Request Fault) → result ≡ Err fault → answer ≡ Refused fault
+      → (request : Result Request Fault) → Tells request_of result request → IsAnswerTo refuses cells request evidence answer
+  fault_told fault result failed is request told =
+      let P : Result rust.Request Fault → Type 0 = λ r. Tells request_of r request in
+      fault_answers fault is request (subst P failed told) (memory_or_another fault)
+
+  -- another answer, of which the text was made
+  reply_shown : (shown : Answer) (request : Result Request Fault) → (shown ≡ answer) ⊎ (shown ≡ Refused faults.NoMemory)
+      → IsAnswerTo refuses cells request evidence answer → IsAnswerTo refuses cells request evidence shown
+  reply_shown shown request (inl same) is =
+      let P : Answer → Type 0 = λ x. IsAnswerTo refuses cells request evidence x in subst P (sym same) is
+  reply_shown shown request (inr memory) is = inl memory
+
+  pub reply_told : (request : Result Request Fault) (bytes : List ℕ) (status : ℕ)
+      → IsAnswerTo refuses cells request evidence answer → IsTextOf answer bytes status
+      → IsReplyTo refuses cells request bytes status evidence
+  reply_told request bytes status is text = record {
+    answer = text.0;
+    is_answer = reply_shown text.0 request text.1 is;
+    status_is = text.3;
+    bytes_are = text.2;
+  }

@@ -35,7 +35,7 @@ front_is come len buffer fits =
     let e : len + (come - len) ≡ come = omega (arith, fits) in
     sym (drop-take len (come - len) buffer) ∙ ap (λ (k : ℕ). drop len (take k buffer)) e
 
--- the head and the bytes behind it are in all bytes
+-- the head and the bytes after it are in all bytes
 pub all_asks : (old mid : Option (List ℕ)) (bytes : List ℕ) (headers : List HeaderSpan) (spans : RequestSpans) (h : RequestHead)
     → Consumes old mid bytes → IsRequestAt bytes headers spans h → IsAllowed h → (result : Result rust.Request Fault)
     → TellsAsked mid (λ left. asked h (drop spans.len bytes ++ left)) result → TellsRequest old result
@@ -50,7 +50,7 @@ pub no_head_asks : (old : Option (List ℕ)) → IfSome old HasNoHead → TellsR
 no_head_asks None none = (Err BadRequest, λ _. refl, tt)
 no_head_asks (Some input) none = (Err BadRequest, λ _. refl, inl (none, refl))
 
--- a fault of the head is what the request asks, whatever comes behind
+-- a fault of the head is what the request asks, whatever comes after it
 pub fault_asks : (h : RequestHead) (fault : Fault) (left : Option (List ℕ)) (front : List ℕ) → chosen h ≡ Err fault
     → IfSome left (λ more. Err fault ≡ asked h (front ++ more))
 fault_asks h fault None front is = tt
@@ -68,7 +68,7 @@ request_asks h c left front rest path got body result chosen same path_is got_is
     subst P path_is (let Q : Option (List ℕ) → Type 0 = λ b. Tells request_of result (asked_for path b c.action) in subst Q got_is tells) in
     (asked_for (path_of h.target) body c.action, told, asked_is h c left rest body chosen front_body)
 
--- the request asks something, of which nothing was told
+-- the request asks something, though nothing of it was returned
 pub memory_asks : (h : RequestHead) (left : Option (List ℕ)) (front : List ℕ)
     → (request : Result Request Fault) × IfSome left (λ more. request ≡ asked h (front ++ more))
 memory_asks h None front = (asked h front, tt)

@@ -1,12 +1,13 @@
--- The bytes and the status of an answer that stands on the schemas of another registry.
-use Rattle.std.proofs.Common.{◌≡◌, ◌⊎◌, ℕ, List, Option, sym, subst, inl, inr}
+-- The bytes and the status of an answer that rests on the schemas of another registry.
+use Rattle.std.proofs.Common.{◌≡◌, ◌⊎◌, ℕ, List, Option, Result, sym, subst, inl, inr}
 use Rattle.gateway_answers.specs.Answer.{Answer, Refused}
 use Rattle.gateway_answers.specs.declared.fault.Fault.{Fault}
 use Rattle.gateway_answers.specs.declared.fault.Fault.TheVariants as faults
 use Rattle.gateway_core.specs.declared.named.Sight.{Sight}
 use Rattle.gateway_core.specs.declared.transcode.TranscodeFault.{TranscodeFault}
 use Rattle.schema_registry.specs.Shared.{Shown}
-use Rattle.gateway_core.specs.NamedServing.{IsNamedAnswer, IsNamedReply}
+use Rattle.gateway_core.specs.NamedServing.{IsNamedAnswer, IsNamedAnswerTo, IsNamedReply, IsNamedReplyTo}
+use Rattle.gateway_requests.specs.Request.{Request}
 use Rattle.gateway_core.specs.Serving.{IsTextOf}
 
 module _ (refuses : Shown → Shown → TranscodeFault → Type 0) {E : Type 0} (cells : List ℕ)
@@ -25,6 +26,24 @@ module _ (refuses : Shown → Shown → TranscodeFault → Type 0) {E : Type 0} 
   named_reply bytes status is text = record {
     answer = text.0;
     is_answer = named_shown text.0 text.1 is;
+    status_is = text.3;
+    bytes_are = text.2;
+  }
+
+  -- another answer, of which the text was made
+  reply_shown : (shown : Answer) (request : Result Request Fault) → (shown ≡ answer) ⊎ (shown ≡ Refused faults.NoMemory)
+      → IsNamedAnswerTo refuses cells names unnamed request sight answer
+      → IsNamedAnswerTo refuses cells names unnamed request sight shown
+  reply_shown shown request (inl same) is =
+      let P : Answer → Type 0 = λ x. IsNamedAnswerTo refuses cells names unnamed request sight x in subst P (sym same) is
+  reply_shown shown request (inr memory) is = inl memory
+
+  pub named_told : (request : Result Request Fault) (bytes : List ℕ) (status : ℕ)
+      → IsNamedAnswerTo refuses cells names unnamed request sight answer → IsTextOf answer bytes status
+      → IsNamedReplyTo refuses cells names unnamed request bytes status sight
+  named_told request bytes status is text = record {
+    answer = text.0;
+    is_answer = reply_shown text.0 request text.1 is;
     status_is = text.3;
     bytes_are = text.2;
   }

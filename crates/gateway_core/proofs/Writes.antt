@@ -11,7 +11,7 @@ kept_appends (Some x) None c bytes kept written = absurd kept
 kept_appends (Some x) (Some y) None bytes kept written = absurd written
 kept_appends (Some x) (Some y) (Some z) bytes kept written = rw kept at written
 
--- one more part was written behind the first of the bytes
+-- k more bytes were written after the first n
 pub sent_more : (a b c : Option (List ℕ)) (n k : ℕ) (all : List ℕ) → Appends a b (take n all)
     → Appends b c (take k (take (length all - n) (drop n all))) → Appends a c (take (n + k) all)
 sent_more a b c n k all before more =

@@ -1,4 +1,4 @@
--- What the service may answer to what is asked, and the receipts that its answer stands on.
+-- What the service may answer to what is asked, and the receipts that its answer rests on.
 use Rattle.std.specs.Prelude.{◌≡◌, ◌⊎◌, ℕ, List, IfSome, Result, Ok, Err}
 use Rattle.serde_json.specs.Written.{compact_text}
 use Rattle.schema_registry.specs.Accepting.{compacted}
@@ -62,7 +62,7 @@ IsEntry (NamesReply names) = ⊥
 IsEntry (TextReply text) = ⊥
 IsEntry (LevelReply level) = ⊥
 
--- for a private clause: a reply is told, or it is an entry without a receipt
+-- for a private clause: a reply is answered as it is, or it is an entry without a receipt and answered as a clash
 abbrev pub IsTold : List ℕ → Command → Reply → Evidence → Answer → Type 0
 IsTold cells c reply evidence answer =
     ((answer ≡ answer_to c (Ok reply)) × IsEvident cells (Ok reply) evidence)
@@ -83,17 +83,15 @@ pub record TellsId (cells : List ℕ) (subject text : List ℕ) (evidence : Evid
   pub replied : IsSomeId subject text result
   pub tells : TellsIdOf cells text result evidence answer
 
--- ---- schemas of ids
+-- ---- schemas with ids
 
--- the text of the schema of a receipt of the id
+-- the text of the schema of a receipt with the id
 pub record TellsText (cells : List ℕ) (id : ℕ) (evidence : Evidence) (answer : Answer) : Type 0 where
   pub receipt : Shown
   pub evidence_is : evidence ≡ evidences.Shown receipt
   pub is_receipt : IsReceiptOf cells receipt
   pub id_is : receipt.id ≡ id
   pub answer_is : IfSome receipt.schema (λ s. answer ≡ Replied (compact_text (schema_data s.text)))
-
--- ---- messages that are not rewritten
 
 -- ---- messages that are not rewritten
 

@@ -80,3 +80,15 @@ module _ (refuses : Shown → Shown → TranscodeFault → Type 0) {E : Type 0} 
     pub is_answer : IsNamedAnswer input sight answer
     pub status_is : status ≡ number_of (status_of_answer answer)
     pub bytes_are : bytes ≡ answer_text answer
+
+  -- what is answered to what a request asks: that, or that memory ran out
+  abbrev pub IsNamedAnswerTo : Result requests.Request Fault → Sight E → Answer → Type 0
+  IsNamedAnswerTo request sight answer = (answer ≡ Refused faults.NoMemory) ⊎ AnswersNamed request sight answer
+
+  -- these are the bytes and the status of such an answer
+  pub record IsNamedReplyTo (request : Result requests.Request Fault) (bytes : List ℕ) (status : ℕ) (sight : Sight E)
+      : Type 0 where
+    pub answer : Answer
+    pub is_answer : IsNamedAnswerTo request sight answer
+    pub status_is : status ≡ number_of (status_of_answer answer)
+    pub bytes_are : bytes ≡ answer_text answer

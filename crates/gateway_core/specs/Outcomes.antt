@@ -10,7 +10,7 @@ use Rattle.gateway_answers.specs.declared.fault.Fault.TheVariants as faults
 use Rattle.gateway_core.specs.declared.transcode.TranscodeFault.{TranscodeFault}
 use Rattle.gateway_core.specs.declared.transcode.TranscodeFault.TheVariants as transcoding
 
--- the message or the fault that tells an outcome
+-- the message or the fault that an outcome is answered with
 abbrev pub answer_of_outcome : ℕ → Outcome → Answer
 answer_of_outcome id (Done bytes) = Rewritten (envelope id bytes)
 answer_of_outcome id (Mismatched mismatch) = Refused (faults.Mismatch mismatch)
@@ -24,8 +24,8 @@ fault_of_transcoding transcoding.Full = faults.Full
 fault_of_transcoding transcoding.NotFinished = faults.NotFinished
 fault_of_transcoding transcoding.NoMemory = faults.NoMemory
 
--- the outcome of a payload between the schemas of two receipts, or why there is none, where a pair of schemas is refused
--- as `refuses` says
+-- the outcome of a payload between the schemas of two receipts, or why there is none, where a pair of schemas is
+-- refused as `refuses` says
 abbrev pub TellsOutcome : (Shown → Shown → TranscodeFault → Type 0) → Shown → Shown → ℕ → List ℕ → Answer → Type 0
 TellsOutcome refuses writer reader id payload answer =
     (IfSome writer.schema (λ w. IfSome reader.schema (λ r.

@@ -47,7 +47,7 @@ reply_data c (NamesReply names) = names_data names
 reply_data c (TextReply text) = schema_data text
 reply_data c (LevelReply level) = level_data_of c (level_name level)
 
--- the answer that tells what the registry replies to a command
+-- the answer for what the registry replies to a command
 abbrev pub answer_to : Command → Result Reply Refusal → Answer
 answer_to c (Ok reply) = Replied (compact_text (reply_data c reply))
 answer_to c (Err refusal) = Refused (fault_of refusal)

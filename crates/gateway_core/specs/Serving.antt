@@ -33,7 +33,7 @@ without_evidence telling.ReadFault = serving.ReadFault
 without_evidence (telling.CutShort sent evidence) = serving.WriteFault sent
 without_evidence telling.NoMemory = serving.NoMemory
 
--- what was received tells what the bytes ask, where they are known, unless memory ran out
+-- the result is what the bytes ask, where they are known, unless memory ran out
 abbrev pub TellsRequest : Option (List ℕ) → Result rust.Request Fault → Type 0
 TellsRequest input result =
     (request : Result Request Fault) × Tells request_of result request
@@ -41,7 +41,7 @@ TellsRequest input result =
 
 -- ---- for private clauses
 
--- what was read is what the bytes ask, where they are known, unless memory ran out
+-- the result is what `asked` makes of the bytes that are left, where they are known, unless memory ran out
 abbrev pub TellsAsked : Option (List ℕ) → (List ℕ → Result Request Fault) → Result rust.Request Fault
     → Type 0
 TellsAsked left asked result =
@@ -72,6 +72,19 @@ module _ (refuses : Shown → Shown → TranscodeFault → Type 0) where
     pub status_is : status ≡ number_of (status_of_answer answer)
     pub bytes_are : bytes ≡ answer_text answer
 
+  -- what is answered to what a request asks: that, or that memory ran out
+  abbrev pub IsAnswerTo : List ℕ → Result Request Fault → Evidence → Answer → Type 0
+  IsAnswerTo cells request evidence answer =
+      (answer ≡ Refused faults.NoMemory) ⊎ Answers refuses cells request evidence answer
+
+  -- these are the bytes and the status of such an answer
+  pub record IsReplyTo (cells : List ℕ) (request : Result Request Fault) (bytes : List ℕ) (status : ℕ)
+      (evidence : Evidence) : Type 0 where
+    pub answer : Answer
+    pub is_answer : IsAnswerTo cells request evidence answer
+    pub status_is : status ≡ number_of (status_of_answer answer)
+    pub bytes_are : bytes ≡ answer_text answer
+
   -- a whole answer was written, with this status
   pub record IsServed (cells : List ℕ) (input old new : Option (List ℕ)) (status : ℕ) (evidence : Evidence)
       : Type 0 where
@@ -95,7 +108,7 @@ module _ (refuses : Shown → Shown → TranscodeFault → Type 0) where
   IsFault cells input old new (telling.CutShort sent evidence) = IsCutShort cells input old new sent evidence
   IsFault cells input old new telling.NoMemory = Keeps old new
 
-  -- the same with some evidence, which is let go
+  -- a whole answer was written, or the request ended in a fault, with some evidence that is not returned
   abbrev pub ServesSome : List ℕ → (input old new : Option (List ℕ)) → Result ℕ ServeError → Type 0
   ServesSome cells input old new (Ok status) = (evidence : Evidence) × IsServed cells input old new status evidence
   ServesSome cells input old new (Err error) =

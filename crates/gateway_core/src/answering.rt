@@ -1,4 +1,4 @@
-//! What is asked, answered.
+//! Requests and their answers.
 
 ghost use Rattle.std.specs.Prelude.{◌≡◌, ◌⊎◌, IfNone, IfOk, IfSome, Ok, string_bytes};
 ghost use Rattle.schema_registry.specs.Command.{Command as AnyCommand, command_of};
@@ -26,14 +26,14 @@ use schema_registry::{Command, Receipt, Reply, SharedRegistry};
 use std::alloc::{AllocError, Global};
 use std::sync::Wait;
 
-/// An answer, and the receipts that it stands on.
+/// An answer, and the receipts that it rests on.
 #[derive(Drop)]
 pub(crate) struct Told {
     pub(crate) answer: Answer,
     pub(crate) evidence: Evidence,
 }
 
-/// A fault, which stands on nothing.
+/// Returns a fault as an answer, which rests on no receipt.
 pub(crate) fn refused(fault: Fault) -> Told
     ensures evidence { result.evidence ≡ Evidence.Nothing }
     ensures answer { answer_of result.answer ≡ Refused fault }
@@ -44,7 +44,7 @@ pub(crate) fn refused(fault: Fault) -> Told
     }
 }
 
-/// The receipt of an id whose schema has a text. `None` where this thread sees no such schema.
+/// Returns the receipt of an id whose schema has the given text. `None` where this thread sees no such schema.
 fn receipt_of(registry: &SharedRegistry, id: u32, text: &str) -> Option<Receipt>
     ensures { IfSome result (λ receipt. IsReceiptOf registry.now receipt × (receipt.id ≡ id)
         × HasText receipt text.now) }
@@ -57,7 +57,8 @@ fn receipt_of(registry: &SharedRegistry, id: u32, text: &str) -> Option<Receipt>
     }
 }
 
-/// The receipt that a reply stands on, where it shows a text beside an id. `None` where there is none.
+/// Returns the receipt that a reply rests on, where it shows a text beside an id. `None` where there should be one
+/// and this thread sees none.
 fn evidence_of(registry: &SharedRegistry, reply: &Reply) -> Option<Evidence>
     ensures found { IfSome result (λ evidence. IsEvident registry.now (Ok (reply_of reply.now)) evidence) }
     ensures missing { IfNone result (IsEntry (reply_of reply.now)) }
@@ -71,7 +72,7 @@ fn evidence_of(registry: &SharedRegistry, reply: &Reply) -> Option<Evidence>
     }
 }
 
-/// A reply of the registry as an answer. `is_set` says that a level was set, and not asked for.
+/// Returns a reply of the registry as an answer. `is_set` says that a level was set, and not asked for.
 fn tell(
     alloc: Global,
     registry: &SharedRegistry,
@@ -90,7 +91,7 @@ fn tell(
     }
 }
 
-/// Whether a command sets a level.
+/// Returns whether a command sets a level.
 fn sets_level(command: &Command) -> bool
     ensures { SetsLevel (command_of command.now) result }
 {
@@ -100,7 +101,7 @@ fn sets_level(command: &Command) -> bool
     }
 }
 
-/// What the registry replies to a command that is no registration.
+/// Returns the answer of the registry to a command that is no registration.
 fn tell_reply<R: Wait>(
     rt: &R,
     alloc: Global,
@@ -117,7 +118,7 @@ fn tell_reply<R: Wait>(
     }
 }
 
-/// Registers the schema of a text for a subject, and tells its id.
+/// Registers the schema of a text for a subject, and returns its id as an answer.
 fn tell_id<R: Wait>(
     rt: &R,
     alloc: Global,
@@ -138,7 +139,7 @@ fn tell_id<R: Wait>(
     }
 }
 
-/// The text of the schema of an id.
+/// Returns the text of the schema of an id as an answer.
 fn tell_text(alloc: Global, registry: &SharedRegistry, id: u32) -> Result<Told, AllocError>
     ensures { IfOk result (λ told. (answer_of told.answer ≡ Refused Fault.NoSchema)
         ⊎ TellsText registry.now id told.evidence (answer_of told.answer)) }
@@ -153,7 +154,7 @@ fn tell_text(alloc: Global, registry: &SharedRegistry, id: u32) -> Result<Told, 
     }
 }
 
-/// Answers what is asked. The error is want of memory.
+/// Returns the answer to what is asked. The error is that memory ran out.
 pub(crate) fn answer<R: Wait, T: Transcode, G: Gate>(
     rt: &R,
     app: &App<'_, T>,

@@ -1,12 +1,11 @@
-//! What requests are answered from.
+//! What requests are answered with.
 
 use crate::transcode::Transcode;
 use gateway_requests::Routes;
 use schema_registry::SharedRegistry;
 use std::alloc::Global;
 
-/// What requests are answered from: the registry, what transcodes between its schemas, and the routes; and where memory
-/// is taken from.
+/// What requests are answered with: the registry, what transcodes between its schemas, the routes, and the allocator.
 #[derive(Drop)]
 pub struct App<'a, T: Transcode> {
     pub alloc: Global,

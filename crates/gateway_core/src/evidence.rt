@@ -1,9 +1,9 @@
-//! The receipts that an answer stands on.
+//! The receipts that an answer rests on.
 
 use schema_registry::Receipt;
 
-/// The receipts that an answer stands on. Whoever holds one can ask the registry for its schema, which is the same for
-/// good.
+/// The receipts that an answer rests on. Whoever holds one can ask the registry for its schema, which does not
+/// change.
 #[derive(Drop)]
 pub enum Evidence {
     /// The answer shows no schema and no id.

@@ -24,7 +24,7 @@ use schema_registry::Receipt;
 use std::sync::Wait;
 use wire_frames::Message;
 
-/// The answer that tells an outcome, to the reader of that id.
+/// Returns the answer that reports an outcome to the reader of that id.
 fn answer_of_outcome(id: u32, outcome: Outcome) -> Answer
     ensures { answer_of result ≡ answer_of_outcome id (outcome_of outcome) }
 {
@@ -55,7 +55,7 @@ pub struct NamedPair<E: Drop> {
     pub reader: NamedSchema<E>,
 }
 
-/// The answer to a message, and the schemas that it stands on.
+/// The answer to a message, and the schemas that it rests on.
 #[derive(Drop)]
 pub struct Rewritten<E: Drop> {
     pub answer: Answer,
@@ -96,8 +96,10 @@ fn answer_to<R: Wait, T: Transcode, G: Gate, E: Drop>(
     }
 }
 
-/// Finds the two schemas of a message for the reader of an id: first the reader is looked up, then the message opened,
-/// then its writer looked up. Returns them with the payload, in the memory that it was received in.
+/// Finds the two schemas of a message for the reader of an id, and returns them with the payload, in the memory that
+/// it was received in.
+///
+/// First the reader is looked up, then the message is opened, then its writer is looked up.
 fn pair_of<S: Schemas>(
     schemas: &mut S,
     id: u32,
@@ -136,8 +138,8 @@ fn pair_of<S: Schemas>(
     }
 }
 
-/// Rewrites a message for the reader of an id. Returns the answer, with the two schemas that it stands on; the error says
-/// why there are no two.
+/// Rewrites a message for the reader of an id. Returns the answer, with the two schemas that it rests on; the error
+/// says why there are no two.
 pub(crate) fn rewrite<R: Wait, S: Schemas, T: Transcode, G: Gate>(
     rt: &R,
     schemas: &mut S,
@@ -164,7 +166,7 @@ pub(crate) fn rewrite<R: Wait, S: Schemas, T: Transcode, G: Gate>(
     Ok(Rewritten { answer, pair })
 }
 
-/// Rewrites a message for the reader of an id of this service's registry.
+/// Rewrites a message for the reader of an id of this service's registry, and returns the answer.
 pub(crate) fn tell_message<R: Wait, T: Transcode, G: Gate>(
     rt: &R,
     app: &App<'_, T>,

@@ -1,12 +1,14 @@
 //! Answers where another registry names the schemas.
 
-ghost use Rattle.std.specs.Prelude.{◌≡◌, ◌++◌, ◌≤◌, ◌⊎◌, ℕ, IfOk, List, None, Option, length};
+ghost use Rattle.std.specs.Prelude.{◌≡◌, ◌++◌, ◌≤◌, ◌⊎◌, ℕ, IfOk, List, None, Option, Result, length};
 ghost use Rattle.gateway_answers.specs.Answer.{Refused, answer_of};
-ghost use Rattle.gateway_requests.specs.Request.{Transcodes, request_of};
+ghost use Rattle.gateway_requests.specs.Request.{Request as Asked, Transcodes, request_of};
 ghost use Rattle.gateway_requests.specs.Sizes.{IsWithin};
+ghost use Rattle.gateway_requests.specs.Steps.{Tells};
 ghost use Rattle.gateway_requests.specs.declared.limits.TheConstants.{MOST_BODY};
 ghost use Rattle.gateway_core.specs.Gates.{SaidNo};
-ghost use Rattle.gateway_core.specs.NamedServing.{FulfilsNamed, IsNamedAnswer, IsNamedReply, TellsTextOf, TellsUnnamed};
+ghost use Rattle.gateway_core.specs.NamedServing.{FulfilsNamed, IsNamedAnswer, IsNamedAnswerTo, IsNamedReply};
+ghost use Rattle.gateway_core.specs.NamedServing.{IsNamedReplyTo, TellsTextOf, TellsUnnamed};
 ghost use Rattle.gateway_core.specs.Serving.{TellsRequest};
 ghost use Rattle.gateway_core.specs.Transcoding.{IsWhyNone};
 
@@ -23,21 +25,21 @@ use std::alloc::{AllocError, Global};
 use std::sync::Wait;
 use wire_frames::Message;
 
-/// The schemas that an answer stands on: the one of the reader, or of the id that is asked for, and the writer's.
+/// The schemas that an answer rests on: the one of the reader, or of the id that is asked for, and the writer's.
 #[derive(Drop)]
 pub struct Sight<E: Drop> {
     pub reader: Option<NamedSchema<E>>,
     pub writer: Option<NamedSchema<E>>,
 }
 
-/// An answer, and the schemas that it stands on.
+/// An answer, and the schemas that it rests on.
 #[derive(Drop)]
 struct NamedTold<E: Drop> {
     answer: Answer,
     sight: Sight<E>,
 }
 
-/// An answer that is not yet written, and the schemas that it stands on.
+/// An answer that is not yet written, and the schemas that it rests on.
 #[derive(Drop)]
 pub struct NamedReply<E: Drop> {
     pub bytes: AnswerBytes,
@@ -45,7 +47,7 @@ pub struct NamedReply<E: Drop> {
     pub sight: Sight<E>,
 }
 
-/// Returns a fault, which stands on no schema.
+/// Returns a fault as an answer, which rests on no schema.
 fn refused<E: Drop>(fault: Fault) -> NamedTold<E>
     ensures reader { result.sight.reader ≡ None }
     ensures answer { answer_of result.answer ≡ Refused fault }
@@ -59,7 +61,7 @@ fn refused<E: Drop>(fault: Fault) -> NamedTold<E>
     }
 }
 
-/// Returns the text of the schema that an id names. The error is want of memory.
+/// Returns the text of the schema that an id names, as an answer. The error is that memory ran out.
 fn tell_text<S: Schemas>(
     alloc: Global,
     registry: &SharedRegistry,
@@ -126,7 +128,7 @@ fn tell_message<R: Wait, S: Schemas, T: Transcode, G: Gate>(
     }
 }
 
-/// Returns the answer to what is asked. The error is want of memory.
+/// Returns the answer to what is asked. The error is that memory ran out.
 fn answer<R: Wait, S: Schemas, T: Transcode, G: Gate>(
     rt: &R,
     app: &App<'_, T>,
@@ -173,6 +175,10 @@ fn answer_request<R: Wait, S: Schemas, T: Transcode, G: Gate>(
         → IsNamedAnswer (IsWhyNone (T.refuses app.now.transcoder.now seat.old seat.new)
         (SaidNo G.says gate.old gate.new)) (S.cells schemas.old) (S.names schemas.old) (S.refuses schemas.old) input
         result.sight (answer_of result.answer) }
+    ensures told { (asked : Result Asked Fault) → Tells request_of request asked
+        → IsNamedAnswerTo (IsWhyNone (T.refuses app.now.transcoder.now seat.old seat.new)
+        (SaidNo G.says gate.old gate.new)) (S.cells schemas.old) (S.names schemas.old) (S.refuses schemas.old) asked
+        result.sight (answer_of result.answer) }
 {
     match request {
         Ok(request) => match answer(rt, app, schemas, seat, gate, request) {
@@ -183,8 +189,8 @@ fn answer_request<R: Wait, S: Schemas, T: Transcode, G: Gate>(
     }
 }
 
-/// Returns the reply to what the bytes of a request asked, or to the first of their faults, where another registry names
-/// the schemas. The error says that not even the answer that memory ran out found memory.
+/// Returns the reply to what the bytes of a request asked, or to the first of their faults, where another registry
+/// names the schemas. It is an error where even the answer that memory ran out found no memory.
 pub fn reply_named<R: Wait, S: Schemas, T: Transcode, G: Gate>(
     rt: &R,
     app: &App<'_, T>,
@@ -201,6 +207,10 @@ pub fn reply_named<R: Wait, S: Schemas, T: Transcode, G: Gate>(
     ensures replied { IfOk result (λ reply. (input : Option (List ℕ)) → TellsRequest input request
         → IsNamedReply (IsWhyNone (T.refuses app.now.transcoder.now seat.old seat.new)
         (SaidNo G.says gate.old gate.new)) (S.cells schemas.old) (S.names schemas.old) (S.refuses schemas.old) input
+        (reply.bytes.front.items ++ reply.bytes.rest.items) reply.status reply.sight) }
+    ensures told { IfOk result (λ reply. (asked : Result Asked Fault) → Tells request_of request asked
+        → IsNamedReplyTo (IsWhyNone (T.refuses app.now.transcoder.now seat.old seat.new)
+        (SaidNo G.says gate.old gate.new)) (S.cells schemas.old) (S.names schemas.old) (S.refuses schemas.old) asked
         (reply.bytes.front.items ++ reply.bytes.rest.items) reply.status reply.sight) }
 {
     let NamedTold { answer, sight } = answer_request(rt, app, schemas, seat, gate, request);

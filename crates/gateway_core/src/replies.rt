@@ -14,7 +14,7 @@ use gateway_answers::{
 use schema_registry::{Refusal, Reply};
 use std::alloc::{AllocError, Global};
 
-/// The fault that tells a refusal.
+/// Returns the fault that reports a refusal.
 pub(crate) fn fault_of(refusal: Refusal) -> Fault
     ensures { result ≡ fault_of refusal }
 {
@@ -35,7 +35,7 @@ pub(crate) fn fault_of(refusal: Refusal) -> Fault
     }
 }
 
-/// The JSON text of a reply. `is_set` says that a level was set, and not asked for.
+/// Returns the JSON text of a reply. `is_set` says that a level was set, and not asked for.
 pub(crate) fn reply_text(alloc: Global, is_set: bool, reply: &Reply) -> Result<String, AllocError>
     ensures { (c : Command) → SetsLevel c is_set
         → IfOk result (λ text. string_bytes text ≡ compact_text (reply_data c (reply_of reply.now))) }

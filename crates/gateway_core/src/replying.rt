@@ -1,12 +1,13 @@
 //! The answer to a request that was received, before it is written.
 
-ghost use Rattle.std.specs.Prelude.{◌≡◌, ◌++◌, ℕ, IfOk, List, Option};
+ghost use Rattle.std.specs.Prelude.{◌≡◌, ◌++◌, ℕ, IfOk, List, Option, Result};
 ghost use Rattle.gateway_answers.specs.Answer.{answer_of};
-ghost use Rattle.gateway_requests.specs.Request.{request_of};
+ghost use Rattle.gateway_requests.specs.Request.{Request as Asked, request_of};
 ghost use Rattle.gateway_requests.specs.Sizes.{IsWithin};
+ghost use Rattle.gateway_requests.specs.Steps.{Tells};
 ghost use Rattle.gateway_requests.specs.declared.limits.TheConstants.{MOST_BODY};
 ghost use Rattle.gateway_core.specs.Gates.{SaidNo};
-ghost use Rattle.gateway_core.specs.Serving.{IsAnswer, IsReplied, IsTextOf, TellsRequest};
+ghost use Rattle.gateway_core.specs.Serving.{IsAnswer, IsAnswerTo, IsReplied, IsReplyTo, IsTextOf, TellsRequest};
 ghost use Rattle.gateway_core.specs.Transcoding.{IsWhyNone};
 
 use crate::answering::{Told, answer, refused};
@@ -24,7 +25,7 @@ use std::sync::Wait;
 pub struct Reply {
     pub bytes: AnswerBytes,
     pub status: u16,
-    /// The receipts that the answer stands on.
+    /// The receipts that the answer rests on.
     pub evidence: Evidence,
 }
 
@@ -43,6 +44,9 @@ fn answer_request<R: Wait, T: Transcode, G: Gate>(
     ensures answers { (input : Option (List ℕ)) → TellsRequest input request
         → IsAnswer (IsWhyNone (T.refuses app.now.transcoder.now seat.old seat.new)
         (SaidNo G.says gate.old gate.new)) app.now.registry.now input result.evidence (answer_of result.answer) }
+    ensures told { (asked : Result Asked Fault) → Tells request_of request asked
+        → IsAnswerTo (IsWhyNone (T.refuses app.now.transcoder.now seat.old seat.new)
+        (SaidNo G.says gate.old gate.new)) app.now.registry.now asked result.evidence (answer_of result.answer) }
 {
     match request {
         Ok(request) => match answer(rt, app, seat, gate, request) {
@@ -53,7 +57,7 @@ fn answer_request<R: Wait, T: Transcode, G: Gate>(
     }
 }
 
-/// Returns the bytes of an answer and its status, or those of the answer that memory ran out.
+/// Returns the bytes of an answer and its status, or where memory runs out those of the answer that says so.
 pub(crate) fn bytes_of(alloc: Global, answer: Answer) -> Result<(AnswerBytes, u16), AllocError>
     ensures { IfOk result (λ text. IsTextOf (answer_of answer) (text.0.front.items ++ text.0.rest.items) text.1) }
 {
@@ -68,8 +72,8 @@ pub(crate) fn bytes_of(alloc: Global, answer: Answer) -> Result<(AnswerBytes, u1
     }
 }
 
-/// Returns the reply to what the bytes of a request asked, or to the first of their faults, whoever received them. The
-/// error says that not even the answer that memory ran out found memory.
+/// Returns the reply to what the bytes of a request asked, or to the first of their faults, whoever received them. It
+/// is an error where even the answer that memory ran out found no memory.
 pub fn reply_to<R: Wait, T: Transcode, G: Gate>(
     rt: &R,
     app: &App<'_, T>,
@@ -84,6 +88,10 @@ pub fn reply_to<R: Wait, T: Transcode, G: Gate>(
     ensures replied { IfOk result (λ reply. (input : Option (List ℕ)) → TellsRequest input request
         → IsReplied (IsWhyNone (T.refuses app.now.transcoder.now seat.old seat.new)
         (SaidNo G.says gate.old gate.new)) app.now.registry.now input
+        (reply.bytes.front.items ++ reply.bytes.rest.items) reply.status reply.evidence) }
+    ensures told { IfOk result (λ reply. (asked : Result Asked Fault) → Tells request_of request asked
+        → IsReplyTo (IsWhyNone (T.refuses app.now.transcoder.now seat.old seat.new)
+        (SaidNo G.says gate.old gate.new)) app.now.registry.now asked
         (reply.bytes.front.items ++ reply.bytes.rest.items) reply.status reply.evidence) }
 {
     let Told { answer, evidence } = answer_request(rt, app, seat, gate, request);

@@ -1,4 +1,4 @@
-//! Who says which schema an id names.
+//! Which schema an id names.
 
 ghost use Rattle.std.specs.Prelude.{◌≡◌};
 
@@ -13,7 +13,7 @@ pub struct NamedSchema<E: Drop> {
     pub seen: E,
 }
 
-/// Who says which schema an id names. The schemas are those of one registry's receipts.
+/// A source that says which schema an id names. The schemas are those of one registry's receipts.
 pub trait Schemas {
     ghost use Rattle.std.specs.Prelude.{◌≡◌, ℕ, List, IfErr, IfOk};
     ghost use Rattle.schema_registry.specs.Shared.{Shown, IsReceiptOf};
@@ -22,7 +22,7 @@ pub trait Schemas {
     /// What shows that an id names a schema.
     type Seen: Drop;
 
-    // The names of the cells of the registry whose receipts it gives.
+    // The names of the cells of the registry whose receipts it returns.
     ghost cells: { Self → List ℕ };
 
     // What shows that an id names the schema of a receipt.
@@ -31,7 +31,7 @@ pub trait Schemas {
     // Why an id names none.
     ghost refuses: { Self → ℕ → Refusal → Type 0 };
 
-    /// Returns the schema that an id names. The error says why there is none. It never waits.
+    /// Returns the schema that an id names. The error says why it names none. It never waits.
     fn schema_of(&mut self, id: u32) -> Result<NamedSchema<Self::Seen>, Fault>
         ensures same { self.new ≡ self.old }
         ensures named { IfOk result (λ n. IsReceiptOf (cells self.old) n.receipt

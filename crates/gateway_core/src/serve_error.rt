@@ -19,21 +19,21 @@ pub enum ServeError {
     /// The writer failed after it had taken `sent` bytes of the answer.
     #[error("the writer failed after {sent} bytes")]
     WriteFault { sent: usize },
-    /// Not even an answer that says so found memory.
+    /// Even an answer that says so found no memory.
     #[error("out of memory")]
     NoMemory,
 }
 
-/// Why a request got no whole answer, with the receipts that what was written of one stands on.
+/// Why a request got no whole answer, with the receipts that the bytes written of one rest on.
 #[derive(Drop)]
 pub enum TellError {
     /// No byte came.
     Closed,
     /// The reader failed.
     ReadFault,
-    /// The writer failed after it had taken `sent` bytes of an answer, which stands on this evidence.
+    /// The writer failed after it had taken `sent` bytes of an answer, which rests on this evidence.
     CutShort { sent: usize, evidence: Evidence },
-    /// Not even an answer that says so found memory.
+    /// Even an answer that says so found no memory.
     NoMemory,
 }
 

@@ -27,7 +27,8 @@ use std::alloc::Global;
 use std::io::{Read, Write};
 use std::sync::Wait;
 
-/// What a request asks whose head was received, and maybe bytes behind it.
+/// Returns what a request asks whose head was received, and maybe bytes after it. It reads the rest of the body from
+/// the reader.
 fn request_behind<R: Read>(
     alloc: Global,
     routes: &Routes,
@@ -56,7 +57,7 @@ fn request_behind<R: Read>(
     }
 }
 
-/// What the bytes of the reader ask, or the first of their faults.
+/// Reads a request, and returns what it asks, or the first of its faults.
 fn read_request<R: Read>(
     alloc: Global,
     routes: &Routes,
@@ -82,11 +83,11 @@ fn read_request<R: Read>(
     }
 }
 
-/// Reads one request and writes one answer: the status, and the receipts that the answer stands on.
+/// Reads one request and writes one answer, and returns its status and the receipts that it rests on.
 ///
-/// `Closed` where no byte came, `ReadFault` where the reader failed, `NoMemory` where not even a fault's text found
+/// `Closed` where no byte came, `ReadFault` where the reader failed, `NoMemory` where even a fault's text found no
 /// memory: then nothing is written. `CutShort` where the writer failed, after the first bytes of an answer, with the
-/// receipts that this answer stands on.
+/// receipts that this answer rests on.
 pub fn serve_and_tell<R: Wait, T: Transcode, I: Read, O: Write, G: Gate>(
     rt: &R,
     app: &App<'_, T>,
@@ -121,8 +122,8 @@ pub fn serve_and_tell<R: Wait, T: Transcode, I: Read, O: Write, G: Gate>(
     }
 }
 
-/// Reads one request and writes one answer, as `serve_and_tell` does: the status alone, and the receipts are let go.
-/// The errors are those of `serve_and_tell`, with `WriteFault` for `CutShort`.
+/// Reads one request and writes one answer, as `serve_and_tell` does, and returns the status alone, without the
+/// receipts. The errors are those of `serve_and_tell`, with `WriteFault` for `CutShort`.
 pub fn serve_one<R: Wait, T: Transcode, I: Read, O: Write, G: Gate>(
     rt: &R,
     app: &App<'_, T>,

@@ -1,4 +1,4 @@
-//! The seam behind which messages are rewritten.
+//! The interface through which messages are rewritten.
 
 use crate::gate::Gate;
 use outcome::Outcome;
@@ -21,7 +21,7 @@ pub enum TranscodeFault {
     NoMemory,
 }
 
-/// What gives the outcome of payloads for pairs of receipts of one registry.
+/// A transcoder, which returns the outcome of payloads for pairs of receipts of one registry.
 pub trait Transcode {
     ghost use Rattle.std.specs.Prelude.{◌≡◌, ◌≤◌, ℕ, List, IfErr, IfOk, vec_len};
     ghost use Rattle.outcome.specs.declared.limits.TheConstants.{MOST_PAYLOAD};
@@ -36,13 +36,14 @@ pub trait Transcode {
     // The names of the cells of the registry whose receipts it takes.
     ghost cells: { Self → List ℕ };
 
-    // Whether a seat is one of its own, with nothing left to do.
+    // Whether a seat is one of its own, with no work left to do.
     ghost rests: { Self → Self.Seat → Type 0 };
 
     // Why a call that took the first seat and left the second has no outcome for the writer and the reader.
     ghost refuses: { Self → Self.Seat → Self.Seat → Shown → Shown → TranscodeFault → Type 0 };
 
-    /// The outcome of a payload of the writer's schema for the reader's. Where it has to wait it asks the gate.
+    /// Returns the outcome of a payload of the writer's schema for the reader's. Where it has to wait it asks the
+    /// gate.
     fn transcode<R: Wait, G: Gate>(
         &self,
         rt: &R,

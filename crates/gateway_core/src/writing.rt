@@ -13,7 +13,8 @@ pub(crate) struct CutShort {
     pub(crate) sent: usize,
 }
 
-/// Writes once: how many bytes the writer took. The error says that it fails, or was interrupted `MOST_TRIES` times.
+/// Writes once, and returns how many bytes the writer took. The error is that it fails, or was interrupted
+/// `MOST_TRIES` times.
 fn write_once<W: Write>(writer: &mut W, bytes: &[u8]) -> Result<usize, CutShort>
     ensures bytes { WriteAppends (W.contents writer.old) (W.contents writer.new) result bytes.now }
     ensures bound { IfOk result (λ count. count ≤ length bytes.now) }
@@ -28,7 +29,7 @@ fn write_once<W: Write>(writer: &mut W, bytes: &[u8]) -> Result<usize, CutShort>
     Err(CutShort { sent: 0 })
 }
 
-/// Passes on what the writer holds back. Whether it did: not where it fails, or was interrupted `MOST_TRIES` times.
+/// Flushes the writer. Returns whether it did: `false` where it fails, or was interrupted `MOST_TRIES` times.
 fn flush<W: Write>(writer: &mut W) -> bool
     ensures { Keeps (W.contents writer.old) (W.contents writer.new) }
 {
@@ -75,8 +76,7 @@ fn write_pieces<W: Write>(writer: &mut W, front: &[u8], rest: &[u8]) -> Result<(
     }
 }
 
-/// Writes two pieces and passes on what the writer holds back; or the first bytes of both, where it fails or takes
-/// none.
+/// Writes two pieces and flushes the writer; or writes the first bytes of both, where it fails or takes none.
 pub(crate) fn write_all<W: Write>(writer: &mut W, front: &[u8], rest: &[u8]) -> Result<(), CutShort>
     ensures ok { OnOk result (Appends (W.contents writer.old) (W.contents writer.new) (front.now ++ rest.now)) }
     ensures err { IfErr result (λ cut.

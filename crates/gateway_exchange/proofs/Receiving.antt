@@ -160,7 +160,7 @@ whole_tells head body headed path got result is enough path_is got_is tells = λ
     (asks_tells head (body ++ more) headed path got result is path_is
     (got_is ∙ sym (body_more headed.chosen.body_length body more enough)) tells)
 
--- a message of at most so many bytes has at most more
+-- a message of at most n bytes has at most m, where n is at most m
 within_more : (n m : ℕ) (request : Request) → n ≤ m → IsLong n request → IsLong m request
 within_more n m (Asks command) few within = tt
 within_more n m (Registers subject text) few within = tt

@@ -1,13 +1,24 @@
 //! How long connections may take, and how many there may be.
 
+use std::hash::RandomState;
 use std::time::Duration;
 
+/// How connections stay for more than one request (RFC 9112, section 9.3).
+#[derive(Clone, Copy)]
+pub struct Persistence {
+    /// Secret keys for the maps of the fields of requests, whose names the peers choose.
+    pub keys: RandomState,
+    /// The time from the last byte of an answer to the first byte of the next request.
+    pub idle: Duration,
+}
+
 /// How long a connection may take for each of its parts, and what the connections of a thread may hold.
-#[derive(Clone, Copy, Debug, PartialEq, Eq)]
+#[derive(Clone, Copy)]
 pub struct Bounds {
-    /// The time from the connection to the end of the head.
+    /// The time from the connection to the end of the head; on a connection that stays, from the first byte of the
+    /// request.
     pub head: Duration,
-    /// The time from the connection to the end of the request.
+    /// The time from the same moment to the end of the request.
     pub request: Duration,
     /// The time from the first byte of the answer to the last.
     pub answer: Duration,
@@ -20,4 +31,6 @@ pub struct Bounds {
     pub bytes: usize,
     /// The number of connections that a thread accepts, or 0 for no end.
     pub each: u32,
+    /// How connections stay. `None` where each is closed after its first answer.
+    pub persistence: Option<Persistence>,
 }

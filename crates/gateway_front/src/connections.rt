@@ -24,7 +24,7 @@ use std::{io, thread};
 /// The number of reports that are taken at once.
 const REPORTS: usize = 64;
 
-/// The number of bytes that are read at once of what is let go.
+/// The number of bytes that are read at once of what is discarded.
 const CHUNK: usize = 65_536;
 
 /// The number of bytes of the longest answer that is not lost where its connection is closed at once: the system has
@@ -37,7 +37,7 @@ const PAUSE: u64 = 10;
 /// The number of milliseconds after which lines are tried again that standard error has not taken.
 const LOG_PAUSE: u64 = 100;
 
-/// What a thread has to see to next.
+/// What a thread has to handle next.
 #[derive(Drop)]
 pub enum Event {
     /// A request is to be answered.
@@ -51,30 +51,32 @@ pub enum Event {
 /// The connections of a thread. Callers see it as the number of answers that were sent whole.
 #[derive(Drop)]
 pub struct Connections {
-    alloc: Global,
+    pub(crate) alloc: Global,
     listener: TcpListener,
-    bounds: Bounds,
+    pub(crate) bounds: Bounds,
     poll: Poll,
     events: Events,
     /// Whether connections to be accepted were reported, and none was tried since.
     has_new: bool,
-    /// The keys of what was reported, or put off, and has not been seen to.
+    /// The keys of what was reported, or put off, and has not been handled.
     ready: VecDeque<usize>,
-    /// The number of these that are seen to before the system is asked again.
+    /// The number of these that are handled before the system is asked again.
     round: usize,
     /// The keys of whole requests that came while another one was served.
     whole: VecDeque<usize>,
-    open: OpenConnections,
+    pub(crate) open: OpenConnections,
     /// Whether another thread has woken this one, and that was not handed out.
     is_woken: bool,
     /// When it was found that some connections are late.
     late: Option<Instant>,
     accepted: u32,
     is_accepting: bool,
-    answered: u64,
+    pub(crate) answered: u64,
     scrap: Vec<u8>,
     /// The lines of answers, where these are logged.
-    log: Option<Log>,
+    pub(crate) log: Option<Log>,
+    /// The number of times that reports of the system were taken.
+    pub(crate) reports: u64,
 }
 
 impl Model for Connections {
@@ -87,7 +89,7 @@ impl Model for Connections {
 
 impl Connections {
     /// Returns the connections to a listener, which is made non-blocking; none is accepted yet. With a lock it logs a
-    /// line for each answer. The errors are the system's, and want of memory.
+    /// line for each answer. The errors are the system's, and that memory ran out.
     pub fn new(
         net: &impl Net,
         alloc: Global,
@@ -121,6 +123,7 @@ impl Connections {
             answered: 0,
             scrap: vec![in alloc; 0; CHUNK]?,
             log,
+            reports: 0,
         })
     }
 
@@ -176,7 +179,7 @@ impl Connections {
         Event::Over
     }
 
-    /// Sees to a connection to be accepted, or else to what is ready next; or asks the system where this round is over.
+    /// Handles a connection to be accepted, or else what is ready next; or asks the system where this round is over.
     /// Returns a request that is to be served.
     fn see_to_next<R: Clock>(
         &mut self,
@@ -223,7 +226,11 @@ impl Connections {
         connection.status = status;
         if let Some(deadline) = deadline_after(rt, self.bounds.answer) {
             connection.deadline = deadline;
-            self.send(rt, connection, Sending::new(bytes));
+            if connection.stays.is_some() {
+                self.answer_on(rt, connection, bytes);
+            } else {
+                self.send(rt, connection, Sending::new(bytes));
+            }
         }
     }
 
@@ -240,13 +247,7 @@ impl Connections {
             let key = self.whole.pop_front()?;
             if self.open.is_whole(key) {
                 let Waiting { connection, stage } = self.open.take(key)?;
-                if let Stage::Whole(reception) = stage {
-                    let reception = Some(reception);
-                    return Some(Asked {
-                        connection,
-                        reception,
-                    });
-                }
+                return whole_in(connection, stage);
             }
         }
         None
@@ -257,11 +258,15 @@ impl Connections {
         let Asked {
             connection,
             reception,
+            request,
         } = asked;
-        if let Some(reception) = reception {
-            let key = self.keep(connection, Stage::Whole(reception));
-            let _ = self.whole.push_back(key);
-        }
+        let stage = match (reception, request) {
+            (Some(reception), _) => Stage::Whole(reception),
+            (None, Some(request)) => Stage::Asking(request),
+            (None, None) => return,
+        };
+        let key = self.keep(connection, stage);
+        let _ = self.whole.push_back(key);
     }
 
     /// Accepts one connection, and reads what has come of its request. A connection that cannot be accepted counts as
@@ -293,11 +298,16 @@ impl Connections {
             received: 0,
             status: 0,
             line: None,
+            stays: self.stream()?,
+            asked_at: 0,
         };
+        if connection.stays.is_some() {
+            return self.read_on(rt, routes, connection);
+        }
         self.receive(routes, connection, Reception::new(self.alloc))
     }
 
-    /// Sees to a connection of which something was reported. Returns its request, where that is to be served now.
+    /// Handles a connection of which something was reported. Returns its request, where that is to be served now.
     fn resume<R: Clock>(&mut self, rt: &R, routes: &Routes, key: usize) -> Option<Asked> {
         let Waiting { connection, stage } = self.open.take(key)?;
         match stage {
@@ -307,6 +317,12 @@ impl Connections {
                 let _ = self.whole.push_back(key);
             }
             Stage::Sending(sending) => self.send(rt, connection, sending),
+            Stage::Reading => return self.read_on(rt, routes, connection),
+            Stage::Asking(request) => {
+                let key = self.keep(connection, Stage::Asking(request));
+                let _ = self.whole.push_back(key);
+            }
+            Stage::Writing => self.write_on(rt, connection),
             Stage::Draining => self.drain(connection),
         }
         None
@@ -333,16 +349,17 @@ impl Connections {
                 if self.log.is_some() {
                     connection.line = request_line(self.alloc, reception.head()).ok();
                 }
-                let reception = Some(reception);
                 return Some(Asked {
                     connection,
-                    reception,
+                    reception: Some(reception),
+                    request: None,
                 });
             }
             Progress::NoMemory => {
                 return Some(Asked {
                     connection,
                     reception: None,
+                    request: None,
                 });
             }
             Progress::Blocked => {
@@ -367,8 +384,8 @@ impl Connections {
         }
     }
 
-    /// Logs an answer, of which so many bytes were sent, where answers are logged.
-    fn note<R: Clock>(&mut self, rt: &R, connection: &Connection, sent: usize) {
+    /// Logs an answer, of which `sent` bytes were sent, where answers are logged.
+    pub(crate) fn note<R: Clock>(&mut self, rt: &R, connection: &Connection, sent: usize) {
         if let Some(log) = &mut self.log
             && let Some(line) = &connection.line
             && let Ok(now) = Instant::now(rt)
@@ -383,10 +400,11 @@ impl Connections {
         }
     }
 
-    /// Ends an answer of so many bytes. Where bytes of the request are unread, or may still come before the answer has
-    /// gone, they are let go first: were the connection closed over them, the client would be reset, and might lose the
-    /// answer.
-    fn finish<R: Clock>(&mut self, rt: &R, connection: Connection, length: usize) {
+    /// Ends an answer of `length` bytes.
+    ///
+    /// Where bytes of the request are unread, or may still come before the answer has gone, they are discarded first:
+    /// were the connection closed over them, the client would be reset, and might lose the answer.
+    pub(crate) fn finish<R: Clock>(&mut self, rt: &R, connection: Connection, length: usize) {
         let mut connection = connection;
         self.answered = self.answered.saturating_add(1);
         self.note(rt, &connection, length);
@@ -406,7 +424,7 @@ impl Connections {
         }
     }
 
-    /// Lets go what has come after a request.
+    /// Discards what has come after a request.
     fn drain(&mut self, connection: Connection) {
         let mut connection = connection;
         match drain(&mut connection.stream, &mut self.scrap) {
@@ -420,29 +438,31 @@ impl Connections {
 
     /// Keeps a connection until it is ready, and returns its key. Where too many are open, or too much is held, others
     /// are closed; one that cannot be watched is closed itself.
-    fn keep(&mut self, connection: Connection, stage: Stage) -> usize {
-        self.open.make_room(&self.bounds, stage.held());
-        let mut connection = connection;
+    pub(crate) fn keep(&mut self, connection: Connection, stage: Stage) -> usize {
+        let mut waiting = Waiting { connection, stage };
+        self.open.make_room(&self.bounds, waiting.held());
         let key = self.open.next_key();
-        let now = Some((stage.interest(), key));
+        let interest = waiting.stage.interest();
+        let now = Some((interest, key));
+        let connection = &mut waiting.connection;
         if connection.watched != now {
             let registry = self.poll.registry();
             let stream = &mut connection.stream;
             let watched = match connection.watched {
-                Some(_) => registry.reregister(stream, Token(key), stage.interest()),
-                None => registry.register(stream, Token(key), stage.interest()),
+                Some(_) => registry.reregister(stream, Token(key), interest),
+                None => registry.register(stream, Token(key), interest),
             };
             if watched.is_err() {
                 return key;
             }
             connection.watched = now;
         }
-        self.open.keep(Waiting { connection, stage });
+        self.open.keep(waiting);
         key
     }
 
     /// Keeps a connection that may be ready for more, and lets others have their turn.
-    fn postpone(&mut self, connection: Connection, stage: Stage) {
+    pub(crate) fn postpone(&mut self, connection: Connection, stage: Stage) {
         let key = self.keep(connection, stage);
         let _ = self.ready.push_back(key);
     }
@@ -458,8 +478,9 @@ impl Connections {
     }
 
     /// Takes what the system reports, and begins a round of all that is ready. Where nothing is ready yet it waits,
-    /// until time is up, or a moment has come. What has come before a connection is late is still taken: it is closed only
-    /// after one more look.
+    /// until time is up, or a moment has come.
+    ///
+    /// What has come before a connection is late is still taken: it is closed only after one more look.
     fn wait<R: Clock>(&mut self, rt: &R, moment: Option<Instant>) {
         if let Some(late) = self.late {
             self.late = None;
@@ -484,8 +505,10 @@ impl Connections {
         self.round = self.ready.len();
     }
 
-    /// Takes reports, for which it waits so long at most, or without end. Returns whether the system reports at all.
+    /// Takes reports, for which it waits `timeout` at most, or without end. Returns whether the system reports at
+    /// all.
     fn poll_for(&mut self, timeout: Option<Duration>) -> bool {
+        self.reports = self.reports.wrapping_add(1);
         if self.poll.poll(&mut self.events, timeout).is_err() {
             return false;
         }
@@ -513,6 +536,23 @@ impl Connections {
     }
 }
 
+/// Returns the whole request of a connection in a stage. `None` where the stage has none.
+fn whole_in(connection: Connection, stage: Stage) -> Option<Asked> {
+    match stage {
+        Stage::Whole(reception) => Some(Asked {
+            connection,
+            reception: Some(reception),
+            request: None,
+        }),
+        Stage::Asking(request) => Some(Asked {
+            connection,
+            reception: None,
+            request: Some(request),
+        }),
+        _ => None,
+    }
+}
+
 /// Returns the shorter of two times, where both are there.
 fn earlier_of(one: Option<Duration>, other: Duration) -> Option<Duration> {
     Some(match one {
@@ -537,6 +577,6 @@ fn is_past<R: Clock>(rt: &R, moment: Option<Instant>) -> bool {
 }
 
 /// Returns when a time has passed from now on. `None` where the clock has no such moment.
-fn deadline_after<R: Clock>(rt: &R, time: Duration) -> Option<Instant> {
+pub(crate) fn deadline_after<R: Clock>(rt: &R, time: Duration) -> Option<Instant> {
     Instant::now(rt).ok()?.checked_add(time)
 }

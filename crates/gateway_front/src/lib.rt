@@ -10,8 +10,9 @@ mod connections;
 mod listening;
 mod log;
 mod open;
+mod staying;
 
-pub use bounds::Bounds;
+pub use bounds::{Bounds, Persistence};
 pub use connection::{Asked, Connection};
 pub use connections::{Connections, Event};
 pub use log::{Fetch, LogLock};

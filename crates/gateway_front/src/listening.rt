@@ -24,12 +24,12 @@ fn control(poll: &Poll, operation: i32, listener: &TcpListener) -> io::Result<()
     Ok(())
 }
 
-/// Has the set report connections to be accepted. The error is the system's.
+/// Makes the set report connections to be accepted. The error is the system's.
 pub(crate) fn watch(poll: &Poll, listener: &TcpListener) -> io::Result<()> {
     control(poll, EPOLL_CTL_ADD, listener)
 }
 
-/// Has the set report no more connections.
+/// Makes the set report no more connections.
 pub(crate) fn leave(poll: &Poll, listener: &TcpListener) {
     let _ = control(poll, EPOLL_CTL_DEL, listener);
 }

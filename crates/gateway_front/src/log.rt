@@ -1,4 +1,4 @@
-//! A line for each answer on standard error, which never waits for whoever reads there.
+//! A line for each answer on standard error, which never waits for a reader of it.
 
 use gateway_requests::path_of;
 use http_request::MOST_FIELDS;
@@ -8,26 +8,26 @@ use libc::net::{EPOLL_CTL_ADD, EPOLLOUT};
 use mio::Poll;
 use os::EpollEvent;
 use std::alloc::{AllocError, Global};
-use std::io;
 use std::net::Net;
 use std::os::fd::AsRawFd;
 use std::sync::Arc;
 use std::sync::atomic::{AtomicBool, Ordering};
 use std::time::Duration;
+use std::{io, str};
 
 /// The descriptor of standard error.
 const STANDARD_ERROR: i32 = 2;
 
-/// The number of bytes of lines that a thread holds back at most.
+/// The greatest number of bytes of lines that a thread holds back.
 const MOST_PENDING: usize = 65_536;
 
 /// The number of bytes that a pipe takes at once where it takes any (POSIX, `PIPE_BUF`, on Linux).
 const MOST_WRITTEN: usize = 4_096;
 
-/// The number of writes after which the lock is given back.
+/// The number of writes after which the lock is released.
 const MOST_WRITES: u32 = 16;
 
-/// The number of bytes of a path that a line shows at most.
+/// The greatest number of bytes of a path that a line shows.
 const MOST_PATH: usize = 256;
 
 /// What the threads of a service share to write lines one at a time.
@@ -37,7 +37,7 @@ pub struct LogLock {
 }
 
 impl LogLock {
-    /// Returns a lock that nobody has. The error is want of memory.
+    /// Returns a lock that no thread has. The error is that memory ran out.
     pub fn new(alloc: Global) -> Result<LogLock, AllocError> {
         Ok(LogLock {
             is_taken: Arc::new(alloc, AtomicBool::new(false))?,
@@ -51,18 +51,18 @@ impl LogLock {
         })
     }
 
-    /// Takes the lock, where nobody has it. Returns whether it did.
+    /// Takes the lock, where no thread has it. Returns whether it did.
     fn take(&self) -> bool {
         !self.is_taken.swap(true, Ordering::Acquire)
     }
 
-    /// Gives the lock back.
+    /// Releases the lock.
     fn give_back(&self) {
         self.is_taken.store(false, Ordering::Release);
     }
 }
 
-/// What is told of an answer.
+/// What a line says of an answer.
 #[derive(Clone, Copy)]
 pub(crate) struct Entry {
     pub(crate) status: u16,
@@ -99,7 +99,7 @@ pub(crate) struct Log {
 }
 
 impl Log {
-    /// Returns a log without lines. The errors are the system's, and want of memory.
+    /// Returns a log without lines. The errors are the system's, and that memory ran out.
     pub(crate) fn new(net: &impl Net, alloc: Global, lock: &LogLock) -> io::Result<Log> {
         let poll = Poll::new(net)?;
         let set = poll.as_raw_fd();
@@ -119,7 +119,7 @@ impl Log {
         !self.pending.is_empty()
     }
 
-    /// Writes the line of an answer, or holds it back; where too much is held back, or memory is wanting, it is dropped
+    /// Writes the line of an answer, or holds it back; where too much is held back, or memory runs out, it is dropped
     /// and counted.
     pub(crate) fn note(&mut self, line: &str, entry: Entry) {
         let (status, received, sent) = (entry.status, entry.received, entry.sent);
@@ -136,7 +136,7 @@ impl Log {
         self.keep(text);
     }
 
-    /// Writes a line or holds it back. Where there is no line for want of memory, it counts as dropped.
+    /// Writes a line or holds it back. Where there is no line because memory ran out, it counts as dropped.
     fn keep(&mut self, line: Result<String, AllocError>) {
         let is_kept = match line {
             Ok(line) => self.append(line.as_str()).is_ok(),
@@ -149,7 +149,7 @@ impl Log {
     }
 
     /// Appends a line to those that are held back, after one that says how many were dropped before it. The error is
-    /// want of room.
+    /// that there is no room.
     fn append(&mut self, line: &str) -> Result<(), AllocError> {
         let dropped = self.dropped;
         let text = if dropped > 0 {
@@ -198,16 +198,33 @@ impl Log {
 }
 
 /// Returns the method and the path of a request by the bytes of its head, as a line shows them: the path without its
-/// query, and cut. `- -` where the bytes begin with no head. The error is want of memory.
+/// query, and cut. `- -` where the bytes begin with no head. The error is that memory ran out.
 pub(crate) fn request_line(alloc: Global, head: &[u8]) -> Result<String, AllocError> {
     let mut headers: [HeaderSpan; MOST_FIELDS] = [EMPTY_HEADER_SPAN; MOST_FIELDS];
     let Ok(Status::Complete(spans)) = parse_request(head, &mut headers) else {
         return String::from_str(alloc, "- -");
     };
-    let Ok(method) = std::str::from_utf8(spans.method.of(head)) else {
+    let Ok(method) = str::from_utf8(spans.method.of(head)) else {
         return String::from_str(alloc, "- -");
     };
-    let path = path_of(spans.path.of(head));
+    shown_line(alloc, method, path_of(spans.path.of(head)))
+}
+
+/// Returns a method and a path as a line shows them: the path cut. The error is that memory ran out.
+fn shown_line(alloc: Global, method: &str, path: &str) -> Result<String, AllocError> {
     let shown = path.get(..MOST_PATH).unwrap_or(path);
     format!(in alloc; "{method} {shown}")
+}
+
+/// Returns the method and the path of a request by its method and its target, as `request_line` does by the bytes of
+/// its head.
+pub(crate) fn target_line(
+    alloc: Global,
+    method: &[u8],
+    target: &[u8],
+) -> Result<String, AllocError> {
+    match (str::from_utf8(method), str::from_utf8(target)) {
+        (Ok(method), Ok(target)) => shown_line(alloc, method, path_of(target.as_bytes())),
+        _ => String::from_str(alloc, "- -"),
+    }
 }

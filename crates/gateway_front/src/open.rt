@@ -1,7 +1,7 @@
 //! The connections of a thread that wait, under their keys.
 
 use crate::bounds::Bounds;
-use crate::connection::{Stage, Waiting};
+use crate::connection::Waiting;
 use slab::Slab;
 use std::alloc::Global;
 use std::time::Instant;
@@ -13,7 +13,7 @@ const LARGE: usize = 65_536;
 #[derive(Drop)]
 pub(crate) struct OpenConnections {
     slots: Slab<Waiting>,
-    /// No connection that waits is closed before, where there is one.
+    /// Before this moment no connection that waits is closed, where there is one.
     pub(crate) soonest: Option<Instant>,
 }
 
@@ -26,7 +26,7 @@ fn earlier(one: Option<Instant>, other: Instant) -> Option<Instant> {
 }
 
 impl OpenConnections {
-    /// Returns none.
+    /// Returns a set of no connections.
     pub(crate) fn new(alloc: Global) -> OpenConnections {
         OpenConnections {
             slots: Slab::new(alloc),
@@ -52,18 +52,18 @@ impl OpenConnections {
     /// Returns whether the connection of a key has a whole request.
     pub(crate) fn is_whole(&self, key: usize) -> bool {
         match self.slots.get(key) {
-            Some(waiting) => matches!(waiting.stage, Stage::Whole(_)),
+            Some(waiting) => waiting.is_whole(),
             None => false,
         }
     }
 
-    /// Keeps a connection, under the next key. Where memory is wanting it is closed.
+    /// Keeps a connection, under the next key. Where memory runs out it is closed.
     pub(crate) fn keep(&mut self, waiting: Waiting) {
         self.soonest = earlier(self.soonest, waiting.connection.deadline);
         let _ = self.slots.insert(waiting);
     }
 
-    /// Closes others until one more of so many bytes is within the bounds.
+    /// Closes others until one more connection that holds `held` bytes is within the bounds.
     pub(crate) fn make_room(&mut self, bounds: &Bounds, held: usize) {
         if self.slots.len() >= bounds.open {
             self.close_worst(0);
@@ -83,17 +83,18 @@ impl OpenConnections {
     fn held(&self) -> usize {
         let mut held: usize = 0;
         for (_, waiting) in self.slots.iter() {
-            held = held.saturating_add(waiting.stage.held());
+            held = held.saturating_add(waiting.held());
         }
         held
     }
 
-    /// Closes the connection of the lowest rank, and of those the oldest, among those that hold at least so many bytes.
+    /// Closes the connection of the lowest rank, and of those the oldest, among those that hold at least `least`
+    /// bytes.
     pub(crate) fn close_worst(&mut self, least: usize) {
         let mut worst: Option<(u8, Instant, usize)> = None;
         for (key, waiting) in self.slots.iter() {
-            if waiting.stage.held() >= least {
-                let candidate = (waiting.stage.rank(), waiting.connection.begun, key);
+            if waiting.held() >= least {
+                let candidate = (waiting.rank(), waiting.connection.begun, key);
                 worst = match worst {
                     Some(worst) if worst <= candidate => Some(worst),
                     _ => Some(candidate),
@@ -109,7 +110,7 @@ impl OpenConnections {
     pub(crate) fn close_late(&mut self, now: Instant) {
         let mut soonest: Option<Instant> = None;
         self.slots.retain(|_, waiting| {
-            if matches!(waiting.stage, Stage::Whole(_)) {
+            if waiting.is_whole() {
                 return true;
             }
             if waiting.connection.deadline <= now {

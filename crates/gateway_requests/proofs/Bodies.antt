@@ -11,7 +11,7 @@ use Rattle.gateway_bodies.specs.Members.{AreMembersOf, data_of, kept}
 use Rattle.gateway_bodies.specs.declared.members.Members.{Members}
 use Rattle.gateway_requests.specs.Body.{has_no_references, is_avro, text_in}
 
--- what is asked of a value is told by what is kept of it
+-- a test of a value has the same result on what is kept of it
 pub is_avro-kept : (o : Option Data) → is_avro (option_map kept o) ≡ is_avro o
 is_avro-kept None = refl
 is_avro-kept (Some null) = refl

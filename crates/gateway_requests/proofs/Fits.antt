@@ -10,11 +10,11 @@ use Rattle.gateway_requests.specs.Paths.{IsSegment}
 use Rattle.gateway_requests.proofs.Walks.{seek-nil, seek-drop, longest-short, drop-length, no_slash-whole}
 use Rattle.gateway_requests.proofs.Walks.{no_slash-part}
 
--- what a token stands for
+-- the texts that a token matches
 abbrev pub StandsFor : ℕ → List ℕ → Type 0
 StandsFor x text = (text ≡ x ∷ []) ⊎ (((x ≡ param_token) × IsSegment text) ⊎ (x ≡ catch_all_token))
 
--- the tokens stand for the parts of the path, one after another
+-- the tokens match the parts of the path, one after another
 unfoldable pub Fits : List ℕ → List ℕ → Type 0
 Fits [] path = path ≡ []
 Fits (x ∷ t) path = (text : List ℕ) × (rest : List ℕ) × (path ≡ text ++ rest) × StandsFor x text × Fits t rest

@@ -1,4 +1,4 @@
--- A path is text where its target is, and behind a slash the segments have numbers one less.
+-- A path is text where its target is, and after a slash the indices of the segments are one less.
 use Rattle.std.proofs.Common.{◌≡◌, ◌⊎◌, ℕ, zero, suc, ◌+◌, ◌<◌, ◌≤◌, ◌==◌, List, length, take, get_or, true, not, refl, arith, rules, IsUtf8, inl, inr}
 use Rattle.std.specs.List.{after_first, position_or_len}
 use Rattle.std.proofs.lemmas.Str.{IsUtf8-take, IsCharBoundary-before_ascii, IsCharBoundary-end}

@@ -28,6 +28,11 @@ use Rattle.gateway_requests.specs.Steps.{◌>>=◌}
 abbrev pub length_of : RequestHead → Result ℕ Fault
 length_of head = ok_or (option_map number (declared_length (map name_and_value head.fields))) faults.BadRequest
 
+-- what a method asks for at a target
+abbrev pub action_at : List ℕ → List ℕ → Result Action Fault
+action_at method target =
+    ok_or (route_of (path_of target)) faults.NoRoute >>= (λ route. ok_or (action_of route method) faults.NotAllowed)
+
 -- an action, where the body passes no limit
 abbrev pub where_small : ℕ → Action → Result Chosen Fault
 where_small n action =
@@ -72,11 +77,15 @@ module _ (path : List ℕ) (body : Option (List ℕ)) where
 
 -- ---- a request
 
--- so many of the bytes, or none where there are fewer
+-- what a request asks whose method, target and content these are
+abbrev pub asked_at : List ℕ → List ℕ → List ℕ → Result Request Fault
+asked_at method target content = action_at method target >>= asked_for (path_of target) (Some content)
+
+-- the first n of the bytes, or none where there are fewer
 abbrev pub body_in : ℕ → List ℕ → Option (List ℕ)
 body_in n rest = if nat_lt (length rest) n then None else Some (take n rest)
 
--- what a request asks, with all bytes that come behind its head
+-- what a request asks, with all bytes that come after its head
 abbrev pub asked : RequestHead → List ℕ → Result Request Fault
 asked head rest = chosen head >>= (λ c. asked_for (path_of head.target) (body_in c.body_length rest) c.action)
 

@@ -1,4 +1,4 @@
--- What a body says (Confluent Schema Registry API; that null stands for a key that is not there is this project's own).
+-- What a body says (Confluent Schema Registry API; that null counts as an absent key is this project's own).
 use Rattle.std.specs.Prelude.{ℕ, ◌&&◌, ◌||◌, Bool, true, false, List, Option, Some, None, Result, Ok, Err, codes, if◌then◌else◌, is_some, option_and_then}
 use Rattle.std.specs.Option.{ok_or}
 use Rattle.std.specs.Str.{bytes_eq, is_utf8}
@@ -31,7 +31,7 @@ object_of body = as_text body >>= (λ text. ok_or (read text) faults.BadRequest 
 
 -- ---- the text of a schema
 
--- the type of the schema, where it is told, is Avro
+-- the type of the schema, where it is given, is Avro
 abbrev pub is_avro : Option Data → Bool
 is_avro None = true
 is_avro (Some null) = true
@@ -65,7 +65,7 @@ text_of body = whole_body body >>= (λ bytes. object_of bytes >>= text_in)
 
 -- ---- a level
 
--- the level of a name
+-- the level with a name
 abbrev pub known_level : List ℕ → Result Level Fault
 known_level name = ok_or (level_named name) faults.BadLevel
 

@@ -6,7 +6,7 @@ use Rattle.std.specs.List.{after_first, before_first}
 abbrev pub path_of : List ℕ → List ℕ
 path_of target = before_first (λ b. b == 63) target
 
--- the segment of a number: the text behind so many slashes, up to the next one
+-- the segment at an index: the text after that number of slashes, up to the next one
 abbrev pub segment : ℕ → List ℕ → List ℕ
 segment zero path = before_first (λ b. b == 47) path
 segment (suc n) path = segment n (after_first (λ b. b == 47) path)

@@ -7,11 +7,11 @@ use Rattle.gateway_requests.specs.declared.request.Request.TheVariants as reques
 pub data Request : Type 0 where
   -- what the registry replies to a command that is no registration
   Asks : Command → Request
-  -- to register the schema of a text for a subject, and to tell its id
+  -- to register the schema of a text for a subject, and to answer its id
   Registers : List ℕ → List ℕ → Request
-  -- the text of the schema of an id
+  -- the text of the schema with an id
   AsksSchema : ℕ → Request
-  -- a message for the reader of an id, from the message in the body
+  -- a message for the reader with an id, from the message in the body
   Transcodes : ℕ → List ℕ → Request
 
 abbrev pub request_of : rust.Request → Request

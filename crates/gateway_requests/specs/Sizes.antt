@@ -2,7 +2,7 @@
 use Rattle.std.specs.Prelude.{◌≤◌, ℕ, List, length, Option, Some, None}
 use Rattle.gateway_requests.specs.Request.{Request, Asks, Registers, AsksSchema, Transcodes}
 
--- the message in it, if it has one, has at most so many bytes
+-- the message in it, if it has one, has at most `most` bytes
 abbrev pub IsWithin : ℕ → Request → Type 0
 IsWithin most (Asks command) = Unit {0}
 IsWithin most (Registers subject text) = Unit {0}

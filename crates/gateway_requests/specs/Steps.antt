@@ -9,7 +9,7 @@ abbrev pub ◌>>=◌ : {A B : Type 0} → Result A Fault → (A → Result B Fau
 Ok x >>= f = f x
 Err e >>= f = Err e
 
--- a call told this result, unless memory ran out
+-- a call returned this result, unless memory ran out
 abbrev pub Tells : {R A : Type 0} → (R → A) → Result R Fault → Result A Fault → Type 0
 Tells view (Ok told) result = result ≡ Ok (view told)
 Tells view (Err e) result = e ≢ NoMemory → result ≡ Err e

@@ -22,14 +22,14 @@ pub enum Action {
     Transcode,
 }
 
-/// This action for one method alone.
+/// Returns an action where the method is the one that is wanted, else `None`.
 fn only(method: &[u8], wanted: &[u8], action: Action) -> Option<Action>
     ensures { result ≡ only method.now wanted.now action }
 {
     if method == wanted { Some(action) } else { None }
 }
 
-/// One action for GET, another for another method.
+/// Returns the one action for GET, the other for another method, else `None`.
 fn either(method: &[u8], shown: Action, other: &[u8], changed: Action) -> Option<Action>
     ensures { result ≡ either method.now shown other.now changed }
 {
@@ -40,7 +40,7 @@ fn either(method: &[u8], shown: Action, other: &[u8], changed: Action) -> Option
     }
 }
 
-/// What a method asks for at a route. `None` where the route has no such method.
+/// Returns what a method asks for at a route. `None` where the route has no such method.
 pub(crate) fn action_of(route: Route, method: &[u8]) -> Option<Action>
     ensures { result ≡ action_of route method.now }
 {

@@ -63,7 +63,7 @@ pub fn request_of(
     }
 }
 
-/// A command whose request needs no body; the error says that the one it has was cut short.
+/// Returns a command whose request needs no body, as a request; the error is that the body it has was cut short.
 fn question_of(body: Option<&[u8]>, command: Command) -> Result<Request, Fault>
     ensures tells { Tells request_of result (question (option_map (λ b. b.now) body.entry) (command_of command)) }
     ensures size { IfOk result (λ request. IsWithin 0 (request_of request)) }
@@ -72,7 +72,7 @@ fn question_of(body: Option<&[u8]>, command: Command) -> Result<Request, Fault>
     Ok(Request::Command(command))
 }
 
-/// Which version of a subject has the schema in the body.
+/// Returns the request that asks for the version of a subject that has the schema in the body.
 fn lookup_of(alloc: Global, path: &[u8], body: Option<&[u8]>) -> Result<Request, Fault>
     ensures tells { Tells request_of result (asked_for path.now (option_map (λ b. b.now) body.entry) Action.Lookup) }
     ensures size { IfOk result (λ request. IsWithin 0 (request_of request)) }
@@ -82,7 +82,7 @@ fn lookup_of(alloc: Global, path: &[u8], body: Option<&[u8]>) -> Result<Request,
     Ok(Request::Command(Command::Lookup { subject, text }))
 }
 
-/// The schema in the body, to be registered for a subject.
+/// Returns the request that registers the schema in the body for a subject.
 fn registration_of(alloc: Global, path: &[u8], body: Option<&[u8]>) -> Result<Request, Fault>
     ensures tells { Tells request_of result (asked_for path.now (option_map (λ b. b.now) body.entry) Action.Register) }
     ensures size { IfOk result (λ request. IsWithin 0 (request_of request)) }
@@ -92,7 +92,7 @@ fn registration_of(alloc: Global, path: &[u8], body: Option<&[u8]>) -> Result<Re
     Ok(Request::Registration { subject, text })
 }
 
-/// The level in the body, to be set for a subject, or for those that have none of their own.
+/// Returns the request that sets the level in the body for a subject, or for those that have none of their own.
 fn setting_of(alloc: Global, subject: Option<String>, body: Option<&[u8]>) -> Result<Request, Fault>
     ensures tells { Tells request_of result (setting (option_map (λ b. b.now) body.entry)
         (option_map string_bytes subject)) }
@@ -102,7 +102,7 @@ fn setting_of(alloc: Global, subject: Option<String>, body: Option<&[u8]>) -> Re
     Ok(Request::Command(Command::SetLevel { subject, level }))
 }
 
-/// Whether the schema in the body goes with a version of a subject.
+/// Returns the request that asks whether the schema in the body goes with a version of a subject.
 fn check_of(alloc: Global, path: &[u8], body: Option<&[u8]>) -> Result<Request, Fault>
     ensures tells { Tells request_of result (asked_for path.now (option_map (λ b. b.now) body.entry) Action.Check) }
     ensures size { IfOk result (λ request. IsWithin 0 (request_of request)) }
@@ -117,7 +117,7 @@ fn check_of(alloc: Global, path: &[u8], body: Option<&[u8]>) -> Result<Request, 
     }))
 }
 
-/// Returns the body as a message. `None` where it was cut short; the error is want of memory.
+/// Returns the body as a message. `None` where it was cut short; the error is that memory ran out.
 fn message_of(alloc: Global, body: Option<&[u8]>) -> Result<Option<Message>, AllocError>
     ensures { IfOk result (λ message. message ≡ option_map (λ b. b.now) body.entry) }
 {

@@ -3,7 +3,7 @@
 ghost use Rattle.std.specs.Prelude.{◌≡◌, ◌≤◌, IfOk};
 ghost use Rattle.httparse.specs.Grammar.{RequestHead};
 ghost use Rattle.httparse.specs.Spans.{IsRequestAt, IsRequestWithin};
-ghost use Rattle.gateway_requests.specs.Asking.{chosen};
+ghost use Rattle.gateway_requests.specs.Asking.{action_at, chosen};
 
 use crate::action::{Action, action_of};
 use crate::limits::MOST_BODY;
@@ -20,8 +20,21 @@ pub struct Chosen {
     pub body_length: usize,
 }
 
-/// What a head asks for, whose parts stand in `bytes` where the spans say; or the first fault of its length, its route,
-/// its method and the body's size.
+/// Returns what a method asks for at a target; or the first fault of its route and its method.
+pub fn action_at(routes: &Routes, method: &[u8], target: &str) -> Result<Action, Fault>
+    ensures { result ≡ action_at method.now target.now }
+{
+    let Some(route) = routes.find(path_of(target.as_bytes())) else {
+        return Err(Fault::NoRoute);
+    };
+    match action_of(route, method) {
+        Some(action) => Ok(action),
+        None => Err(Fault::NotAllowed),
+    }
+}
+
+/// Returns what a head asks for, whose parts are in `bytes` where the spans say; or the first fault of its length,
+/// its route, its method and the body's size.
 pub fn choose(
     routes: &Routes,
     bytes: &[u8],

@@ -13,7 +13,7 @@ use gateway_bodies::{BodyError, Kept, Members, read_members};
 use schema_registry::Level;
 use std::alloc::Global;
 
-/// A body that is there in whole. `BadRequest` where it was cut short.
+/// Returns a body that has come whole. `BadRequest` where it was cut short.
 pub(crate) fn whole_body(body: Option<&[u8]>) -> Result<&[u8], Fault>
     ensures { Tells (λ b. b.now) result (whole_body (option_map (λ b. b.now) body.entry)) }
 {
@@ -23,7 +23,7 @@ pub(crate) fn whole_body(body: Option<&[u8]>) -> Result<&[u8], Fault>
     }
 }
 
-/// The text that the bytes spell. `BadRequest` where they are no UTF-8.
+/// Returns the bytes as a text. `BadRequest` where they are no UTF-8.
 #[tactic(auto, using(crate::proofs::Bodies::is_text, crate::proofs::Bodies::is_no_text))]
 fn text_in_bytes(body: &[u8]) -> Result<&str, Fault>
     ensures { Tells (λ t. t.now) result (as_text body.now) }
@@ -47,7 +47,7 @@ fn members_of(alloc: Global, body: &[u8]) -> Result<Members, Fault>
     }
 }
 
-/// Returns whether the type of a schema, where it is told, is Avro.
+/// Returns whether the type of a schema is Avro, which it is where none is given.
 fn is_avro(schema_type: &Option<Kept>) -> bool
     ensures { result ≡ is_avro (option_map data_of schema_type.now) }
 {
@@ -97,8 +97,10 @@ fn text_in(members: Members) -> Result<String, Fault>
     text_kept(schema)
 }
 
-/// The text of a schema in a body, which is `None` where it was cut short. `BadRequest` where the body is no JSON
-/// object, `BadBody` where that has no text of an Avro schema without references.
+/// Returns the text of a schema in a body, which is `None` where it was cut short.
+///
+/// `BadRequest` where the body is no JSON object, `BadBody` where that has no text of an Avro schema without
+/// references.
 pub(crate) fn text_of(alloc: Global, body: Option<&[u8]>) -> Result<String, Fault>
     ensures { Tells string_bytes result (text_of (option_map (λ b. b.now) body.entry)) }
 {
@@ -107,7 +109,7 @@ pub(crate) fn text_of(alloc: Global, body: Option<&[u8]>) -> Result<String, Faul
     text_in(members)
 }
 
-/// The level of a name.
+/// Returns the level with a name; `BadLevel` where no level has it.
 fn known_level(name: &str) -> Result<Level, Fault>
     ensures { result ≡ known_level name.now }
 {
@@ -127,8 +129,8 @@ fn level_in(members: &Members) -> Result<Level, Fault>
     }
 }
 
-/// The level in a body, which is `None` where it was cut short. `BadRequest` where the body is no JSON object,
-/// `BadLevel` where that names no level.
+/// Returns the level in a body, which is `None` where it was cut short. `BadRequest` where the body is no JSON
+/// object, `BadLevel` where that names no level.
 pub(crate) fn level_of(alloc: Global, body: Option<&[u8]>) -> Result<Level, Fault>
     ensures { Tells (λ l. l) result (level_of (option_map (λ b. b.now) body.entry)) }
 {

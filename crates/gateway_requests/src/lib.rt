@@ -15,7 +15,7 @@ mod route;
 
 pub use action::Action;
 pub use asking::{request_of, transcoding_of};
-pub use choosing::{Chosen, choose};
+pub use choosing::{Chosen, action_at, choose};
 pub use limits::{MOST_BODY, limits_are_these};
 pub use path::path_of;
 pub use request::Request;

@@ -12,7 +12,7 @@ use std::alloc::Global;
 /// How many ids there are, from 0 on.
 const IDS: u64 = 1 << 32;
 
-/// The subject of a name. `BadSubject` where it is none.
+/// Returns the subject with a name. `BadSubject` where it is no name of a subject.
 #[tactic(auto, using(crate::proofs::Subjects::no_subject))]
 pub(crate) fn subject_of(alloc: Global, text: &[u8]) -> Result<String, Fault>
     ensures { Tells string_bytes result (subject_of text.now) }
@@ -26,7 +26,7 @@ pub(crate) fn subject_of(alloc: Global, text: &[u8]) -> Result<String, Fault>
     Ok(String::from_str(alloc, text)?)
 }
 
-/// The version of a number or of the word `latest`. `BadVersion` where the text is neither.
+/// Returns the version that a number or the word `latest` names. `BadVersion` where the text is neither.
 pub(crate) fn version_of(text: &[u8]) -> Result<Version, Fault>
     ensures { result ≡ version_of text.now }
 {
@@ -44,7 +44,7 @@ pub(crate) fn version_of(text: &[u8]) -> Result<Version, Fault>
     }
 }
 
-/// The id that a text spells. `NoSchema` where it spells none.
+/// Returns the id that a text spells. `NoSchema` where it spells none.
 pub(crate) fn id_of(text: &[u8]) -> Result<u32, Fault>
     ensures { result ≡ id_of text.now }
 {

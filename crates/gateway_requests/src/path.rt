@@ -4,7 +4,7 @@ ghost use Rattle.std.specs.Prelude.{◌≡◌, ◌==◌, ◌≤◌, IsUtf8, leng
 ghost use Rattle.std.specs.List.{after_first, before_first, position_or_len};
 ghost use Rattle.gateway_requests.specs.Path.{path_of, segment};
 
-/// The offset of the first such byte, or of the end.
+/// Returns the offset of the first such byte, or of the end.
 fn offset_of(byte: u8, text: &[u8]) -> usize
     ensures offset { result ≡ position_or_len (λ b. b == byte) text.now }
     ensures within { result ≤ length text.now }
@@ -17,7 +17,7 @@ fn offset_of(byte: u8, text: &[u8]) -> usize
     text.len()
 }
 
-/// What stands before the first such byte.
+/// Returns the bytes before the first such byte; all where there is none.
 fn before(byte: u8, text: &[u8]) -> &[u8]
     ensures { result.now ≡ before_first (λ b. b == byte) text.now }
 {
@@ -25,7 +25,7 @@ fn before(byte: u8, text: &[u8]) -> &[u8]
     &text[..offset]
 }
 
-/// What stands behind the first such byte; nothing where there is none.
+/// Returns the bytes after the first such byte; none where there is none.
 fn behind(byte: u8, text: &[u8]) -> &[u8]
     ensures { result.now ≡ after_first (λ b. b == byte) text.now }
 {
@@ -37,7 +37,7 @@ fn behind(byte: u8, text: &[u8]) -> &[u8]
     }
 }
 
-/// A target without its query.
+/// Returns a target without its query.
 #[tactic(auto, using(crate::proofs::Targets::path_is_text))]
 pub fn path_of(target: &[u8]) -> &str
     requires { IsUtf8 target.now }
@@ -49,7 +49,7 @@ pub fn path_of(target: &[u8]) -> &str
     }
 }
 
-/// The segment of that number: what stands behind so many slashes, up to the next one.
+/// Returns the segment after `number` slashes, up to the next slash or the end; empty where there are fewer slashes.
 pub(crate) fn segment(number: usize, path: &[u8]) -> &[u8]
     ensures { result.now ≡ segment number path.now }
 {

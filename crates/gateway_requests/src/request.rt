@@ -6,9 +6,9 @@ use wire_frames::Message;
 /// What is asked of the service.
 #[derive(Drop)]
 pub enum Request {
-    /// What the registry replies to a command that is no registration.
+    /// A command to the registry that is no registration.
     Command(Command),
-    /// To register the schema of a text for a subject, and to tell its id.
+    /// To register the schema of a text for a subject, and to return its id.
     Registration { subject: String, text: String },
     /// The text of the schema of an id.
     Schema { id: u32 },

@@ -50,7 +50,7 @@ impl Model for Routes {
 }
 
 impl Routes {
-    /// All routes.
+    /// Returns all routes. The error is that memory ran out.
     pub fn new(alloc: Global) -> Result<Routes, AllocError> {
         match all_routes(alloc) {
             Ok(router) => Ok(Routes { router }),
@@ -59,7 +59,7 @@ impl Routes {
         }
     }
 
-    /// What the path of a request names, a target without its query. `None` where no route has it.
+    /// Returns what the path of a request names, which is a target without its query. `None` where no route has it.
     pub fn find(&self, path: &str) -> Option<Route>
         ensures route { result ≡ route_of path.now }
         ensures found { IfSome result (λ route. IsPathOf route path.now) }
@@ -68,7 +68,7 @@ impl Routes {
         self.look_up(path)
     }
 
-    /// What the rows of the router say of a path.
+    /// Returns the route that the router finds for a path. `None` where it finds none.
     fn look_up(&self, path: &str) -> Option<Route>
         ensures { result ≡ route_of path.now }
     {
@@ -79,7 +79,7 @@ impl Routes {
     }
 }
 
-/// Adds a route to the router: its text, which names each parameter in braces. `OutOfMemory` where it finds no room.
+/// Adds a route to the router by its text, which names each parameter in braces. `OutOfMemory` where memory ran out.
 fn add(router: &mut Router<Route>, text: &str, route: Route) -> Result<(), InsertError>
     requires { IsFree (parse_route text.now) router.old }
     ensures taken { IfOk result (λ added. router.new ≡ with_route text.now route router.old) }
@@ -88,7 +88,7 @@ fn add(router: &mut Router<Route>, text: &str, route: Route) -> Result<(), Inser
     router.insert(text, route)
 }
 
-/// A router with each route. `OutOfMemory` where it finds no room.
+/// Returns a router with each route. `OutOfMemory` where memory ran out.
 fn all_routes(alloc: Global) -> Result<Router<Route>, InsertError>
     ensures taken { IfOk result (λ router. router ≡ all_routes) }
     ensures refused { IfErr result (λ why. why ≡ OutOfMemory) }

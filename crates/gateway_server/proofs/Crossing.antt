@@ -1,5 +1,5 @@
--- That threads may use one `Shared` (it is `Sync`) and what stands beside an upstream registry, and that what clients,
--- workers and those that ask are given may be given to a thread (`Send`), field by field.
+-- That threads may share one `Shared` and one `Beside` (they are `Sync`), and that what clients, workers and those that
+-- ask are given may be given to a thread (`Send`), field by field.
 use denote.Param.Send.{IsSend, IsSync, sendable, shr_send, shr_sync}
 use denote.Param.SendFields.{FieldsHave, declared_send, declared_sync, as_row_send, as_row_sync}
 use denote.Ref.{NamedLft}

@@ -1,4 +1,4 @@
-//! What the threads of a service share that stands beside an upstream registry.
+//! What the threads of a service share that uses an upstream registry.
 
 ghost use Rattle.std.specs.Prelude.{◌≡◌};
 ghost use Rattle.gateway_server.specs.Options.{IsWithin};
@@ -15,13 +15,13 @@ use std::time::Duration;
 use upstream_fetching::{FetchQueue, Watcher};
 use upstream_schemas::{ExchangeFault, Upstream, UpstreamSchemas};
 
-/// The number of questions of which lines wait to be logged at most.
+/// The greatest number of questions that wait to be logged.
 const MOST_NOTES: usize = 1_024;
 
 /// The code of a question that came to a schema which is held.
 const HELD: u32 = 200;
 
-/// The upstream registry of a service: the schemas that are held of it, and who sends it questions.
+/// The upstream registry of a service: the schemas that are held of it, and what sends it questions.
 #[derive(Drop)]
 pub struct Source<'a, 'r, U: Upstream> {
     pub schemas: &'a UpstreamSchemas<'r, U>,
@@ -35,8 +35,8 @@ pub(crate) struct Questions<U: Upstream> {
     pub(crate) notes: FetchNotes,
 }
 
-/// What the threads of a service share that stands beside an upstream registry: the schemas that are held of it, the
-/// questions to it, how the service is to run, and this process's registry.
+/// What the threads of a service share that uses an upstream registry: the schemas that are held of it, the questions
+/// to it, the options of the service, and this process's registry.
 #[derive(Drop)]
 pub(crate) struct Beside<'a, 'r, U: Upstream> {
     pub(crate) schemas: &'a UpstreamSchemas<'r, U>,
@@ -55,7 +55,7 @@ pub(crate) struct FetchNotes {
 }
 
 impl FetchNotes {
-    /// Returns none.
+    /// Returns no questions.
     pub(crate) fn new(alloc: Global) -> FetchNotes {
         FetchNotes {
             alloc,
@@ -63,7 +63,7 @@ impl FetchNotes {
         }
     }
 
-    /// Adds a question. Where `MOST_NOTES` wait, or memory is wanting, it is dropped.
+    /// Adds a question. Where `MOST_NOTES` wait, or memory runs out, it is dropped.
     fn add<R: Wait>(&self, rt: &R, fetch: Fetch) {
         let mut notes = self.notes.lock(rt);
         if notes.len() < MOST_NOTES {
@@ -78,7 +78,7 @@ impl FetchNotes {
     }
 }
 
-/// What is done once an id was asked for: it is noted for the log, and the threads of clients are woken.
+/// What is done once an id was asked for: the question is noted for the log, and the threads of clients are woken.
 #[derive(Drop)]
 pub(crate) struct Watching<'a, R: Wait> {
     pub(crate) rt: &'a R,

@@ -17,8 +17,8 @@ use std::sync::Wait;
 use std::time::Clock;
 use upstream_schemas::Upstream;
 
-/// What a client's thread is given: its connections, a seat for its sessions, and one to take turns by while it waits
-/// for them; and the schemas of an upstream registry, where the service stands beside one.
+/// What a client's thread receives: its connections, a seat for its sessions, and one to take turns by while it waits
+/// for them; and the schemas of an upstream registry, where the service uses one.
 #[derive(Drop)]
 pub(crate) struct Client<'a, 'p, 'r, U: Upstream> {
     pub(crate) shared: &'a Shared<'a, 'p>,
@@ -31,7 +31,7 @@ pub(crate) struct Client<'a, 'p, 'r, U: Upstream> {
     ghost cells: { ForSome beside (λ b. b.now.schemas.now.registry ≡ shared.now.registry.now) },
 }
 
-/// Answers the requests of the gate's connections, until no more are accepted and all are closed. A request whose
+/// Serves the requests of the gate's connections, until no more are accepted and all are closed. A connection whose
 /// answer finds no memory is closed without one.
 fn serve_requests<'p, R: Wait + Clock>(
     rt: &R,
@@ -53,7 +53,7 @@ fn serve_requests<'p, R: Wait + Clock>(
     }
 }
 
-/// What a client's thread does. Returns how many answers it sent whole; the error is want of memory.
+/// Runs a client's thread. Returns how many answers it sent whole; the error is that memory ran out.
 pub(crate) fn run_client<R: Wait + Clock, U: Upstream>(
     rt: &R,
     client: Client<'_, '_, '_, U>,

@@ -15,10 +15,10 @@ use std::time::{Clock, Duration, Instant};
 use upstream_fetching::Asked as Answer;
 use upstream_schemas::{RecentSchemas, Upstream};
 
-/// The number of requests of a thread that wait for the upstream registry at most.
+/// The greatest number of requests of a thread that wait for the upstream registry.
 pub const MOST_WAITING: usize = 256;
 
-/// The number of bytes of messages of a thread that wait for the upstream registry at most.
+/// The greatest number of bytes of messages of a thread that wait for the upstream registry.
 pub const MOST_WAITING_BYTES: usize = 67_108_864;
 
 /// A request that was received, within its limit, and the connection that waits for its answer. Callers see nothing of
@@ -95,7 +95,7 @@ impl<'a, 'r, U: Upstream> Model for Desk<'a, 'r, U> {
 }
 
 impl<'a, 'r, U: Upstream> Desk<'a, 'r, U> {
-    /// Returns a desk at which no request waits. The error is want of memory.
+    /// Returns a desk at which no request waits. The error is that memory ran out.
     pub(crate) fn new(
         alloc: Global,
         beside: &'a Beside<'a, 'r, U>,
@@ -110,7 +110,7 @@ impl<'a, 'r, U: Upstream> Desk<'a, 'r, U> {
         })
     }
 
-    /// Returns when the first of the requests that wait is late; None where none waits.
+    /// Returns when the first of the requests that wait is late; `None` where none waits.
     pub(crate) fn moment(&self) -> Option<Instant> {
         let mut moment: Option<Instant> = None;
         for waiting in &self.waiting {
@@ -122,8 +122,8 @@ impl<'a, 'r, U: Upstream> Desk<'a, 'r, U> {
         moment
     }
 
-    /// Looks a schema up, and asks for it where it is not held, until a deadline. Adds what came of it to others; returns
-    /// whether it is waited for.
+    /// Looks a schema up, and asks for it where it is not held, until a deadline. Adds the result to `looked`, or
+    /// returns `true` where the schema is waited for.
     fn look_up<R: Wait>(
         &mut self,
         rt: &R,
@@ -154,8 +154,8 @@ impl<'a, 'r, U: Upstream> Desk<'a, 'r, U> {
         false
     }
 
-    /// Looks up the schemas that a request needs, each of which is asked for where it is not held. Returns them; None
-    /// where one is waited for, which none is from the deadline on.
+    /// Looks up the schemas that a request needs, each of which is asked for where it is not held. Returns them;
+    /// `None` where one is waited for, which none is from the deadline on.
     fn look_at<R: Wait>(
         &mut self,
         rt: &R,
@@ -190,7 +190,7 @@ impl<'a, 'r, U: Upstream> Desk<'a, 'r, U> {
         bytes
     }
 
-    /// Puts a request aside until a deadline. Returns it where as many wait as may, or memory is wanting.
+    /// Puts a request aside until a deadline. Returns it where as many wait as may, or memory runs out.
     fn put_aside(&mut self, received: Received, deadline: Instant) -> Option<Received>
         ensures { self.new ≡ self.old }
     {
@@ -206,8 +206,8 @@ impl<'a, 'r, U: Upstream> Desk<'a, 'r, U> {
         }
     }
 
-    /// Takes a request in. Returns it where it is to be answered now: its schemas are held, or one of them was refused, or
-    /// no more requests may wait.
+    /// Takes a request in. Returns it where it is to be answered now: its schemas are held, or one of them was
+    /// refused, or no more requests may wait.
     pub(crate) fn take_in<R: Wait + Clock>(
         &mut self,
         rt: &R,
@@ -232,15 +232,15 @@ impl<'a, 'r, U: Upstream> Desk<'a, 'r, U> {
         self.beside.questions.notes.take(rt)
     }
 
-    /// Begins to look all that wait up again.
+    /// Begins to look up again the schemas of all requests that wait.
     pub(crate) fn begin_round(&mut self)
         ensures { self.new ≡ self.old }
     {
         self.round = self.waiting.len();
     }
 
-    /// Returns the next of the requests that wait which is to be answered now. None where all that wait were looked up
-    /// again since the round began.
+    /// Returns the next of the requests that wait which is to be answered now. `None` where all that wait were looked
+    /// up again since the round began.
     pub(crate) fn next_ready<R: Wait + Clock>(&mut self, rt: &R) -> Option<Ready<'a, 'r, U>>
         ensures desk { self.new ≡ self.old }
         ensures looked { IfSome result (λ ready. ready.looked.names ≡ self.old) }

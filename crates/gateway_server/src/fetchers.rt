@@ -9,7 +9,7 @@ use std::time::Clock;
 use upstream_fetching::run_fetcher;
 use upstream_schemas::Upstream;
 
-/// What a thread that asks is given.
+/// What a thread that asks receives.
 #[derive(Drop)]
 pub(crate) struct Fetcher<'a, 'r, R: Wait, U: Upstream> {
     beside: &'a Beside<'a, 'r, U>,
@@ -18,7 +18,7 @@ pub(crate) struct Fetcher<'a, 'r, R: Wait, U: Upstream> {
 }
 
 impl<'a, 'r, R: Wait, U: Upstream> Fetcher<'a, 'r, R, U> {
-    /// Returns what a thread that asks is given: what threads share, who sends questions, and who hears of each.
+    /// Returns what a thread that asks receives: what threads share, what sends questions, and what hears of each.
     pub(crate) fn new(
         beside: &'a Beside<'a, 'r, U>,
         upstream: &'a U,
@@ -35,8 +35,8 @@ impl<'a, 'r, R: Wait, U: Upstream> Fetcher<'a, 'r, R, U> {
 /// The number of threads that ask the upstream registry, and so of the questions that are under way at most.
 const FETCHERS: usize = 16;
 
-/// Asks the upstream registry for the ids of the queue, by `FETCHERS` threads that are given the same, until the queue has
-/// ended. The error is want of memory.
+/// Asks the upstream registry for the ids of the queue, by `FETCHERS` threads that all take ids from it, until the
+/// queue has ended. The error is that memory ran out.
 pub(crate) fn run_fetchers<'a, 'r, R: Threads + Wait + Clock + Sync, U: Upstream + Send + Sync>(
     rt: &R,
     fetcher: Fetcher<'a, 'r, R, U>,

@@ -1,7 +1,7 @@
 //! Edge: HTTP; used by `avrogate`.
 //!
-//! The service on a listener: threads of clients, each with connections of its own, which answer one request on each,
-//! and workers beside them, over one pool of sessions.
+//! The service on a listener: threads of clients, each with connections of its own, and workers beside them, over one
+//! pool of sessions. A connection carries one request, or one after another.
 #![tactic(auto)]
 
 mod beside;
@@ -20,5 +20,6 @@ mod worker;
 pub use beside::Source;
 pub use command_io::RunError;
 pub use desk::{MOST_WAITING, MOST_WAITING_BYTES};
+pub use gateway_front::Persistence;
 pub use options::{MOST_SERVING, MOST_WORKING, ServeOptions};
 pub use service::{serve_beside, serve_on};

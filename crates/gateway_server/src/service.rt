@@ -29,8 +29,8 @@ use upstream_schemas::Upstream;
 /// The number of seconds that what follows a request may take, once its answer was sent.
 const REST: u64 = 2;
 
-/// The number of bytes of requests and answers that the connections of a client hold at most, beside the request that
-/// is served.
+/// The greatest number of bytes of requests and answers that the connections of a client hold, beside the request
+/// that is served.
 const MOST_HELD: usize = 134_217_728;
 
 /// Returns the bounds of the connections of a client.
@@ -43,6 +43,7 @@ fn bounds_of(options: &ServeOptions) -> Bounds {
         open: options.connections as usize,
         bytes: MOST_HELD,
         each: options.each,
+        persistence: options.persistence,
     }
 }
 
@@ -70,7 +71,7 @@ fn sets_of(
     Ok(sets)
 }
 
-/// Appends to what a writer has a word and a number, in a line.
+/// Writes a line of a word and a number to a writer.
 fn write_number<W: Write>(
     alloc: Global,
     writer: &mut W,

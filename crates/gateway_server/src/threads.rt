@@ -18,7 +18,7 @@ use std::thread::Threads;
 use std::time::Clock;
 use upstream_schemas::Upstream;
 
-/// What each client is given: its connections, its seat, and one of the workers'.
+/// Returns what each client receives: its connections, its seat, and one of the workers'.
 fn clients_of<'a, 'p, 'r, U: Upstream>(
     shared: &'a Shared<'a, 'p>,
     beside: Option<&'a Beside<'a, 'r, U>>,
@@ -53,7 +53,7 @@ fn clients_of<'a, 'p, 'r, U: Upstream>(
     Ok(clients)
 }
 
-/// What each worker is given.
+/// Returns what each worker receives.
 fn workers_of<'a, 'p>(
     shared: &'a Shared<'a, 'p>,
     seats: &mut Vec<WorkerSeat<'p>>,
@@ -70,7 +70,7 @@ fn workers_of<'a, 'p>(
     Ok(workers)
 }
 
-/// Each worker in a thread of its own, every one joined.
+/// Runs each worker in a thread of its own, and joins them all.
 fn run_workers<R: Threads + Wait + Sync>(
     rt: &R,
     workers: Vec<Worker<'_, '_>>,
@@ -83,7 +83,8 @@ fn run_workers<R: Threads + Wait + Sync>(
     Ok(())
 }
 
-/// Each client in a thread of its own, every one joined, and then the workers end: how many requests were answered.
+/// Runs each client in a thread of its own, joins them all, and then ends the workers. Returns how many requests were
+/// answered.
 fn run_clients<R: Threads + Wait + Clock + Sync, U: Upstream + Send + Sync>(
     rt: &R,
     shared: &Shared<'_, '_>,
@@ -102,7 +103,7 @@ fn run_clients<R: Threads + Wait + Clock + Sync, U: Upstream + Send + Sync>(
     Ok(answered)
 }
 
-/// Clients and workers at once: how many requests were answered.
+/// Runs clients and workers at once. Returns how many requests were answered.
 fn run_all<R: Threads + Wait + Clock + Sync, U: Upstream + Send + Sync>(
     rt: &R,
     shared: &Shared<'_, '_>,
@@ -118,8 +119,8 @@ fn run_all<R: Threads + Wait + Clock + Sync, U: Upstream + Send + Sync>(
     answered
 }
 
-/// Serves with a thread for each client and for each seat that is then left of the workers': how many requests were
-/// answered.
+/// Serves with a thread for each client and for each seat that is then left of the workers'. Returns how many
+/// requests were answered.
 pub(crate) fn run_threads<'a, 'p, 'r, R: Threads + Wait + Clock + Sync, U: Upstream + Send + Sync>(
     rt: &R,
     shared: &'a Shared<'a, 'p>,

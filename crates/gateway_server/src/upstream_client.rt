@@ -13,8 +13,8 @@ use std::sync::Wait;
 use std::time::Clock;
 use upstream_schemas::Upstream;
 
-/// Returns the next request that is to be answered, for which it waits: one that has come, or one of those that were put
-/// aside. None once no more connections are accepted, all are closed and no request waits.
+/// Returns the next request that is to be answered, for which it waits: one that has come, or one of those that were
+/// put aside. `None` once no more connections are accepted, all are closed and no request waits.
 fn next_ready<'a, 'r, R: Wait + Clock, U: Upstream>(
     rt: &R,
     gate: &mut ClientGate<'_, '_, R>,
@@ -50,8 +50,8 @@ fn next_ready<'a, 'r, R: Wait + Clock, U: Upstream>(
     None
 }
 
-/// Answers the requests of the gate's connections, until no more are accepted, all are closed and none waits. A request
-/// whose answer finds no memory is closed without one.
+/// Serves the requests of the gate's connections, until no more are accepted, all are closed and none waits. A
+/// connection whose answer finds no memory is closed without one.
 pub(crate) fn serve_upstream<'p, R: Wait + Clock, U: Upstream>(
     rt: &R,
     app: &App<'_, 'p>,

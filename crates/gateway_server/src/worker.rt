@@ -8,7 +8,7 @@ use gateway::{SLICE, work};
 use session_pool::WorkerSeat;
 use std::sync::Wait;
 
-/// What a worker's thread is given.
+/// What a worker's thread receives.
 #[derive(Drop)]
 pub(crate) struct Worker<'a, 'p> {
     pub(crate) shared: &'a Shared<'a, 'p>,
@@ -16,7 +16,7 @@ pub(crate) struct Worker<'a, 'p> {
     ghost rests: { RestsWorker shared.now.pool.now seat },
 }
 
-/// What a worker's thread does: it takes turns, and sleeps where nothing is ready, until the clients have ended.
+/// Runs a worker's thread: takes turns, and sleeps where nothing is ready, until the clients have ended.
 pub(crate) fn run_worker<R: Wait>(rt: &R, worker: Worker<'_, '_>) {
     let Worker { shared, mut seat } = worker;
     let mut gate = WorkerGate::new(rt, shared.signals);

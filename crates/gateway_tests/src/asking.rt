@@ -25,7 +25,7 @@ pub(crate) const NOT_FINISHED: &[u8] = b"HTTP/1.1 503 Service Unavailable\r\n\
 content-type: application/vnd.schemaregistry.v1+json\r\ncontent-length: 45\r\nconnection: close\r\n\r\n\
 {\"error_code\":50303,\"message\":\"not finished\"}";
 
-/// The bytes of the answer to a request.
+/// Returns the bytes of the answer to a request.
 pub(crate) fn ask<'p, R: Wait, G: Gate>(
     rt: &R,
     alloc: Global,

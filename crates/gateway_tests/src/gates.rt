@@ -33,14 +33,15 @@ impl<'a> Gate for UntilSet<'a> {
     }
 }
 
-/// A gate that says no inside a turn, and how often it was asked. Before a turn it says yes, so often at most.
+/// A gate that says no inside a turn, and how often it was asked. Before a turn it says yes, fewer than `MOST_TURNS`
+/// times.
 #[derive(Clone, Copy, Debug, PartialEq, Eq)]
 pub(crate) struct ClosedInside {
     pub(crate) turns: u32,
     pub(crate) insides: u32,
 }
 
-/// How often a gate says yes before a turn that says no inside it.
+/// A gate that says no inside a turn says yes before fewer turns than this.
 const MOST_TURNS: u32 = 100;
 
 impl Gate for ClosedInside {

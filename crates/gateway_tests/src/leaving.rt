@@ -18,7 +18,7 @@ const ROWS_LEFT: u32 = 19;
 /// How many turns are taken at most.
 const MOST_TURNS: u32 = 100;
 
-/// How many turns of one row find a session that is ready, one after another.
+/// Returns how many turns of one row find a session that is ready, one after another.
 fn turns_left<'p>(pool: &SessionPool<'p>, seat: &mut WorkerSeat<'p>) -> u32
     requires { RestsWorker pool.now seat.old }
     ensures { RestsWorker pool.now seat.new }

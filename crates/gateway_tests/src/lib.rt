@@ -6,6 +6,8 @@
 #[cfg(test)]
 mod asking;
 #[cfg(test)]
+mod calling;
+#[cfg(test)]
 mod gates;
 #[cfg(test)]
 mod leaving;

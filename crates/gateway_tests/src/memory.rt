@@ -18,7 +18,7 @@ use std::test::Fail;
 const REGISTER: &[u8] = b"POST /subjects/s/versions HTTP/1.1\r\ncontent-length: 134\r\n\r\n\
 {\"schema\":\"{\\\"type\\\":\\\"record\\\",\\\"name\\\":\\\"T\\\",\\\"fields\\\":[{\\\"name\\\":\\\"a\\\",\\\"type\\\":\\\"long\\\"},{\\\"name\\\":\\\"b\\\",\\\"type\\\":\\\"string\\\"}]}\"}";
 
-/// Registers the same with its fields the other way round.
+/// Registers that record with its fields the other way round.
 const REGISTER_SWAPPED: &[u8] = b"POST /subjects/t/versions HTTP/1.1\r\ncontent-length: 134\r\n\r\n\
 {\"schema\":\"{\\\"type\\\":\\\"record\\\",\\\"name\\\":\\\"T\\\",\\\"fields\\\":[{\\\"name\\\":\\\"b\\\",\\\"type\\\":\\\"string\\\"},{\\\"name\\\":\\\"a\\\",\\\"type\\\":\\\"long\\\"}]}\"}";
 
@@ -37,7 +37,8 @@ const NO_MEMORY: &[u8] = b"HTTP/1.1 503 Service Unavailable\r\n\
 content-type: application/vnd.schemaregistry.v1+json\r\ncontent-length: 42\r\nconnection: close\r\n\r\n\
 {\"error_code\":50301,\"message\":\"no memory\"}";
 
-/// The answer to a request, which is asked once more where it tells that memory ran out or finds none for itself.
+/// Returns the answer to a request, which is asked once more where the answer says that memory ran out or finds none
+/// for itself.
 fn asked_again<'p, R: Wait, G: Gate>(
     rt: &R,
     alloc: Global,

@@ -20,7 +20,7 @@ use std::test::Fail;
 /// How often a message is asked for whose gate says no: more often than there are slots.
 const ASKED: usize = SLOTS + 44;
 
-/// How many of so many answers to a message whose gate says no are the one that tells so.
+/// Returns how many of `many` answers to a message whose gate says no report that.
 fn refused<'p, R: Wait>(
     rt: &R,
     alloc: Global,
@@ -76,7 +76,7 @@ fn a_gate_that_says_no_leaves_the_slot_free(rt: HostRuntime) -> Result<(), Fail>
     refused_and_answered(&rt, alloc, &app, &mut seat, &mut gate)
 }
 
-/// Opens sessions until none is left, and lets go of their passes. Whether there were so many.
+/// Opens sessions until none is left, and drops their passes. Returns whether there were exactly `many`.
 fn takes_all<'p>(
     pool: &SessionPool<'p>,
     seat: &mut ClientSeat<'p>,
@@ -100,7 +100,7 @@ fn takes_all<'p>(
     }
 }
 
-/// Takes all slots but for one of the holder, and asks for a message before and after that one is given up.
+/// Takes all slots but for one of the holder, and asks for a message before and after that one is abandoned.
 fn full_and_free<'p, R: Wait + Abort>(
     rt: &R,
     alloc: Global,

@@ -21,7 +21,7 @@ pub(crate) struct Seated<'p> {
     ghost workers_rest: { All (IsNewWorker pool) workers.items },
 }
 
-/// A pool over a cache, for so many clients and workers.
+/// Returns a pool over a cache, with seats for `clients` clients and `workers` workers.
 pub(crate) fn new_pool<'p>(
     alloc: Global,
     cache: &'p ProgramCache<'p>,
@@ -40,7 +40,7 @@ pub(crate) fn new_pool<'p>(
     })
 }
 
-/// The last of some clients' seats.
+/// Takes out the last of some clients' seats.
 pub(crate) fn last_client<'p>(
     rt: &impl Abort,
     pool: &SessionPool<'p>,
@@ -56,7 +56,7 @@ pub(crate) fn last_client<'p>(
     }
 }
 
-/// The last of some workers' seats.
+/// Takes out the last of some workers' seats.
 pub(crate) fn last_worker<'p>(
     rt: &impl Abort,
     pool: &SessionPool<'p>,

@@ -8,7 +8,7 @@ use std::thread;
 /// How often a call is made at most.
 const MOST_TRIES: u32 = 10_000_000;
 
-/// Sends a piece once no worker has the session. Whether it was sent.
+/// Sends a piece once no worker has the session. Returns whether it was sent.
 pub(crate) fn send_when_free<'p>(
     pool: &SessionPool<'p>,
     seat: &mut ClientSeat<'p>,
@@ -30,7 +30,7 @@ pub(crate) fn send_when_free<'p>(
     false
 }
 
-/// Ends a session's payload once no worker has the session. Whether it was ended.
+/// Ends a session's payload once no worker has the session. Returns whether it was ended.
 pub(crate) fn end_when_free<'p>(
     pool: &SessionPool<'p>,
     seat: &mut ClientSeat<'p>,
@@ -50,7 +50,7 @@ pub(crate) fn end_when_free<'p>(
     false
 }
 
-/// What a session comes to, once it has.
+/// Returns what a session comes to, once it has.
 pub(crate) fn finished_in_time<'p>(
     pool: &SessionPool<'p>,
     seat: &mut ClientSeat<'p>,

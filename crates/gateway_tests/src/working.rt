@@ -63,7 +63,7 @@ fn run<R: Wait>(rt: &R, working: Working<'_, '_>) {
     work(rt, pool, &mut seat, LIMIT, &mut gate);
 }
 
-/// What a session on the list comes to.
+/// Returns what a session on the list comes to.
 fn finished<'p>(
     alloc: Global,
     pool: &SessionPool<'p>,
@@ -83,7 +83,7 @@ fn finished<'p>(
     finished_in_time(pool, seat, pass)
 }
 
-/// Whether the session of a client comes to the list, after so many rows.
+/// Returns whether the session of a client comes to the list, after `ROWS` rows.
 fn is_answered(asking: Asking<'_, '_>) -> bool {
     let Asking {
         alloc,
@@ -102,7 +102,7 @@ fn is_answered(asking: Asking<'_, '_>) -> bool {
     }
 }
 
-/// What each worker is given.
+/// Returns what each worker receives.
 fn all_working<'a, 'p>(
     alloc: Global,
     pool: &'a SessionPool<'p>,
@@ -125,7 +125,7 @@ fn all_working<'a, 'p>(
     Ok(workers)
 }
 
-/// What each client is given.
+/// Returns what each client receives.
 fn all_asking<'a, 'p>(
     alloc: Global,
     pool: &'a SessionPool<'p>,
@@ -150,7 +150,7 @@ fn all_asking<'a, 'p>(
     Ok(clients)
 }
 
-/// Each worker in a thread of its own.
+/// Runs each worker in a thread of its own.
 fn run_workers<R: Threads + Wait + Sync>(
     rt: &R,
     workers: Vec<Working<'_, '_>>,
@@ -159,7 +159,7 @@ fn run_workers<R: Threads + Wait + Sync>(
     Ok(())
 }
 
-/// Each client in a thread of its own. Then the workers end.
+/// Runs each client in a thread of its own. Then the workers end.
 fn run_clients<R: Threads + Sync>(
     rt: &R,
     is_over: &AtomicBool,
@@ -170,7 +170,7 @@ fn run_clients<R: Threads + Sync>(
     answers
 }
 
-/// All threads at once: of each client whether it was answered.
+/// Runs all threads at once. Returns of each client whether it was answered.
 fn run_all<R: Threads + Wait + Sync>(
     rt: &R,
     is_over: &AtomicBool,

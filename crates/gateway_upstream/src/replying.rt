@@ -1,12 +1,13 @@
 //! The answer to a request whose schemas were looked up.
 
-ghost use Rattle.std.specs.Prelude.{◌≡◌, ◌++◌, ℕ, IfOk, List, Option};
-ghost use Rattle.gateway_requests.specs.Request.{request_of};
+ghost use Rattle.std.specs.Prelude.{◌≡◌, ◌++◌, ℕ, IfOk, List, Option, Result};
+ghost use Rattle.gateway_requests.specs.Request.{Request as Asked, request_of};
 ghost use Rattle.gateway_requests.specs.Sizes.{IsWithin};
+ghost use Rattle.gateway_requests.specs.Steps.{Tells};
 ghost use Rattle.gateway_requests.specs.declared.limits.TheConstants.{MOST_BODY};
 ghost use Rattle.session_pool.specs.Seats.{Rests};
 ghost use Rattle.gateway_core.specs.Gates.{SaidNo};
-ghost use Rattle.gateway_core.specs.NamedServing.{IsNamedReply};
+ghost use Rattle.gateway_core.specs.NamedServing.{IsNamedReply, IsNamedReplyTo};
 ghost use Rattle.gateway_core.specs.Serving.{TellsRequest};
 ghost use Rattle.gateway_core.specs.Transcoding.{IsWhyNone};
 ghost use Rattle.gateway.specs.Refusing.{Refuses};
@@ -40,6 +41,11 @@ pub fn reply_upstream<'p, R: Wait, U: Upstream, G: Gate>(
     ensures replied { IfOk result (λ reply. (input : Option (List ℕ)) → TellsRequest input request
         → IsNamedReply (IsWhyNone (Refuses seat.old seat.new) (SaidNo G.says gate.old gate.new)) looked.old.names.registry
         (IsNamingOf U.heard U.kept looked.old.names) (IsWhyNotShown U.heard U.kept looked.old.looks) input
+        (reply.bytes.front.items ++ reply.bytes.rest.items) reply.status reply.sight) }
+    ensures told { IfOk result (λ reply. (asked : Result Asked Fault) → Tells request_of request asked
+        → IsNamedReplyTo (IsWhyNone (Refuses seat.old seat.new) (SaidNo G.says gate.old gate.new))
+        looked.old.names.registry (IsNamingOf U.heard U.kept looked.old.names)
+        (IsWhyNotShown U.heard U.kept looked.old.looks) asked
         (reply.bytes.front.items ++ reply.bytes.rest.items) reply.status reply.sight) }
 {
     reply_named(rt, app, looked, seat, gate, request)

@@ -1,4 +1,4 @@
--- What the first bytes of a reader tell of the head in all of them.
+-- What the first bytes of a reader say of the head in all of them.
 use Rattle.std.proofs.Common.{◌≡◌, ℕ, ◌+◌, ◌<◌, ◌≤◌, List, [], ◌∷◌, ◌++◌, length, take, drop, min, Option, Some, None, IfSome, refl, sym, ap, ◌∙◌, arith}
 use Rattle.std.proofs.lemmas.List.{append-nil, take-append-drop, take-append-le, length-take-le, take_at, length-map, length-take}
 use Rattle.std.proofs.Math.Seq.{take-append-add}
@@ -25,7 +25,7 @@ pub some_none : (bytes : List ℕ) → NoneYet bytes → 0 < length bytes → Ha
 some_none [] none some = absurd (let e : ⊥ = omega (arith, some) in e)
 some_none (b ∷ bytes) none some = none
 
--- the first bytes of a buffer after a part was written behind the first of them
+-- the first bytes of a buffer, once a part was written after the first of them
 pub take_behind : (a k n : ℕ) (xs ys : List ℕ) → a ≤ length xs → n ≤ length ys
     → take (a + n) (put_mid a k xs ys) ≡ take a xs ++ take n ys
 take_behind a k n xs ys fits few =

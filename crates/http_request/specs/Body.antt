@@ -1,4 +1,4 @@
--- The body behind a head (RFC 9112, section 6).
+-- The body after a head (RFC 9112, section 6).
 use Rattle.std.specs.Prelude.{◌≡◌, ◌<◌, ◌≤◌, ℕ, List, ◌++◌, length, take, Option, Some, None}
 
 -- the first n bytes of those that were received with the head and those that the reader has left, or none where there

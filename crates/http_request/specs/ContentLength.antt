@@ -5,7 +5,7 @@ use Rattle.std.specs.Prelude.{ℕ, List, [], ◌∷◌, codes, if◌then◌else�
 use Rattle.std.specs.Str.{bytes_eq, str_eq_ignore_ascii_case}
 use Rattle.http_request.specs.Digits.{is_number, significant_digits}
 
--- a length beside one that was named before: they have to be one
+-- a length, and the one that was named before, if any: they have to be equal
 abbrev pub agreed : Option (List ℕ) → List ℕ → Option (Option (List ℕ))
 agreed None digits = Some (Some digits)
 agreed (Some before) digits = if bytes_eq before digits then Some (Some before) else None

@@ -12,7 +12,7 @@ abbrev pub significant_digits : List ℕ → List ℕ
 significant_digits [] = []
 significant_digits (d ∷ ds) = if d == 48 then significant_digits ds else d ∷ ds
 
--- the number that these digits spell behind those of n
+-- the number that these digits spell after those of n
 abbrev pub number_after : ℕ → List ℕ → ℕ
 number_after n [] = n
 number_after n (d ∷ ds) = number_after (n * 10 + (d - 48)) ds

@@ -26,7 +26,7 @@ IsFrontOf old new buffer headers (Head spans received) =
     × (head : RequestHead) × IsRequestAt (take received buffer) headers spans head × IsAllowed head
 IsFrontOf old new buffer headers NoHead = IfSome old HasNoHead
 
--- for a private clause: count more bytes were taken from a reader into a buffer, behind those that had been received;
+-- for a private clause: count more bytes were taken from a reader into a buffer, after those that had been received;
 -- none only where the reader has ended
 pub record TakesMore (old new : Option (List ℕ)) (before after : List ℕ) (received count : ℕ) : Type 0 where
   pub more : List ℕ

@@ -1,4 +1,4 @@
-//! The body of a request, behind its head.
+//! The body of a request, after its head.
 
 ghost use Rattle.std.specs.Prelude.{◌≡◌, ◌<◌, ◌≤◌, ◌⊎◌, IfErr, IfOk, IfSome, length, option_map, vec_len};
 ghost use Rattle.http_request.specs.Body.{IsBodyOf};
@@ -11,11 +11,11 @@ use std::io::Read;
 /// How many bytes a reader is asked for at once.
 const CHUNK: usize = 4_096;
 
-/// Reads the body of that size: what was received behind the head, and the rest from the reader. `None` where the
-/// reader ends before.
+/// Reads a body of `size` bytes: those that were received after the head, and the rest from the reader. `None` where
+/// the reader ends before.
 ///
-/// `Failed` where the reader failed, which is not asked where the whole body was received; `NoMemory` where the body
-/// finds no room.
+/// `Failed` where the reader failed, which is not asked where the whole body was received; `NoMemory` where memory
+/// ran out.
 pub fn read_body<R: Read>(
     alloc: Global,
     reader: &mut R,

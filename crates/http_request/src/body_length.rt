@@ -8,7 +8,7 @@ ghost use Rattle.http_request.specs.Digits.{number};
 use crate::digits::{is_number, number_up_to, significant_digits};
 use httparse::spans::HeaderSpan;
 
-/// The length after one more field, as its significant digits. `None` where the fields name no one length.
+/// Returns the length after one more field, as its significant digits. `None` where the fields name no one length.
 fn length_after<'a>(
     found: Option<&'a [u8]>,
     name: &[u8],
@@ -34,8 +34,8 @@ fn length_after<'a>(
     }
 }
 
-/// How many bytes the body has, or `most` where it has more: the fields stand in `bytes` where `headers` says. `None`
-/// where they name no one length (RFC 9112, section 6).
+/// Returns how many bytes the body has, or `most` where it has more: the fields are in `bytes` where `headers` says.
+/// `None` where they name no one length (RFC 9112, section 6).
 pub fn content_length(bytes: &[u8], headers: &[HeaderSpan], most: u64) -> Option<u64>
     requires within { All (IsHeaderWithin (length bytes.now)) headers.now }
     requires most { most < 2 ^ 40 }

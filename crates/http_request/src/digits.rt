@@ -5,21 +5,21 @@ ghost use Rattle.std.specs.Char.{is_ascii_digit};
 ghost use Rattle.std.specs.List.{list_all};
 ghost use Rattle.http_request.specs.Digits.{is_number, number, significant_digits};
 
-/// Whether each byte is a digit.
+/// Returns whether each byte is a digit.
 fn are_digits(text: &[u8]) -> bool
     ensures { result ≡ list_all is_ascii_digit text.now }
 {
     text.iter().all(|byte| byte.is_ascii_digit())
 }
 
-/// Whether a text is one number: digits, and at least one.
+/// Returns whether a text is one number: digits, and at least one.
 pub fn is_number(text: &[u8]) -> bool
     ensures { result ≡ is_number text.now }
 {
     text.len() > 0 && are_digits(text)
 }
 
-/// The digits from the first that is no zero: none of the number 0.
+/// Returns the digits from the first that is no zero: none of the number 0.
 pub(crate) fn significant_digits(digits: &[u8]) -> &[u8]
     ensures { result.now ≡ significant_digits digits.now }
 {
@@ -30,7 +30,7 @@ pub(crate) fn significant_digits(digits: &[u8]) -> &[u8]
     &digits[zeros..]
 }
 
-/// The number that digits spell, or `most` where it is greater.
+/// Returns the number that digits spell, or `most` where it is greater.
 pub fn number_up_to(digits: &[u8], most: u64) -> u64
     requires { most < 2 ^ 40 }
     ensures { result ≡ min (number digits.now) most }

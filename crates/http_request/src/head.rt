@@ -10,10 +10,10 @@ use httparse::Status;
 use httparse::spans::{HeaderSpan, RequestSpans, parse_request};
 use std::io::Read;
 
-/// What stands at the front of a request.
+/// What is at the front of a request.
 #[derive(Clone, Copy, Debug, PartialEq, Eq)]
 pub enum Front {
-    /// A head, by where its parts stand in the buffer, and how many bytes were received: those behind the head are of
+    /// A head, by where its parts are in the buffer, and how many bytes were received: those after the head are of
     /// the body.
     Head {
         spans: RequestSpans,
@@ -23,7 +23,7 @@ pub enum Front {
     NoHead,
 }
 
-/// Reads once behind the bytes that were received: how many more came, none only where the reader has ended.
+/// Reads once after the bytes that were received. Returns how many more came, 0 only where the reader has ended.
 fn read_more<R: Read>(
     reader: &mut R,
     buffer: &mut [u8],
@@ -38,10 +38,11 @@ fn read_more<R: Read>(
     Ok(count)
 }
 
-/// Reads until the head is whole or the bytes can no longer become one, which is told at once (RFC 9112, sections 2 to
-/// 5, as `httparse` has them). The buffer takes all that was read, `headers` where the fields stand.
+/// Reads until the head is whole or the bytes can no longer become one, which is reported at once (RFC 9112, sections
+/// 2 to 5, as `httparse` has them).
 ///
-/// `Closed` where no byte came, `Failed` where the reader failed.
+/// The buffer receives all that was read, `headers` where the fields are. `Closed` where no byte came, `Failed` where
+/// the reader failed.
 pub fn read_head<R: Read>(
     reader: &mut R,
     buffer: &mut [u8],

@@ -8,8 +8,8 @@ use crate::limits::MOST_TRIES;
 use crate::read_error::ReadError;
 use std::io::{ErrorKind, Read};
 
-/// Reads once into the buffer: how many bytes came, none only where the reader has ended or the buffer has no room.
-/// `Failed` where the reader fails, or is interrupted `MOST_TRIES` times.
+/// Reads once into the buffer, and returns how many bytes came, 0 only where the reader has ended or the buffer has
+/// no room. `Failed` where the reader fails, or is interrupted `MOST_TRIES` times.
 pub(crate) fn read_once<R: Read>(reader: &mut R, buffer: &mut [u8]) -> Result<usize, ReadError>
     ensures room { length buffer.new ≡ length buffer.old }
     ensures bound { ReadsAtMost result buffer.new }

@@ -202,7 +202,7 @@ module _ {A B C D E X : Type 0} (no_code too_large : X) (f : A → X) (g : B →
   abbrev chain : Bool → Bool → Option A → Option B → Option C → Option D → Option E → Option X
   chain a b v w x y z = cond a (Some no_code) (cond (not b) (Some too_large) (option_or (option_map f v) (option_or (option_or (option_or (option_map g w) (option_map h x)) (option_map k y)) (option_map l z))))
 
-  -- none is told just where there is none of them
+  -- none is reported just where there is none of them
   peel : (a b : Bool) (v : Option A) (w : Option B) (x : Option C) (y : Option D) (z : Option E) → chain a b v w x y z ≡ None
       → (a ≡ false) × (b ≡ true) × (v ≡ None) × (w ≡ None) × (x ≡ None) × (y ≡ None) × (z ≡ None)
   peel true b v w x y z e = absurd cc
@@ -252,6 +252,6 @@ module _ (P : Program) where
       (none_out (miss_is_in_range n) MissIsInRange (miss_in n) (in_miss n) P.misses h.misses)
       (none_out (instr_is_in_range n) (InstrIsInRange n) (instr_in n) (in_instr n) P.code h.instrs)
 
-  -- a first error is told of no program
+  -- no first error is reported of a program
   pub refused : (e : ProgramError) → first_error P ≡ Some e → IsProgram P → ⊥
   refused e told h = let clash : Some e ≡ None = sym told ∙ complete h in absurd cc

@@ -1,4 +1,5 @@
--- Each row goes on within the bounds, or sets the end and changes nothing else; there is none only where more bytes may come.
+-- Each row goes on within the bounds, or sets the end and changes nothing else; there is none only where more bytes
+-- may come.
 use Rattle.std.proofs.Common.{replicate, ◌≡◌, ◌⊎◌, inl, inr, ℕ, zero, suc, ◌+◌, ◌-◌, ◌≤◌, ◌<◌, Bool, true, false, cond, List, [], ◌∷◌, length, take, drop, Option, Some, None, Ok, Err, Result, refl, sym, ap, ◌∙◌, arith, pos, min}
 use Rattle.std.specs.Prelude.{nat_lt, nat_le, slice_index_or}
 use Rattle.std.specs.Str.{is_utf8}

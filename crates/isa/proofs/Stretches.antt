@@ -17,7 +17,7 @@ module _ {A : Type 0} (items more : List A) where
   within_kept [] h = tt
   within_kept (s ∷ ss) h = (record { order = h.0.order; below = omega (arith, h.0.below, length-append items more) }, within_kept ss h.1)
 
-  -- the list that was put behind them
+  -- the list that was put after them
   new_list : (s : Stretch) → s.from ≡ length items → s.to ≡ length (items ++ more) → items_of (items ++ more) s ≡ more
   new_list s f t =
       let len : s.to - s.from ≡ length more = omega (arith, f, t, length-append items more) in

@@ -6,7 +6,7 @@ use Rattle.outcome.specs.declared.limits.TheConstants.{MOST_OUTPUT}
 use Rattle.isa.specs.declared.limits.TheConstants.{MOST_CALLS}
 use Rattle.isa.specs.State.{State, total}
 
--- so many frames, calls, units and bytes
+-- no more frames, calls, units and bytes than the limits allow
 pub record AreBounded (frames calls units bytes : ℕ) : Type 0 where
   pub frames_few : frames ≤ MOST_DEPTH
   pub calls_few : calls ≤ MOST_CALLS

@@ -53,7 +53,7 @@ abbrev pub at_list : ℕ → Option ℕ → Option (ℕ × ℕ) → Option (ℕ 
 at_list n (Some i) later = Some (n, i)
 at_list n None later = later
 
--- in which list, counted from a number, and where in it
+-- in which list, counted from `n`, and where in it
 abbrev pub first_out_from : {A : Type 0} → (A → Bool) → ℕ → List (List A) → Option (ℕ × ℕ)
 first_out_from test n [] = None
 first_out_from test n (xs ∷ lists) = at_list n (first_out test xs) (first_out_from test (suc n) lists)
@@ -61,7 +61,7 @@ first_out_from test n (xs ∷ lists) = at_list n (first_out test xs) (first_out_
 abbrev pub first_out_in : {A : Type 0} → (A → Bool) → List (List A) → Option (ℕ × ℕ)
 first_out_in test lists = first_out_from test 0 lists
 
--- the first that has nothing in it, counted from a number
+-- the first that has nothing in it, counted from `n`
 abbrev pub first_empty_from : {A : Type 0} → ℕ → List (List A) → Option ℕ
 first_empty_from n [] = None
 first_empty_from n (list ∷ lists) = if length list == 0 then Some n else first_empty_from (suc n) lists
@@ -69,7 +69,7 @@ first_empty_from n (list ∷ lists) = if length list == 0 then Some n else first
 abbrev pub first_empty : {A : Type 0} → List (List A) → Option ℕ
 first_empty lists = first_empty_from 0 lists
 
--- each has so many items at most
+-- each has at most `most` items
 abbrev pub are_within : {A : Type 0} → ℕ → List (List A) → Bool
 are_within most [] = true
 are_within most (list ∷ lists) = nat_le (length list) most && are_within most lists
@@ -108,6 +108,6 @@ first_error P =
     else if not (is_within_limits P) then Some errors.TooLarge
     else option_or (option_map errors.EmptyConstant (first_empty P.constants)) (first_out_of_range P)
 
--- what making a program of parts answers
+-- what making a program of parts returns
 abbrev pub judged : Program → Result Program ProgramError
 judged P = elim (first_error P) [ Some e ↦ Err e | None ↦ Ok P ]

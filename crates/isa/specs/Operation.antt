@@ -74,8 +74,8 @@ name_of op.Return = codes "RET"
 name_of op.Jump = codes "JUMP"
 name_of op.Halt = codes "HALT"
 
--- which operand it has: the number of a constant, a table or a miss, how many slots a record has, or one of them;
--- a number of bytes or of symbols; or an address
+-- which operand it has: the index of a constant, a table or a miss; the count of a record's slots, or the index of
+-- one; a count of bytes or of symbols; or an address
 abbrev pub shape_of : Operation → Shape
 shape_of op.BytesText = Short
 shape_of op.Fixed = Long

@@ -58,7 +58,7 @@ InstrIsInRange n _ = Unit {0}
 
 -- ---- how many there are
 
--- so many lists at most, and so many entries in each
+-- at most `MOST_TABLES` lists, and at most `MOST_ENTRIES` entries in each
 pub record AreFew {A : Type 0} (lists : List (List A)) : Type 0 where
   pub many : length lists ≤ MOST_TABLES
   pub each : AllByRecursion (λ list. length list ≤ MOST_ENTRIES) lists

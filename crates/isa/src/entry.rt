@@ -1,10 +1,10 @@
-//! What a symbol of the writer's becomes.
+//! What a writer's symbol becomes.
 
-/// What a symbol of the writer's becomes.
+/// What a writer's symbol becomes: an entry of a map.
 #[derive(Clone, Copy, Debug, PartialEq, Eq)]
 pub enum Entry {
-    /// The position of a symbol of the reader's.
+    /// The position of a reader's symbol.
     Position(u32),
-    /// The number of a miss.
+    /// The index of a miss.
     Miss(u32),
 }

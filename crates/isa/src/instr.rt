@@ -5,19 +5,19 @@
 pub enum Instr {
     /// Moves a boolean.
     Bool,
-    /// Moves an int, in its shortest spelling.
+    /// Moves an int, in its shortest encoding.
     Int,
-    /// Moves a long, in its shortest spelling.
+    /// Moves a long, in its shortest encoding.
     Long,
     /// Moves bytes, with their length.
     Bytes,
     /// Moves a string, with its length.
     Text,
-    /// Moves bytes that have to be UTF-8: the number of the miss where they are not.
+    /// Moves bytes that have to be UTF-8: the index of the miss where they are not.
     BytesText(u32),
-    /// Moves a fixed of so many bytes.
+    /// Moves a fixed with this number of bytes.
     Fixed(u32),
-    /// Reads the position of a symbol, and adds what the map of this number makes of it.
+    /// Reads the position of a symbol, and adds what the map at this index makes of it.
     Enum(u32),
     /// Skips a boolean.
     SkipBool,
@@ -29,15 +29,15 @@ pub enum Instr {
     SkipBytes,
     /// Skips a string, with its length.
     SkipText,
-    /// Skips a fixed of so many bytes.
+    /// Skips a fixed with this number of bytes.
     SkipFixed(u32),
-    /// Skips the position of a symbol, of so many.
+    /// Skips the position of a symbol, in an enum with this number of symbols.
     SkipEnum(u32),
-    /// Adds the constant of this number.
+    /// Adds the constant at this index.
     Put(u32),
-    /// Opens a record of so many slots.
+    /// Opens a record with this number of slots.
     Record(u32),
-    /// Selects a slot.
+    /// Selects the slot at this index.
     Slot(u32),
     /// Closes a record, and adds its slots in their order.
     EndRecord,
@@ -53,9 +53,9 @@ pub enum Instr {
     SkipBlocks,
     /// Goes to the next item that is skipped, or else closes the array or map and jumps to this address.
     SkipNext(u32),
-    /// Reads the position of a member, and jumps to its address in the jump table of this number.
+    /// Reads the position of a branch, and jumps to its address in the jump table at this index.
     Branch(u32),
-    /// Tells the miss of this number.
+    /// Reports the miss at this index.
     Miss(u32),
     /// Calls the routine at this address.
     Call(u32),

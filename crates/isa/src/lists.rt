@@ -7,7 +7,7 @@ ghost use Rattle.isa.specs.Lists.{total_length};
 use std::alloc::{AllocError, Global};
 use std::marker::Model;
 
-/// Where a list lies among the items.
+/// Where a list is among the items: from an index up to another, which is excluded.
 #[derive(Clone, Copy, Debug)]
 pub struct Stretch {
     from: usize,
@@ -33,7 +33,7 @@ impl<T> Model for Lists<T> {
 }
 
 impl<T: Copy> Lists<T> {
-    /// No list.
+    /// Returns an empty list of lists.
     pub fn new(alloc: Global) -> Lists<T>
         ensures { result ≡ [] }
     {
@@ -43,14 +43,14 @@ impl<T: Copy> Lists<T> {
         }
     }
 
-    /// How many lists there are.
+    /// Returns the number of lists.
     pub fn len(&self) -> usize
         ensures { result ≡ length self.now }
     {
         self.stretches.len()
     }
 
-    /// The list of a number.
+    /// Returns the list at an index; `None` where there is none.
     pub fn get(&self, number: usize) -> Option<&[T]>
         ensures { option_map (λ list. list.now) result ≡ slice_get self.now number }
     {
@@ -60,7 +60,7 @@ impl<T: Copy> Lists<T> {
         }
     }
 
-    /// The list of a number that there is.
+    /// Returns the list at an index, which has to be below `len`.
     pub fn list(&self, number: usize) -> &[T]
         requires { number < length self.now }
         ensures { slice_get self.now number ≡ Some result.now }
@@ -69,7 +69,7 @@ impl<T: Copy> Lists<T> {
         &self.items[stretch.from..stretch.to]
     }
 
-    /// One list more, after the others.
+    /// Appends a list after the others. An `Err` leaves the lists as they were.
     pub fn push(&mut self, list: &[T]) -> Result<(), AllocError>
         ensures pushed { OnOk result (self.new ≡ self.old ++ list.now ∷ []) }
         ensures refused { OnErr result (self.new ≡ self.old) }
@@ -82,14 +82,15 @@ impl<T: Copy> Lists<T> {
         Ok(())
     }
 
-    /// The items of all lists, shared ones once. Where none of them is out of range, nothing in a list is.
+    /// Returns the items of all lists, shared ones once. Where none of them is out of range, nothing in a list is.
     pub(crate) fn items(&self) -> &[T]
         ensures { (test : T → Bool) → first_out test result.now ≡ None → first_out_in test self.now ≡ None }
     {
         &self.items
     }
 
-    /// The list of a number once more, after the others. It takes the room of none.
+    /// Appends the list at an index once more, after the others; the copy shares its items. An `Err` leaves the lists
+    /// as they were.
     pub fn push_again(&mut self, number: usize) -> Result<(), AllocError>
         requires { number < length self.old }
         ensures pushed { OnOk result (self.new ≡ self.old ++ slice_index_or self.old number [] ∷ []) }
@@ -100,7 +101,7 @@ impl<T: Copy> Lists<T> {
         Ok(())
     }
 
-    /// The first list that has nothing in it.
+    /// Returns the index of the first list that has no items; `None` where each has one.
     #[tactic(auto, using(crate::proofs::Turns::empty_here, crate::proofs::Turns::empty_later))]
     pub fn first_empty(&self) -> Option<usize>
         ensures { result ≡ first_empty self.now }
@@ -113,7 +114,7 @@ impl<T: Copy> Lists<T> {
         None
     }
 
-    /// Whether each list has so many items at most.
+    /// Returns whether each list has at most `most` items.
     #[tactic(auto, using(crate::proofs::Turns::long_here, crate::proofs::Turns::short_here))]
     pub fn are_within(&self, most: usize) -> bool
         ensures { result ≡ are_within most self.now }
@@ -126,7 +127,7 @@ impl<T: Copy> Lists<T> {
         true
     }
 
-    /// Whether all lists together have so many items at most, shared ones counted each time.
+    /// Returns whether all lists together have at most `most` items, shared ones counted each time.
     #[tactic(auto, using(crate::proofs::Turns::total_here))]
     pub fn total_is_within(&self, most: usize) -> bool
         ensures { result ≡ nat_le (total_length self.now) most }

@@ -45,7 +45,7 @@ pub enum Operation {
 #[derive(Clone, Copy, Debug, PartialEq, Eq)]
 pub enum Shape {
     Nothing,
-    /// The number of a constant, a table or a miss, how many slots a record has, or one of them.
+    /// The index of a constant, a table, a miss or a slot, or how many slots a record has.
     Short,
     /// A number of bytes or of symbols.
     Long,
@@ -88,7 +88,7 @@ pub const OPERATIONS: [Operation; 31] = [
     Operation::Halt,
 ];
 
-/// The operation at an offset of a table.
+/// Returns the operation at an index of a table; `None` past its end.
 fn in_table(table: &[Operation], place: usize) -> Option<Operation>
     ensures { result ≡ slice_get table.now place }
 {
@@ -96,7 +96,7 @@ fn in_table(table: &[Operation], place: usize) -> Option<Operation>
 }
 
 impl Operation {
-    /// The operation of a code.
+    /// Returns the operation with a code; `None` where no operation has it.
     #[tactic(auto, using(crate::proofs::Operations::at_place))]
     pub fn at_code(code: u8) -> Option<Operation>
         ensures { result ≡ at_code code }
@@ -107,7 +107,7 @@ impl Operation {
         in_table(&OPERATIONS, code as usize - 1)
     }
 
-    /// Its code.
+    /// Returns its code.
     pub fn code(self) -> u8
         ensures { result ≡ code_of self }
     {
@@ -146,7 +146,7 @@ impl Operation {
         }
     }
 
-    /// Its name.
+    /// Returns its name, as listings write it.
     pub fn name(self) -> &'static str
         ensures { result.now ≡ name_of self }
     {
@@ -185,7 +185,7 @@ impl Operation {
         }
     }
 
-    /// Which operand it has.
+    /// Returns which operand it has.
     pub fn shape(self) -> Shape
         ensures { result ≡ shape_of self }
     {
@@ -204,7 +204,7 @@ impl Operation {
         }
     }
 
-    /// The instruction of it, with an operand, which those that have none ignore.
+    /// Returns its instruction with an operand, which is ignored where the operation has none.
     pub fn with(self, operand: u32) -> Instr
         ensures { result ≡ instr_of self operand }
     {
@@ -245,7 +245,7 @@ impl Operation {
 }
 
 impl Instr {
-    /// What it does.
+    /// Returns its operation.
     pub fn operation(self) -> Operation
         ensures { result ≡ operation_of self }
     {
@@ -284,7 +284,7 @@ impl Instr {
         }
     }
 
-    /// Its operand, or else 0.
+    /// Returns its operand, or 0 where it has none.
     pub fn operand(self) -> u32
         ensures { result ≡ operand_of self }
     {

@@ -13,7 +13,7 @@ pub struct Parts {
     pub constants: Lists<u8>,
     /// What each symbol of a writer's enum becomes.
     pub maps: Lists<Entry>,
-    /// Where each member of a writer's union goes on.
+    /// Where each branch of a writer's union goes on.
     pub jumps: Lists<u32>,
     pub misses: Vec<Mismatch>,
 }

@@ -54,7 +54,7 @@ impl Model for Program {
 }
 
 impl Parts {
-    /// How many things of each kind there are.
+    /// Returns how many things of each kind there are.
     fn sizes(&self) -> Sizes
         ensures { result ≡ sizes_of (program_of self.now) }
     {
@@ -67,7 +67,7 @@ impl Parts {
         }
     }
 
-    /// Whether all is within the limits.
+    /// Returns whether all numbers of things are within the limits.
     fn is_within_limits(&self) -> bool
         ensures { result ≡ is_within_limits (program_of self.now) }
     {
@@ -81,7 +81,7 @@ impl Parts {
             && self.misses.len() <= MOST_TABLES
     }
 
-    /// The first entry that is out of range.
+    /// Returns the first map entry that is out of range, as an error; `None` where all are in range.
     fn entry_out_of_range(&self, sizes: &Sizes) -> Option<ProgramError>
         ensures { result ≡ entry_out_of_range sizes.now (program_of self.now) }
     {
@@ -91,7 +91,7 @@ impl Parts {
         }
     }
 
-    /// The first address in a jump table that is out of range.
+    /// Returns the first address in a jump table that is out of range, as an error; `None` where all are in range.
     fn address_out_of_range(&self, sizes: &Sizes) -> Option<ProgramError>
         ensures { result ≡ address_out_of_range sizes.now (program_of self.now) }
     {
@@ -101,7 +101,7 @@ impl Parts {
         }
     }
 
-    /// The first miss that is out of range.
+    /// Returns the first miss that is out of range, as an error; `None` where all are in range.
     fn miss_out_of_range(&self, sizes: &Sizes) -> Option<ProgramError>
         ensures { result ≡ miss_out_of_range sizes.now (program_of self.now) }
     {
@@ -111,7 +111,7 @@ impl Parts {
         }
     }
 
-    /// The first instruction that is out of range.
+    /// Returns the first instruction whose operand is out of range, as an error; `None` where all are in range.
     fn instr_out_of_range(&self, sizes: &Sizes) -> Option<ProgramError>
         ensures { result ≡ instr_out_of_range sizes.now (program_of self.now) }
     {
@@ -121,7 +121,7 @@ impl Parts {
         }
     }
 
-    /// The first thing that is out of range.
+    /// Returns the first thing that is out of range: a map entry, an address, a miss or an instruction, in this order.
     fn first_out_of_range(&self) -> Option<ProgramError>
         ensures { result ≡ first_out_of_range (program_of self.now) }
     {
@@ -132,7 +132,7 @@ impl Parts {
             .or(self.instr_out_of_range(&sizes))
     }
 
-    /// The first thing that keeps them from being a program.
+    /// Returns the first thing that keeps the parts from being a program; `None` where they are one.
     fn first_error(&self) -> Option<ProgramError>
         ensures { result ≡ first_error (program_of self.now) }
     {
@@ -150,7 +150,7 @@ impl Parts {
 }
 
 impl Program {
-    /// A program of its parts, or the first thing that keeps them from being one.
+    /// Returns the program with these parts, or the first thing that keeps them from being one.
     pub fn new(parts: Parts) -> Result<Program, ProgramError>
         ensures judged { result ≡ judged (program_of parts) }
         ensures exact { is_ok result ≡ true ↔ IsProgram (program_of parts) }
@@ -161,49 +161,49 @@ impl Program {
         }
     }
 
-    /// How many instructions it has.
+    /// Returns the number of its instructions.
     pub fn len(&self) -> usize
         ensures { result ≡ length self.now.code }
     {
         self.parts.code.len()
     }
 
-    /// The instruction at an address.
+    /// Returns the instruction at an address; `None` where there is none.
     pub fn instr(&self, address: usize) -> Option<Instr>
         ensures { result ≡ slice_get self.now.code address }
     {
         self.parts.code.get(address).copied()
     }
 
-    /// Its instructions, in order.
+    /// Returns its instructions, in order.
     pub fn code(&self) -> &[Instr]
         ensures { result.now ≡ self.now.code }
     {
         self.parts.code.as_slice()
     }
 
-    /// Its constants.
+    /// Returns its constants.
     pub fn constants(&self) -> &Lists<u8>
         ensures { result.now ≡ self.now.constants }
     {
         &self.parts.constants
     }
 
-    /// Its maps: what each symbol of a writer's enum becomes.
+    /// Returns its maps: what each symbol of a writer's enum becomes.
     pub fn maps(&self) -> &Lists<Entry>
         ensures { result.now ≡ self.now.maps }
     {
         &self.parts.maps
     }
 
-    /// Its jump tables: where each member of a writer's union goes on.
+    /// Returns its jump tables: where each branch of a writer's union goes on.
     pub fn jumps(&self) -> &Lists<u32>
         ensures { result.now ≡ self.now.jumps }
     {
         &self.parts.jumps
     }
 
-    /// Its misses.
+    /// Returns its misses.
     pub fn misses(&self) -> &[Mismatch]
         ensures { result.now ≡ self.now.misses }
     {

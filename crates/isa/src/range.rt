@@ -1,4 +1,4 @@
-//! Whether what names things by number names things that are there.
+//! Whether what refers to things by index refers to things that are there.
 
 ghost use Rattle.std.specs.Prelude.{◌≡◌, Bool};
 ghost use Rattle.isa.specs.declared.range.Sizes.{Sizes};
@@ -20,9 +20,9 @@ pub struct Sizes {
     pub misses: usize,
 }
 
-/// What names things by number.
+/// What refers to things by index.
 pub(crate) trait Ranged: Copy {
-    /// Whether a program of these sizes has what it names.
+    /// Whether a program of these sizes has what it refers to.
     ghost in_range: { Sizes → Self → Bool };
 
     fn is_in_range(&self, sizes: &Sizes) -> bool
@@ -78,15 +78,15 @@ impl Ranged for Instr {
     }
 }
 
-/// The first of these that is out of range.
+/// Returns the index of the first item that is out of range; `None` where all are in range.
 pub(crate) fn first_out<T: Ranged>(items: &[T], sizes: &Sizes) -> Option<usize>
     ensures { result ≡ first_out (T.in_range sizes.now) items.now }
 {
     items.iter().position(|item| !item.is_in_range(sizes))
 }
 
-/// The first of these lists that has something out of range, and where. Items that lists share are tested once, unless
-/// one of them is out of range.
+/// Returns the index of the first list that has an item out of range, with the index of this item. Items that lists
+/// share are tested once, unless one of them is out of range.
 #[tactic(auto, using(crate::proofs::Turns::out_here, crate::proofs::Turns::out_later))]
 pub(crate) fn first_out_in<T: Ranged>(lists: &Lists<T>, sizes: &Sizes) -> Option<(usize, usize)>
     ensures { result ≡ first_out_in (T.in_range sizes.now) lists.now }

@@ -1,5 +1,5 @@
--- The bound `Start` asks nothing of the contents: a theorem over `S: Start` holds of the code at `Unknown`, whatever the
--- file held.
+-- The bound `Start` asks nothing of the contents: a theorem over `S: Start` holds of the code at `Unknown`, whatever
+-- the file held.
 use Rattle.std.proofs.Common.{ℕ, List}
 use seplogic.Ra.Ura.{Ura}
 use mir.Syntax.{Dict}

@@ -2,7 +2,7 @@
 use Rattle.std.specs.Prelude.{ℕ, List, ◌∷◌, slice_index, ◌==◌, if◌then◌else◌}
 use Rattle.sqlite_disk.specs.Events.{Event}
 
--- the call of these numbers and bytes
+-- the call with these numbers and bytes
 abbrev pub event_of : List ℕ → List ℕ → Event
 event_of numbers bytes = (
   slice_index numbers 0,

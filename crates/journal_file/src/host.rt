@@ -1,4 +1,4 @@
-//! The calls on a file. Each method makes one call of the operating system, and notes it with its answer.
+//! The calls on a file. Each method makes one call of the operating system, and notes it with its result.
 ghost use Rattle.std.specs.Prelude.{◌≡◌, ◌<◌, ◌≤◌, ◌^◌, [], ◌∷◌, length, IfOk};
 ghost use Rattle.sqlite_disk.specs.Events.{settled};
 
@@ -29,7 +29,7 @@ const FLUSHED: u64 = 5;
 /// Bytes were read that are to have a digest.
 const TESTED: u64 = 6;
 
-/// The last byte that the operating system may be asked for.
+/// The last offset that the operating system may be asked for.
 const MAX_OFFSET: usize = (1 << 63) - 1;
 
 /// An open file of the operating system.
@@ -62,7 +62,7 @@ fn measure(file: &fs::File) -> io::Result<usize> {
     Ok(file.metadata()?.len() as usize)
 }
 
-/// Reads bytes from byte `at` on, and returns how many came, which is at least one.
+/// Reads bytes from offset `at` on, and returns how many came, which is at least one.
 fn read(file: &fs::File, at: usize, buf: &mut [u8]) -> io::Result<usize>
     ensures { IfOk result (λ n. (0 < n) × (n ≤ length buf.old) × (at < 2 ^ 63)) }
 {
@@ -77,7 +77,7 @@ fn read(file: &fs::File, at: usize, buf: &mut [u8]) -> io::Result<usize>
     }
 }
 
-/// Writes bytes from byte `at` on, and returns how many were taken, which is at least one.
+/// Writes bytes from offset `at` on, and returns how many were taken, which is at least one.
 fn write(file: &fs::File, at: usize, bytes: &[u8]) -> io::Result<usize>
     ensures { IfOk result (λ n. (0 < n) × (n ≤ length bytes.now) × (at < 2 ^ 63)) }
 {

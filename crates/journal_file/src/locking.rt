@@ -6,7 +6,7 @@ use std::os::fd::AsRawFd;
 use std::os::unix::fs::MetadataExt;
 use std::{fs, io};
 
-/// The byte that is locked. No file is so long, so that the lock is no part of it.
+/// The offset of the byte that is locked. No file is so long, so the byte is no part of it.
 const LOCKED_BYTE: u64 = 1 << 62;
 
 /// Returns an open file once it is known to be the one at the path, to have no second name, and to be locked for this

@@ -13,7 +13,7 @@ use std::hash::{BuildHasher, RandomState};
 use std::os::unix::fs::OpenOptionsExt;
 use std::{fs, io};
 
-/// Opens the file at a path for this process alone. It has to be there and to have a byte: an empty file is what damage
+/// Opens the file at a path for this process alone. It has to exist and to have a byte: an empty file is what damage
 /// may leave of a full one. `S` names what the file holds once it is settled, and its value is used up, so that code
 /// over any `S` opens one file.
 pub fn open<S: Start>(rt: &HostRuntime, path: &str, _start: S) -> Result<FileFrom<S>, FileError>

@@ -27,8 +27,8 @@ impl Record {
         }
     }
 
-    /// Notes a call with its answer: the numbers of an `Event`, with 1 for success, and its bytes. A tested read has its
-    /// key and its digest too.
+    /// Notes a call with its result: the numbers of an `Event`, with 1 for success, and its bytes. A tested read has
+    /// its key and its digest too.
     pub(crate) fn note(&mut self, _numbers: &[u64], _bytes: &[u8])
         ensures { self.new.events ≡ event_of _numbers.now _bytes.now ∷ self.old.events }
     {}

@@ -1,4 +1,4 @@
-//! What a note knows of a once cell, for whoever looks at it.
+//! What a note knows of a once cell, where threads can share it.
 
 ghost use Rattle.std.specs.Prelude.{◌≡◌, ℕ, IfSome, Option};
 ghost use Rattle.std.specs.Coded.{coded_option};
@@ -33,7 +33,7 @@ impl<T> KeptNote<T> {
         }
     }
 
-    /// The same once more.
+    /// Returns what is kept a second time.
     pub fn again(&self) -> KeptNote<T>
         ensures { (result.cell ≡ self.now.cell) × (result.known ≡ self.now.known) }
     {

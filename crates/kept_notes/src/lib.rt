@@ -1,6 +1,6 @@
 //! Registry; used by `schema_registry`.
 //!
-//! What a note knows of a once cell, for whoever looks at it: it may lie where many threads read.
+//! What a note knows of a once cell, where many threads can read it.
 #![tactic(auto)]
 
 mod kept_note;

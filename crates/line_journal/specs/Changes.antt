@@ -12,7 +12,7 @@ IsOneChanged byte first second = ((first ≢ byte) × (second ≡ byte)) ⊎ ((f
 abbrev pub IsDamagedAfter : List Line → List ℕ → Type 0
 IsDamagedAfter lines file = lines_in file ≡ Err (record { at = length (flat_map block lines); line = length lines + 1 })
 
--- A changed byte of an open gate is damage at that gate; but where its line is the last one the file may read as before.
+-- A changed byte of an open gate is damage at that gate; but if its line is the last one the file may read as before.
 abbrev pub ChangedOpenGateIsFound : Type 0
 ChangedOpenGateIsFound = (before after : List Line) (line : Line) (first second : ℕ)
     → AllByRecursion IsLine before → IsLine line → IsOneChanged OPEN first second

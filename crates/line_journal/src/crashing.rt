@@ -18,9 +18,10 @@ pub struct Aftermath<D: Crash> {
 impl<D: Crash> Journal<D> {
     ghost use Rattle.line_journal.specs.Journal.{IsAtRest};
 
-    /// Adds a line to a file whose machine then crashes, and opens the file again. Over a `Fuse` the machine stops at
-    /// any call of the disk that the fuse names. The file has the lines from before, with the new one or without, and
-    /// with it where that was answered. It is never damaged.
+    /// Adds a line to a file whose machine then crashes, and opens the file again.
+    ///
+    /// Over a `Fuse` the machine stops at any call of the disk that the fuse names. The file has the lines from
+    /// before, with the new one or without, and with it where `append` returned `Ok`. It is never damaged.
     pub fn append_and_crash(self, alloc: Global, line: Vec<u8>) -> Aftermath<D>
         ensures before_or_after { IfOk result.found (λ r. IsTrue (D.Disk.is_clean r.0.disk) → (lines : List Line)
             → IsAtRest D.Disk.seen D.Disk.may_leave self lines

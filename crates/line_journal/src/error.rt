@@ -31,7 +31,7 @@ impl From<AllocError> for AppendError {
 /// Where a file is damaged, or ends too soon.
 #[derive(Clone, Copy, Debug, PartialEq, Eq)]
 pub struct Damage {
-    /// The byte, from 0.
+    /// The offset of the byte.
     pub at: usize,
     /// The line that it belongs to, from 1.
     pub line: usize,

@@ -12,9 +12,9 @@ use std::alloc::AllocError;
 #[derive(Drop)]
 pub struct Journal<D: Disk> {
     pub(crate) disk: D,
-    /// The first byte of the closed gate.
+    /// The offset of the closed gate.
     pub(crate) gate: usize,
-    /// The first byte of the gate before the line that was appended last, where that may be taken back.
+    /// The offset of the gate before the line that was appended last, where that may be taken back.
     pub(crate) last: Option<usize>,
     /// No write was left in doubt.
     pub(crate) is_open: bool,
@@ -32,16 +32,18 @@ impl<D: Disk> Journal<D> {
         self.is_open && self.disk.may_be_used() && self.gate <= LAST_GATE
     }
 
-    /// Gives the disk back, and takes no more lines.
+    /// Returns the disk. The journal is used up, and takes no more lines.
     pub fn into_disk(self) -> D
         ensures { result ≡ self.disk }
     {
         self.disk
     }
 
-    /// Adds a line. At `Ok` it is on the disk: from then on each crash leaves a file that has it. At `Err` the journal
-    /// is as it was, or it is closed and takes no more lines. Whatever is answered, only the line of this call may be
-    /// taken back.
+    /// Adds a line.
+    ///
+    /// At `Ok` it is on the disk: from then on each crash leaves a file that has it. At `Err` the journal is as it
+    /// was, or it is closed and takes no more lines. Whatever is returned, only the line of this call may be taken
+    /// back.
     pub fn append(&mut self, line: Vec<u8>) -> Result<(), AppendError>
         ensures kept { OnOk result ((lines : List Line)
             → IsAtRest D.seen D.may_leave self.old lines

@@ -17,7 +17,7 @@ pub const NEWLINE: u8 = b'\n';
 /// The most bytes that a line may have, without its newline.
 pub const LONGEST: usize = 1 << 20;
 
-/// The last byte at which a line may be added.
+/// The last offset at which a line may be added.
 pub(crate) const LAST_GATE: usize = 1 << 62;
 
 /// The law of what the bytes of the layout and its limits are.

@@ -18,9 +18,10 @@ impl<D: Disk> Journal<D> {
     ghost use Rattle.line_journal.specs.Journal.{IsAtRest};
     ghost use Rattle.line_journal.specs.Cause.{IsDisksFault};
 
-    /// Opens a file that a crash may have left, repairs it, and returns the journal and the lines: a half open gate of
-    /// the last line is opened, and the rest of a line after the closed gate is cut off. A crash meanwhile leaves a
-    /// file of the lines that it had. An `Err` gives the disk back.
+    /// Opens a file that a crash may have left, repairs it, and returns the journal and the lines.
+    ///
+    /// A half open gate of the last line is opened, and the rest of a line after the closed gate is cut off. A crash
+    /// meanwhile leaves a file of the lines that it had. An `Err` hands the disk back.
     pub fn open(alloc: Global, disk: D) -> Result<(Journal<D>, Vec<Vec<u8>>), (OpenError, D)>
         requires { IsTrue (D.is_usable disk) }
         // After a restart, what is read is what is on the disk.
@@ -61,7 +62,7 @@ impl<D: Disk> Journal<D> {
     }
 
     /// Makes an empty file one of no lines. A crash meanwhile leaves at most a gate of some bytes, and no line. An
-    /// `Err` gives the disk back.
+    /// `Err` hands the disk back.
     pub fn create(disk: D) -> Result<Journal<D>, (io::Error, D)>
         requires { IsTrue (D.is_usable disk) }
         ensures at_rest { IfOk result (λ journal. D.seen disk ≡ [] → IsAtRest D.seen D.may_leave journal []) }

@@ -13,12 +13,12 @@ use crate::layout::{CLOSED, GATE, LONGEST, NEWLINE, OPEN};
 use sqlite_disk::Disk;
 use std::alloc::Global;
 
-/// The lines of a file, and the byte of the closed gate after them.
+/// The lines of a file, and the offset of the closed gate after them.
 #[derive(Drop)]
 pub struct Found {
     pub lines: Vec<Vec<u8>>,
     pub gate: usize,
-    /// The byte of the gate before the last line, where that gate is half open: a crash left it so, and the line
+    /// The offset of the gate before the last line, where that gate is half open: a crash left it so, and the line
     /// counts.
     pub half_open: Option<usize>,
 }
@@ -26,17 +26,17 @@ pub struct Found {
 /// What comes at a gate.
 #[derive(Clone, Copy)]
 pub(crate) enum Next {
-    /// An open gate and a line, up to its newline at this byte.
+    /// An open gate and a line, up to its newline at this offset.
     Line(usize),
-    /// A half open gate and the last line, up to its newline at this byte.
+    /// A half open gate and the last line, up to its newline at this offset.
     LastLine(usize),
     /// The closed gate after the last line.
     End,
-    /// Damage at this byte.
+    /// Damage at this offset.
     Damaged(usize),
 }
 
-/// Reads the bytes of a file as its lines, in order. `Damaged` has the byte of the first gate that is none, or the
+/// Reads the bytes of a file as its lines, in order. `Damaged` has the offset of the first gate that is none, or the
 /// length of the bytes where they end within a line.
 pub fn read_lines(alloc: Global, bytes: &[u8]) -> Result<Found, ReadError>
     ensures lines { IfOk result (λ found. lines_in bytes.now ≡ Ok (lines_of found.lines.items)) }
@@ -83,7 +83,7 @@ fn push_line(lines: &mut Vec<Vec<u8>>, line: &[u8]) -> Result<(), ReadError>
     Ok(())
 }
 
-/// Returns what comes at byte `at` of a file, where a gate is to be.
+/// Returns what comes at offset `at` of a file, where a gate has to be.
 fn next_at(bytes: &[u8], at: usize) -> Next
     requires { at ≤ length bytes.now }
     ensures { IsNext bytes.now at result }
@@ -106,7 +106,7 @@ fn next_at(bytes: &[u8], at: usize) -> Next
     }
 }
 
-/// Returns the byte of the first newline from byte `from` on; None where there is none.
+/// Returns the offset of the first newline from offset `from` on; `None` where there is none.
 fn newline_from(bytes: &[u8], from: usize) -> Option<usize>
     requires { from ≤ length bytes.now }
     ensures found { IfSome result (λ end. IsLineTo bytes.now from end (drop (end + 1) bytes.now)) }
@@ -118,8 +118,8 @@ fn newline_from(bytes: &[u8], from: usize) -> Option<usize>
     }
 }
 
-/// Returns the byte of the first newline from byte `from` on, where a closed gate comes after it and ends the file;
-/// None where there is no newline, or something else comes after the first one.
+/// Returns the offset of the first newline from offset `from` on, where a closed gate comes after it and ends the
+/// file; `None` where there is no newline, or something else comes after the first one.
 fn last_newline_from(bytes: &[u8], from: usize) -> Option<usize>
     requires { from ≤ length bytes.now }
     ensures found { IfSome result (λ end. IsLineTo bytes.now from end closed_gate) }
@@ -132,14 +132,14 @@ fn last_newline_from(bytes: &[u8], from: usize) -> Option<usize>
     Some(end)
 }
 
-/// Returns the position of the first newline; None where there is none.
+/// Returns the offset of the first newline; `None` where there is none.
 fn first_newline(bytes: &[u8]) -> Option<usize>
     ensures { result ≡ position (λ b. b == NEWLINE) bytes.now }
 {
     bytes.iter().position(|byte| *byte == NEWLINE)
 }
 
-/// Returns the damage at byte `at`, after `before` whole lines.
+/// Returns the damage at offset `at`, after `before` whole lines.
 fn damage(at: usize, before: usize) -> ReadError
     requires { before + 1 < 2 ^ 64 }
     ensures { result ≡ ReadError.Damaged (record { at = at; line = before + 1 }) }

@@ -45,7 +45,7 @@ impl<D: Disk> Journal<D> {
         self.is_open = cut.is_ok();
     }
 
-    /// Closes the gate at byte `at`, which is that of the last line, and cuts that line off.
+    /// Closes the gate at offset `at`, which is that of the last line, and cuts that line off.
     fn cut_last(&mut self, at: usize) -> io::Result<()>
         requires usable { IsTrue (D.is_usable self.old.disk) }
         requires room { at + 2 < 2 ^ 64 }

@@ -35,7 +35,7 @@ impl<D: Disk> Journal<D> {
         self.disk.sync()
     }
 
-    /// Writes this byte twice over the gate at byte `at`. A crash meanwhile may leave one of the two as it was.
+    /// Writes this byte twice over the gate at offset `at`. A crash meanwhile may leave one of the two as it was.
     fn write_gate(&mut self, at: usize, byte: u8) -> io::Result<()>
         requires usable { IsTrue (D.is_usable self.old.disk) }
         requires room { at + 2 < 2 ^ 64 }
@@ -56,7 +56,7 @@ impl<D: Disk> Journal<D> {
         self.disk.sync()
     }
 
-    /// Opens the gate before the line that was staged. `next` is the byte of the next closed gate.
+    /// Opens the gate before the line that was staged. `next` is the offset of the next closed gate.
     pub(crate) fn open_gate(&mut self, next: usize) -> io::Result<()>
         requires usable { IsTrue (D.is_usable self.old.disk) }
         requires room { self.old.gate + 2 < 2 ^ 64 }
@@ -79,7 +79,7 @@ impl<D: Disk> Journal<D> {
         Ok(())
     }
 
-    /// Closes the gate at byte `at` again, which is that of the last line.
+    /// Closes the gate at offset `at` again, which is that of the last line.
     pub(crate) fn close_gate(&mut self, at: usize) -> io::Result<()>
         requires usable { IsTrue (D.is_usable self.old.disk) }
         requires room { at + 2 < 2 ^ 64 }
@@ -101,8 +101,8 @@ impl<D: Disk> Journal<D> {
         Ok(())
     }
 
-    /// Undoes what a crash left of a line: opens the half open gate at this byte, or, with None, cuts off whatever
-    /// comes after the closed gate.
+    /// Undoes what a crash left of a line: opens the half open gate at this offset, or, with `None`, cuts off
+    /// whatever comes after the closed gate.
     pub(crate) fn repair(&mut self, half_open: Option<usize>) -> io::Result<()>
         requires usable { IsTrue (D.is_usable self.old.disk) }
         requires room { self.old.gate + 2 < 2 ^ 64 }

@@ -1,6 +1,6 @@
 //! Machine; used by `session_state`, `command_io`, `commands` and others.
 //!
-//! Programs run on bytes, and payloads transcoded by the program of their pair of schemas.
+//! Runs of programs on bytes, and payloads transcoded by the program of their pair of schemas.
 #![tactic(auto)]
 
 mod run;

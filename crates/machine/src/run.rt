@@ -43,7 +43,7 @@ impl<'p> Model for Run<'p> {
 impl<'p> Run<'p> {
     ghost use Rattle.machine.specs.Run.{begun};
 
-    /// The run before its first row, on no bytes yet. It takes no memory.
+    /// Returns the run before its first row, with no input yet. It allocates nothing.
     pub fn new(alloc: Global, program: &'p PlannedProgram) -> Run<'p>
         ensures { result ≡ begun program.now }
     {
@@ -56,7 +56,7 @@ impl<'p> Run<'p> {
         }
     }
 
-    /// Goes back to what `new` gives for a program, this one's or another, in the room that it has.
+    /// Goes back to the run that `new` returns for a program, this one's or another, and keeps the memory.
     pub fn reset(&mut self, program: &'p PlannedProgram)
         ensures { self.new ≡ begun program.now }
     {
@@ -67,8 +67,8 @@ impl<'p> Run<'p> {
         self.machine.reset();
     }
 
-    /// Lets go of memory above what is held, and above that for so many bytes and a 64th of so many slots, frames and
-    /// calls.
+    /// Releases memory beyond what is held, but keeps enough for `bytes` bytes and for a 64th as many slots,
+    /// frames and calls.
     pub fn shrink_to(&mut self, bytes: usize)
         ensures { self.new ≡ self.old }
     {
@@ -76,7 +76,7 @@ impl<'p> Run<'p> {
         self.machine.shrink_to(bytes);
     }
 
-    /// Appends bytes to the input. No bytes take no memory.
+    /// Appends bytes to the input. No memory is allocated where `piece` is empty.
     pub fn push(&mut self, piece: &[u8]) -> Result<(), AllocError>
         requires { self.old.ended ≡ false }
         ensures pushed { OnOk result (self.new ≡ record self.old { input = self.old.input ++ piece.now }) }
@@ -91,8 +91,10 @@ impl<'p> Run<'p> {
         self.input.extend_from_slice(piece)
     }
 
-    /// Appends bytes to the input, as `push` does, of which more than so many, where they are the first, are not
-    /// copied: they take the place of the input's memory. Refused, they are handed back.
+    /// Appends bytes to the input, as `push` does.
+    ///
+    /// If the input is empty and there are more than `most_copied` bytes, they are not copied: their vector takes the
+    /// place of the input's memory. Where memory runs out, the bytes are handed back.
     pub fn push_owned(&mut self, piece: Vec<u8>, most_copied: usize) -> Result<(), Vec<u8>>
         requires { self.old.ended ≡ false }
         ensures pushed { OnOk result (self.new ≡ record self.old { input = self.old.input ++ piece.items }) }
@@ -111,7 +113,7 @@ impl<'p> Run<'p> {
         Ok(())
     }
 
-    /// Ends the input.
+    /// Closes the input: no more bytes come.
     pub fn close(&mut self)
         ensures { self.new ≡ record self.old { ended = true } }
     {
@@ -139,7 +141,7 @@ impl<'p> Run<'p> {
             .slice(self.program, &self.input, self.ended, breaks, limit)
     }
 
-    /// The law that its machine is the program run alone on the bytes that came, as many rows on as it has counted.
+    /// The law that its machine is the program run alone on the bytes that came, for as many rows as it has counted.
     pub fn is_alone(&self)
         ensures { run_alone self.now.program self.now.input self.now.ended self.now.machine.state.count
             ≡ Some self.now.machine.state }
@@ -147,10 +149,11 @@ impl<'p> Run<'p> {
         let _opened = &self.machine; // read for the proof
     }
 
-    /// The law that where its program is that of a pair of schemas, it ends with the outcome of the bytes that came,
-    /// and within the row bound where they are all, of 16,777,216 bytes at most: as many rows as the program has
-    /// instructions for each unit that is counted at the end and for the whole, and one for each byte. There one slice
-    /// of that many rows with no breakpoint ends it, unless memory runs out.
+    /// The law that a run of the program of a pair of schemas ends with the outcome of the bytes that came.
+    ///
+    /// Where these are all, and 16,777,216 bytes at most, it ends within the row bound: as many rows as the program
+    /// has instructions for each unit that is counted at the end and for the whole, and one for each byte. There one
+    /// slice of that many rows with no breakpoint ends it, unless memory runs out.
     pub fn ends_with_the_outcome(&self, writer: &Nodes, reader: &Nodes)
         requires { code_of writer.now reader.now ≡ Some self.now.program }
         ensures { LeadsToOutcome writer.now reader.now self.now.program self.now.input self.now.ended
@@ -162,35 +165,36 @@ impl<'p> Run<'p> {
         row_or_end_is_there(); // law
     }
 
-    /// The program that is run.
+    /// Returns the program that is run.
     pub fn program(&self) -> &'p Program
         ensures { result.now ≡ self.now.program }
     {
         self.program.program()
     }
 
-    /// All bytes that came.
+    /// Returns all bytes that came.
     pub fn input(&self) -> &[u8]
         ensures { result.now ≡ self.now.input }
     {
         self.input.as_slice()
     }
 
-    /// Whether no more bytes come.
+    /// Returns whether the input is closed, so that no more bytes come.
     pub fn is_closed(&self) -> bool
         ensures { result ≡ self.now.ended }
     {
         self.ended
     }
 
-    /// The machine, to read its state.
+    /// Returns the machine, to read its state.
     pub fn machine(&self) -> &Machine
         ensures { result.now ≡ self.now.machine }
     {
         &self.machine
     }
 
-    /// The bytes of a character that is cut at the end of what has moved of a text; none where there is no such thing.
+    /// Returns the bytes of a character that is cut at the end of what has moved of a text; none where no
+    /// character is cut.
     pub fn carry(&self) -> &[u8]
         ensures { IsCarry (slice_get self.now.program.code self.now.machine.state.pc) self.now.input
             self.now.machine.state.pos self.now.machine.state.content result.now }
@@ -198,15 +202,17 @@ impl<'p> Run<'p> {
         self.machine.carry()
     }
 
-    /// How it ended.
+    /// Returns how the run ended. `None` where it has not ended.
     pub fn into_end(self) -> Option<End>
         ensures { option_map end_of result ≡ self.entry.machine.state.end }
     {
         self.machine.into_end()
     }
 
-    /// How it ended, which is taken out; the run goes back to what `new` gives for its program, in the room that is
-    /// left: an output can take the memory along in which it lies.
+    /// Takes out how the run ended, and returns it. `None` where it has not ended.
+    ///
+    /// The run goes back to the one that `new` returns for its program, in the memory that is left: an output may
+    /// take the memory along in which it lies.
     pub fn take_end(&mut self) -> Option<End>
         ensures end { option_map end_of result ≡ self.old.machine.state.end }
         ensures begun { self.new ≡ begun self.old.program }
@@ -219,7 +225,7 @@ impl<'p> Run<'p> {
         end
     }
 
-    /// How it ended, and all bytes that came.
+    /// Returns how the run ended, and all bytes that came.
     pub fn into_parts(self) -> (Option<End>, Vec<u8>)
         ensures end { option_map end_of result.0 ≡ self.entry.machine.state.end }
         ensures input { result.1.items ≡ self.entry.input }

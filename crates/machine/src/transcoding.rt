@@ -45,15 +45,17 @@ impl From<TranscodeError> for PairError {
     }
 }
 
-/// The outcome of the next payload, or why its pair of schemas and it have none.
+/// Returns the outcome of the next payload, or why there is none.
 fn next_outcome(transcoder: &mut Transcoder<'_>, payload: &[u8]) -> Result<Outcome, PairError>
     ensures { (W R : List Node) → Makes W R (Ok transcoder.old) → TranscodesPair W R payload.now result }
 {
     Ok(transcoder.transcode(payload)?)
 }
 
-/// The outcome of one payload, by the program of its pair of schemas. `ProgramTooLarge` where that would pass a limit,
-/// and then `TooLarge` where the payload does.
+/// Returns the outcome of one payload, by the program of its pair of schemas.
+///
+/// `ProgramTooLarge` where the program would pass a limit; otherwise `TooLarge` where the payload is longer than
+/// `MOST_PAYLOAD`; `NoMemory` where memory runs out.
 pub fn transcode(
     alloc: Global,
     writer: &Nodes,

@@ -14,7 +14,7 @@ bytes_of-append arena (s ∷ a) b = ap (λ (x : List ℕ). bytes_at arena s ++ x
 abbrev joint_of : List Joint → ℕ → Joint
 joint_of js number = get_or js (number - 1) (record { before = 0; segment = record { place = 0; end = 0 }; behind = 0; len = 0 })
 
--- the segments that are left behind the ropes that wait, the newest first
+-- the segments that are left after the ropes that wait, the newest first
 abbrev pub waiting : List Joint → List ℕ → List Segment
 waiting js [] = []
 waiting js (p ∷ ps) = (joint_of js p).segment ∷ (rope_at (ropes_of js) (joint_of js p).behind ++ waiting js ps)

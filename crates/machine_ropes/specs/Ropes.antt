@@ -17,7 +17,7 @@ ropes_from ropes (j ∷ joints) = ropes_from (ropes ++ joined_by ropes j ∷ [])
 abbrev pub ropes_of : List Joint → List (List Segment)
 ropes_of joints = ropes_from ([] ∷ []) joints
 
--- a joint of ropes up to a number
+-- a joint of ropes at an index of at most `number`
 pub record IsJoint (number : ℕ) (j : Joint) : Type 0 where
   pub before : j.before ≤ number
   pub behind : j.behind ≤ number
@@ -30,7 +30,7 @@ AreJoints number (j ∷ joints) = IsJoint number j × AreJoints (suc number) joi
 abbrev pub counted : List Segment → ℕ
 counted rope = min (length rope) (2 ^ 64 - 1)
 
--- each joint says how many there are in its rope, after earlier ropes
+-- each joint says how many segments are in its rope, after earlier ropes
 abbrev pub AreCounted : List (List Segment) → List Joint → Type 0
 AreCounted ropes [] = Unit {0}
 AreCounted ropes (j ∷ joints) =

@@ -18,7 +18,7 @@ pub struct Joint {
     len: usize,
 }
 
-/// Ropes by number: lists of segments that are joined without being copied. The rope 0 is empty, and none ever changes.
+/// Ropes by index: lists of segments that are joined without being copied. Rope 0 is empty, and none ever changes.
 #[derive(Drop)]
 pub struct Ropes {
     joints: Vec<Joint>,
@@ -38,7 +38,7 @@ impl Model for Ropes {
 }
 
 impl Ropes {
-    /// The empty rope alone.
+    /// Returns the empty rope alone.
     pub fn new(alloc: Global) -> Ropes
         ensures { result ≡ [] ∷ [] }
     {
@@ -47,21 +47,21 @@ impl Ropes {
         }
     }
 
-    /// Goes back to what `new` gives, and keeps the memory.
+    /// Goes back to the empty rope alone, and keeps the memory.
     pub fn clear(&mut self)
         ensures { self.new ≡ [] ∷ [] }
     {
         self.joints.clear();
     }
 
-    /// Lets go of memory above what is held, and above that for so many ropes.
+    /// Releases memory beyond what is held, but keeps enough for `ropes` ropes.
     pub fn shrink_to(&mut self, ropes: usize)
         ensures { self.new ≡ self.old }
     {
         self.joints.shrink_to(ropes);
     }
 
-    /// How many segments a rope has, as far as can be counted.
+    /// Returns how many segments a rope has, as far as can be counted.
     pub fn len(&self, rope: usize) -> usize
         requires { rope < length self.now }
         ensures { result ≡ counted (rope_at self.now rope) }
@@ -73,7 +73,7 @@ impl Ropes {
         }
     }
 
-    /// A further rope, and its number: a segment between two earlier ropes.
+    /// Adds a rope that joins a segment between two earlier ropes. Returns its index.
     pub fn join(
         &mut self,
         before: usize,
@@ -100,7 +100,7 @@ impl Ropes {
         Ok(self.joints.len())
     }
 
-    /// The bytes of a rope's segments after others. What stands behind those after an `Err` is not said.
+    /// Appends the bytes of a rope's segments to `out`. After an `Err`, the bytes of `out` are not defined.
     pub fn write(
         &self,
         alloc: Global,
@@ -129,7 +129,7 @@ impl Ropes {
         }
     }
 
-    /// A segment of a rope, by its number, where there are so many. It takes no memory.
+    /// Returns the segment with index `number` of a rope. `None` where there is none. It allocates nothing.
     pub fn segment(&self, rope: usize, number: usize) -> Option<Segment>
         requires there { rope < length self.now }
         requires few { number < 2 ^ 64 - 1 }

@@ -1,6 +1,6 @@
 //! A segment of the arena.
 
-/// The bytes of the arena from a place up to an end.
+/// The bytes of the arena from offset `place` up to offset `end`.
 #[derive(Clone, Copy, Debug, PartialEq, Eq)]
 pub struct Segment {
     pub place: usize,
@@ -11,7 +11,7 @@ impl Segment {
     ghost use Rattle.std.specs.Prelude.{◌≡◌, ◌≤◌, length};
     ghost use Rattle.machine_ropes.specs.Segments.{bytes_at};
 
-    /// Its bytes in the arena.
+    /// Returns its bytes in the arena.
     pub fn bytes(self, arena: &[u8]) -> &[u8]
         requires ordered { self.place ≤ self.end }
         requires within { self.end ≤ length arena.now }

@@ -1,4 +1,4 @@
--- Which bytes can stand behind a text, in a text.
+-- Which bytes can come after a text, in a text.
 use Rattle.std.proofs.Common.{◌≡◌, ℕ, ap, ◌∙◌, None, ◌+◌, ◌-◌, ◌*◌, ◌<◌, ◌≤◌, List, [], ◌++◌, length, get_or, take, drop, true, is_some, IsUtf8, refl, sym, subst, subst₂, ⊎_elim, inl, inr, append-nil, append_assoc, length-append, length-take, take_at, drop_at, take-append-drop, arith}
 use Rattle.std.proofs.Math.ListN.{get_or-append}
 use Rattle.std.proofs.lemmas.Bool.Decides.{nat_tests}
@@ -87,7 +87,7 @@ no-front bs n none some le u =
     no_text (take n bs) (drop n bs) (subst StartsWithNoChar (sym (take-append-drop n bs)) none) u
     (omega (arith, length-take n bs, some, le))
 
--- rest is at fault, and no character begins it: then no character begins it with more behind it
+-- rest is at fault, and no character begins it: then no character begins it with more after it
 module _ (rest more : List ℕ) (none : StartsWithNoChar rest) (fault : is_some (utf8_error_len rest) ≡ true) where
   abbrev x : ℕ
   x = get_or rest 0 0
@@ -189,7 +189,7 @@ broken-rest front rest more f none fault u =
     let empty = no-first (rest ++ more) (fault-begins-none rest more none fault) after in
     omega (arith, empty, length-append rest more, fault-first rest fault)
 
--- behind the longest front that is a text no character begins
+-- after the longest front that is a text no character begins
 pub none-behind : (bytes : List ℕ) (v : ℕ) → IsValidUpTo bytes v → StartsWithNoChar (drop v bytes)
 none-behind bytes v u = λ c rest s e.
     let w = length (encode_utf8 c) in

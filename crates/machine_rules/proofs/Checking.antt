@@ -33,7 +33,7 @@ between-more input from pos to a b =
 length-between : (input : List ℕ) (from to : ℕ) → from ≤ to → to ≤ length input → length (between input from to) ≡ to - from
 length-between input from to a b = omega (arith, length-take (to - from) (drop from input), length-drop from input)
 
--- the carry stands before the place
+-- the carry is before the place
 pub carry-there : (input carry : List ℕ) (from pos : ℕ) → from ≤ pos → pos ≤ length input → EndsIn carry (between input from pos) → (length carry ≤ pos - from) × (between input (pos - length carry) pos ≡ carry)
 carry-there input carry from pos a b k =
     let n : length (between input from pos) ≡ pos - from = length-between input from pos a b in

@@ -19,12 +19,12 @@ told verdicts.OutputTooLarge s = stop (Out OutputTooLarge) s
 told verdicts.Done s = stop (Out (outcomes.Done s.store.out)) s
 told (verdicts.Trap t) s = trap t s
 
--- the row of what cannot be read
+-- the row at a fault: the run ends if the bytes are malformed, and else it waits
 abbrev pub refused : Program → List ℕ → Bool → Fault → State → Option State
 refused P input ended (fault.Malformed kind at) s = stop (Out (outcomes.Malformed kind at)) s
 refused P input ended f s = wait P input ended s
 
--- what a state has open, where it stands, and what was told of it
+-- what a state has open, its offset, its mark, and whether it is over the limit
 pub record IsAt (s : State) (depth many at : ℕ) (miss : Option ℕ) (passed : Bool) : Type 0 where
   pub frames : length s.store.frames ≡ depth
   pub calls : length s.calls ≡ many

@@ -12,7 +12,7 @@ use isa::MOST_CHUNK;
 #[derive(Clone, Copy, Debug)]
 pub struct Content {
     pub left: usize,
-    /// Where its first byte stands.
+    /// The offset of its first byte.
     pub from: usize,
 }
 
@@ -25,7 +25,8 @@ pub enum Chunk {
     Rest,
 }
 
-/// How much of a content the row at an offset moves. While it is cut, no fault of it is told.
+/// Returns how much of a content the row at an offset moves. An `Err` where bytes are missing: no fault of the
+/// content is reported before they are there.
 pub fn chunk_at(
     content: Content,
     check: TextCheck,

@@ -9,7 +9,7 @@ pub struct RowCount {
 impl RowCount {
     ghost use Rattle.std.specs.Prelude.{◌≡◌, ◌+◌, ◌<◌, ◌^◌};
 
-    /// So many rows more.
+    /// Adds `more` rows.
     pub fn raise(&mut self, more: u64)
         requires { self.old.rows + more < 2 ^ 64 }
         ensures { self.new ≡ record { rows = self.old.rows + more } }

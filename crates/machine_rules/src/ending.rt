@@ -24,7 +24,7 @@ pub enum Verdict {
     Trap(Trap),
 }
 
-/// The miss of a number.
+/// Returns the miss with index `number`. Where there is none, it is `NoMatch` of node 0 with node 0.
 fn miss_of(program: &Program, number: u32) -> Mismatch
     ensures { result ≡ miss_of program.now number }
 {
@@ -38,21 +38,22 @@ fn miss_of(program: &Program, number: u32) -> Mismatch
     }
 }
 
-/// What a run reads, and what was told of it so far.
+/// What a run reads, and what was found so far that decides how it ends.
 #[derive(Clone, Copy)]
 pub struct Ending<'a> {
     pub program: &'a Program,
     pub input: &'a [u8],
     /// Whether the bytes that are there are all.
     pub ended: bool,
-    /// The number of the first miss.
+    /// The index of the first miss.
     pub mark: Option<u32>,
     /// Whether the output passed its limit.
     pub over: bool,
 }
 
 impl Ending<'_> {
-    /// At a fault of what was read: it is told, whatever was told before, unless more bytes may come.
+    /// Returns the verdict at a fault of what was read: the fault is reported, whatever was found before, unless
+    /// bytes are missing and more may come.
     pub fn refused(&self, fault: Fault) -> Verdict
         requires { fault ≢ NoMemory }
         ensures { (s : State) → told result s
@@ -69,7 +70,8 @@ impl Ending<'_> {
         }
     }
 
-    /// Where all was read: the first miss is told, else that the output passed its limit.
+    /// Returns the verdict where all was read: the first miss, or else that the output passed its limit, or else that
+    /// the run ends with its output.
     fn finished(&self) -> Verdict
         ensures { (s : State) → told result s ≡ finished self.now.program.now s self.now.mark self.now.over }
     {
@@ -82,7 +84,9 @@ impl Ending<'_> {
         Verdict::Done
     }
 
-    /// Where the program halts at an offset, with so many frames and calls open.
+    /// Returns the verdict where the program halts at offset `pos`, with this many frames and calls open.
+    ///
+    /// A trap where some are open; malformed where bytes are left; it waits where more may come.
     pub fn halted(&self, frames: u32, calls: usize, pos: usize) -> Verdict
         ensures { (s : State) → IsAt s frames calls pos self.now.mark self.now.over
             → told result s ≡ halt self.now.program.now self.now.input.now self.now.ended s s.store.frames s.calls }

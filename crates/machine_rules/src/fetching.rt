@@ -5,7 +5,7 @@ ghost use Rattle.isa.specs.declared.end.Trap.TheVariants.{OffEnd};
 
 use isa::{Instr, Program, Trap};
 
-/// The instruction at an address, or the trap where the code has ended.
+/// Returns the instruction at an address, or the trap where the code has ended.
 #[inline(always)]
 pub fn instr_at(program: &Program, address: usize) -> Result<Instr, Trap>
     ensures there { IfOk result (λ instr. slice_get program.now.code address ≡ Some instr) }

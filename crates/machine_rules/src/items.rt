@@ -1,4 +1,4 @@
-//! What stands around the items of one block.
+//! The bytes around the items of one block.
 
 ghost use Rattle.std.specs.Prelude.{◌≡◌, ◌∷◌, ◌++◌, [], length, IfOk, OnOk};
 ghost use Rattle.avro_bytes.specs.Written.{block_count};
@@ -6,7 +6,8 @@ ghost use Rattle.avro_bytes.specs.Written.{block_count};
 use avro_bytes::put_long;
 use std::alloc::AllocError;
 
-/// What stands before so many items in one block and after them, and how much of it before.
+/// Writes the bytes before `items` items in one block, and those after them, over the bytes of `around`. Returns how
+/// many of these are before the items.
 pub fn spell_around(around: &mut Vec<u8>, items: u32) -> Result<usize, AllocError>
     ensures spelled { OnOk result (around.new.items ≡ block_count items ++ 0 ∷ []) }
     ensures before { IfOk result (λ before. before ≡ length (block_count items)) }

@@ -1,6 +1,6 @@
 //! Machine; used by `machine_store`, `machine_stepper`.
 //!
-//! Parts of what rows and slices do, which know no machine.
+//! Parts of what rows and slices do, which do not depend on a machine.
 #![tactic(auto)]
 
 mod chunks;

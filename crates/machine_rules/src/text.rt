@@ -18,14 +18,14 @@ pub enum TextCheck {
     Unasked,
     /// It is no UTF-8, whatever follows.
     Broken,
-    /// It is UTF-8 but for the bytes of a character that is cut.
+    /// It is UTF-8 except for the bytes of a character that is cut.
     Cut(Carry),
 }
 
 impl Carry {
     ghost use Rattle.machine_rules.specs.Text.{Cut, EndsIn, IsCheck, check_of, is_asked};
 
-    /// No bytes.
+    /// Returns no bytes.
     fn none() -> Carry
         ensures { result.len ≡ 0 }
     {
@@ -35,7 +35,7 @@ impl Carry {
         }
     }
 
-    /// A few bytes.
+    /// Returns these bytes, at most 3.
     fn of(bytes: &[u8]) -> Carry
         requires { length bytes.now ≤ 3 }
         ensures { take result.len result.bytes ≡ bytes.now }
@@ -48,7 +48,8 @@ impl Carry {
         }
     }
 
-    /// These are the last bytes up to an offset, and the bytes up to another one pass.
+    /// Returns what is known once the bytes up to offset `to` have passed too, where these are the last bytes up to
+    /// offset `pos`, of a content that begins at offset `from`.
     fn pass(self, input: &[u8], from: usize, pos: usize, to: usize) -> TextCheck
         requires begun { from ≤ pos }
         requires order { pos ≤ to }
@@ -71,7 +72,7 @@ impl Carry {
 impl TextCheck {
     ghost use Rattle.machine_rules.specs.Text.{Cut, IsCheck, carry_of, check_of, is_asked};
 
-    /// Nothing has passed of a text.
+    /// Returns what is known of a text of which nothing has passed.
     pub fn empty() -> TextCheck
         ensures empty { check_of result ≡ Cut [] }
         ensures begins { IsCheck (check_of result) [] }
@@ -79,7 +80,7 @@ impl TextCheck {
         TextCheck::Cut(Carry::none())
     }
 
-    /// The bytes of a cut character, or none.
+    /// Returns the bytes of a cut character, or none.
     pub fn carry(&self) -> &[u8]
         ensures { result.now ≡ carry_of (check_of self.now) }
     {
@@ -89,7 +90,8 @@ impl TextCheck {
         }
     }
 
-    /// What is known up to an offset, and the bytes up to another one pass.
+    /// Returns what is known once the bytes up to offset `to` have passed too, where this is known up to offset
+    /// `pos`, of a content that begins at offset `from`.
     pub fn pass(self, input: &[u8], from: usize, pos: usize, to: usize) -> TextCheck
         requires begun { from ≤ pos }
         requires order { pos ≤ to }
@@ -104,7 +106,8 @@ impl TextCheck {
         }
     }
 
-    /// Whether the whole content is UTF-8, whose last bytes stand between two offsets.
+    /// Returns whether a whole content is UTF-8, whose last bytes are those between offsets `pos` and `to`. This is
+    /// known of it up to `pos`; it begins at `from`.
     pub fn is_text(self, input: &[u8], from: usize, pos: usize, to: usize) -> bool
         requires begun { from ≤ pos }
         requires order { pos ≤ to }

@@ -15,7 +15,7 @@ use isa::{Program, Trap};
 use machine_store::Opening;
 
 impl Machine {
-    /// An array or a map is opened.
+    /// Takes the row that opens an array or a map.
     pub(crate) fn blocks(&mut self, program: &Program, input: &[u8], ended: bool) -> Step
         requires runs { self.old.state.end ≡ None }
         requires pc { self.old.state.pc < MOST_INSTRS }
@@ -32,7 +32,7 @@ impl Machine {
         }
     }
 
-    /// An array or a map that is skipped is opened.
+    /// Takes the row that opens an array or a map that is skipped.
     pub(crate) fn skip_blocks(&mut self, program: &Program, input: &[u8], ended: bool) -> Step
         requires runs { self.old.state.end ≡ None }
         requires pc { self.old.state.pc < MOST_INSTRS }
@@ -49,7 +49,8 @@ impl Machine {
         }
     }
 
-    /// The next item comes, or the array or map is closed.
+    /// Takes the row before an item: it begins the next item, or closes the array or map and goes on at
+    /// address `after`.
     pub(crate) fn next_item(
         &mut self,
         after: u32,
@@ -80,7 +81,8 @@ impl Machine {
         }
     }
 
-    /// The next item that is skipped comes, or the array or map is left.
+    /// Takes the row before an item that is skipped: it begins the next item, or leaves the array or map and goes on
+    /// at address `after`.
     pub(crate) fn skip_next(
         &mut self,
         after: u32,

@@ -28,7 +28,7 @@ pub enum Moving {
     Bytes,
     /// It is added, and has to be UTF-8.
     Text,
-    /// It is added, and the miss of this number is told where it is no UTF-8.
+    /// It is added, and the miss with this index is marked where it is no UTF-8.
     BytesText(u32),
     /// It is passed over.
     SkipBytes,
@@ -37,7 +37,7 @@ pub enum Moving {
 }
 
 impl Moving {
-    /// What is known before its first byte.
+    /// Returns what is known of the content before its first byte.
     fn check(self) -> TextCheck
         ensures check { IsCheck (check_of result) [] }
         ensures asked { is_asked (check_of result) ≡ asks self }
@@ -50,7 +50,7 @@ impl Moving {
 }
 
 impl Machine {
-    /// Bytes move.
+    /// Appends bytes of a content to the current buffer, unless they are skipped.
     fn put(&mut self, moving: Moving, bytes: &[u8]) -> Result<(), AllocError>
         requires runs { self.old.state.end ≡ None }
         requires room { HasRoom moving self.old.state }
@@ -65,7 +65,7 @@ impl Machine {
         }
     }
 
-    /// A length moves.
+    /// Appends a length to the current buffer, unless it is skipped.
     fn put_length(&mut self, moving: Moving, len: usize) -> Result<(), AllocError>
         requires runs { self.old.state.end ≡ None }
         requires room { HasRoom moving self.old.state }
@@ -81,14 +81,14 @@ impl Machine {
         }
     }
 
-    /// What is known of it.
+    /// Returns what is known of the content that moves.
     pub(crate) fn check(&self) -> TextCheck
         ensures { check_of result ≡ self.now.check }
     {
         self.check
     }
 
-    /// At an offset, behind which a content goes on.
+    /// Goes on at offset `to` within a content. `check` is what is known of it.
     fn goes_on(&mut self, content: Content, check: TextCheck, to: usize) -> Step
         ensures step { result ≡ Step.Moved }
         ensures moved { self.new ≡ record self.old {
@@ -102,7 +102,7 @@ impl Machine {
         Step::Moved
     }
 
-    /// At the next instruction, after a whole content.
+    /// Goes on at the next instruction, after a whole content that ends at offset `to`.
     fn pass_whole(&mut self, to: usize) -> Step
         requires { self.old.state.pc < MOST_INSTRS }
         ensures step { result ≡ Step.Moved }
@@ -116,7 +116,7 @@ impl Machine {
         Step::Moved
     }
 
-    /// A length was read: it moves, and the content is to follow, unless it is empty.
+    /// Moves a length that was read up to offset `to`, and begins the content, unless it is empty.
     fn begin(&mut self, moving: Moving, len: usize, to: usize, input: &[u8]) -> Step
         requires runs { self.old.state.end ≡ None }
         requires pc { self.old.state.pc < MOST_INSTRS }
@@ -147,7 +147,8 @@ impl Machine {
         )
     }
 
-    /// Some bytes of a content move, after which there are more, and this is known of it.
+    /// Moves a chunk of a content, after which there are more bytes. `check` is what is known of the
+    /// content with the chunk.
     fn move_chunk(
         &mut self,
         moving: Moving,
@@ -184,7 +185,7 @@ impl Machine {
         self.goes_on(left, check, to)
     }
 
-    /// The last bytes of a content move.
+    /// Moves the last bytes of a content. Ends the run where they have to be UTF-8 and are not, or marks a miss.
     fn end_content(
         &mut self,
         moving: Moving,
@@ -244,7 +245,7 @@ impl Machine {
         }
     }
 
-    /// So many bytes of a content as are there move.
+    /// Moves as many bytes of a content as a row may move. Waits where they are not there yet.
     fn move_part(
         &mut self,
         moving: Moving,
@@ -278,7 +279,7 @@ impl Machine {
         }
     }
 
-    /// A content after its length.
+    /// Takes a row of a content that has its length before it.
     pub(crate) fn content(
         &mut self,
         moving: Moving,
@@ -308,7 +309,7 @@ impl Machine {
         }
     }
 
-    /// A content of so many bytes.
+    /// Takes a row of a content of `size` bytes, without a length.
     pub(crate) fn fixed(
         &mut self,
         moving: Moving,
@@ -343,7 +344,8 @@ impl Machine {
         }
     }
 
-    /// A content after its length, which is added.
+    /// Takes a row of a content that has its length before it, and that is added. A trap where there is
+    /// no current buffer.
     pub(crate) fn kept_content(
         &mut self,
         moving: Moving,
@@ -367,7 +369,7 @@ impl Machine {
         self.content(moving, program, input, ended)
     }
 
-    /// A content of so many bytes, which is added.
+    /// Takes a row of a content of `size` bytes that is added. A trap where there is no current buffer.
     pub(crate) fn kept_fixed(
         &mut self,
         size: usize,

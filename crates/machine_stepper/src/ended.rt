@@ -7,9 +7,9 @@ use outcome::Mismatch;
 /// How a run ended, as a machine keeps it.
 #[derive(Drop)]
 pub(crate) enum Ended {
-    /// With this end, an output of which is copied.
+    /// With this end, in which an output is a copy.
     Told(End),
-    /// With the output, which lies in the store: one segment, with which the arena begins.
+    /// With the output, which is in the store: one segment, with which the arena begins.
     InStore,
 }
 

@@ -13,7 +13,7 @@ use crate::step::Step;
 use isa::{MOST_CALLS, Program, Trap};
 
 impl Machine {
-    /// A miss is told.
+    /// Takes the row of a miss: marks it if it is the first.
     pub(crate) fn tell_miss(
         &mut self,
         miss: u32,
@@ -35,7 +35,7 @@ impl Machine {
         self.next(self.pos())
     }
 
-    /// A routine is called.
+    /// Takes the row of a call, which goes on at the routine's address. A trap where there are too many calls.
     pub(crate) fn call(
         &mut self,
         address: u32,
@@ -58,7 +58,7 @@ impl Machine {
         self.push_call(address as usize)
     }
 
-    /// A routine returns.
+    /// Takes the row of a return from a call. A trap where no call is open.
     pub(crate) fn return_from_call(&mut self, program: &Program, input: &[u8], ended: bool) -> Step
         requires pc { self.old.state.pc < MOST_INSTRS }
         requires within { self.old.state.pos ≤ length input.now }
@@ -75,7 +75,7 @@ impl Machine {
         }
     }
 
-    /// A jump.
+    /// Takes the row of a jump to an address.
     pub(crate) fn jump_to(
         &mut self,
         address: u32,
@@ -96,7 +96,7 @@ impl Machine {
         self.jump(address as usize, self.pos())
     }
 
-    /// The run ends.
+    /// Takes the row of the halt: ends the run, or waits where more bytes may come.
     pub(crate) fn halt(&mut self, program: &Program, input: &[u8], ended: bool) -> Step
         requires pc { self.old.state.pc < MOST_INSTRS }
         requires within { self.old.state.pos ≤ length input.now }

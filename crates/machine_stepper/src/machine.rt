@@ -27,8 +27,8 @@ use outcome::Outcome;
 use std::alloc::{AllocError, Global};
 use std::marker::Model;
 
-/// An output of at most so many bytes is copied where the run ends, so that the arena need not grow again for the next
-/// run. A longer one is handed out in the arena's memory, where it can be.
+/// An output of at most this many bytes is copied where the run ends, so that the arena need not grow again for the
+/// next run. A longer one is handed out in the arena's memory, where it can be.
 const MOST_COPIED: usize = 65_536;
 
 /// A run of a program: callers see it as a state of the instruction table, and how that is kept.
@@ -43,7 +43,7 @@ pub struct Machine {
     pub(crate) count: RowCount,
     pub(crate) end: Option<Ended>,
     pub(crate) scratch: Vec<u8>,
-    /// What was found ahead.
+    /// What was found ahead, and what is kept for finding.
     pub(crate) foresight: Foresight,
     pub(crate) alloc: Global,
 }
@@ -61,7 +61,7 @@ impl Model for Machine {
 impl Machine {
     ghost use Rattle.machine_stepper.specs.Running.{start};
 
-    /// The state before a run. It takes no memory.
+    /// Returns the state before a run. It allocates nothing.
     pub fn new(alloc: Global) -> Machine
         ensures { result ≡ start }
     {
@@ -80,7 +80,7 @@ impl Machine {
         }
     }
 
-    /// Goes back to what `new` gives, and keeps the memory.
+    /// Goes back to the state that `new` returns, and keeps the memory.
     pub fn reset(&mut self)
         ensures { self.new ≡ start }
     {
@@ -94,8 +94,8 @@ impl Machine {
         self.end = None;
     }
 
-    /// Lets go of memory above what is held, and above that for so many bytes and a 64th of so many slots, frames and
-    /// calls.
+    /// Releases memory beyond what is held, but keeps enough for `bytes` bytes and for a 64th as many slots,
+    /// frames and calls.
     pub fn shrink_to(&mut self, bytes: usize)
         ensures { self.new ≡ self.old }
     {
@@ -105,50 +105,50 @@ impl Machine {
         self.foresight.shrink_to(bytes);
     }
 
-    /// Has plans read at most `most` nests that are put piece by piece inside of one another: each takes about 1 KiB of
-    /// stack. What nests deeper goes by rows, which take none.
+    /// Limits how many nests that are put piece by piece plans read inside of one another, to `most`: each takes
+    /// about 1 KiB of stack. What nests deeper goes by rows, which take none.
     pub fn limit_nests(&mut self, most: usize)
         ensures { self.new ≡ self.old }
     {
         self.foresight.limit_nests(most);
     }
 
-    /// The address of the next instruction.
+    /// Returns the address of the next instruction.
     pub fn pc(&self) -> usize
         ensures { result ≡ self.now.state.pc }
     {
         self.pc
     }
 
-    /// How many rows were taken.
+    /// Returns how many rows were taken.
     pub fn count(&self) -> u64
         ensures { result ≡ self.now.state.count }
     {
         self.count.rows
     }
 
-    /// The offset of the next byte.
+    /// Returns the offset of the next byte.
     pub fn pos(&self) -> usize
         ensures { result ≡ self.now.state.pos }
     {
         self.pos
     }
 
-    /// How much is open, and how many units there were.
+    /// Returns how many frames are open, and how many units there were.
     pub(crate) fn meter(&self) -> Meter
         ensures { result ≡ meter_of self.now.state }
     {
         self.store.meter()
     }
 
-    /// Whether there is a current buffer.
+    /// Returns whether there is a current buffer.
     pub(crate) fn has_current(&self) -> bool
         ensures { result ≡ has_current self.now.state.store.frames }
     {
         self.store.has_current()
     }
 
-    /// The run ends.
+    /// Ends the run with `end`.
     pub(crate) fn stop(&mut self, end: End) -> Step
         ensures step { result ≡ Step.Moved }
         ensures stopped { stop (end_of end) self.old.state ≡ Some self.new.state }
@@ -158,7 +158,7 @@ impl Machine {
         Step::Moved
     }
 
-    /// The run ends with a trap.
+    /// Ends the run with a trap.
     pub(crate) fn trap(&mut self, trap: Trap) -> Step
         ensures step { result ≡ Step.Moved }
         ensures stopped { Rattle.isa.specs.Table.trap trap self.old.state ≡ Some self.new.state }
@@ -167,7 +167,7 @@ impl Machine {
         self.stop(End::Trap(trap))
     }
 
-    /// By what the run ends, where it does.
+    /// Returns what decides how the run ends, where it does.
     pub(crate) fn ending<'a>(
         &self,
         program: &'a Program,
@@ -189,7 +189,8 @@ impl Machine {
         }
     }
 
-    /// Whether the output is to be left where it lies: it is long, and one segment with which the arena begins.
+    /// Returns whether the output is to be left where it lies: it is long, and is one segment with which
+    /// the arena begins.
     fn leaves_output(&self) -> bool
         ensures { result ≡ true → is_front self.now.layout.out ≡ true }
     {
@@ -199,7 +200,8 @@ impl Machine {
         }
     }
 
-    /// Ends the run with the output, which is copied, or left where it lies.
+    /// Ends the run with the output, which is copied, or left where it lies. `NoMemory` where the copy needs
+    /// more than there is.
     fn finish(&mut self) -> Step
         ensures takes { Takes (told Done self.old.state) result self.old self.new }
         ensures kept { self.new ≡ record self.old { state = record self.old.state { end = self.new.state.end } } }
@@ -214,7 +216,7 @@ impl Machine {
         }
     }
 
-    /// What a verdict comes to.
+    /// Ends the run or waits, as a verdict says.
     pub(crate) fn conclude(&mut self, verdict: Verdict) -> Step
         ensures takes { Takes (told verdict self.old.state) result self.old self.new }
         ensures kept { self.new ≡ record self.old { state = record self.old.state { end = self.new.state.end } } }
@@ -230,7 +232,7 @@ impl Machine {
         }
     }
 
-    /// Bytes are missing, or cannot be read.
+    /// Ends the run with a fault of the input, or waits for bytes where some are missing and more may come.
     pub(crate) fn refuse(
         &mut self,
         fault: Fault,
@@ -251,7 +253,7 @@ impl Machine {
         self.conclude(verdict)
     }
 
-    /// At the next instruction, with the bytes up to an offset read.
+    /// Goes on at the next instruction, with the bytes up to offset `to` read.
     pub(crate) fn next(&mut self, to: usize) -> Step
         requires { self.old.state.pc < MOST_INSTRS }
         ensures step { result ≡ Step.Moved }
@@ -262,7 +264,7 @@ impl Machine {
         Step::Moved
     }
 
-    /// At an address, with the bytes up to an offset read.
+    /// Goes on at an address, with the bytes up to offset `to` read.
     pub(crate) fn jump(&mut self, address: usize, to: usize) -> Step
         ensures step { result ≡ Step.Moved }
         ensures jumped { self.new ≡ record self.old { state = record self.old.state { pc = address; pos = to } } }
@@ -272,14 +274,14 @@ impl Machine {
         Step::Moved
     }
 
-    /// How many calls are open.
+    /// Returns how many calls are open.
     pub fn calls(&self) -> usize
         ensures { result ≡ length self.now.state.calls }
     {
         self.calls.len()
     }
 
-    /// A call of a routine at an address.
+    /// Calls the routine at an address: opens a call, and goes on there.
     pub(crate) fn push_call(&mut self, address: usize) -> Step
         requires { self.old.state.pc < MOST_INSTRS }
         ensures takes { Takes (Some (record self.old.state
@@ -295,7 +297,7 @@ impl Machine {
         Step::Moved
     }
 
-    /// The address to return to, of the newest call, which is closed.
+    /// Closes the newest call, and returns the address to return to. `None` where no call is open.
     pub(crate) fn pop_call(&mut self) -> Option<usize>
         ensures popped { option_to_list result ++ self.new.state.calls ≡ self.old.state.calls }
         ensures some { is_some result ≡ false → self.old.state.calls ≡ [] }
@@ -304,7 +306,7 @@ impl Machine {
         self.calls.pop()
     }
 
-    /// Bytes at the end of the current buffer.
+    /// Appends bytes to the current buffer.
     pub(crate) fn add(&mut self, bytes: &[u8]) -> Result<(), AllocError>
         requires runs { self.old.state.end ≡ None }
         requires room { has_current self.old.state.store.frames ≡ true }
@@ -316,7 +318,7 @@ impl Machine {
         self.store.add(bytes)
     }
 
-    /// The shortest spelling of a number at the end of the current buffer.
+    /// Appends the shortest encoding of `number` to the current buffer.
     pub(crate) fn add_long(&mut self, number: i64) -> Result<(), AllocError>
         requires runs { self.old.state.end ≡ None }
         requires room { has_current self.old.state.store.frames ≡ true }
@@ -330,8 +332,7 @@ impl Machine {
         self.store.add(&self.scratch)
     }
 
-    /// Bytes at the end of the current buffer: the run is at the next instruction then, with the bytes up to an offset
-    /// read.
+    /// Appends bytes to the current buffer, and goes on at the next instruction, with the bytes up to offset `to` read.
     pub(crate) fn move_bytes(&mut self, bytes: &[u8], to: usize) -> Step
         requires runs { self.old.state.end ≡ None }
         requires pc { self.old.state.pc < MOST_INSTRS }
@@ -347,7 +348,8 @@ impl Machine {
         self.next(to)
     }
 
-    /// The same of a number that was read, in its shortest spelling: its own, where that is the shortest.
+    /// Appends the shortest encoding of `number`, and goes on as `move_bytes` does. `spelling` is the encoding that
+    /// was read; it is appended itself if it is the shortest.
     pub(crate) fn move_number(&mut self, number: i64, spelling: &[u8], to: usize) -> Step
         requires runs { self.old.state.end ≡ None }
         requires pc { self.old.state.pc < MOST_INSTRS }
@@ -364,8 +366,8 @@ impl Machine {
         self.next(to)
     }
 
-    /// The shortest spelling of a number that was read at the end of the current buffer: its own, where that is the
-    /// shortest.
+    /// Appends the shortest encoding of `number` to the current buffer. `spelling` is the encoding that was read; it
+    /// is appended itself if it is the shortest.
     pub(crate) fn add_spelled(&mut self, number: i64, spelling: &[u8]) -> Result<(), AllocError>
         requires runs { self.old.state.end ≡ None }
         requires room { has_current self.old.state.store.frames ≡ true }

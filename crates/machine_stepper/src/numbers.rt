@@ -15,7 +15,7 @@ use isa::{Program, Trap};
 use machine_rows::spelling;
 
 impl Machine {
-    /// A boolean moves.
+    /// Takes the row that moves a boolean.
     pub(crate) fn boolean(&mut self, program: &Program, input: &[u8], ended: bool) -> Step
         requires runs { self.old.state.end ≡ None }
         requires pc { self.old.state.pc < MOST_INSTRS }
@@ -35,7 +35,7 @@ impl Machine {
         }
     }
 
-    /// An int moves, in its shortest spelling.
+    /// Takes the row that moves an int, in its shortest encoding.
     pub(crate) fn int(&mut self, program: &Program, input: &[u8], ended: bool) -> Step
         requires runs { self.old.state.end ≡ None }
         requires pc { self.old.state.pc < MOST_INSTRS }
@@ -58,7 +58,7 @@ impl Machine {
         }
     }
 
-    /// A long moves, in its shortest spelling.
+    /// Takes the row that moves a long, in its shortest encoding.
     pub(crate) fn long(&mut self, program: &Program, input: &[u8], ended: bool) -> Step
         requires runs { self.old.state.end ≡ None }
         requires pc { self.old.state.pc < MOST_INSTRS }
@@ -81,7 +81,7 @@ impl Machine {
         }
     }
 
-    /// A boolean is skipped.
+    /// Takes the row that skips a boolean.
     pub(crate) fn skip_boolean(&mut self, program: &Program, input: &[u8], ended: bool) -> Step
         requires pc { self.old.state.pc < MOST_INSTRS }
         requires within { self.old.state.pos ≤ length input.now }
@@ -98,7 +98,7 @@ impl Machine {
         }
     }
 
-    /// An int is skipped.
+    /// Takes the row that skips an int.
     pub(crate) fn skip_int(&mut self, program: &Program, input: &[u8], ended: bool) -> Step
         requires pc { self.old.state.pc < MOST_INSTRS }
         requires within { self.old.state.pos ≤ length input.now }
@@ -115,7 +115,7 @@ impl Machine {
         }
     }
 
-    /// A long is skipped.
+    /// Takes the row that skips a long.
     pub(crate) fn skip_long(&mut self, program: &Program, input: &[u8], ended: bool) -> Step
         requires pc { self.old.state.pc < MOST_INSTRS }
         requires within { self.old.state.pos ≤ length input.now }

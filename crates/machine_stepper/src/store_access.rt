@@ -17,56 +17,56 @@ use machine_store::Opening;
 use std::alloc::AllocError;
 
 impl Machine {
-    /// Whether there is a current buffer below the newest frame.
+    /// Returns whether there is a current buffer below the newest frame.
     pub(crate) fn has_current_below(&self) -> bool
         ensures { result ≡ has_current_below self.now.state.store.frames }
     {
         self.store.has_current_below()
     }
 
-    /// How many slots the newest frame has, where it is a record.
+    /// Returns how many slots the newest frame has, if it is a record.
     pub(crate) fn slots(&self) -> Option<usize>
         ensures { result ≡ slots_of self.now.state.store.frames }
     {
         self.store.slots()
     }
 
-    /// Whether the newest frame is a record that is skipped.
+    /// Returns whether the newest frame is a record that is skipped.
     pub(crate) fn is_skip(&self) -> bool
         ensures { result ≡ is_skip self.now.state.store.frames }
     {
         self.store.is_skip()
     }
 
-    /// The walk of the newest frame, where it is an array or a map.
+    /// Returns the walk of the newest frame, if it is an array or a map.
     pub(crate) fn walk(&self) -> Option<BlockWalk>
         ensures { result ≡ walk_of self.now.state.store.frames }
     {
         self.store.walk()
     }
 
-    /// The walk of the newest frame, where it is an array or a map that is skipped.
+    /// Returns the walk of the newest frame, if it is an array or a map that is skipped.
     pub(crate) fn skip_walk(&self) -> Option<BlockWalk>
         ensures { result ≡ skip_walk_of self.now.state.store.frames }
     {
         self.store.skip_walk()
     }
 
-    /// The number of the first miss.
+    /// Returns the index of the first miss. `None` where there was none.
     pub fn mark(&self) -> Option<u32>
         ensures { result ≡ self.now.state.store.mark }
     {
         self.store.mark()
     }
 
-    /// Whether the output passed its limit.
+    /// Returns whether the output passed its limit.
     pub fn is_over(&self) -> bool
         ensures { result ≡ self.now.state.store.over }
     {
         self.store.is_over()
     }
 
-    /// A miss is told.
+    /// Marks a miss if it is the first, after which nothing is held any more.
     pub(crate) fn miss(&mut self, miss: u32)
         requires { self.old.state.end ≡ None }
         ensures missed { self.new.state ≡ missed miss self.old.state }
@@ -75,7 +75,7 @@ impl Machine {
         self.store.miss(miss);
     }
 
-    /// A frame is opened, inside which the meter is such.
+    /// Opens a frame, inside which there are as many units as `inside` says, and goes on at the next instruction.
     pub(crate) fn open(&mut self, opening: Opening, inside: Meter) -> Step
         requires runs { self.old.state.end ≡ None }
         requires pc { self.old.state.pc < MOST_INSTRS }
@@ -95,7 +95,7 @@ impl Machine {
         Step::Moved
     }
 
-    /// A slot of the newest record is selected.
+    /// Selects a slot of the newest record, and goes on at the next instruction.
     pub(crate) fn select(&mut self, slot: usize) -> Step
         requires runs { self.old.state.end ≡ None }
         requires pc { self.old.state.pc < MOST_INSTRS }
@@ -112,7 +112,7 @@ impl Machine {
         Step::Moved
     }
 
-    /// The newest record is closed.
+    /// Closes the newest record, and goes on at the next instruction.
     pub(crate) fn close_record(&mut self) -> Step
         requires runs { self.old.state.end ≡ None }
         requires pc { self.old.state.pc < MOST_INSTRS }
@@ -132,7 +132,7 @@ impl Machine {
         Step::Moved
     }
 
-    /// The newest frame, which is skipped, is left.
+    /// Leaves the newest frame, which is skipped.
     pub(crate) fn leave(&mut self)
         requires runs { self.old.state.end ≡ None }
         requires skipped { is_skipped self.old.state.store.frames ≡ true }
@@ -142,7 +142,7 @@ impl Machine {
         self.store.leave();
     }
 
-    /// At the next item of the newest array or map, with the bytes up to an offset read.
+    /// Goes on at the next item of the newest array or map, with the bytes up to offset `to` read.
     #[tactic(auto, using(crate::proofs::Appending::next_many, crate::proofs::Appending::same_arena))]
     pub(crate) fn gather(&mut self, walk: BlockWalk, to: usize, inside: Meter) -> Step
         requires runs { self.old.state.end ≡ None }
@@ -162,7 +162,7 @@ impl Machine {
         Step::Moved
     }
 
-    /// At the next item of the newest array or map, which is skipped, with the bytes up to an offset read.
+    /// Goes on at the next item of the newest array or map, which is skipped, with the bytes up to offset `to` read.
     pub(crate) fn pass(&mut self, walk: BlockWalk, to: usize, inside: Meter) -> Step
         requires runs { self.old.state.end ≡ None }
         requires pc { self.old.state.pc < MOST_INSTRS }
@@ -179,7 +179,7 @@ impl Machine {
         Step::Moved
     }
 
-    /// The newest array or map is closed, with the bytes up to an offset read, and the run goes on at an address.
+    /// Closes the newest array or map, and goes on at an address, with the bytes up to offset `to` read.
     pub(crate) fn close_blocks(&mut self, address: usize, to: usize) -> Step
         requires runs { self.old.state.end ≡ None }
         requires blocks { is_some (walk_of self.old.state.store.frames) ≡ true }
@@ -207,7 +207,7 @@ impl Machine {
         Step::Moved
     }
 
-    /// The bytes of the output.
+    /// Returns a copy of the output's bytes.
     pub(crate) fn put_together(&self) -> Result<Vec<u8>, AllocError>
         ensures { IfOk result (λ out. out.items ≡ self.now.state.store.out) }
     {

@@ -9,7 +9,7 @@ use machine_store::Store;
 use outcome::Outcome;
 use std::alloc::Global;
 
-/// Returns an end to be read.
+/// Returns a view of an end.
 pub(crate) fn view_of_end(end: &End) -> EndView<'_>
     ensures { end_view_of result ≡ end_of end.now }
 {
@@ -25,7 +25,7 @@ pub(crate) fn view_of_end(end: &End) -> EndView<'_>
     }
 }
 
-/// Returns an end that was kept beside a store, to be read.
+/// Returns a view of an end that was kept beside a store.
 pub(crate) fn view_of_ended<'a>(store: &'a Store, ended: &'a Ended) -> EndView<'a>
     requires { IsThere store.now.layout (Some ended.now) }
     ensures { end_view_of result ≡ ended_of store.now.store.out ended.now }
@@ -39,8 +39,8 @@ pub(crate) fn view_of_ended<'a>(store: &'a Store, ended: &'a Ended) -> EndView<'
     }
 }
 
-/// Returns an end that was kept beside a store, which is reset next: an output that lies there is taken out of it, in
-/// the memory in which it lies.
+/// Returns an end that was kept beside a store, which is reset next. An output that is in the store is taken out of
+/// it, in the memory in which it lies.
 pub(crate) fn end_out_of(alloc: Global, store: &mut Store, ended: Ended) -> End
     requires { IsThere store.old.layout (Some ended) }
     ensures { end_of result ≡ ended_of store.old.store.out ended }

@@ -1,4 +1,4 @@
-//! What a debugger reads off a machine.
+//! What a debugger reads from a machine.
 
 ghost use Rattle.std.specs.Prelude.{◌≡◌, ◌++◌, length, reverse, slice_get, option_map, is_some, false, true, None, Some, OnErr, OnOk};
 ghost use Rattle.machine_store.specs.Segments.{AreSegments, bytes_of};
@@ -15,35 +15,36 @@ use machine_store::{BufferAt, FrameView};
 use std::alloc::AllocError;
 
 impl Machine {
-    /// How many units were opened.
+    /// Returns how many units were opened.
     pub fn units(&self) -> u32
         ensures { result ≡ self.now.state.units }
     {
         self.store.meter().units
     }
 
-    /// How many frames are open.
+    /// Returns how many frames are open.
     pub fn depth(&self) -> u32
         ensures { result ≡ length self.now.state.store.frames }
     {
         self.store.meter().depth
     }
 
-    /// The address to return to of a call, the oldest first.
+    /// Returns the address to which the call with index `number` returns; the oldest is 0. `None` where there
+    /// is no such call.
     pub fn call_at(&self, number: usize) -> Option<usize>
         ensures { result ≡ slice_get (reverse self.now.state.calls) number }
     {
         self.calls.get(number).copied()
     }
 
-    /// The content of which bytes are still to move.
+    /// Returns the content of which bytes are still to move. `None` where none is begun.
     pub fn moving(&self) -> Option<Content>
         ensures { option_map content_of result ≡ self.now.state.content }
     {
         self.content
     }
 
-    /// Returns how the run ended, to be read.
+    /// Returns how the run ended, to be read. `None` where it has not ended.
     pub fn end(&self) -> Option<EndView<'_>>
         ensures { option_map end_view_of result ≡ self.now.state.end }
     {
@@ -53,8 +54,8 @@ impl Machine {
         }
     }
 
-    /// Returns how the run ended, and goes back to what `new` gives, in the memory that is left: an output that lies in
-    /// the arena as it is takes the arena's along.
+    /// Returns how the run ended, and goes back to the state that `new` returns, in the memory that is left: an
+    /// output that is left in the arena takes the arena's memory along. `None` where the run has not ended.
     pub fn end_and_reset(&mut self) -> Option<End>
         ensures end { option_map end_of result ≡ self.old.state.end }
         ensures begun { self.new ≡ start }
@@ -67,7 +68,7 @@ impl Machine {
         end
     }
 
-    /// Returns how the run ended.
+    /// Returns how the run ended. `None` where it has not ended.
     pub fn into_end(self) -> Option<End>
         ensures { option_map end_of result ≡ self.state.end }
     {
@@ -78,7 +79,8 @@ impl Machine {
         }
     }
 
-    /// The bytes of a character that is cut, of a text that moves; none where no text moves, or no text begins so.
+    /// Returns the bytes of a character that is cut at the end of what has moved of a text; none where no text moves,
+    /// or no character is cut.
     pub fn carry(&self) -> &[u8]
         ensures { result.now ≡ carried self.now.state.content self.now.check }
     {
@@ -88,28 +90,28 @@ impl Machine {
         }
     }
 
-    /// The bytes of all buffers.
+    /// Returns the bytes of all buffers, and those that no buffer holds any more.
     pub fn arena(&self) -> &[u8]
         ensures { result.now ≡ self.now.layout.arena }
     {
         self.store.arena()
     }
 
-    /// What a frame is, by its number, the oldest first.
+    /// Returns a view of the frame with index `number`; the oldest is 0. `None` where there is no such frame.
     pub fn frame_at(&self, number: usize) -> Option<FrameView>
         ensures { result ≡ option_map view_of (slice_get (reverse self.now.state.store.frames) number) }
     {
         self.store.frame_at(number)
     }
 
-    /// Whether a buffer is there.
+    /// Returns whether there is such a buffer.
     pub fn has_buffer(&self, at: BufferAt) -> bool
         ensures { result ≡ is_some (buffer_of at self.now.state.store) }
     {
         self.store.has_buffer(at)
     }
 
-    /// The bytes of a buffer after others.
+    /// Appends the bytes of a buffer to `out`.
     pub fn push_buffer(&self, at: BufferAt, out: &mut Vec<u8>) -> Result<(), AllocError>
         requires { is_some (buffer_of at self.now.state.store) ≡ true }
         ensures pushed { OnOk result
@@ -119,8 +121,8 @@ impl Machine {
         self.store.push_buffer(self.alloc, at, out)
     }
 
-    /// The law that the bytes of a buffer are the arena's at its segments, joined in order, of which none is empty and
-    /// none begins where the one before it ends.
+    /// The law that the bytes of a buffer are the arena's at its segments, joined in order, of which none is empty
+    /// and none begins where the one before it ends.
     pub fn are_laid(&self, at: BufferAt)
         requires { is_some (buffer_of at self.now.state.store) ≡ true }
         ensures bytes { buffer_of at self.now.state.store
@@ -130,8 +132,8 @@ impl Machine {
         self.store.are_laid(at); // law
     }
 
-    /// The offset in the arena and the length of a segment of a buffer, by its number, where there are so many. It
-    /// takes no memory.
+    /// Returns the offset in the arena and the length of the segment with index `number` of a buffer. `None` where
+    /// there is no such buffer or segment. It allocates nothing.
     pub fn segment(&self, at: BufferAt, number: usize) -> Option<(usize, usize)>
         ensures there { is_some (buffer_of at self.now.state.store) ≡ true
             → result ≡ option_map place_and_length (slice_get (segments_of_buffer at self.now.layout) number) }

@@ -1,6 +1,6 @@
 //! Calls that are made again where memory ran out the first time.
 
-/// The answer of a call, made again where the first one was refused so.
+/// Makes a call, and makes it again if the first one is refused with this error.
 macro_rules! again {
     ($call:expr, $refused:pat) => {
         match $call {

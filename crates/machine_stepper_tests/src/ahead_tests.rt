@@ -1,5 +1,5 @@
-//! What the plan of a program finds of a whole payload. No contract says that it finds anything, so usual records are
-//! tried here.
+//! What the plan of a program finds of a whole payload. No contract says that it finds anything, so usual
+//! records are tried here.
 
 use crate::programs::push_hex;
 use crate::rows::assert_questions;
@@ -21,7 +21,7 @@ ahead 2|0 CALL 2;1 HALT;2 RECORD 1;3 SBLOCKS;4 SNEXT 7;5 SLONG;6 JUMP 4;7 SLOT 0
 12 ENTER;13 STEXT;14 LEAVE;15 RET|040204000106666f6f|01;01;
 ";
 
-/// Appends what a program's plan finds of a payload, as often as it is asked, in the same room.
+/// Appends what a program's plan finds of a payload, asked `times` times in the same room.
 pub(crate) fn push_found(
     alloc: Global,
     output: &mut String,

@@ -16,11 +16,11 @@ use std::test::Fail;
 /// More segments than any buffer of these tests has.
 const SEGMENTS: usize = 4;
 
-/// A breakpoint where no instruction stands. Where there is one, nothing is looked for ahead, and contents lie in the
-/// arena in the order in which they were read.
+/// A breakpoint at an address without an instruction. Where there is one, nothing is looked for ahead, and contents
+/// lie in the arena in the order in which they were read.
 const NOWHERE: u32 = u32::MAX;
 
-/// A closed record adds nothing to the arena, and has its slots' segments. Slots are read by their numbers, gathered
+/// A closed record adds nothing to the arena, and has its slots' segments. Slots are read by their indices, gathered
 /// items are read, and a cut character is carried.
 const ROWS: &str = "\
 arena 8|swapped|3606666f6f|3606666f6f
@@ -34,7 +34,7 @@ out 3|array|04060800| ff
 carry 2|0 TEXT;1 HALT|8201{63:61}c3a9|c3
 ";
 
-/// Appends what a machine carries of a cut character after so many rows.
+/// Appends the bytes of a cut character that a machine carries after `limit` rows.
 pub(crate) fn push_carry(
     alloc: Global,
     output: &mut String,
@@ -49,7 +49,7 @@ pub(crate) fn push_carry(
     push_hex(alloc, output, machine.carry())
 }
 
-/// Appends the place and the length of each segment of a buffer.
+/// Appends the offset and the length of each segment of a buffer.
 fn push_segments(output: &mut String, machine: &Machine, at: BufferAt) -> Result<(), AllocError> {
     for number in 0..SEGMENTS {
         if let Some((place, len)) = machine.segment(at, number) {
@@ -59,7 +59,8 @@ fn push_segments(output: &mut String, machine: &Machine, at: BufferAt) -> Result
     Ok(())
 }
 
-/// Appends the segments of a buffer, and its bytes after a byte that was there before, where there is such a buffer.
+/// Appends the segments of a buffer, and its bytes after a byte that was there before, or `none` where there
+/// is no such buffer.
 fn push_buffer(
     alloc: Global,
     output: &mut String,
@@ -76,7 +77,7 @@ fn push_buffer(
     push_hex(alloc, output, &bytes)
 }
 
-/// Appends a buffer, or else the arena, after so many rows, with nothing looked for ahead.
+/// Appends a buffer, or else the arena, after `limit` rows, with nothing looked for ahead.
 pub(crate) fn push_after(
     alloc: Global,
     output: &mut String,
@@ -100,7 +101,7 @@ fn bytes_lie_where_they_were_read(rt: HostRuntime) -> Result<(), Fail> {
     assert_questions(&rt, ROWS)
 }
 
-/// What a machine shows, and its arena.
+/// Returns what a machine shows, and its arena.
 fn shown(alloc: Global, machine: &Machine) -> Result<String, AllocError> {
     let mut text = show_machine(alloc, machine, false)?;
     let arena = hex::encode(alloc, machine.arena())?;
@@ -108,7 +109,7 @@ fn shown(alloc: Global, machine: &Machine) -> Result<String, AllocError> {
     Ok(text)
 }
 
-/// A row, where it can be counted.
+/// Takes a row, if it can be counted.
 fn step(machine: &mut Machine, program: &Program, input: &[u8]) -> Step
     requires under { IsUnder program.now machine.old }
     requires on { IsOn input.now machine.old }
@@ -121,8 +122,8 @@ fn step(machine: &mut Machine, program: &Program, input: &[u8]) -> Step
     machine.step(program, input, true)
 }
 
-/// Whether a row is taken, asked again where memory ran out the first time: the machine shows then what it showed
-/// before.
+/// Returns whether a row is taken. It is asked for again where memory ran out the first time: then the machine has to
+/// show what it showed before.
 fn takes_row(
     alloc: Global,
     machine: &mut Machine,
@@ -143,7 +144,7 @@ fn takes_row(
     Ok(before.as_str() == after.as_str() && step(machine, program, input) == Step::Moved)
 }
 
-/// Whether so many rows are taken so.
+/// Returns whether `k` rows are taken, each as `takes_row` takes it.
 fn takes_rows(
     alloc: Global,
     machine: &mut Machine,
@@ -162,7 +163,7 @@ fn takes_rows(
     Ok(true)
 }
 
-/// Appends the arena and the segments of the output after so many rows that are taken one by one.
+/// Appends the arena and the segments of the output after `limit` rows that are taken one by one.
 pub(crate) fn push_steps(
     alloc: Global,
     output: &mut String,

@@ -13,14 +13,15 @@ use machine_plan::PlannedProgram;
 use machine_stepper::{BufferAt, Machine};
 use std::alloc::{AllocError, Global};
 
-/// The number that a word is.
+/// Returns the number that a word is; 0 where it is none.
 fn number(word: Option<&str>) -> u64 {
     word.unwrap_or("0").parse::<u64>().unwrap_or(0)
 }
 
-/// Appends what a machine answers before its first row. The words that a question has behind its first one are numbers:
-/// of rows, of times, of a frame's slot, how many bytes a piece has and how many rows a slice, or how many bytes the
-/// first of two messages has, and a piece.
+/// Appends what a machine answers before its first row.
+///
+/// The words of a question after its first one are numbers: of rows, of times, of a frame's slot; how many bytes a
+/// piece has and how many rows a slice; or how many bytes the first of two messages has, and a piece.
 fn push_answer(
     alloc: Global,
     output: &mut String,

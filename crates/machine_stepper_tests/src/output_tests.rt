@@ -13,8 +13,8 @@ use std::alloc::{AllocError, Global};
 use std::test::Fail;
 
 /// A long text, read in pieces and found ahead, is one segment, as a record is whose slots come in order; where slots
-/// come in another order, a record is two segments, and an array of such records is more. A short output comes after a
-/// long one, and a long one after a short one.
+/// come in another order, a record is two segments, and an array of such records is more. A short output comes after
+/// a long one, and a long one after a short one.
 const ROWS: &str = "\
 outputs 65540 4096|0 TEXT;1 HALT|828008{65537:61}0262|done 828008{65537:61} done 828008{65537:61};\
 done 0262 done 0262;done 828008{65537:61} done 828008{65537:61};
@@ -56,7 +56,8 @@ fn push_output(
     output.push_str("\n")
 }
 
-/// Appends the outputs of a message, of another one, and of the first one again, of which that has so many bytes.
+/// Appends the outputs of a message, of another one, and of the first one again. The first has `len` bytes of the
+/// input, the other one the rest.
 pub(crate) fn push_outputs(
     alloc: Global,
     output: &mut String,

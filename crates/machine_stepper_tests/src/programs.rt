@@ -16,7 +16,7 @@ use std::fmt::Write;
 /// More turns than any test takes.
 const TURNS: usize = 20_000;
 
-/// The program of these lines under the header. It is assembled again where memory ran out the first time.
+/// Returns the program of these lines under the header. It is assembled again where memory ran out the first time.
 pub(crate) fn program(alloc: Global, lines: &str) -> Result<Program, AsmError> {
     let mut text = String::from_str(alloc, "avro program 1\n")?;
     push_text(&mut text, lines)?;
@@ -24,7 +24,7 @@ pub(crate) fn program(alloc: Global, lines: &str) -> Result<Program, AsmError> {
     again!(assemble(alloc, text.as_bytes()), AsmError::NoMemory)
 }
 
-/// A run on an input that comes in pieces, in slices of so many rows.
+/// Runs a program on an input that comes in pieces of `piece` bytes, in slices of `limit` rows.
 pub(crate) fn run(
     machine: &mut Machine,
     program: &PlannedProgram,
@@ -44,7 +44,7 @@ pub(crate) fn run(
     }
 }
 
-/// The end of a further piece, where the machine waits for one.
+/// Returns the end of a further piece, if the machine waits for one.
 fn further(why: Why, end: usize, piece: usize, len: usize) -> usize
     requires { end ≤ len }
     ensures order { end ≤ result }
@@ -62,7 +62,7 @@ pub(crate) fn push_hex(alloc: Global, output: &mut String, bytes: &[u8]) -> Resu
     output.push_str(hex.as_str())
 }
 
-/// Appends an output, and `-` where it has no bytes.
+/// Appends an output, or `-` where it has no bytes.
 pub(crate) fn push_done(
     alloc: Global,
     output: &mut String,
@@ -115,7 +115,7 @@ fn trap_name(trap: Trap) -> &'static str {
     }
 }
 
-/// Appends how a machine's run ended, or that it runs, and its count.
+/// Appends how a machine's run ended, or that it runs, and its count of rows.
 pub(crate) fn push_words(
     alloc: Global,
     output: &mut String,
@@ -129,7 +129,7 @@ pub(crate) fn push_words(
     write!(output, " count {count}")
 }
 
-/// The bytes of a row of hexadecimal digits.
+/// Returns the bytes of a row of hexadecimal digits.
 pub(crate) fn input(alloc: Global, hex: &str) -> Result<Vec<u8>, FromHexError> {
     let mut digits = String::new(alloc);
     push_text(&mut digits, hex)?;

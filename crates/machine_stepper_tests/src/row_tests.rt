@@ -1,5 +1,5 @@
-//! Worked rows: what programs answer, and after how many rows. Each line of a table is a program, its input and the
-//! answer.
+//! Worked rows: what programs answer, and after how many rows. Each line of a table is a program, its
+//! input and the answer.
 
 use crate::rows::assert_rows;
 use std::test::Fail;

@@ -1,4 +1,4 @@
-//! Tables of rows: a program, its input, and what is answered, parted by bars.
+//! Tables of rows: a program, its input, and the answer, separated by bars.
 
 use crate::asked::push_new;
 use crate::programs::{input, program};
@@ -8,7 +8,7 @@ use std::alloc::Global;
 use std::process::Abort;
 use std::test::Fail;
 
-/// The lines of a program by its name in a row, or those that stand there themselves.
+/// Returns the lines of a program by its name in a row, or the row's text where that is the lines themselves.
 fn lines_of(name: &str) -> &str {
     match name {
         "record" => "0 CALL 2;1 HALT;2 RECORD 2;3 SLOT 0;4 LONG;5 SLOT 1;6 TEXT;7 ENDREC;8 RET",
@@ -49,7 +49,7 @@ fn push_told(
     }
 }
 
-/// Whether a row is true of a question.
+/// Returns whether a row is true of a question.
 fn is_true(alloc: Global, question: &str, row: &str) -> Result<bool, Fail> {
     let (lines, rest) = row.split_once('|').unwrap_or((row, ""));
     let (hex, answer) = rest.split_once('|').unwrap_or((rest, ""));
@@ -59,13 +59,13 @@ fn is_true(alloc: Global, question: &str, row: &str) -> Result<bool, Fail> {
     Ok(found.as_str() == want.as_str())
 }
 
-/// Whether a row is true that begins with its question.
+/// Returns whether a row that begins with its question is true.
 fn is_true_of_its_own(alloc: Global, row: &str) -> Result<bool, Fail> {
     let (question, rest) = row.split_once('|').unwrap_or((row, ""));
     is_true(alloc, question, rest)
 }
 
-/// The rows are true, each of its own question.
+/// Asserts that the rows are true, each of its own question.
 pub(crate) fn assert_questions(rt: &(impl Abort + AllocGlobal), rows: &str) -> Result<(), Fail> {
     for row in rows.lines() {
         holds(rt, is_true_of_its_own(rt.alloc(), row)?, row);
@@ -73,7 +73,7 @@ pub(crate) fn assert_questions(rt: &(impl Abort + AllocGlobal), rows: &str) -> R
     Ok(())
 }
 
-/// The rows are true of a question.
+/// Asserts that the rows are true of a question.
 pub(crate) fn assert_rows(
     rt: &(impl Abort + AllocGlobal),
     question: &str,

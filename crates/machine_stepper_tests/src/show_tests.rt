@@ -1,4 +1,4 @@
-//! The texts of states, each after so many rows of a program on an input.
+//! The texts of states, each after a number of rows of a program on an input.
 
 ghost use Rattle.std.specs.Prelude.{◌≡◌};
 ghost use Rattle.machine_stepper.specs.Running.{start};
@@ -11,8 +11,8 @@ use machine_stepper::{Machine, Why};
 use std::alloc::{AllocError, Global};
 use std::test::Fail;
 
-/// A number is decoded, a text is begun, a block by its count, a block with its size, one that is skipped, an output, a
-/// mismatch, bad bytes, a trap, and want of memory.
+/// A number is decoded, a text is begun, a block by its count, a block with its size, one that is skipped, an output,
+/// a mismatch, bad bytes, a trap, and want of memory.
 const STATES: &str = "\
 shown 4|record|3606666f6f|count 4 pc 5 pos 1 units 1 part - mark - over 0 state running;out -;call 1;rec 0 36 -;
 shown 6|record|3606666f6f|count 6 pc 6 pos 2 units 1 part 3 2 mark - over 0 state running;out -;call 1;rec 1 36 06;
@@ -26,7 +26,7 @@ shown 99|0 RET||count 1 pc 0 pos 0 units 0 part - mark - over 0 state trap;out -
 no-memory|0 HALT||count 0 pc 0 pos 0 units 0 part - mark - over 0 state memory;out -;
 ";
 
-/// The same lines come back.
+/// The lines of a program come back in its listing.
 const LISTINGS: &str = "\
 record||avro program 1;0 CALL 2;1 HALT;2 RECORD 2;3 SLOT 0;4 LONG;5 SLOT 1;6 TEXT;7 ENDREC;8 RET;
 missed||avro program 1;miss 0 NoSymbol 3 4;0 MISS 0;1 HALT;
@@ -43,7 +43,7 @@ pub(crate) fn push_shown(
     output.push_str(text.as_str())
 }
 
-/// Appends the text of a machine after so many rows of a program on an input.
+/// Appends the text of a machine after `limit` rows of a program on an input.
 pub(crate) fn push_shown_after(
     alloc: Global,
     output: &mut String,

@@ -14,7 +14,7 @@ const TEXTS: &str = "\
 0 TEXT;1 HALT|8201{63:61}c3|malformed Truncated at 66 count 3
 ";
 
-/// The same for bytes that have to be a text.
+/// Rows for bytes that have to be a text.
 const BYTES: &str = "\
 miss 0 BytesNotText 0 0;0 BYTESTEXT 0;1 HALT|02ff|mismatch BytesNotText 0 0 count 3
 miss 0 BytesNotText 0 0;0 BYTESTEXT 0;1 HALT|0261|done 0261 count 3

@@ -1,11 +1,11 @@
-//! What rows of tables stand for. A semicolon stands for LF, `@` for the first line of a listing, and `{N:LINES}` for
-//! so many times these lines, in which `#` is the number of each turn.
+//! What the texts in rows of tables mean. A semicolon means LF, `@` the first line of a listing, and `{N:LINES}`
+//! these lines N times, in which `#` is the number of each turn.
 
 use std::alloc::AllocError;
 use std::fmt::Write;
 use std::process::Abort;
 
-/// Appends lines, with a number where it is called for.
+/// Appends lines, with a number where `#` asks for it.
 fn push_lines(text: &mut String, lines: &str, number: usize) -> Result<(), AllocError> {
     for byte in lines.as_bytes() {
         match byte {
@@ -18,7 +18,7 @@ fn push_lines(text: &mut String, lines: &str, number: usize) -> Result<(), Alloc
     Ok(())
 }
 
-/// Appends so many times the lines that stand behind their number.
+/// Appends the lines after a count and a colon, as many times as the count says.
 fn push_turns(text: &mut String, turns: &str) -> Result<(), AllocError> {
     let (many, lines) = turns.split_once(':').unwrap_or(("0", turns));
     for number in 0..many.parse::<usize>().unwrap_or(0) {
@@ -27,7 +27,7 @@ fn push_turns(text: &mut String, turns: &str) -> Result<(), AllocError> {
     Ok(())
 }
 
-/// Appends what a part of a row stands for.
+/// Appends the text that a row means.
 pub(crate) fn push_text(text: &mut String, row: &str) -> Result<(), AllocError> {
     for part in row.split('{') {
         let (turns, lines) = part.split_once('}').unwrap_or(("", part));
@@ -37,7 +37,7 @@ pub(crate) fn push_text(text: &mut String, row: &str) -> Result<(), AllocError> 
     Ok(())
 }
 
-/// What is tested of a row holds.
+/// Asserts that what is tested of a row holds.
 pub(crate) fn holds(rt: &impl Abort, is_so: bool, row: &str) {
     assert!(rt; is_so, "{row}");
 }

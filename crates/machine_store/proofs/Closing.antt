@@ -60,9 +60,9 @@ length-between around before slots le =
 pub fewer-texts : (laid : Laid) (first : ℕ) → texts_of (with_fewer first laid) ≡ take first (texts_of laid)
 fewer-texts laid first = sym (take-map (bytes_of laid.arena) first laid.slots)
 
--- ---- what is told of a store alone
+-- ---- what is said of a store alone
 
--- what the newest frame gives, between bytes of which so many stand before it
+-- what the newest frame gives, between bytes of which the first `before` come before it
 abbrev pub given : List ℕ → ℕ → List state.Frame → List ℕ
 given around before (state.Rec cur slots ∷ below) = between around before slots
 given around before (state.Blocks walk items buffer ∷ below) = take before around ++ (buffer ++ drop before around)
@@ -110,7 +110,7 @@ module _ (top : Frame) (rest : List Frame) (laid : Laid) (lost units : ℕ) (mar
   pub fewer-slots : length (take first laid.slots) ≡ first
   fewer-slots = omega (arith, length-take first laid.slots, rest-frames.1)
 
-  -- the newest frame goes, whose buffers have so many bytes
+  -- the newest frame goes, whose buffers have n bytes
   pub kept-dropped : (n : ℕ) → n ≡ total_length (drop first (texts_of laid)) → IsKept rest (with_fewer first laid) (lost + n) units mark over
   kept-dropped n e = record {
     places = subst (AreFrames rest) (sym fewer-slots) rest-frames.0;

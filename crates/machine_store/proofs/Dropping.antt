@@ -1,4 +1,5 @@
--- What a store keeps, and what it shows, when its newest frame goes: where nothing is held any more, and an array or a map without items.
+-- What a store keeps, and what it shows, when its newest frame goes: where nothing is held any more, and an array or
+-- a map without items.
 use Rattle.std.proofs.Common.{◌≡◌, ◌≢◌, ◌≤◌, ◌<◌, ℕ, ◌+◌, ◌-◌, Bool, true, false, List, [], ◌∷◌, ◌++◌, length, take, drop, get_or, set, Option, Some, refl, sym, ap, ◌∙◌, subst, arith, length-append}
 use Rattle.std.specs.Prelude.{is_some}
 use Rattle.std.proofs.lemmas.List.{get_or-map, get_or-take, length-map}

@@ -1,4 +1,4 @@
--- Frames and buffers by number: what is found of them is what the store shows.
+-- Frames and buffers by index: what is found of them is what the store shows.
 use Rattle.std.proofs.Common.{◌≡◌, ◌≤◌, ◌<◌, ℕ, zero, suc, ◌+◌, ◌-◌, Bool, true, false, cond, List, [], ◌∷◌, ◌++◌, length, reverse, take, drop, get_or, Option, Some, None, slice_get, refl, sym, ap, ◌∙◌, subst, arith, length-append, append_assoc}
 use Rattle.std.specs.Prelude.{Result, Ok, Err, OnErr, OnOk, is_ok, nat_lt, is_some, option_map, ◌==◌}
 use Rattle.std.proofs.lemmas.Option.{slice_get-get_or, slice_get_past}
@@ -114,7 +114,7 @@ segments_shown (frames.Record first selected) slots = drop first slots
 segments_shown (frames.Blocks first walk items) slots = get_or slots first [] ∷ []
 segments_shown frame slots = []
 
--- the frame of a number, among those that are shown
+-- the frame at an index, among those that are shown
 pub record IsFound (fs : List Frame) (texts : List (List ℕ)) (slots : List (List Segment)) (number end : ℕ) (frame : Frame) (to : ℕ) : Type 0 where
   pub below : List Frame
   pub are : AreFrames (frame ∷ below) to
@@ -403,7 +403,7 @@ few-segments laid places.Out n are p e = omega (arith, no-more laid.arena laid.o
 few-segments laid (places.Slot i) n are p e =
     omega (arith, no-more laid.arena (get_or laid.slots i []) (all-at (AreSegments (length laid.arena)) laid.slots i [] are.slots p), in-total (texts_of laid) i, ap (λ (x : List ℕ). length x) (text-at laid i p), e)
 
--- ---- what the functions answer
+-- ---- what the functions return
 
 some-placed : (fs : List Frame) (laid : Laid) (b : BufferAt) (o : Option TargetBuffer) → Places fs laid b o → is_some o ≡ is_some (buffer_of b (record { frames = frames_in fs (texts_of laid); out = out_of laid; mark = None; over = false }))
 some-placed fs laid b None p = ap is_some (sym p)

@@ -1,4 +1,4 @@
--- Frames and buffers by number, the oldest frame first: what is seen of them. All of this is this project's own.
+-- Frames and buffers by index, the oldest frame first: what is seen of them. All of this is this project's own.
 use Rattle.std.specs.Prelude.{ℕ, ◌+◌, ◌-◌, List, [], ◌∷◌, length, get_or, reverse, slice_get, Option, Some, None, ◌==◌, nat_lt, if◌then◌else◌}
 use Rattle.isa.specs.State as state
 use Rattle.isa.specs.State.{Store}
@@ -46,7 +46,7 @@ segments_of_buffer (at.Gathered frame) l = get_or (get_or (reverse l.frames) fra
 abbrev pub place_and_length : Segment → ℕ × ℕ
 place_and_length s = (s.place, s.end - s.place)
 
--- ---- how they are found: frames, the newest first, down to what lies below all, over so many slots
+-- ---- how they are found: frames, the newest first, down to the bottom one, over n slots
 
 -- where the slots of the frames below one end
 abbrev pub end_below : Frame → ℕ → ℕ
@@ -54,12 +54,12 @@ end_below (frames.Record first selected) end = first
 end_below (frames.Blocks first walk items) end = first
 end_below frame end = end
 
--- the same, below some frames
+-- where the slots of the frames below some end
 abbrev pub end_over : List Frame → ℕ → ℕ
 end_over [] end = end
 end_over (frame ∷ newer) end = end_over newer (end_below frame end)
 
--- the frame of a number, and where its own slots end
+-- the frame at an index, and where its own slots end
 abbrev pub frame_numbered : ℕ → List Frame → ℕ → Option (Frame × ℕ)
 frame_numbered number [] end = None
 frame_numbered number (frame ∷ below) end =

@@ -17,7 +17,7 @@ use std::mem;
 pub enum Buffer {
     Empty,
     One(Segment),
-    /// A first and a last one, and the number of the rope between them.
+    /// A first and a last segment, and the index of the rope between them.
     More {
         first: Segment,
         middle: usize,
@@ -32,7 +32,7 @@ pub enum TargetBuffer {
     Slot(usize),
 }
 
-/// The buffer with a segment after its own.
+/// Returns the buffer with a segment appended to its own.
 fn joined_segment(ropes: &mut Ropes, buffer: Buffer, segment: Segment) -> Result<Buffer, AllocError>
     requires ropes { AreRopes ropes.old }
     requires held { IsHeld ropes.old buffer }
@@ -82,7 +82,7 @@ fn joined_segment(ropes: &mut Ropes, buffer: Buffer, segment: Segment) -> Result
     }
 }
 
-/// The buffer with a segment after its own, unless that one is empty.
+/// Returns the buffer with a segment appended to its own, unless the segment is empty.
 fn joined_bytes(ropes: &mut Ropes, buffer: Buffer, segment: Segment) -> Result<Buffer, AllocError>
     requires ropes { AreRopes ropes.old }
     requires held { IsHeld ropes.old buffer }
@@ -97,7 +97,7 @@ fn joined_bytes(ropes: &mut Ropes, buffer: Buffer, segment: Segment) -> Result<B
     joined_segment(ropes, buffer, segment)
 }
 
-/// The buffer with those of another one after its own.
+/// Returns the buffer with the segments of another one appended to its own.
 fn joined_buffer(ropes: &mut Ropes, buffer: Buffer, behind: Buffer) -> Result<Buffer, AllocError>
     requires ropes { AreRopes ropes.old }
     requires held { IsHeld ropes.old buffer }
@@ -137,7 +137,7 @@ fn joined_buffer(ropes: &mut Ropes, buffer: Buffer, behind: Buffer) -> Result<Bu
     }
 }
 
-/// The buffer with those of the slots from a first one on after its own, in order.
+/// Returns the buffer with the segments of the slots from `first` on appended to its own, in order.
 fn joined_slots(
     ropes: &mut Ropes,
     buffer: Buffer,
@@ -159,7 +159,7 @@ fn joined_slots(
     Ok(joined)
 }
 
-/// The buffer at an offset.
+/// Returns the buffer at a place.
 fn buffer_at(out: Buffer, slots: &Slots, place: TargetBuffer) -> Buffer
     requires { IsPlace (length slots.now) place }
     ensures { result ≡ buffer_at out slots.now place }
@@ -192,7 +192,7 @@ fn put(
     }
 }
 
-/// Takes away the slots from a first one on, and puts a buffer into its place.
+/// Removes the slots from `first` on, and puts a buffer into its place.
 fn put_below(
     out: &mut Buffer,
     slots: &mut Slots,
@@ -217,7 +217,7 @@ fn put_below(
     }
 }
 
-/// A segment of a buffer, by its number, where there are so many.
+/// Returns the segment with index `number` of a buffer. `None` where there is none.
 fn segment_of(ropes: &Ropes, buffer: Buffer, number: usize) -> Option<Segment>
     requires held { IsHeld ropes.now buffer }
     requires few { number < 2 ^ 64 - 1 }
@@ -234,7 +234,7 @@ fn segment_of(ropes: &Ropes, buffer: Buffer, number: usize) -> Option<Segment>
     }
 }
 
-/// An output and slots, whose bytes lie in one arena. Callers see them as the arena and the segments of each.
+/// An output and slots, whose bytes are in one arena. Callers see them as the arena and the segments of each.
 #[derive(Drop)]
 pub struct Buffers {
     arena: Vec<u8>,
@@ -254,7 +254,7 @@ impl Model for Buffers {
 }
 
 impl Buffers {
-    /// An empty output, and no slot.
+    /// Returns an empty output and no slots.
     pub fn new(alloc: Global) -> Buffers
         ensures { result ≡ record { arena = []; out = []; slots = [] } }
     {
@@ -266,7 +266,7 @@ impl Buffers {
         }
     }
 
-    /// Goes back to what `new` gives, and keeps the memory.
+    /// Goes back to the buffers that `new` returns, and keeps the memory.
     pub fn clear(&mut self)
         ensures { self.new ≡ record { arena = []; out = []; slots = [] } }
     {
@@ -276,7 +276,7 @@ impl Buffers {
         self.slots.clear();
     }
 
-    /// Lets go of memory above what is held, and above that for so many bytes and a 64th of so many slots and ropes.
+    /// Releases memory beyond what is held, but keeps enough for `bytes` bytes and for a 64th as many slots and ropes.
     pub fn shrink_to(&mut self, bytes: usize)
         ensures { self.new ≡ self.old }
     {
@@ -285,22 +285,22 @@ impl Buffers {
         self.slots.shrink_to(bytes / 64);
     }
 
-    /// How many slots there are.
+    /// Returns how many slots there are.
     pub fn len(&self) -> usize
         ensures { result ≡ length self.now.slots }
     {
         self.slots.len()
     }
 
-    /// The bytes of all buffers, and those that no buffer holds any more.
+    /// Returns the bytes of all buffers, and those that no buffer holds any more.
     pub fn arena(&self) -> &[u8]
         ensures { result.now ≡ self.now.arena }
     {
         &self.arena
     }
 
-    /// The law that the segments of each lie in the arena, none is empty, and of two neighbours the second does not
-    /// begin where the first ends.
+    /// The law that the segments of each buffer lie in the arena, none is empty, and of two neighbours the second
+    /// does not begin where the first ends.
     pub fn are_laid(&self)
         ensures { AreLaid self.now }
     {
@@ -326,7 +326,7 @@ impl Buffers {
         Ok(())
     }
 
-    /// Appends empty slots.
+    /// Appends `more` empty slots.
     pub fn open(&mut self, more: usize) -> Result<(), AllocError>
         requires { more ≤ MOST_SLOTS }
         ensures opened { OnOk result (self.new ≡ with_opened more self.old) }
@@ -335,8 +335,8 @@ impl Buffers {
         self.slots.open(more)
     }
 
-    /// Takes away the slots from a first one on, and appends them, in order, to a buffer, with so many of the bytes
-    /// around them before and the others behind.
+    /// Removes the slots from `first` on, and appends their bytes, in order, to a buffer, with the first `before`
+    /// bytes of `around` before them and the others after them.
     pub fn close(
         &mut self,
         first: usize,
@@ -369,7 +369,7 @@ impl Buffers {
         Ok(())
     }
 
-    /// Takes away the slots from a first one on.
+    /// Removes the slots from `first` on.
     pub fn shorten(&mut self, first: usize)
         ensures { self.new ≡ with_fewer first self.old }
     {
@@ -386,7 +386,7 @@ impl Buffers {
         self.slots.empty_all();
     }
 
-    /// Appends the bytes of a buffer to others. What stands behind those after an `Err` is not said.
+    /// Appends the bytes of a buffer to `out`. After an `Err`, the bytes of `out` are not defined.
     pub fn write(
         &self,
         alloc: Global,
@@ -412,7 +412,7 @@ impl Buffers {
         }
     }
 
-    /// Returns the bytes of the output, where it is one segment with which the arena begins.
+    /// Returns the bytes of the output, if it is one segment with which the arena begins.
     pub fn out_in_front(&self) -> Option<&[u8]>
         ensures some { is_some result ≡ is_front self.now.out }
         ensures bytes { IfSome result (λ out. out.now ≡ bytes_of self.now.arena self.now.out) }
@@ -423,8 +423,8 @@ impl Buffers {
         }
     }
 
-    /// Takes the output out, where it is one segment with which the arena begins: hands out the arena's own memory, cut
-    /// at the segment's end, and goes back to what `new` gives. `None` leaves all as it was.
+    /// Takes the output out, if it is one segment with which the arena begins: hands out the arena's own memory, cut
+    /// at the segment's end, and goes back to the buffers that `new` returns. `None` leaves all as it was.
     pub fn take_out(&mut self, alloc: Global) -> Option<Vec<u8>>
         ensures some { is_some result ≡ is_front self.old.out }
         ensures bytes { IfSome result (λ out. out.items ≡ bytes_of self.old.arena self.old.out) }
@@ -444,7 +444,7 @@ impl Buffers {
         }
     }
 
-    /// A segment of a buffer, by its number, where there are so many. It takes no memory.
+    /// Returns the segment with index `number` of a buffer. `None` where there is none. It allocates nothing.
     pub fn segment(&self, place: TargetBuffer, number: usize) -> Option<Segment>
         requires there { IsPlace (length self.now.slots) place }
         requires few { number < 2 ^ 64 - 1 }

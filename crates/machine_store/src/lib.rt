@@ -1,6 +1,6 @@
 //! Machine; used by `machine_stepper`, `debugger`.
 //!
-//! What a run holds: open frames, and buffers whose bytes lie in one arena.
+//! What a run holds: open frames, and buffers whose bytes are in one arena.
 #![tactic(auto)]
 
 mod buffers;

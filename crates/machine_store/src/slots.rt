@@ -1,4 +1,4 @@
-//! Slots, whose buffers take memory from when something comes for them.
+//! Slots, whose buffers take memory only once something is put there.
 
 ghost use Rattle.std.specs.Prelude.{ℕ, ◌≡◌, ◌+◌, ◌-◌, ◌^◌, ◌<◌, ◌≤◌, [], ◌++◌, OnErr, OnOk, get_or, length, replicate, set, take, vec_capacity, vec_len};
 ghost use Rattle.machine_store.specs.declared.buffers.Buffer.TheVariants.{Empty};
@@ -15,7 +15,8 @@ pub(crate) struct HeldBuffer {
     buffer: Buffer,
 }
 
-/// What stands for a slot: 0 where nothing is held for it, else one more than the position of its buffer.
+/// Returns the number that the index has for a slot: 0 where no buffer is held for it, else one more than the
+/// position of its buffer.
 fn number_at(index: &[u32], slot: usize) -> u32
     ensures { result ≡ get_or index.now slot 0 }
 {
@@ -25,7 +26,7 @@ fn number_at(index: &[u32], slot: usize) -> u32
     }
 }
 
-/// The buffer for which a number stands.
+/// Returns the buffer that a number of the index refers to.
 fn buffer_held(held: &[HeldBuffer], number: u32) -> Buffer
     requires { number ≤ length held.now }
     ensures { result ≡ held_at held.now number }
@@ -37,7 +38,7 @@ fn buffer_held(held: &[HeldBuffer], number: u32) -> Buffer
     }
 }
 
-/// How many buffers are left where those at the end go that belong to slots from a first one on.
+/// Returns how many buffers are left once those at the end are removed that belong to slots from `first` on.
 fn left_below(held: &[HeldBuffer], first: usize) -> usize
     ensures within { result ≤ length held.now }
     ensures above { (at : ℕ) → result ≤ at → at < length held.now → IsAbove first at held.now }
@@ -49,8 +50,8 @@ fn left_below(held: &[HeldBuffer], first: usize) -> usize
     left
 }
 
-/// Makes room for one buffer more, and for the numbers of so many slots. More buffers than there are numbers for them
-/// are refused as if there were no memory.
+/// Makes room for one more buffer, and for the numbers of `slots` slots. Where there would be more buffers than
+/// numbers for them, the error is that for lack of memory.
 fn make_room(
     index: &mut Vec<u32>,
     held: &mut Vec<HeldBuffer>,
@@ -72,7 +73,7 @@ fn make_room(
     held.try_reserve(1)
 }
 
-/// Puts a buffer for a slot in its place, or behind the others.
+/// Replaces the buffer of a slot, or adds it after the others where there is none yet.
 fn put(index: &mut Vec<u32>, held: &mut Vec<HeldBuffer>, slot: usize, buffer: Buffer)
     requires there { slot < vec_len index.old }
     requires known { get_or index.old.items slot 0 ≤ vec_len held.old }
@@ -93,11 +94,12 @@ fn put(index: &mut Vec<u32>, held: &mut Vec<HeldBuffer>, slot: usize, buffer: Bu
     }
 }
 
-/// Slots with a buffer each. Callers see the list of these.
+/// Slots with a buffer each. Callers see the list of these buffers.
 #[derive(Drop)]
 pub(crate) struct Slots {
     len: usize,
-    /// What stands for each slot of the records for which something came, and of those below them.
+    /// The number of each slot's buffer, as `number_at` has it, of the records for which something came,
+    /// and of those below.
     index: Vec<u32>,
     held: Vec<HeldBuffer>,
 }
@@ -116,7 +118,7 @@ impl Model for Slots {
 }
 
 impl Slots {
-    /// None.
+    /// Returns no slots.
     pub(crate) fn new(alloc: Global) -> Slots
         ensures { result ≡ [] }
     {
@@ -127,7 +129,7 @@ impl Slots {
         }
     }
 
-    /// Goes back to what `new` gives, and keeps the memory.
+    /// Removes all slots, and keeps the memory.
     pub(crate) fn clear(&mut self)
         ensures { self.new ≡ [] }
     {
@@ -136,7 +138,7 @@ impl Slots {
         self.held.clear();
     }
 
-    /// Lets go of memory above what is held, and above that for so many slots.
+    /// Releases memory beyond what is held, but keeps enough for `slots` slots.
     pub(crate) fn shrink_to(&mut self, slots: usize)
         ensures { self.new ≡ self.old }
     {
@@ -144,14 +146,14 @@ impl Slots {
         self.held.shrink_to(slots);
     }
 
-    /// How many there are.
+    /// Returns how many slots there are.
     pub(crate) fn len(&self) -> usize
         ensures { result ≡ length self.now }
     {
         self.len
     }
 
-    /// The buffer of a slot.
+    /// Returns the buffer of a slot.
     pub(crate) fn get(&self, slot: usize) -> Buffer
         requires { slot < length self.now }
         ensures { result ≡ get_or self.now slot Empty }
@@ -159,7 +161,7 @@ impl Slots {
         buffer_held(&self.held, number_at(&self.index, slot))
     }
 
-    /// Appends empty slots, which take no memory. It fails only where they would be more than can be counted.
+    /// Appends `more` empty slots, which take no memory. It fails only where they would be more than can be counted.
     pub(crate) fn open(&mut self, more: usize) -> Result<(), AllocError>
         ensures opened { OnOk result (self.new ≡ self.old ++ replicate more Empty) }
         ensures refused { OnErr result (self.new ≡ self.old) }
@@ -171,7 +173,7 @@ impl Slots {
         Ok(())
     }
 
-    /// Takes away the slots from a first one on.
+    /// Removes the slots from `first` on.
     pub(crate) fn shorten(&mut self, first: usize)
         ensures { self.new ≡ take first self.old }
     {
@@ -194,7 +196,7 @@ impl Slots {
         Ok(())
     }
 
-    /// Takes away the slots from a first one on, and puts a buffer into one below them.
+    /// Removes the slots from `first` on, and puts a buffer into a slot below them.
     pub(crate) fn close(
         &mut self,
         first: usize,

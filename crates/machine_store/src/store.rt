@@ -18,16 +18,16 @@ use std::marker::Model;
 /// What is open, and where its slots begin.
 #[derive(Clone, Copy)]
 pub enum Frame {
-    /// What lies below all frames.
+    /// The bottom, below all frames.
     Bottom,
-    /// A record, and the slot that is selected.
+    /// A record: its first slot, and the slot that is selected.
     Record {
         first: usize,
         selected: Option<usize>,
     },
     /// A record that is skipped.
     Skip,
-    /// An array or a map, and how many items came.
+    /// An array or a map: its slot, its walk, and how many items came.
     Blocks {
         first: usize,
         walk: BlockWalk,
@@ -39,10 +39,10 @@ pub enum Frame {
     },
 }
 
-/// What is to be opened.
+/// A frame that is to be opened.
 #[derive(Clone, Copy)]
 pub enum Opening {
-    /// A record of so many slots.
+    /// A record of this many slots.
     Record(usize),
     Skip,
     Blocks(BlockWalk),
@@ -50,7 +50,7 @@ pub enum Opening {
 }
 
 impl Frame {
-    /// The current buffer, where it is the newest frame.
+    /// Returns the current buffer, if this is the newest frame. `None` where it has none.
     fn place(self) -> Option<TargetBuffer>
         ensures { result ≡ place_of self }
     {
@@ -65,7 +65,7 @@ impl Frame {
         }
     }
 
-    /// The first slot of what it holds.
+    /// Returns the first slot of the frame. `None` where it has no slots of its own.
     pub(crate) fn first(self) -> Option<usize>
         ensures { result ≡ first_of self }
     {
@@ -77,7 +77,7 @@ impl Frame {
 }
 
 impl Opening {
-    /// How many slots it takes.
+    /// Returns how many slots it takes.
     fn slots(&self) -> usize
         ensures { result ≡ slots_opened self.now }
     {
@@ -88,7 +88,7 @@ impl Opening {
         }
     }
 
-    /// The frame that it opens, whose slots begin so.
+    /// Returns the frame that it opens, whose first slot is `first`.
     fn frame(self, first: usize) -> Frame
         ensures { result ≡ opened_at first self }
     {
@@ -108,14 +108,14 @@ impl Opening {
     }
 }
 
-/// The current buffer, where the last of these frames is the newest.
+/// Returns the current buffer, if the last of these frames is the newest. `None` where there is none.
 fn newest_place(frames: &[Frame]) -> Option<TargetBuffer>
     ensures { result ≡ newest_place (reverse frames.now) }
 {
     frames.last()?.place()
 }
 
-/// The last of these frames, which is taken away.
+/// Removes the last of these frames, and returns it.
 fn popped(frames: &mut Vec<Frame>) -> Frame
     requires { 0 < vec_len frames.old }
     ensures { reverse frames.old.items ≡ result ∷ reverse frames.new.items }
@@ -126,7 +126,8 @@ fn popped(frames: &mut Vec<Frame>) -> Frame
     }
 }
 
-/// Open frames with their buffers, the output, and what was told of it: what a run holds.
+/// What a run holds: open frames with their buffers, the output, the first miss, and whether the output
+/// passed its limit.
 #[derive(Drop)]
 pub struct Store {
     pub(crate) top: Frame,
@@ -153,7 +154,7 @@ impl Model for Store {
 impl Store {
     ghost use Rattle.machine_store.specs.Store.{start};
 
-    /// Nothing.
+    /// Returns a store that holds nothing.
     pub fn new(alloc: Global) -> Store
         ensures { result ≡ start }
     {
@@ -168,7 +169,7 @@ impl Store {
         }
     }
 
-    /// Goes back to what `new` gives, and keeps the memory.
+    /// Goes back to the store that `new` returns, and keeps the memory.
     pub fn reset(&mut self)
         ensures { self.new ≡ start }
     {
@@ -181,7 +182,7 @@ impl Store {
         self.over = false;
     }
 
-    /// Lets go of memory above what is held, and above that for so many bytes and a 64th of so many slots and frames.
+    /// Releases memory beyond what is held, but keeps enough for `bytes` bytes and for a 64th as many slots and frames.
     pub fn shrink_to(&mut self, bytes: usize)
         ensures { self.new ≡ self.old }
     {
@@ -189,7 +190,7 @@ impl Store {
         self.buffers.shrink_to(bytes);
     }
 
-    /// How much is open, and how many units there were.
+    /// Returns how many frames are open, and how many units there were.
     pub fn meter(&self) -> Meter
         ensures { result ≡ meter_of self.now }
     {
@@ -199,42 +200,42 @@ impl Store {
         }
     }
 
-    /// The number of the first miss.
+    /// Returns the index of the first miss. `None` where there was none.
     pub fn mark(&self) -> Option<u32>
         ensures { result ≡ self.now.store.mark }
     {
         self.mark
     }
 
-    /// Whether the output passed its limit.
+    /// Returns whether the output passed its limit.
     pub fn is_over(&self) -> bool
         ensures { result ≡ self.now.store.over }
     {
         self.over
     }
 
-    /// The bytes of all buffers, and those that no buffer holds any more.
+    /// Returns the bytes of all buffers, and those that no buffer holds any more.
     pub fn arena(&self) -> &[u8]
         ensures { result.now ≡ self.now.layout.arena }
     {
         self.buffers.arena()
     }
 
-    /// Whether there is a current buffer.
+    /// Returns whether there is a current buffer.
     pub fn has_current(&self) -> bool
         ensures { result ≡ has_current self.now.store.frames }
     {
         self.top.place().is_some()
     }
 
-    /// Whether there is one below the newest frame.
+    /// Returns whether there is a current buffer below the newest frame.
     pub fn has_current_below(&self) -> bool
         ensures { result ≡ has_current_below self.now.store.frames }
     {
         newest_place(&self.below).is_some()
     }
 
-    /// How many slots the newest frame has, where it is a record.
+    /// Returns how many slots the newest frame has, if it is a record.
     pub fn slots(&self) -> Option<usize>
         ensures { result ≡ slots_of self.now.store.frames }
     {
@@ -244,14 +245,14 @@ impl Store {
         }
     }
 
-    /// Whether the newest frame is a record that is skipped.
+    /// Returns whether the newest frame is a record that is skipped.
     pub fn is_skip(&self) -> bool
         ensures { result ≡ is_skip self.now.store.frames }
     {
         matches!(self.top, Frame::Skip)
     }
 
-    /// The walk of the newest frame, where it is an array or a map.
+    /// Returns the walk of the newest frame, if it is an array or a map.
     pub fn walk(&self) -> Option<BlockWalk>
         ensures { result ≡ walk_of self.now.store.frames }
     {
@@ -261,7 +262,7 @@ impl Store {
         }
     }
 
-    /// The walk of the newest frame, where it is an array or a map that is skipped.
+    /// Returns the walk of the newest frame, if it is an array or a map that is skipped.
     pub fn skip_walk(&self) -> Option<BlockWalk>
         ensures { result ≡ skip_walk_of self.now.store.frames }
     {
@@ -271,14 +272,14 @@ impl Store {
         }
     }
 
-    /// Whether nothing is held any more.
+    /// Returns whether nothing is held any more: a miss is marked, or the output passed its limit.
     fn is_done(&self) -> bool
         ensures { result ≡ is_done self.now.store.mark self.now.store.over }
     {
         self.mark.is_some() || self.over
     }
 
-    /// How many bytes the buffers have.
+    /// Returns how many bytes the buffers have.
     fn held(&self) -> usize
         ensures held { result ≡ total self.now.store }
         ensures few { result ≤ MOST_OUTPUT }
@@ -286,14 +287,15 @@ impl Store {
         self.buffers.arena().len() - self.lost
     }
 
-    /// How many bytes more the buffers may have.
+    /// Returns how many more bytes the buffers may have.
     pub fn room(&self) -> usize
         ensures { result ≡ MOST_OUTPUT - total self.now.store }
     {
         MOST_OUTPUT - self.held()
     }
 
-    /// Bytes at the end of the current buffer.
+    /// Appends bytes to the current buffer. Where they would pass the limit, that is noted, and nothing
+    /// is held any more.
     pub fn add(&mut self, bytes: &[u8]) -> Result<(), AllocError>
         requires { has_current self.old.store.frames ≡ true }
         ensures added { OnOk result (self.new.store ≡ add bytes.now self.old.store) }
@@ -315,7 +317,7 @@ impl Store {
         }
     }
 
-    /// There are so many units.
+    /// Sets the number of units.
     pub fn count_units(&mut self, units: u32)
         requires { self.old.units ≤ units }
         ensures { self.new ≡ record self.old { units = units } }
@@ -323,7 +325,7 @@ impl Store {
         self.units = units;
     }
 
-    /// The first miss is marked, and nothing is held any more.
+    /// Marks a miss if it is the first, and then empties all buffers: nothing is held any more.
     pub fn miss(&mut self, miss: u32)
         ensures missed { self.new.store ≡ Rattle.isa.specs.State.miss miss self.old.store }
         ensures units { self.new.units ≡ self.old.units }
@@ -338,7 +340,7 @@ impl Store {
         }
     }
 
-    /// A frame more, after which there are so many units.
+    /// Opens a frame, after which there are `units` units.
     pub fn open(&mut self, opening: Opening, units: u32) -> Result<(), AllocError>
         requires few { FewSlots opening }
         requires deep { length self.old.store.frames < MOST_DEPTH }
@@ -358,7 +360,7 @@ impl Store {
         Ok(())
     }
 
-    /// Bytes go from now on to a slot of the newest record.
+    /// Selects a slot of the newest record: bytes go there from now on.
     pub fn select(&mut self, slot: usize)
         requires { HasSlot slot (slots_of self.old.store.frames) }
         ensures selected { self.new.store ≡ with_frames (select slot self.old.store.frames) self.old.store }
@@ -374,7 +376,7 @@ impl Store {
         }
     }
 
-    /// The newest frame, which is skipped, is left.
+    /// Leaves the newest frame, which is skipped.
     pub fn leave(&mut self)
         requires { is_skipped self.old.store.frames ≡ true }
         ensures left { self.new.store ≡ with_frames (leave self.old.store.frames) self.old.store }
@@ -384,7 +386,7 @@ impl Store {
         self.top = popped(&mut self.below);
     }
 
-    /// The newest frame, which is an array or a map, is at its next item.
+    /// Moves the newest frame, which is an array or a map, to its next item. `units` is how many units there are then.
     pub fn next_item(&mut self, walk: BlockWalk, units: u32)
         requires blocks { is_some (walk_of self.old.store.frames) ≡ true }
         requires units { self.old.units < units }
@@ -402,7 +404,8 @@ impl Store {
         }
     }
 
-    /// The newest frame, which is an array or a map that is skipped, is at its next item.
+    /// Moves the newest frame, which is an array or a map that is skipped, to its next item. `units` is how many
+    /// units there are then.
     pub fn next_skipped(&mut self, walk: BlockWalk, units: u32)
         requires blocks { is_some (skip_walk_of self.old.store.frames) ≡ true }
         requires units { self.old.units ≤ units }
@@ -414,7 +417,7 @@ impl Store {
         self.units = units;
     }
 
-    /// The output passed its limit, and nothing is held any more.
+    /// Notes that the output passed its limit, and empties all buffers: nothing is held any more.
     fn pass_limit(&mut self)
         ensures passed { self.new.store ≡ emptied (record self.old.store { over = true }) }
         ensures units { self.new.units ≡ self.old.units }
@@ -424,7 +427,7 @@ impl Store {
         self.lost = 0;
     }
 
-    /// The newest frame goes with its buffers, where nothing is held any more.
+    /// Closes the newest frame and drops its buffers, where nothing is held any more.
     fn drop_newest(&mut self)
         requires holds { HoldsBuffers self.old.store.frames }
         requires done { is_done self.old.store.mark self.old.store.over ≡ true }
@@ -438,8 +441,8 @@ impl Store {
         self.top = popped(&mut self.below);
     }
 
-    /// The newest frame is closed: what it holds goes, between bytes of which so many stand before it, to the current
-    /// buffer below.
+    /// Closes the newest frame: moves what it holds to the current buffer below, with the first `before` bytes of
+    /// `around` before it and the others after it.
     fn close(&mut self, around: &[u8], before: usize) -> Result<(), AllocError>
         requires holds { HoldsBuffers self.old.store.frames }
         requires below { has_current_below self.old.store.frames ≡ true }
@@ -471,7 +474,7 @@ impl Store {
         Ok(())
     }
 
-    /// The newest frame, which is a record, is closed: its slots, in order, go to the current buffer below it.
+    /// Closes the newest frame, which is a record: its slots, in order, go to the current buffer below it.
     pub fn close_record(&mut self) -> Result<(), AllocError>
         requires record { is_some (slots_of self.old.store.frames) ≡ true }
         requires below { has_current_below self.old.store.frames ≡ true }
@@ -483,8 +486,8 @@ impl Store {
         self.close(&[], 0)
     }
 
-    /// The newest frame, which is an array or a map without items, is closed: `00` goes to the current buffer below it,
-    /// and what its own buffer holds goes nowhere. The scratch is used on the way.
+    /// Closes the newest frame, which is an array or a map without items: `00` goes to the current buffer below it,
+    /// and what its own buffer holds is dropped. `scratch` is used on the way.
     fn close_empty(&mut self, alloc: Global, scratch: &mut Vec<u8>) -> Result<(), AllocError>
         requires blocks { is_some (walk_of self.old.store.frames) ≡ true }
         requires below { has_current_below self.old.store.frames ≡ true }
@@ -521,8 +524,8 @@ impl Store {
         Ok(())
     }
 
-    /// The newest frame, which is an array or a map, is closed: its items go in one block to the current buffer below
-    /// it, or `00` alone where it has none. The scratch is used on the way.
+    /// Closes the newest frame, which is an array or a map: its items go in one block to the current buffer below it,
+    /// or `00` alone where it has none. `scratch` is used on the way.
     pub fn close_blocks(&mut self, alloc: Global, scratch: &mut Vec<u8>) -> Result<(), AllocError>
         requires blocks { is_some (walk_of self.old.store.frames) ≡ true }
         requires below { has_current_below self.old.store.frames ≡ true }
@@ -539,7 +542,7 @@ impl Store {
         self.close(scratch, before)
     }
 
-    /// How many items the newest frame has.
+    /// Returns how many items the newest frame has: 0 where it is no array or map that is added.
     fn items(&self) -> u32
         ensures { result ≡ items_of self.now.store.frames }
     {
@@ -549,7 +552,7 @@ impl Store {
         }
     }
 
-    /// Returns the bytes of the output, where it is one segment with which the arena begins.
+    /// Returns the bytes of the output, if it is one segment with which the arena begins.
     pub fn out_in_front(&self) -> Option<&[u8]>
         ensures some { is_some result ≡ is_front self.now.layout.out }
         ensures bytes { IfSome result (λ out. out.now ≡ self.now.store.out) }
@@ -557,8 +560,8 @@ impl Store {
         self.buffers.out_in_front()
     }
 
-    /// Takes the output out, where it is one segment with which the arena begins: hands out the arena's own memory, and
-    /// goes back to what `new` gives, in the memory that is left. `None` leaves all as it was.
+    /// Takes the output out, if it is one segment with which the arena begins: hands out the arena's own memory, and
+    /// goes back to the store that `new` returns, in the memory that is left. `None` leaves all as it was.
     pub fn take_out(&mut self, alloc: Global) -> Option<Vec<u8>>
         ensures some { is_some result ≡ is_front self.old.layout.out }
         ensures bytes { IfSome result (λ out. out.items ≡ self.old.store.out) }
@@ -579,7 +582,7 @@ impl Store {
         }
     }
 
-    /// The bytes of the output.
+    /// Returns a copy of the output's bytes.
     pub fn put_together(&self, alloc: Global) -> Result<Vec<u8>, AllocError>
         ensures { IfOk result (λ out. out.items ≡ self.now.store.out) }
     {

@@ -1,4 +1,4 @@
-//! What a debugger reads off a store.
+//! What a debugger reads from a store.
 
 ghost use Rattle.std.specs.Prelude.{◌≡◌, ◌++◌, ◌∷◌, length, Some, reverse, slice_get, option_map, is_some, true, OnErr, OnOk};
 ghost use Rattle.machine_ropes.specs.Segments.{AreSegments, bytes_of};
@@ -11,7 +11,7 @@ use machine_ropes::Segment;
 use outcome::MOST_OUTPUT;
 use std::alloc::{AllocError, Global};
 
-/// What a frame is, less the bytes of its buffers.
+/// A view of a frame, without the bytes of its buffers.
 #[derive(Clone, Copy, Debug)]
 pub enum FrameView {
     /// A record: the slot that is selected, and how many slots there are.
@@ -32,7 +32,7 @@ pub enum FrameView {
     },
 }
 
-/// Which buffer: the output, a slot of a record, or that of an array or a map. Frames go by number, the oldest first.
+/// Which buffer: the output, a slot of a record, or that of an array or a map. Frames go by index; the oldest is 0.
 #[derive(Clone, Copy, Debug, PartialEq, Eq)]
 pub enum BufferAt {
     Out,
@@ -40,7 +40,7 @@ pub enum BufferAt {
     Gathered { frame: usize },
 }
 
-/// Where the slots of the frames below one end, whose own slots end so.
+/// Returns where the slots of the frames below a frame end, whose own slots end at `end`.
 fn end_below(frame: Frame, end: usize) -> usize
     ensures { result ≡ end_below frame end }
 {
@@ -50,8 +50,8 @@ fn end_below(frame: Frame, end: usize) -> usize
     }
 }
 
-/// Where slots end over which these frames are, the oldest first, and then others, whose slots begin so: where those of
-/// the oldest frame begin that has some.
+/// Returns where the slots end below these frames, the oldest first, which are followed by others whose slots begin
+/// at `end`: where the slots of the oldest of these frames begin that has some, or else `end`.
 fn end_over(newer: &[Frame], end: usize) -> usize
     ensures { result ≡ end_over (reverse newer.now) end }
 {
@@ -63,7 +63,8 @@ fn end_over(newer: &[Frame], end: usize) -> usize
     end
 }
 
-/// The frame of a number, and where its slots end: of the newest frame, over so many slots, and those below it.
+/// Returns the frame with index `number`, and where its slots end. `slots` is where those of the newest frame end.
+/// `None` where there is no such frame.
 fn frame_numbered(
     top: Frame,
     below: &[Frame],
@@ -82,7 +83,7 @@ fn frame_numbered(
     Some((below[number + 1], end))
 }
 
-/// What a frame is, whose slots end so.
+/// Returns the view of a frame whose slots end at `end`. `None` for the bottom.
 fn view_at(frame: Frame, end: usize) -> Option<FrameView>
     ensures { result ≡ view_at frame end }
 {
@@ -101,8 +102,8 @@ fn view_at(frame: Frame, end: usize) -> Option<FrameView>
     }
 }
 
-/// What the frame of a number is. Where slots end is asked only where there are some: frames that are skipped have
-/// none, and all frames over them are skipped too.
+/// Returns the view of the frame with index `number`. Where its slots end is computed only if it has some: frames
+/// that are skipped have none, and all frames above them are skipped too.
 fn view_numbered(top: Frame, below: &[Frame], slots: usize, number: usize) -> Option<FrameView>
     ensures { result ≡ view_in (frame_numbered number (top ∷ reverse below.now) slots) }
 {
@@ -116,7 +117,7 @@ fn view_numbered(top: Frame, below: &[Frame], slots: usize, number: usize) -> Op
     }
 }
 
-/// What a frame is that was found, and where its slots end.
+/// Returns the view of a frame that was found, with where its slots end.
 fn view_in(found: Option<(Frame, usize)>) -> Option<FrameView>
     ensures { result ≡ view_in found }
 {
@@ -124,7 +125,7 @@ fn view_in(found: Option<(Frame, usize)>) -> Option<FrameView>
     view_at(frame, end)
 }
 
-/// Where a buffer is.
+/// Returns where a buffer is. `None` where there is no such buffer.
 fn place_named(top: Frame, below: &[Frame], slots: usize, at: BufferAt) -> Option<TargetBuffer>
     ensures { result ≡ place_named at (top ∷ reverse below.now) slots }
 {
@@ -144,21 +145,21 @@ fn place_named(top: Frame, below: &[Frame], slots: usize, at: BufferAt) -> Optio
 }
 
 impl Store {
-    /// What a frame is, by its number, the oldest first.
+    /// Returns a view of the frame with index `number`; the oldest is 0. `None` where there is no such frame.
     pub fn frame_at(&self, number: usize) -> Option<FrameView>
         ensures { result ≡ option_map view_of (slice_get (reverse self.now.store.frames) number) }
     {
         view_numbered(self.top, &self.below, self.buffers.len(), number)
     }
 
-    /// Whether a buffer is there.
+    /// Returns whether there is such a buffer.
     pub fn has_buffer(&self, at: BufferAt) -> bool
         ensures { result ≡ is_some (buffer_of at self.now.store) }
     {
         place_named(self.top, &self.below, self.buffers.len(), at).is_some()
     }
 
-    /// The bytes of a buffer after others.
+    /// Appends the bytes of a buffer to `out`.
     pub fn push_buffer(
         &self,
         alloc: Global,
@@ -178,8 +179,8 @@ impl Store {
         out.extend_from_slice(&bytes)
     }
 
-    /// The law that the bytes of a buffer are the arena's at its segments, joined in order, of which none is empty and
-    /// none begins where the one before it ends.
+    /// The law that the bytes of a buffer are the arena's at its segments, joined in order, of which none is empty
+    /// and none begins where the one before it ends.
     pub fn are_laid(&self, at: BufferAt)
         requires { is_some (buffer_of at self.now.store) ≡ true }
         ensures bytes { buffer_of at self.now.store
@@ -189,7 +190,7 @@ impl Store {
         self.buffers.are_laid(); // law
     }
 
-    /// A segment of a buffer, by its number, where there are so many. It takes no memory.
+    /// Returns the segment with index `number` of a buffer. `None` where there is none. It allocates nothing.
     pub fn segment(&self, at: BufferAt, number: usize) -> Option<Segment>
         requires { is_some (buffer_of at self.now.store) ≡ true }
         ensures { result ≡ slice_get (segments_of_buffer at self.now.layout) number }

@@ -1,6 +1,6 @@
 //! Bytes and data; used by `avro_datum`, `resolver`, `isa` and others.
 //!
-//! What becomes of a payload: the types that every way of transcoding answers with, and their limits.
+//! What becomes of a payload: the types that every way of transcoding returns, and their limits.
 #![tactic(auto)]
 
 mod limits;

@@ -5,7 +5,7 @@ ghost use Rattle.std.specs.Prelude.{◌≡◌};
 /// How many bytes a payload may have.
 pub const MOST_PAYLOAD: usize = 16_777_216;
 
-/// How many bytes an answer may have.
+/// How many bytes an output may have.
 pub const MOST_OUTPUT: usize = 67_108_864;
 
 /// The law of what the limits are.

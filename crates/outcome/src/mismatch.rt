@@ -1,11 +1,11 @@
-//! Why a datum has no place with the reader.
+//! Why a datum does not become one of the reader's.
 
-/// Why a writer's datum has no place with the reader.
+/// Why a writer's datum does not become one of the reader's.
 #[derive(Clone, Copy, Debug, PartialEq, Eq)]
 pub enum MismatchKind {
     /// The nodes do not match.
     NoMatch,
-    /// No member of the reader's union matches.
+    /// No branch of the reader's union matches.
     NoBranch,
     /// The reader lacks the symbol, and has no default for it.
     NoSymbol,
@@ -19,7 +19,7 @@ impl MismatchKind {
     ghost use Rattle.std.specs.Prelude.{◌≡◌};
     ghost use Rattle.outcome.specs.MismatchKind.{code_of, name_of};
 
-    /// The number by which images tell it, and by which it is looked up.
+    /// Returns its number, by which images write it and by which it is looked up.
     pub fn code(self) -> u8
         ensures { result ≡ code_of self }
     {
@@ -32,7 +32,7 @@ impl MismatchKind {
         }
     }
 
-    /// Its name, as programs print it.
+    /// Returns its name, as programs print it.
     pub fn name(self) -> &'static str
         ensures { result.now ≡ name_of self }
     {

@@ -36,8 +36,8 @@ impl Model for PairProgram {
 }
 
 impl PairProgram {
-    /// The program of a pair, compiled. `ProgramTooLarge` where it would pass a limit, and then the pair has none;
-    /// `NoMemory` where memory ran out.
+    /// Compiles the program of a pair. `ProgramTooLarge` where it would pass a limit, and then the pair has none;
+    /// `NoMemory` where an allocation failed.
     pub fn new(alloc: Global, writer: &Schema, reader: &Schema) -> Result<PairProgram, CompileError>
         ensures made { IfOk result (λ pair. IsProgramOf writer.now reader.now pair) }
         ensures refused { IfErr result (λ e. e ≡ ProgramTooLarge
@@ -51,7 +51,7 @@ impl PairProgram {
         })
     }
 
-    /// Whether it is the program of a pair, which has the compact texts of its own.
+    /// Returns whether two schemas have the compact texts of its own two, so that it is the program of their pair.
     pub fn is_of(&self, writer: &Schema, reader: &Schema) -> bool
         ensures same { result ≡ true → IsProgramOf writer.now reader.now self.now }
         ensures other { result ≡ false → ¬ ((self.now.writer.text ≡ writer.now.text)
@@ -65,21 +65,21 @@ impl PairProgram {
         true
     }
 
-    /// The writer's schema.
+    /// Returns the writer's schema.
     pub fn writer(&self) -> &Schema
         ensures { result.now ≡ self.now.writer }
     {
         &self.writer
     }
 
-    /// The reader's schema.
+    /// Returns the reader's schema.
     pub fn reader(&self) -> &Schema
         ensures { result.now ≡ self.now.reader }
     {
         &self.reader
     }
 
-    /// The program, which is that of its own two schemas.
+    /// Returns the program, which is that of its own two schemas.
     pub fn program(&self) -> &PlannedProgram
         ensures program { result.now ≡ self.now.program }
         ensures pair { code_of self.now.writer.nodes self.now.reader.nodes ≡ Some result.now }

@@ -2,3 +2,4 @@ pub mod Looking
 pub mod Moving
 pub mod Streams
 pub mod Turning
+pub mod Writing

@@ -1,3 +1,4 @@
+pub mod Closing
 pub mod Persistent
 pub mod Preparing
 pub mod Scouting

@@ -1,20 +1,25 @@
--- An answer with one field and a content. This project's own, but for the field (RFC 9110, section 8.3).
-use Rattle.std.specs.Prelude.{ℕ, List, [], ◌∷◌, codes}
+-- An answer with its fields and a content. This project's own, but for the fields (RFC 9110, sections 6.6.1 and 8.3).
+use Rattle.std.specs.Prelude.{ℕ, List, [], ◌∷◌, Option, Some, None, codes}
+use Rattle.http1.specs.Fields.{Header}
 use Rattle.http_server.specs.Response.{IsResponse}
 use Rattle.http_server.specs.declared.response.Response.{Response}
-use Rattle.persistent_exchange.specs.declared.prepared.ContentType.{ContentType}
-use Rattle.persistent_exchange.specs.declared.prepared.ContentType.TheVariants.{Json, OctetStream}
+use Rattle.httpdate.specs.Date.{date_text}
+use Rattle.httpdate.specs.declared.date.HttpDate.{HttpDate}
+use Rattle.gateway_answers.specs.ContentType.{type_name}
+use Rattle.gateway_answers.specs.declared.content_type.ContentType.{ContentType}
 
 pub record Answer : Type 0 where
   pub status : ℕ
   pub content_type : ContentType
+  -- when it was made, where there is a clock
+  pub date : Option HttpDate
   pub content : List ℕ
 
--- the name of a type
-abbrev pub type_name : ContentType → List ℕ
-type_name Json = codes "application/vnd.schemaregistry.v1+json"
-type_name OctetStream = codes "application/octet-stream"
+abbrev pub date_fields : Option HttpDate → List Header
+date_fields None = []
+date_fields (Some date) = (codes "date", date_text date) ∷ []
 
--- the response is the answer: its status, its type and its content
+-- the response is the answer: its status, its type and date, and its content
 abbrev pub IsPrepared : Answer → Response → Type 0
-IsPrepared a response = IsResponse a.status ((codes "content-type", type_name a.content_type) ∷ []) a.content response
+IsPrepared a response =
+    IsResponse a.status ((codes "content-type", type_name a.content_type) ∷ date_fields a.date) a.content response

@@ -1,5 +1,5 @@
--- What is seen of the bytes that come next over a connection (RFC 9112, sections 2 to 7, as `http1` has them). How long a
--- content may be is this project's own.
+-- What is seen of the bytes that come next over a connection (RFC 9112, sections 2 to 7, as `http1` has them). How long
+-- a content may be is this project's own.
 use Rattle.std.specs.Prelude.{◌≡◌, ◌<◌, ◌++◌, ℕ, List, [], length, codes, Some, None, Result, Ok, Err, Bool, true, false, ◌≢◌}
 use Rattle.httparse.specs.Spans.{span_bytes}
 use Rattle.httparse.specs.declared.spans.HeaderSpan.{HeaderSpan}
@@ -79,6 +79,12 @@ pub record Finds (old : Scouted) (input : List ℕ) (consumed : ℕ) (sighting :
   pub reads : ServerReads old.server input spans server read
   pub consumed_is : consumed ≡ read.consumed
   pub sees : Sees (record old { server = server }) input read.event sighting new
+
+-- content of this size is still to come
+abbrev pub AwaitsContent : BodySize → Type 0
+AwaitsContent (Known size) = 0 < size
+AwaitsContent Empty = ⊥
+AwaitsContent Unknown = Unit {0}
 
 -- ---- why nothing is seen
 

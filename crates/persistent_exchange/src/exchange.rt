@@ -23,7 +23,8 @@ use std::marker::Model;
 /// The number of bytes that a read asks for at least.
 const LEAST_READ: usize = 4_096;
 
-/// The number of bytes that a read asks for at most: twice as many as came by the one before, within these two.
+/// The number of bytes that a read asks for at most. It asks for twice as many as the one before received, between
+/// these two.
 const MOST_READ: usize = 262_144;
 
 /// The bytes of a connection that stays: those that came, of which a scout sees what they are before they are handed on
@@ -62,8 +63,8 @@ impl Model for PersistentExchange {
 }
 
 impl PersistentExchange {
-    /// Returns a connection over which nothing has come. The peer chooses the names of headers, so their maps take secret
-    /// keys.
+    /// Returns a connection over which nothing has come. The peer chooses the names of headers, so their maps take
+    /// secret keys.
     pub fn new(alloc: Global, keys: RandomState, config: Config) -> PersistentExchange
         ensures { (result.history ≡ new_history) × (result.config ≡ config) × (result.held ≡ []) × (result.last ≡ [])
             × (result.scouted ≡ record {
@@ -85,13 +86,15 @@ impl PersistentExchange {
         }
     }
 
-    /// Reads once: returns the number of bytes that came, 0 only where the reader has ended. The errors are the reader's,
-    /// and `OutOfMemory` where memory is wanting; then what came before is as it was.
+    /// Reads once, and returns the number of bytes that came, 0 only where the reader has ended.
+    ///
+    /// The errors are the reader's, and `OutOfMemory` where memory runs out; then what came before is as it was.
     pub fn receive<R: Read>(&mut self, reader: &mut R) -> io::Result<usize>
         ensures received { IfOk result (Receives (R.remaining reader.old) (R.remaining reader.new)
             (received self.old) (received self.new)) }
         ensures refused { OnErr result (received self.new ≡ received self.old) }
         ensures kept { OnErr result (Keeps (R.remaining reader.old) (R.remaining reader.new)) }
+        ensures sent { sent self.new ≡ sent self.old }
         ensures same { (self.new.history ≡ self.old.history) × (self.new.scouted ≡ self.old.scouted)
             × (self.new.seen ≡ self.old.seen) × (self.new.last ≡ self.old.last) }
     {
@@ -102,12 +105,13 @@ impl PersistentExchange {
         Ok(count)
     }
 
-    /// Looks at the bytes that came and were not seen: returns what is next. The errors are the scout's.
+    /// Looks at the bytes that came and were not seen, and returns what is next. The errors are the scout's.
     pub fn look(&mut self) -> Result<Sighting, Refusal>
         ensures found { IfOk result (λ sighting. (consumed : ℕ)
             × Finds self.old.scouted (drop self.old.seen self.old.held) consumed sighting self.new.scouted
             × (self.new.seen ≡ self.old.seen + consumed)) }
         ensures refused { IfErr result (IsWhyNone self.old.scouted (drop self.old.seen self.old.held)) }
+        ensures sent { sent self.new ≡ sent self.old }
         ensures same { (self.new.history ≡ self.old.history) × (self.new.held ≡ self.old.held)
             × (self.new.last ≡ self.old.last) }
     {
@@ -123,7 +127,7 @@ impl PersistentExchange {
         &self.scout
     }
 
-    /// Hands some of the bytes that were seen on to the server. The error is want of memory.
+    /// Hands some of the bytes that were seen on to the server. The error is that memory ran out.
     fn hand_some_on(&mut self) -> Result<(), AllocError>
         requires { 0 < self.old.seen }
         ensures hands { HandsOn self.old self.new }
@@ -140,7 +144,8 @@ impl PersistentExchange {
         }
     }
 
-    /// Hands the bytes that were seen on to the server. The error is want of memory; then some of them may be handed on.
+    /// Hands the bytes that were seen on to the server. The error is that memory ran out; then some of them may be
+    /// handed on.
     pub fn hand_on(&mut self) -> Result<(), AllocError>
         ensures hands { HandsOn self.old self.new }
         ensures all { OnOk result (self.new.seen ≡ 0) }
@@ -151,7 +156,7 @@ impl PersistentExchange {
         Ok(())
     }
 
-    /// Has the server answer what was handed on to it, by a service, unless the last answer is there.
+    /// Makes the server answer what was handed on to it, by a service, unless the last answer is there.
     pub fn advance<S: Service>(&mut self, service: &mut S)
         ensures served { ∥ IsServed self.new.config self.new.history ∥₁ }
         ensures calls { Calls S.answers service.old service.new self.old.history.calls self.new.history.calls }
@@ -165,14 +170,19 @@ impl PersistentExchange {
         }
     }
 
-    /// Has the server send `100 Continue` for the request whose head was seen, where its content has not come whole. The
-    /// error is want of memory.
-    pub fn invite(&mut self) -> Result<(), AllocError>
+    /// Hands the bytes that were seen on to the server. The error is that memory ran out.
+    ///
+    /// Where content of their request is still to come, the server takes them: it refuses the head, or sends
+    /// `100 Continue` where the client waits for that (RFC 9110, section 10.1.1).
+    pub fn pass_on(&mut self) -> Result<(), AllocError>
         ensures received { received self.new ≡ received self.old }
         ensures sent { sent self.new ≡ sent self.old }
+        ensures calls { self.new.history.calls ≡ self.old.history.calls }
     {
         self.hand_on()?;
-        self.advance(&mut NoAnswer);
+        if self.scout.awaits_content() {
+            self.advance(&mut NoAnswer);
+        }
         Ok(())
     }
 
@@ -186,6 +196,34 @@ impl PersistentExchange {
         if self.last.is_empty() {
             self.last = answer;
         }
+    }
+
+    /// Returns the number of bytes that came and were not seen.
+    pub fn unseen(&self) -> usize
+        ensures { result + self.now.seen ≡ length self.now.held }
+    {
+        self.held.len() - self.seen
+    }
+
+    /// Returns the number of bytes that are held of requests. No clause speaks of it: it decides which connections are
+    /// closed where too much is held.
+    pub fn weight(&self) -> usize {
+        let content = self.scout.content().len();
+        self.held.len().saturating_add(content.saturating_mul(2))
+    }
+
+    /// Returns whether the last read took all that had come: it had room for more. No clause speaks of it: it decides
+    /// whether a connection is read again before the system reports more.
+    pub fn is_drained(&self) -> bool {
+        self.last_read < LEAST_READ
+    }
+
+    /// Takes out what has come of the content of the request that was seen last.
+    pub fn take_content(&mut self, alloc: Global) -> Vec<u8>
+        ensures content { result.items ≡ self.old.scouted.content }
+        ensures rest { self.new ≡ record (self.old) { scouted = record (self.old.scouted) { content = [] } } }
+    {
+        self.scout.take_content(alloc)
     }
 
     /// Returns whether something is left to send.
@@ -207,7 +245,8 @@ impl PersistentExchange {
         }
     }
 
-    /// Writes once of what is left to send: returns the number of bytes that the writer took. The errors are the writer's.
+    /// Writes once of what is left to send, and returns the number of bytes that the writer took. The errors are the
+    /// writer's.
     pub fn send<W: Write>(&mut self, writer: &mut W) -> io::Result<usize>
         ensures written { IfOk result (λ n. Appends (W.contents writer.old) (W.contents writer.new)
             (take n (pending self.old))) }

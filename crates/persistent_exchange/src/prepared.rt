@@ -1,43 +1,46 @@
 //! An answer that is ready before the connection's server asks for it.
 
-ghost use Rattle.std.specs.Prelude.{◌≡◌, ◌++◌, IfOk};
-ghost use Rattle.persistent_exchange.specs.Preparing.{IsPrepared};
+ghost use Rattle.std.specs.Prelude.{◌≡◌, ◌++◌, IfOk, OnOk};
+ghost use Rattle.gateway_answers.specs.Answer.{content_of};
+ghost use Rattle.gateway_answers.specs.ContentType.{type_name};
+ghost use Rattle.gateway_answers.specs.Status.{number_of};
+ghost use Rattle.http_header.specs.FieldValue.{plain_value};
+ghost use Rattle.http_server.specs.Response.{fields_of};
+ghost use Rattle.persistent_exchange.specs.Preparing.{IsPrepared, date_fields};
 
 use bytes::Bytes;
+use gateway_answers::{AnswerBytes, ContentType, Status};
 use http::{HeaderName, HeaderValue, Request, StatusCode};
 use http_server::{Response, Service};
-use std::alloc::AllocError;
+use httpdate::HttpDate;
+use std::alloc::{AllocError, Global};
 use std::marker::Model;
 
-/// The types of the content of answers.
-#[derive(Clone, Copy, Debug, PartialEq, Eq)]
-pub enum ContentType {
-    /// What the schema registry's API answers (Confluent Schema Registry API, "Content Types").
-    Json,
-    /// A message.
-    OctetStream,
-}
-
-impl ContentType {
-    ghost use Rattle.persistent_exchange.specs.Preparing.{type_name};
-    ghost use Rattle.http_header.specs.FieldValue.{plain_value};
-
-    /// Returns the value of the field that says so (RFC 9110, section 8.3).
-    fn value(self) -> HeaderValue
-        ensures { result ≡ plain_value (type_name self) }
-    {
-        match self {
-            ContentType::Json => HeaderValue::from_static("application/vnd.schemaregistry.v1+json"),
-            ContentType::OctetStream => HeaderValue::from_static("application/octet-stream"),
-        }
+/// Returns a status as `http` has it.
+fn code_of(status: Status) -> StatusCode
+    ensures { result ≡ number_of status }
+{
+    match status {
+        Status::Ok => StatusCode::OK,
+        Status::BadRequest => StatusCode::BAD_REQUEST,
+        Status::NotFound => StatusCode::NOT_FOUND,
+        Status::MethodNotAllowed => StatusCode::METHOD_NOT_ALLOWED,
+        Status::Conflict => StatusCode::CONFLICT,
+        Status::PayloadTooLarge => StatusCode::PAYLOAD_TOO_LARGE,
+        Status::UnprocessableEntity => StatusCode::UNPROCESSABLE_ENTITY,
+        Status::InternalServerError => StatusCode::INTERNAL_SERVER_ERROR,
+        Status::NotImplemented => StatusCode::NOT_IMPLEMENTED,
+        Status::ServiceUnavailable => StatusCode::SERVICE_UNAVAILABLE,
     }
 }
 
 /// The answer to the next request of a connection, whatever that asks.
 #[derive(Drop)]
 pub struct Prepared {
+    alloc: Global,
     status: StatusCode,
     content_type: ContentType,
+    date: Option<HttpDate>,
     front: Bytes,
     rest: Bytes,
 }
@@ -48,32 +51,77 @@ impl Model for Prepared {
 
     ghost Value = { Answer };
 
-    ghost view = { λ p. record { status = p.status; content_type = p.content_type; content = p.front ++ p.rest } };
+    ghost view = { λ p. record {
+      status = p.status;
+      content_type = p.content_type;
+      date = p.date;
+      content = p.front ++ p.rest;
+    } };
 }
 
 impl Prepared {
-    /// Returns an answer with a content in two pieces, of which a long one is not copied. The error is want of memory.
-    pub fn new(
-        status: StatusCode,
-        content_type: ContentType,
-        front: Vec<u8>,
-        rest: Vec<u8>,
+    /// Returns an answer without its head, with a date, where there is a clock. A long content is not copied. The
+    /// error is that memory ran out.
+    pub fn of(
+        alloc: Global,
+        answer: AnswerBytes,
+        date: Option<HttpDate>,
     ) -> Result<Prepared, AllocError>
-        ensures { IfOk result (λ p. p
-            ≡ record { status = status; content_type = content_type; content = front.items ++ rest.items }) }
+        ensures { IfOk result (λ p. p ≡ record {
+          status = number_of answer.status;
+          content_type = answer.content_type;
+          date = date;
+          content = content_of answer;
+        }) }
     {
-        let Ok(front) = Bytes::from_vec(front) else {
-            return Err(AllocError);
-        };
+        let AnswerBytes {
+            front,
+            rest,
+            head,
+            status,
+            content_type,
+        } = answer;
+        let front = Bytes::copy_from_slice(alloc, &front[head..])?;
         let Ok(rest) = Bytes::from_vec(rest) else {
             return Err(AllocError);
         };
         Ok(Prepared {
-            status,
+            alloc,
+            status: code_of(status),
             content_type,
+            date,
             front,
             rest,
         })
+    }
+}
+
+/// Returns the value of the field that names a type of content (RFC 9110, section 8.3).
+fn type_value(content_type: ContentType) -> HeaderValue
+    ensures { result ≡ plain_value (type_name content_type) }
+{
+    match content_type {
+        ContentType::Json => HeaderValue::from_static("application/vnd.schemaregistry.v1+json"),
+        ContentType::OctetStream => HeaderValue::from_static("application/octet-stream"),
+    }
+}
+
+/// Adds the date to an answer, where there is one. The error is that memory ran out.
+fn add_date(
+    alloc: Global,
+    date: &Option<HttpDate>,
+    response: &mut Response,
+) -> Result<(), AllocError>
+    ensures headers { OnOk result (fields_of response.new ≡ fields_of response.old ++ date_fields date.now) }
+    ensures status { response.new.status ≡ response.old.status }
+    ensures body { response.new.body ≡ response.old.body }
+{
+    let Some(date) = date else {
+        return Ok(());
+    };
+    match HeaderValue::from_bytes(alloc, &date.to_bytes()) {
+        Ok(value) => response.add_header(HeaderName::from_static("date"), value),
+        Err(_) => Err(AllocError),
     }
 }
 
@@ -86,8 +134,9 @@ impl Service for Prepared {
         response: &mut Response,
     ) -> Result<(), AllocError> {
         response.status = self.status;
-        let value = self.content_type.value();
+        let value = type_value(self.content_type);
         response.add_header(HeaderName::from_static("content-type"), value)?;
+        add_date(self.alloc, &self.date, response)?;
         response.body.push(self.front.slice(..)?)?;
         response.body.push(self.rest.slice(..)?)
     }

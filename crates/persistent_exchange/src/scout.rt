@@ -1,10 +1,11 @@
 //! What the next bytes of a connection are, before they are handed on.
 
-ghost use Rattle.std.specs.Prelude.{◌≡◌, ◌≤◌, [], IfErr, IfOk, IsTrue, OnOk, length};
+ghost use Rattle.std.specs.Prelude.{◌≡◌, ◌≤◌, ◌↔◌, [], IfErr, IfOk, IsTrue, OnOk, length};
 ghost use Rattle.httparse.specs.Spans.{IsWithin};
-ghost use Rattle.http1.specs.Server.{expects_continue, has_codings, new_server};
+ghost use Rattle.http1.specs.Conn.{unread_size};
+ghost use Rattle.http1.specs.Server.{has_codings, new_server, reading};
 ghost use Rattle.http1.specs.declared.conn.Event.TheVariants as events;
-ghost use Rattle.persistent_exchange.specs.Scouting.{Adds, Begins, Finds, IsTaken, IsWhyNoHead, IsWhyNoPiece};
+ghost use Rattle.persistent_exchange.specs.Scouting.{Adds, AwaitsContent, Begins, Finds, IsTaken, IsWhyNoHead, IsWhyNoPiece};
 ghost use Rattle.persistent_exchange.specs.Scouting.{IsWhyNone, Turns};
 ghost use Rattle.persistent_exchange.specs.declared.scout.Refusal.TheVariants.{NoMemory};
 
@@ -37,7 +38,7 @@ pub enum Refusal {
     Unreadable(ReadError),
     /// The content is longer than the limit.
     TooLarge,
-    /// Memory is wanting.
+    /// Memory ran out.
     NoMemory,
 }
 
@@ -89,7 +90,7 @@ impl Model for Scout {
     ghost invariant = { λ s. length s.content.items ≤ s.most };
 }
 
-/// Puts bytes in the place of others. The error is want of memory.
+/// Replaces bytes by others. The error is that memory ran out.
 fn replace(kept: &mut Vec<u8>, bytes: &[u8]) -> Result<(), AllocError>
     ensures { OnOk result (kept.new.items ≡ bytes.now) }
 {
@@ -98,7 +99,7 @@ fn replace(kept: &mut Vec<u8>, bytes: &[u8]) -> Result<(), AllocError>
     Ok(())
 }
 
-/// Returns whether a server took what it was given to write. `NoMemory` where memory is wanting.
+/// Returns whether a server took what it was given to write. `NoMemory` where memory ran out.
 fn is_taken(written: Result<(), WriteError>) -> Result<bool, Refusal>
     ensures taken { IfOk result (λ taken. IsTaken written taken) }
     ensures refused { IfErr result (λ e. e ≡ NoMemory) }
@@ -162,19 +163,22 @@ impl Scout {
         self.server.has_codings()
     }
 
-    /// Returns whether the client waits for `100 Continue` before it sends the content, of which there is some (RFC 9110,
-    /// section 10.1.1).
-    pub fn awaits_continue(&self) -> bool
-        ensures { IsTrue result → IsTrue (expects_continue self.now.server) }
+    /// Returns whether content of the request that is seen is still to come (RFC 9112, section 6).
+    pub fn awaits_content(&self) -> bool
+        ensures { IsTrue result ↔ AwaitsContent (unread_size (reading self.now.server)) }
     {
-        self.server.expects_continue() && self.server.unread_size() != BodySize::Known(0)
+        match self.server.unread_size() {
+            BodySize::Known(left) => left > 0,
+            BodySize::Unknown => true,
+            BodySize::Empty => false,
+        }
     }
 
-    /// Looks at the bytes that follow those that were seen: returns what is next, and how many of them it takes. The
-    /// others are given again, with more.
+    /// Looks at the bytes that follow those that were seen, and returns what is next, and how many of them it takes.
+    /// The others are to be passed again, with more.
     ///
-    /// `Unreadable` where they are no request, whatever follows; `TooLarge` where the content is longer than the limit;
-    /// `NoMemory` where memory is wanting. After an error nothing more is to be looked at.
+    /// `Unreadable` where they are no request, whatever follows; `TooLarge` where the content is longer than the
+    /// limit; `NoMemory` where memory ran out. After an error nothing more is to be looked at.
     pub fn look(&mut self, input: &[u8]) -> Result<Step, Refusal>
         ensures found { IfOk result (λ step. Finds self.old input.now step.consumed step.sighting self.new) }
         ensures within { IfOk result (λ step. step.consumed ≤ length input.now) }
@@ -214,14 +218,14 @@ impl Scout {
         ensures ok { OnOk result (Begins self.old input.now head.now self.new) }
         ensures refused { IfErr result (IsWhyNoHead self.old) }
     {
+        replace(&mut self.method, head.method.of(input))?;
+        replace(&mut self.target, head.path.of(input))?;
+        self.content.clear();
         if let BodySize::Known(size) = self.server.unread_size()
             && size > self.most as u64
         {
             return Err(Refusal::TooLarge);
         }
-        replace(&mut self.method, head.method.of(input))?;
-        replace(&mut self.target, head.path.of(input))?;
-        self.content.clear();
         Ok(())
     }
 

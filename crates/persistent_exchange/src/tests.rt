@@ -1,4 +1,5 @@
 //! Requests that come in parts of any size, one after another.
 
 mod cuts;
+mod devices;
 mod refusals;

@@ -14,7 +14,7 @@ use std::alloc::Global;
 /// How many rows a worker takes of a session in a turn at most: more than the message needs.
 pub(crate) const MOST_ROWS: u64 = 1_000_000;
 
-/// Opens a session, and feeds it the message as one piece, which is the last. None where the pool refuses it.
+/// Opens a session, and sends it the message as one piece, which is the last. `None` where the pool refuses it.
 pub(crate) fn fed<'p>(
     alloc: Global,
     pool: &SessionPool<'p>,
@@ -44,7 +44,7 @@ pub(crate) fn fed<'p>(
     Some(pass)
 }
 
-/// Whether a session ended with the output of the message.
+/// Returns whether a session ended with the output of the message.
 pub(crate) fn is_right(end: &SessionEnd) -> bool {
     match end {
         SessionEnd::Out(Outcome::Done(output)) => output.as_slice() == OUTPUT,

@@ -41,7 +41,7 @@ struct Asking<'a, 'p> {
     ghost reader_known: { IsReceiptOf pool.now.cache.now reader },
 }
 
-/// Takes turns until the clients are over, or too many turns in a row find nothing to run. Answers how often it ran a
+/// Takes turns until the clients are over, or too many turns in a row find nothing to run. Returns how often it ran a
 /// session.
 fn work(working: Working) -> u64 {
     let Working {
@@ -69,7 +69,7 @@ fn work(working: Working) -> u64 {
     ran
 }
 
-/// Whether a session comes to the output of the message.
+/// Returns whether a session comes to the output of the message.
 fn is_answered<'p>(
     alloc: Global,
     pool: &SessionPool<'p>,
@@ -92,7 +92,7 @@ fn is_answered<'p>(
     }
 }
 
-/// Runs its sessions. Answers how many were answered rightly.
+/// Runs its sessions. Returns how many were answered correctly.
 fn ask(asking: Asking) -> u64 {
     let Asking {
         alloc,
@@ -111,7 +111,7 @@ fn ask(asking: Asking) -> u64 {
     right
 }
 
-/// What each worker is given.
+/// Returns what each worker receives.
 fn all_working<'a, 'p>(
     alloc: Global,
     pool: &'a SessionPool<'p>,
@@ -134,14 +134,14 @@ fn all_working<'a, 'p>(
     Ok(workers)
 }
 
-/// How many of so many sessions one of so many clients runs.
+/// Returns how many of `sessions` sessions the client at an index runs, of `clients` clients.
 fn share_of(sessions: u64, clients: u64, client: u64) -> u64 {
     let clients = clients.max(1);
     let rest = if client < sessions % clients { 1 } else { 0 };
     (sessions / clients).saturating_add(rest)
 }
 
-/// What each client is given, of so many sessions.
+/// Returns what each client receives, of `sessions` sessions in all.
 fn all_asking<'a, 'p>(
     alloc: Global,
     pool: &'a SessionPool<'p>,
@@ -173,7 +173,7 @@ fn all_asking<'a, 'p>(
     Ok(clients)
 }
 
-/// Each worker in a thread of its own.
+/// Runs each worker in a thread of its own.
 fn work_all<'a, 'p, R: Threads + Sync>(
     rt: &R,
     workers: Vec<Working<'a, 'p>>,
@@ -181,7 +181,7 @@ fn work_all<'a, 'p, R: Threads + Sync>(
     thread::map_vec(rt, workers, &|working: Working<'_, '_>| work(working))
 }
 
-/// Each client in a thread of its own. Then the workers end.
+/// Runs each client in a thread of its own. Then the workers end.
 fn ask_all<'a, 'p, R: Threads + Sync>(
     rt: &R,
     is_over: &AtomicBool,
@@ -192,7 +192,7 @@ fn ask_all<'a, 'p, R: Threads + Sync>(
     right
 }
 
-/// All threads at once: how many sessions were answered rightly.
+/// Runs all threads at once, and returns how many sessions were answered correctly.
 fn run_all<'a, 'p, R: Threads + Sync>(
     rt: &R,
     is_over: &AtomicBool,
@@ -212,7 +212,7 @@ fn run_all<'a, 'p, R: Threads + Sync>(
     Ok(all)
 }
 
-/// Measures so many sessions of a pool by so many workers and as many clients.
+/// Measures `sessions` sessions of a pool by `threads` workers and as many clients.
 pub(crate) fn measure<R: Threads + Clock + Sync>(
     rt: &R,
     alloc: Global,

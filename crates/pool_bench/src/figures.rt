@@ -1,4 +1,4 @@
-//! Times, and how they are told.
+//! Times, and how they are printed.
 
 use crate::error::BenchError;
 use std::time::{Clock, Instant};
@@ -9,7 +9,7 @@ pub(crate) struct Stopwatch {
     start: Option<Instant>,
 }
 
-/// How many sessions were answered rightly, and how long all of them took.
+/// How many sessions were answered correctly, and how long all of them took.
 #[derive(Clone, Copy)]
 pub(crate) struct Measured {
     right: u64,
@@ -17,20 +17,20 @@ pub(crate) struct Measured {
 }
 
 impl Stopwatch {
-    /// Begins now.
+    /// Returns a stopwatch that begins now.
     pub(crate) fn start(clock: &impl Clock) -> Stopwatch {
         Stopwatch {
             start: Instant::now(clock).ok(),
         }
     }
 
-    /// The nanoseconds since the begin, where the clock can be read.
+    /// Returns the nanoseconds since it began, where the clock can be read.
     fn nanos(&self, clock: &impl Clock) -> Option<u64> {
         let start = self.start?;
         u64::try_from(start.elapsed(clock).ok()?.as_nanos()).ok()
     }
 
-    /// What was measured, by now.
+    /// Returns what was measured up to now.
     pub(crate) fn measured(&self, clock: &impl Clock, right: u64) -> Result<Measured, BenchError> {
         match self.nanos(clock) {
             Some(nanos) => Ok(Measured { right, nanos }),
@@ -39,18 +39,18 @@ impl Stopwatch {
     }
 }
 
-/// The hundredths of a microsecond of one of so many sessions that took so long.
+/// Returns the hundredths of a microsecond that one session took, where `sessions` took `nanos` nanoseconds.
 fn hundredths(sessions: u64, nanos: u64) -> u64 {
     let half = sessions.saturating_mul(5);
     nanos.saturating_add(half) / sessions.saturating_mul(10).max(1)
 }
 
-/// How many sessions a second so many are that took so long.
+/// Returns how many sessions there were in a second, where `sessions` took `nanos` nanoseconds.
 fn per_second(sessions: u64, nanos: u64) -> u128 {
     u128::from(sessions) * 1_000_000_000 / u128::from(nanos.max(1))
 }
 
-/// Tells how long a session took, and how many that are in a second. `WrongAnswers` where an answer is not right.
+/// Prints how long a session took, and how many that are in a second. `WrongAnswers` where an answer is not correct.
 pub(crate) fn tell(
     rt: &impl Eprint,
     way: &str,
@@ -73,7 +73,7 @@ pub(crate) fn tell(
     }
 }
 
-/// Tells how long a session in a pool took, on one thread, beside what a transcoder takes for the same.
+/// Prints how much longer a session in a pool took, on one thread, than a transcoder takes for its message.
 pub(crate) fn tell_share(
     rt: &impl Eprint,
     sessions: u64,

@@ -1,8 +1,8 @@
 //! Tests and bench; a program.
 //!
 //! Measures sessions of one small message in a pool, beside one transcoder of the same message (`bench/pool.sh`). Its
-//! argument is how many sessions each way runs, 200,000 where there is none. It tells the times on the standard error,
-//! and ends with status 1 where an answer is wrong or missing.
+//! argument is how many sessions each way runs, 200,000 where there is none. It prints the times on the standard
+//! error, and ends with status 1 where an answer is wrong or missing.
 #![tactic(auto)]
 
 mod answers;
@@ -31,7 +31,7 @@ use std::sync::Wait;
 use std::thread::Threads;
 use std::time::Clock;
 
-/// Runs the sessions by a pool in each way, and tells of each. Answers what one thread took.
+/// Runs the sessions by a pool in each way, and prints the times of each. Returns what one thread took.
 fn measure_pools<R: Threads + Clock + Sync + Eprint>(
     rt: &R,
     alloc: Global,
@@ -54,7 +54,7 @@ fn measure_pools<R: Threads + Clock + Sync + Eprint>(
     Ok(alone)
 }
 
-/// The same, over a registry of its own that has both schemas.
+/// Runs the sessions as `measure_pools` does, over a registry of its own that has both schemas.
 fn measure_all_pools<R: Threads + Wait + Clock + Sync + Eprint>(
     rt: &R,
     alloc: Global,
@@ -71,7 +71,8 @@ fn measure_all_pools<R: Threads + Wait + Clock + Sync + Eprint>(
     measure_pools(rt, alloc, &cache, &mut writer, &mut reader, sessions)
 }
 
-/// Runs the sessions in each way, and tells of each, and what of a session on one thread is not the machine's.
+/// Runs the sessions in each way, and prints the times of each, and how much of a session on one thread is not the
+/// machine's.
 fn measure_all<R: Threads + Wait + Clock + Sync + Env + Eprint + AllocGlobal>(
     rt: &R,
 ) -> Result<(), BenchError> {

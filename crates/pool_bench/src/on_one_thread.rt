@@ -15,7 +15,7 @@ use session_pool::{ClientSeat, ReturnedPass, SessionPool, WorkerSeat};
 use std::alloc::Global;
 use std::time::Clock;
 
-/// Whether a session comes to the output of the message, by turns that are taken until it has ended.
+/// Returns whether a session comes to the output of the message, by turns that are taken until it has ended.
 fn is_answered<'p>(
     alloc: Global,
     pool: &SessionPool<'p>,
@@ -45,7 +45,7 @@ fn is_answered<'p>(
     false
 }
 
-/// Runs so many sessions. Answers how many were answered rightly.
+/// Runs `sessions` sessions. Returns how many were answered correctly.
 fn run_all<'p>(
     alloc: Global,
     pool: &SessionPool<'p>,
@@ -70,7 +70,7 @@ fn run_all<'p>(
     right
 }
 
-/// Measures so many sessions of a pool on this thread.
+/// Measures `sessions` sessions of a pool on this thread.
 pub(crate) fn measure<R: Clock>(
     rt: &R,
     alloc: Global,

@@ -19,7 +19,7 @@ pub(crate) struct Seated<'p> {
     ghost workers_rest: { All (IsNewWorker pool) workers.items },
 }
 
-/// A pool over a cache, for so many clients and as many workers.
+/// Returns a pool over a cache, for `threads` clients and as many workers.
 pub(crate) fn new_pool<'p>(
     alloc: Global,
     cache: &'p ProgramCache<'p>,
@@ -37,7 +37,7 @@ pub(crate) fn new_pool<'p>(
     })
 }
 
-/// Takes the last of some clients' seats.
+/// Takes out the last of some clients' seats. `None` where none is left.
 pub(crate) fn pop_client<'p>(
     pool: &SessionPool<'p>,
     seats: &mut Vec<ClientSeat<'p>>,
@@ -49,7 +49,7 @@ pub(crate) fn pop_client<'p>(
     seats.pop()
 }
 
-/// Takes the last of some workers' seats.
+/// Takes out the last of some workers' seats. `None` where none is left.
 pub(crate) fn pop_worker<'p>(
     pool: &SessionPool<'p>,
     seats: &mut Vec<WorkerSeat<'p>>,

@@ -9,7 +9,7 @@ use outcome::Outcome;
 use std::alloc::Global;
 use std::time::Clock;
 
-/// Whether a transcoder makes the output of the message, in the place of another outcome.
+/// Returns whether a transcoder makes the output of the message, which replaces another outcome.
 fn is_answered(transcoder: &mut Transcoder<'_>, outcome: &mut Outcome) -> bool {
     if transcoder.transcode_over(MESSAGE, outcome).is_err() {
         return false;
@@ -20,7 +20,7 @@ fn is_answered(transcoder: &mut Transcoder<'_>, outcome: &mut Outcome) -> bool {
     }
 }
 
-/// Transcodes the message so many times. Answers how many were answered rightly.
+/// Transcodes the message `sessions` times. Returns how many outputs were correct.
 fn transcode_all(alloc: Global, transcoder: &mut Transcoder<'_>, sessions: u64) -> u64 {
     let mut outcome = Outcome::Done(Vec::new(alloc));
     let mut right = 0_u64;
@@ -32,7 +32,7 @@ fn transcode_all(alloc: Global, transcoder: &mut Transcoder<'_>, sessions: u64) 
     right
 }
 
-/// Measures so many messages by one transcoder.
+/// Measures `sessions` messages by one transcoder.
 pub(crate) fn measure<R: Clock>(
     rt: &R,
     alloc: Global,

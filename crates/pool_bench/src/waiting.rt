@@ -58,7 +58,7 @@ pub(crate) fn end_when_free<'p>(
     Err(Busy)
 }
 
-/// What a session comes to, once it has.
+/// Returns what a session comes to, once it has.
 pub(crate) fn finished_in_time<'p>(
     pool: &SessionPool<'p>,
     seat: &mut ClientSeat<'p>,

@@ -9,7 +9,7 @@ const SESSIONS: u64 = 200_000;
 /// How many it runs at most.
 const MOST_SESSIONS: u64 = 1_000_000_000;
 
-/// The number of sessions that a word says.
+/// Returns the number of sessions that a word says.
 fn number_of(word: &str) -> Result<u64, BenchError> {
     match word.parse::<u64>() {
         Ok(sessions) if (1..=MOST_SESSIONS).contains(&sessions) => Ok(sessions),
@@ -17,7 +17,7 @@ fn number_of(word: &str) -> Result<u64, BenchError> {
     }
 }
 
-/// The number of sessions that words ask for, of which the first is the program's name.
+/// Returns the number of sessions that words ask for, of which the first is the program's name.
 fn sessions_of(words: &[String]) -> Result<u64, BenchError> {
     match (words.get(1), words.get(2)) {
         (None, _) => Ok(SESSIONS),
@@ -26,7 +26,7 @@ fn sessions_of(words: &[String]) -> Result<u64, BenchError> {
     }
 }
 
-/// The number of sessions that the command line asks for.
+/// Returns the number of sessions that the command line asks for.
 pub(crate) fn sessions(rt: &(impl Env + AllocGlobal)) -> Result<u64, BenchError> {
     let Ok(words) = std::env::args(rt) else {
         return Err(BenchError::Words);

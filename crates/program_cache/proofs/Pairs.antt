@@ -18,7 +18,7 @@ of_schemas None reader compiled result answers is = tt
 of_schemas (Some w) None compiled result answers is = tt
 of_schemas (Some w) (Some r) compiled result answers is = answers w r is
 
--- the same of two receipts, which were handed on
+-- the answer for two receipts that were handed on
 pub answers_for : (writer reader handed_writer handed_reader : Shown) (compiled : Compiled) (result : Result (Bor Pair) PairRefusal) → handed_writer ≡ writer → handed_reader ≡ reader
     → ((w r : Declaration) → IsCompiled w r compiled → IsPairAnswer w r result) → IsCompiledOf handed_writer handed_reader compiled → IfSome writer.schema (λ w. IfSome reader.schema (λ r. IsPairAnswer w r result))
 answers_for writer reader handed_writer handed_reader compiled result same_writer same_reader answers is =

@@ -19,7 +19,7 @@ use session_core::{Programs, PublishError};
 use std::alloc::{AllocError, Global};
 use std::marker::Model;
 
-/// The cells of some readers' ids, for one writer's.
+/// The cells for the ids of some readers, of one writer's id.
 type Block = Cells<Compiled>;
 
 /// The blocks of one writer's id.
@@ -51,7 +51,7 @@ impl<'r> Model for ProgramCache<'r> {
 }
 
 impl<'r> ProgramCache<'r> {
-    /// An empty cache over a registry.
+    /// Returns an empty cache over a registry.
     pub fn new(alloc: Global, registry: &'r SharedRegistry) -> Result<ProgramCache<'r>, AllocError>
         ensures { IfOk result (λ cache. cache ≡ registry.now) }
     {
@@ -65,14 +65,14 @@ impl<'r> ProgramCache<'r> {
         })
     }
 
-    /// The registry under it.
+    /// Returns the registry that it uses.
     pub fn registry(&self) -> &'r SharedRegistry
         ensures { result.now ≡ self.now }
     {
         self.registry
     }
 
-    /// The place of the cell of two receipts' ids.
+    /// Returns the place of the cell of two receipts' ids.
     fn place_of(&self, writer: &Receipt, reader: &Receipt) -> Place
         requires writer { IsReceiptOf self.now writer.now }
         requires reader { IsReceiptOf self.now reader.now }
@@ -83,7 +83,7 @@ impl<'r> ProgramCache<'r> {
         Place::of(writer.id(), reader.id())
     }
 
-    /// Returns the cell at a place. Rows on the way to it that are not there are made: an `Err` where they cannot be.
+    /// Returns the cell at a place. Rows on the way to it that are not there are made; `Err` where they cannot be.
     fn cell(&self, place: Place) -> Result<NumberedCell<'_, Compiled>, AllocError>
         ensures { IfOk result (λ cell. cell.number ≡ number_of_place place) }
     {
@@ -93,7 +93,7 @@ impl<'r> ProgramCache<'r> {
         Ok(block.at(place.fourth))
     }
 
-    /// Returns the cell at a place, where the rows on the way to it are there.
+    /// Returns the cell at a place; `None` where a row on the way to it is not there.
     fn shown_cell(&self, place: Place) -> Option<NumberedCell<'_, Compiled>>
         ensures { IfSome result (λ cell. cell.number ≡ number_of_place place) }
     {
@@ -103,7 +103,7 @@ impl<'r> ProgramCache<'r> {
         Some(block.at(place.fourth))
     }
 
-    /// The program of a pair, by what its cell has, which is what was compiled where it had none.
+    /// Returns the program of a pair, by what its cell has. Where it had none, it takes what was compiled first.
     fn keep_in_cell(
         &self,
         place: Place,
@@ -122,7 +122,7 @@ impl<'r> ProgramCache<'r> {
             .program_of(writer, reader)
     }
 
-    /// Compiles the pair of two receipts' schemas, and keeps what comes of it.
+    /// Compiles the pair of two receipts' schemas, keeps the result, and returns the program.
     fn compile(
         &self,
         writer: &mut Receipt,
@@ -145,9 +145,10 @@ impl<'r> ProgramCache<'r> {
         }
     }
 
-    /// The schemas of two receipts with their program, which is compiled where it is asked for first. `ProgramTooLarge`
-    /// where the pair has no program; `Clash` where its cell has what another pair was compiled to, which is told;
-    /// `NoMemory` where memory ran out.
+    /// Returns the schemas of two receipts with their program, which is compiled where it is asked for first.
+    ///
+    /// `ProgramTooLarge` where the pair has no program; `Clash` where its cell has what another pair was compiled to,
+    /// which is returned; `NoMemory` where memory ran out.
     pub fn pair(
         &self,
         writer: &mut Receipt,
@@ -173,7 +174,7 @@ impl<'r> ProgramCache<'r> {
         self.compile(writer, reader)
     }
 
-    /// The program of the schemas of two receipts, as `pair` has it. `Clash` tells nothing of the other pair.
+    /// Returns the program of the schemas of two receipts, as `pair` does. `Clash` comes without the other pair.
     pub fn program(
         &self,
         writer: &mut Receipt,
@@ -191,7 +192,7 @@ impl<'r> ProgramCache<'r> {
         }
     }
 
-    /// A receipt of a schema of the same compact text, where the registry shows one.
+    /// Returns a receipt of a schema of the same compact text; `None` where this thread sees none in the registry.
     fn receipt_of(&self, schema: &Schema) -> Option<Receipt>
         ensures { IfSome result (λ r. IsReceiptOf self.now r
             × IfSome r.schema (λ s. s.nodes ≡ schema.now.nodes)) }
@@ -210,7 +211,8 @@ impl<'r> ProgramCache<'r> {
 }
 
 impl<'r> Programs for ProgramCache<'r> {
-    /// `Clash` also where the registry shows no schema of one of the two compact texts.
+    /// Returns the program of two schemas, as `program` does for two receipts. `Clash` also where the registry shows
+    /// no schema of one of the two compact texts.
     fn publish(&self, writer: &Schema, reader: &Schema) -> Result<&PlannedProgram, PublishError>
         ensures { IsPublished writer.now.nodes reader.now.nodes result }
     {

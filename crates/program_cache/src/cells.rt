@@ -9,7 +9,7 @@ use std::alloc::{AllocError, Global};
 /// How many cells a row has.
 pub(crate) const CELLS: usize = 64;
 
-/// A row of `CELLS` cells, and its number among the rows of its level, from 0.
+/// A row of `CELLS` cells, and its index among the rows of its level, from 0.
 #[derive(Drop)]
 pub(crate) struct Cells<T> {
     number: usize,
@@ -18,14 +18,14 @@ pub(crate) struct Cells<T> {
     ghost numbered: { number < CELLS ^ 3 },
 }
 
-/// A cell, and its number among the cells of its level, from 0.
+/// A cell, and its index among the cells of its level, from 0.
 #[derive(Drop)]
 pub(crate) struct NumberedCell<'a, T> {
     pub(crate) number: usize,
     pub(crate) cell: &'a OnceBox<T>,
 }
 
-/// Returns as many empty cells as `count` says.
+/// Returns `count` empty cells.
 fn empty_cells<T: Drop>(alloc: Global, count: usize) -> Result<Vec<OnceBox<T>>, AllocError>
     ensures { IfOk result (λ cells. length cells.items ≡ count) }
 {
@@ -37,7 +37,7 @@ fn empty_cells<T: Drop>(alloc: Global, count: usize) -> Result<Vec<OnceBox<T>>, 
 }
 
 impl<T: Drop> Cells<T> {
-    /// Returns the row of that number, with nothing in its cells.
+    /// Returns the row at an index of its level, with nothing in its cells.
     pub(crate) fn new(alloc: Global, number: usize) -> Result<Cells<T>, AllocError>
         requires { number < CELLS ^ 3 }
         ensures { IfOk result (λ row. row.number ≡ number) }
@@ -68,8 +68,8 @@ impl<T: Drop> Cells<T> {
         Some(row)
     }
 
-    /// Returns the row that a cell shows, which is a new one where it showed none, and has the cell's number. An `Err`
-    /// where memory ran out, or another row is there, which nobody puts there.
+    /// Returns the row that a cell shows, and makes it show a new one first where it shows none. `Err` where memory
+    /// ran out, or the cell shows a row of another number, which nobody puts there.
     pub(crate) fn in_cell<'a>(
         alloc: Global,
         cell: NumberedCell<'a, Cells<T>>,

@@ -30,7 +30,7 @@ pub enum Compiled {
 impl LargePair {
     ghost use Rattle.program_cache.specs.Compiled.{IsLargePair, IsOtherPair};
 
-    /// A pair that has no program.
+    /// Returns a pair that has no program.
     fn new(writer: &Schema, reader: &Schema) -> Result<LargePair, AllocError>
         requires { code_of writer.now.nodes reader.now.nodes ≡ None }
         ensures { IfOk result (IsLargePair writer.now reader.now) }
@@ -41,7 +41,7 @@ impl LargePair {
         })
     }
 
-    /// Whether it is a pair, which has the compact texts of its own.
+    /// Returns whether it is the given pair, which has the compact texts of its own.
     fn is_of(&self, writer: &Schema, reader: &Schema) -> bool
         ensures same { result ≡ true → IsLargePair writer.now reader.now self.now }
         ensures other { result ≡ false → IsOtherPair writer.now reader.now self.now.writer self.now.reader }
@@ -59,7 +59,7 @@ impl Compiled {
     ghost use Rattle.program_cache.specs.Compiled.{IsCompiled, IsOther};
     ghost use Rattle.program_cache.specs.Pairs.{IsPairAnswer};
 
-    /// Compiles a pair.
+    /// Compiles a pair, and returns the result.
     pub(crate) fn new(
         alloc: Global,
         writer: &Schema,
@@ -77,7 +77,7 @@ impl Compiled {
         Ok(Box::new(alloc, compiled)?)
     }
 
-    /// Whether it is of a pair, which has the compact texts of its own.
+    /// Returns whether it is of the given pair, which has the compact texts of its own.
     pub(crate) fn is_of(&self, writer: &Schema, reader: &Schema) -> bool
         ensures same { result ≡ true → IsCompiled writer.now reader.now self.now }
         ensures other { result ≡ false → IsOther writer.now reader.now self.now }
@@ -88,7 +88,7 @@ impl Compiled {
         }
     }
 
-    /// The program of its pair. `ProgramTooLarge` where that has none.
+    /// Returns the program of its pair. `ProgramTooLarge` where that has none.
     pub(crate) fn program(&self) -> Result<&PairProgram, PairRefusal<'_>>
         ensures { (writer : Declaration) (reader : Declaration) → IsCompiled writer reader self.now
             → IsPairAnswer writer reader result }
@@ -99,7 +99,7 @@ impl Compiled {
         }
     }
 
-    /// The program of a pair, where it is of this one. `Clash` where it is of another.
+    /// Returns the program of a pair, where it is of this one. `Clash` where it is of another.
     pub(crate) fn program_of(
         &self,
         writer: &Schema,

@@ -49,7 +49,7 @@ pub(crate) struct KnownPairs {
 impl KnownPair {
     ghost use Rattle.program_cache.specs.Known.{IsCompiledOf, IsKnownPair};
 
-    /// Whether it is the pair of two receipts' schemas: exactly where it has their ids.
+    /// Returns whether it is the pair of two receipts' schemas: exactly where it has their ids.
     fn is_of(&self, registry: &SharedRegistry, writer: &mut Receipt, reader: &mut Receipt) -> bool
         requires pair { IsKnownPair registry.now self.now }
         requires writer { IsReceiptOf registry.now writer.old }
@@ -67,7 +67,7 @@ impl KnownPair {
     }
 }
 
-/// The first slot of a pair.
+/// Returns the index of the first slot of a pair.
 fn home_of(writer: &Receipt, reader: &Receipt) -> usize
     ensures { result < KNOWN }
 {
@@ -77,7 +77,7 @@ fn home_of(writer: &Receipt, reader: &Receipt) -> usize
 impl KnownPairs {
     ghost use Rattle.program_cache.specs.Known.{IsCompiledOf, IsKnownPair, IsTableOf};
 
-    /// A table with nothing in it, for receipts of a registry.
+    /// Returns a table with nothing in it, for receipts of a registry.
     pub(crate) fn new(alloc: Global, registry: &SharedRegistry) -> Result<KnownPairs, AllocError>
         ensures { IfOk result (IsTableOf registry.now) }
     {
@@ -89,7 +89,7 @@ impl KnownPairs {
         Ok(KnownPairs { slots })
     }
 
-    /// What the pair of two receipts' schemas was compiled to, where the table has it.
+    /// Returns what the pair of two receipts' schemas was compiled to, where the table has it.
     pub(crate) fn find(
         &self,
         registry: &SharedRegistry,
@@ -112,8 +112,8 @@ impl KnownPairs {
         None
     }
 
-    /// Keeps what the pair of two receipts' schemas was compiled to, or finds that it was kept meanwhile. Hands it back
-    /// where the pair's slots have others.
+    /// Keeps what the pair of two receipts' schemas was compiled to, or finds that it was kept meanwhile. Returns
+    /// what is kept; the error hands it back where the pair's slots have others.
     pub(crate) fn keep(
         &self,
         registry: &SharedRegistry,

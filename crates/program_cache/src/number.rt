@@ -6,7 +6,7 @@ ghost use Rattle.program_cache.specs.declared.cells.TheConstants.{CELLS};
 
 use schema_registry::MOST_SCHEMAS;
 
-/// The number of a pair of ids: all pairs of the writer with id 1 come first.
+/// Returns the number of a pair of ids, from 0: all pairs of the writer with id 1 come first.
 pub(crate) fn pair_number(writer: u32, reader: u32) -> usize
     requires writer { IsId writer }
     requires reader { IsId reader }

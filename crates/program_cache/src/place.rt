@@ -20,7 +20,7 @@ impl Place {
     ghost use Rattle.std.specs.Prelude.{◌≡◌};
     ghost use Rattle.program_cache.specs.Numbers.{IsId, number_of_place, pair_number};
 
-    /// The place of the cell of a pair of ids.
+    /// Returns the place of the cell of a pair of ids.
     pub(crate) fn of(writer: u32, reader: u32) -> Place
         requires writer { IsId writer }
         requires reader { IsId reader }

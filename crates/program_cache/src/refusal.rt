@@ -18,7 +18,7 @@ pub enum PairRefusal<'c> {
 }
 
 impl<'c> PairRefusal<'c> {
-    /// The same without the other pair.
+    /// Returns this refusal without the other pair.
     pub fn publish_error(self) -> PublishError
         ensures { result ≡ publish_error self.entry }
     {

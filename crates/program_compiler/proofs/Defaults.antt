@@ -1,4 +1,5 @@
--- The numbers of defaults: constants that are there keep theirs, and one that is added has the number that it would have.
+-- The numbers of defaults: constants that are there keep theirs, and one that is added has the number that it would
+-- have.
 use Rattle.std.proofs.Common.{◌≡◌, ℕ, Bool, true, false, cond, List, [], ◌∷◌, ◌++◌, suc, Some, None, is_some, refl, sym, ap, ◌∙◌}
 use Rattle.std.specs.Prelude.{Option, if◌then◌else◌}
 use Rattle.std.specs.BTreeMap.{BTreeMap, get}

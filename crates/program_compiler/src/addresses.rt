@@ -10,14 +10,14 @@ use isa::Lists;
 use program_ir::Statement;
 use std::alloc::{AllocError, Global};
 
-/// A number as an operand, or none where it takes more than 32 bits.
+/// Returns a number as an operand; `None` where it takes more than 32 bits.
 pub(crate) fn operand(number: usize) -> Option<u32>
     ensures { Narrows result number }
 {
     u32::try_from(number).ok()
 }
 
-/// The address so far ahead, or none where it takes more than 32 bits.
+/// Returns the address `far` instructions after `pc`; `None` where it takes more than 32 bits.
 pub(crate) fn ahead(pc: usize, far: usize) -> Option<u32>
     ensures { Narrows result (pc + far) }
 {
@@ -27,7 +27,7 @@ pub(crate) fn ahead(pc: usize, far: usize) -> Option<u32>
     }
 }
 
-/// The addresses so far ahead, or none where one takes more than 32 bits.
+/// Returns the addresses at these distances after `pc`; `None` where one takes more than 32 bits.
 fn all_ahead(alloc: Global, pc: usize, fars: &[usize]) -> Result<Option<Vec<u32>>, AllocError>
     ensures { IfOk result
         (λ o. MatchOption o (IsWide (map (λ far. pc + far) fars.now)) (λ v. v.items ≡ map (λ far. pc + far) fars.now)) }
@@ -42,7 +42,8 @@ fn all_ahead(alloc: Global, pc: usize, fars: &[usize]) -> Result<Option<Vec<u32>
     Ok(Some(addresses))
 }
 
-/// Jump tables with that of a statement, or none where an address takes more than 32 bits.
+/// Returns jump tables with that of the statement at `pc` added, if it has one; `None` where an address takes more
+/// than 32 bits.
 fn noted(
     alloc: Global,
     jumps: Lists<u32>,
@@ -66,7 +67,7 @@ fn noted(
     }
 }
 
-/// The jump tables of statements, or none where an address takes more than 32 bits.
+/// Returns the jump tables of statements; `None` where an address takes more than 32 bits.
 pub(crate) fn gather_jumps(
     alloc: Global,
     statements: &[Statement],

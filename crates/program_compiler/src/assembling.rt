@@ -22,7 +22,7 @@ use program_lowering::{CompileError, SectionStatements};
 use std::alloc::Global;
 use std::collections::BTreeMap;
 
-/// Whether there is no code for a statement.
+/// Returns whether there is no code for a statement.
 fn is_lost(statement: &Statement) -> bool
     ensures { (W R : List Node) → result ≡ is_lost_statement (statement_of W R statement.now) }
 {
@@ -32,7 +32,7 @@ fn is_lost(statement: &Statement) -> bool
     }
 }
 
-/// Whether there is code for each statement.
+/// Returns whether there is code for each statement.
 fn are_whole(statements: &[Statement]) -> bool
     ensures { (W R : List Node) → result ≡ are_whole_statements (statements_in W R statements.now) }
 {
@@ -44,7 +44,8 @@ fn are_whole(statements: &[Statement]) -> bool
     true
 }
 
-/// The code, the maps and the jump tables of the program of all sections, which name these constants and misses.
+/// Returns the code, the maps and the jump tables of the program of all sections, which refer to these constants and
+/// misses.
 fn linked_tables(
     alloc: Global,
     w: &Nodes,
@@ -75,7 +76,7 @@ fn linked_tables(
     }
 }
 
-/// The parts of the program of all sections, whose statements name these constants.
+/// Returns the parts of the program of all sections, whose statements refer to these constants.
 fn parts_with_constants(
     alloc: Global,
     w: &Nodes,
@@ -111,7 +112,8 @@ fn parts_with_constants(
     }
 }
 
-/// The parts of the program of all sections.
+/// Returns the parts of the program of all sections. `ProgramTooLarge` where it passes a limit or a statement has no
+/// code.
 pub(crate) fn parts_of_statements(
     alloc: Global,
     writer: &Nodes,

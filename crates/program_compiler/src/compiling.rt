@@ -9,9 +9,10 @@ use program_definition::program_is_in_range;
 use program_lowering::{CompileError, walk};
 use std::alloc::Global;
 
-/// The program that reads what the writer's schema wrote and writes what the reader's makes of it. `ProgramTooLarge`
-/// where it would pass a limit of programs; where that is the limit of instructions or of misses, no instruction is
-/// made.
+/// Returns the program that reads what the writer's schema wrote and writes what the reader's makes of it.
+///
+/// `ProgramTooLarge` where it would pass a limit of programs; where that is the limit of instructions or of misses, no
+/// instruction is made.
 pub fn compile(alloc: Global, writer: &Nodes, reader: &Nodes) -> Result<Program, CompileError>
     ensures { Compiles writer.now reader.now result }
 {

@@ -19,7 +19,7 @@ use program_ir::{Constant, Constants, Statement};
 use std::alloc::{AllocError, Global};
 use std::collections::BTreeMap;
 
-/// The default of a field of a record, if it has one.
+/// Returns the default of a field of a record, if it has one.
 fn default_at(nodes: &Nodes, reader: usize, field: usize) -> Option<&Datum>
     ensures none { result ≡ None
         → default_of (slice_get (fields_of_record (slice_get nodes.now reader)) field) ≡ [] }
@@ -38,7 +38,7 @@ fn default_at(nodes: &Nodes, reader: usize, field: usize) -> Option<&Datum>
     }
 }
 
-/// The bytes of a default, or none where they are too many.
+/// Returns a default in its written form; `None` where that has more than `MOST_OUTPUT` bytes.
 fn written_default(alloc: Global, default: &Datum) -> Result<Option<Vec<u8>>, AllocError>
     ensures { IfOk result (λ o. MatchOption o (MOST_OUTPUT < length (written (datum_of default.now)))
         (λ v. v.items ≡ written (datum_of default.now))) }
@@ -51,7 +51,7 @@ fn written_default(alloc: Global, default: &Datum) -> Result<Option<Vec<u8>>, Al
     }
 }
 
-/// The bytes of a constant, or none where they are too many.
+/// Returns the bytes of a constant; `None` where they are more than `MOST_OUTPUT`.
 pub(crate) fn bytes_of(
     alloc: Global,
     reader: &Nodes,
@@ -76,7 +76,8 @@ pub(crate) fn bytes_of(
     }
 }
 
-/// Constants with a field's default, or none where that has too many bytes. One that came before is not written again.
+/// Returns constants with a field's default added; `None` where that has too many bytes. One that was added before is
+/// not written again.
 fn with_default(
     alloc: Global,
     constants: Constants,
@@ -101,7 +102,7 @@ fn with_default(
     Ok(Some(more))
 }
 
-/// Constants with another constant, or none where that has too many bytes.
+/// Returns constants with another one added; `None` where that has too many bytes.
 fn with_constant(
     alloc: Global,
     constants: Constants,
@@ -122,7 +123,7 @@ fn with_constant(
     }
 }
 
-/// Constants with the one that a statement names, or none where that has too many bytes.
+/// Returns constants with the one that a statement refers to added; `None` where that has too many bytes.
 fn noted(
     alloc: Global,
     constants: Constants,
@@ -141,8 +142,8 @@ fn noted(
     }
 }
 
-/// The constants that statements name, or none where one has too many bytes; and the numbers of the defaults among
-/// them.
+/// Returns the constants that statements refer to, and notes the index of each default among them in `defaults`;
+/// `None` where one has too many bytes.
 pub(crate) fn gather_constants(
     alloc: Global,
     defaults: &mut BTreeMap<(usize, usize), usize>,

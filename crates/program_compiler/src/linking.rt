@@ -30,7 +30,7 @@ struct Counts {
     jumps: usize,
 }
 
-/// What the statements name.
+/// What the statements refer to.
 #[derive(Clone, Copy)]
 pub(crate) struct Tables<'t> {
     pub(crate) section_statements: &'t SectionStatements,
@@ -52,7 +52,7 @@ enum Numbered {
 }
 
 impl Numbered {
-    /// The instruction with that number.
+    /// Returns the instruction with a number as its operand.
     fn with(self, number: u32) -> Instr
         ensures { result ≡ instr_with self number }
     {
@@ -70,7 +70,7 @@ impl Numbered {
     }
 }
 
-/// The instruction with a number, if that is one of 32 bits.
+/// Returns the instruction with a number as its operand; `ProgramTooLarge` where there is no number of 32 bits.
 fn of_number(kind: Numbered, number: Option<u32>) -> Result<Instr, CompileError>
     ensures { (constants : List (List ℕ)) (n : ℕ) → Narrows number n
         → LinksTo constants (instr_with kind n) result }
@@ -81,7 +81,7 @@ fn of_number(kind: Numbered, number: Option<u32>) -> Result<Instr, CompileError>
     }
 }
 
-/// The number of a constant, or none where it has too many bytes. A default that was noted is not written again.
+/// Returns the index of a constant; `None` where it has too many bytes. A default that was noted is not written again.
 fn number_of(
     alloc: Global,
     r: &Nodes,
@@ -103,7 +103,8 @@ fn number_of(
     }
 }
 
-/// The instruction that puts a constant.
+/// Returns the instruction that puts a constant; `ProgramTooLarge` where the constant has too many bytes or its index
+/// takes more than 32 bits.
 fn putting(
     alloc: Global,
     r: &Nodes,
@@ -120,7 +121,8 @@ fn putting(
     }
 }
 
-/// The instruction of a statement, if its operand is one of 32 bits and its constant has not too many bytes.
+/// Returns the instruction of the statement at `pc`; `ProgramTooLarge` where its operand takes more than 32 bits or
+/// its constant has too many bytes.
 fn linked(
     alloc: Global,
     r: &Nodes,
@@ -156,7 +158,7 @@ fn linked(
     }
 }
 
-/// The counts after one statement more.
+/// Returns the counts after one statement more.
 fn counted(counts: Counts, statement: &Statement) -> Counts
     requires maps { counts.maps < MOST_INSTRS }
     requires jumps { counts.jumps < MOST_INSTRS }
@@ -178,7 +180,7 @@ fn counted(counts: Counts, statement: &Statement) -> Counts
     }
 }
 
-/// The code of all statements.
+/// Returns the code of all statements, or the first error.
 pub(crate) fn link(
     alloc: Global,
     reader: &Nodes,

@@ -11,7 +11,7 @@ use program_ir::{Misses, Statement, entries};
 use std::alloc::{AllocError, Global};
 use std::collections::BTreeMap;
 
-/// The symbols of an enum, and none of another node.
+/// Returns the symbols of an enum; none of any other node.
 pub(crate) fn symbols(nodes: &Nodes, node: usize) -> &[String]
     ensures { map string_bytes result.now ≡ symbols_of (slice_get nodes.now node) }
 {
@@ -24,7 +24,7 @@ pub(crate) fn symbols(nodes: &Nodes, node: usize) -> &[String]
     }
 }
 
-/// Adds the map of a pair of enums. A pair that came before shares its entries.
+/// Appends the map of a pair of enums. A pair that came before shares its entries.
 fn push_entries(
     alloc: Global,
     maps: &mut Lists<Entry>,
@@ -51,7 +51,7 @@ fn push_entries(
     Ok(())
 }
 
-/// Adds the map that a statement names.
+/// Appends the map that a statement refers to, if it refers to one.
 fn push_map(
     alloc: Global,
     maps: &mut Lists<Entry>,
@@ -75,7 +75,7 @@ fn push_map(
     }
 }
 
-/// The maps that statements name.
+/// Returns the maps that statements refer to, in order.
 pub(crate) fn gather_maps(
     alloc: Global,
     writer: &Nodes,

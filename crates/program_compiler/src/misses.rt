@@ -13,7 +13,7 @@ use program_ir::{Misses, Statement, position_for};
 use std::alloc::{AllocError, Global};
 use std::collections::BTreeSet;
 
-/// Adds the miss of a symbol of the writer's that the reader lacks.
+/// Adds a miss for a symbol of the writer's, if the reader lacks it.
 fn note_symbol(
     misses: &mut Misses,
     r: &Nodes,
@@ -34,7 +34,7 @@ fn note_symbol(
     }
 }
 
-/// Adds the misses of the symbols of the writer's that the reader lacks.
+/// Adds the misses for the symbols of the writer's that the reader lacks.
 fn note_symbols(
     misses: &mut Misses,
     w: &Nodes,
@@ -51,7 +51,7 @@ fn note_symbols(
     Ok(())
 }
 
-/// Adds the misses of a pair of enums. A pair that came before has no further one.
+/// Adds the misses of a pair of enums. A pair that came before adds none.
 fn note_pair(
     misses: &mut Misses,
     pairs: &mut BTreeSet<(usize, usize)>,
@@ -71,7 +71,7 @@ fn note_pair(
     note_symbols(misses, w, r, writer, reader)
 }
 
-/// Adds the misses that a statement names.
+/// Adds the misses that a statement refers to.
 fn note(
     misses: &mut Misses,
     pairs: &mut BTreeSet<(usize, usize)>,
@@ -92,7 +92,7 @@ fn note(
     }
 }
 
-/// The misses that statements name.
+/// Returns the misses that statements refer to, each once.
 pub(crate) fn gather_misses(
     alloc: Global,
     writer: &Nodes,

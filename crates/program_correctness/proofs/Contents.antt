@@ -35,7 +35,7 @@ checked Anything bytes to m = Complete bytes to m
 checked OnlyText bytes to m = utf8_only bytes to m
 checked (OrMiss k) bytes to m = Complete bytes to m
 
--- the store behind a content that is whole
+-- the store after a content that is whole
 abbrev pub closed : Check → Bool → Store → Store
 closed Anything ok s = s
 closed OnlyText ok s = s
@@ -58,7 +58,7 @@ closed_text (OrMiss k) s = refl
 
 -- ---- numbers and lists
 
--- so many bytes from a place on
+-- n bytes from an offset on
 abbrev pub stretch : List ℕ → ℕ → ℕ → List ℕ
 stretch p at n = take n (drop at p)
 

@@ -11,7 +11,7 @@ use Rattle.isa.specs.Table.{reads, stop}
 use Rattle.program_correctness.proofs.Plain.{plain_row}
 
 module _ (P : Program) (p : List ℕ) (L : ℕ) where
-  -- so many rows lead from a state to another
+  -- n rows lead from one state to another
   pub data Takes : ℕ → State → State → Type 0 where
     no_row : {s : State} → Takes 0 s s
     a_row : {n : ℕ} {s e : State} (d : State) → plain_row P p s ≡ Some d → Takes n d e → Takes (suc n) s e
@@ -20,7 +20,7 @@ module _ (P : Program) (p : List ℕ) (L : ℕ) where
   abbrev pub cost : State → ℕ
   cost s = s.pos + L * s.units
 
-  -- a run leads on, in so many rows more than are paid
+  -- a run leads on, in at most `k` rows more than are paid
   pub record Comes (k : ℕ) (s d : State) : Type 0 where
     pub rows : ℕ
     pub taken : Takes rows s d
@@ -123,7 +123,7 @@ module _ (P : Program) (p : List ℕ) (L : ℕ) where
   follows_so j k c (Complete a to u) Q Q' le r h = (r.0, record { rows = r.1.rows; taken = r.1.taken; bound = omega (arith, r.1.bound) }, h a to u r.0 refl r.2)
   follows_so j k c (Failed defect) Q Q' le r h = ends_later (j + 1) (k + 1) c (told defect) (omega arith) r
 
-  -- a row behind what was read
+  -- a row after what was read
   pub follows_row : {A : Type 0} (j k : ℕ) (c : State) (g : Decoding A) (Q Q' : A → ℕ → Meter → State → Type 0) → j + 1 ≤ k → Follows j c g Q
       → ((a : A) (to : ℕ) (u : Meter) (d : State) → Q a to u d → Lands 1 d (plain_row P p d) (Q' a to u)) → Follows k c g Q'
   follows_row j k c (Complete a to u) Q Q' le r h = let x = h a to u r.0 r.2 in (x.new, comes_on j 1 k c r.0 x.new r.1 (one_row 1 r.0 x.new x.row_is x.pays) le, x.is_such)

@@ -1,4 +1,5 @@
--- What comes of bytes in a store: they are added, or a mismatch is marked; and a frame on top that holds what came so far.
+-- What comes of bytes in a store: they are added, or a mismatch is marked; and a frame on top that holds what came so
+-- far.
 use Rattle.std.proofs.Common.{◌≡◌, ℕ, ◌+◌, ◌≤◌, Bool, true, false, List, [], ◌∷◌, ◌++◌, length, Option, Some, None, Ok, Err, refl, sym, ap, ◌∙◌, subst, arith, slice_get}
 use Rattle.std.specs.Prelude.{nat_lt}
 use Rattle.outcome.specs.declared.limits.TheConstants.{MOST_OUTPUT}
@@ -10,7 +11,7 @@ use Rattle.program_correctness.proofs.Marks.{add_stamp, stamp, stamp_add, stamp_
 use Rattle.program_correctness.proofs.Numbers.{past_still}
 use Rattle.program_correctness.proofs.Stores.{IsFit, add_twice, fit_fits, opened, push, store}
 
--- frames that hold something, which may be emptied, and has so many bytes
+-- frames that hold something, which may be emptied, and has a number of bytes
 pub record IsHolder {C : Type 0} (wipe : C → C) (size : C → ℕ) (F : C → Frame) : Type 0 where
   pub wiped : (c : C) → empty_buffers (F c) ≡ F (wipe c)
   pub sized : (c : C) → size_of (F c) ≡ size c
@@ -33,7 +34,7 @@ module _ (misses : List Mismatch) where
   becomes_after x (Ok y) s t fit current h = h ∙ add_twice y x s fit current
   becomes_after x (Err m) s t fit current h = (h.0, h.1, h.2, h.3 ∙ stamp_add h.0 h.1 x s fit current)
 
-  -- behind a mark nothing else counts
+  -- after a mark nothing else counts
   pub marked_on : (m : Mismatch) (res : Resolved (List ℕ)) (s mid t : Store) → IsMarked m s mid → Becomes res mid t → IsMarked m s t
   marked_on m (Ok y) s mid t k h = (k.0, k.1, k.2, h ∙ ap (add y) k.3 ∙ add_stamp y k.0 k.1 s)
   marked_on m (Err n) s mid t k h = (k.0, h.1, k.2, h.3 ∙ ap (stamp h.0 h.1) k.3 ∙ stamp_twice k.0 h.0 k.1 h.1 s)
@@ -41,7 +42,7 @@ module _ (misses : List Mismatch) where
   -- ---- a frame that holds what came so far
 
   module _ {C : Type 0} (wipe : C → C) (size : C → ℕ) where
-    -- the frame is on top of the store, or a mismatch was marked behind it, where it held first
+    -- the frame is on top of the store, or a mismatch was marked after it, where it held `first`
     abbrev pub Holds : (C → Frame) → C → Resolved C → Store → Store → Type 0
     Holds F first (Ok c) s t = (wipe c ≡ wipe first) × (t ≡ push (F c) s)
     Holds F first (Err m) s t = IsMarked m (opened (F first) s) t
@@ -76,7 +77,7 @@ module _ (misses : List Mismatch) where
         closes = λ form small. ap (λ (t : Store). add (form (wipe c)) (record t { frames = emptied_frames s.frames })) (pushes F holder) ∙ closing (form c) (form (wipe c)) (small c refl);
       }
 
-      -- where they stand
+      -- where they are
       whole_top : (s : Store) → ((G : C → Frame) → IsHolder wipe size G → push (G c) s ≡ opened (G c) s) → Top F first (Ok c) s (push (F c) s)
       whole_top s pushes = record {
         inner = c;

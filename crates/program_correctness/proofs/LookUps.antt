@@ -1,4 +1,4 @@
--- What stands at a place of a list.
+-- What is at an index of a list.
 use Rattle.std.proofs.Common.{◌≡◌, ℕ, zero, suc, ◌<◌, List, [], ◌∷◌, length, Some, arith, slice_get}
 use Rattle.std.specs.Prelude.{slice_index_or}
 

@@ -24,7 +24,7 @@ module _ (P : Program) (p : List ℕ) (L : ℕ) where
   module _ (put : List ℕ → Store → Store) (Fits : Store → Type 0) (puts : Puts put Fits) (check : Check) (pc : ℕ) (calls : List ℕ) (u : ℕ)
       (rows : (content : Content) (at : ℕ) (t : Store) → Fits t → plain_row P p (moving (Some content) pc at calls t u) ≡ moves P p true (move_of put check) content (moving (Some content) pc at calls t u)) where
     module _ (from n : ℕ) (m : Meter) where
-      -- behind what is left of a content, which so many bytes from its first place on are
+      -- after what is left of a content, which is `n` bytes from its first offset on
       abbrev MovedAs : Check → Bool → ℕ → ℕ → Store → List ℕ → ℕ → Meter → State → Type 0
       MovedAs c ok at left t bytes to after d = (d ≡ between (pc + 1) (from + n) calls (closed c ok (put (stretch p at left) t)) u) × (bytes ≡ stretch p from n) × (n ≤ length p - from) × (to ≡ from + n) × (after ≡ m)
 
@@ -91,7 +91,7 @@ module _ (P : Program) (p : List ℕ) (L : ℕ) where
       abbrev Others : ℕ → Type 0
       Others fuel = (at left : ℕ) (t : Store) → Fits t → left ≤ fuel → 1 ≤ left → at + left ≡ from + n → from ≤ at → Rest (Some (record { left = left; from = from })) at left t
 
-      -- a row, with a content begun or the first of a fixed, and all behind it
+      -- a row, with a content begun or the first of a fixed, and all after it
       move_on : (fuel : ℕ) (o : Option Content) (at left : ℕ) (t : Store) → Others fuel → Fits t → Row o at left t → left ≤ suc fuel → 1 ≤ left → at + left ≡ from + n → from ≤ at → Rest o at left t
       unfolding Rest
       move_on fuel o at left t others fit row enough some e le = by_length (nat_lt (length p) (at + min MOST_CHUNK left)) refl
@@ -132,7 +132,7 @@ module _ (P : Program) (p : List ℕ) (L : ℕ) where
       moved_length : (at left : ℕ) (t : Store) (x : List ℕ) (to : ℕ) (after : Meter) (d : State) → Moved at left t x to after d → length x ≡ n
       moved_length at left t x to after d h = ap length h.1 ∙ length-take-le n (drop from p) (omega (arith, length-drop from p, h.2))
 
-    -- behind a content, where such bytes were put
+    -- after a content, where such bytes were put
     abbrev pub Landed : Store → List ℕ → List ℕ → ℕ → Meter → State → Type 0
     Landed s bytes prefixed to m d = (d ≡ between (pc + 1) to calls (closed check (is_utf8 prefixed) (put bytes s)) u) × (m ≡ meter s u)
 
@@ -189,7 +189,7 @@ module _ (P : Program) (p : List ℕ) (L : ℕ) where
               pays = omega (arith, lt);
             }
 
-    -- so many bytes
+    -- n bytes
     pub fixed_follows : (n at : ℕ) (s : Store) → Fits s → check ≡ Anything → plain_row P p (between pc at calls s u) ≡ fixed P p true (move_of put check) n (between pc at calls s u) None → Follows P p L 1 (between pc at calls s u) (fixed_at n p at (meter s u) >>= checked check) (λ bytes. Landed s bytes bytes)
     unfolding Rest
     fixed_follows zero at s fit any row =

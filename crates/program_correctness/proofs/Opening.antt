@@ -24,7 +24,7 @@ opening_is (Ok w) at a to m e = let x = complete_is e in (ap Ok x.2, sym x.1)
 opening_is (Err e) at a to m h = absurd cc
 
 module _ (P : Program) (p : List ℕ) (L : ℕ) where
-  -- what stands behind the row that opens
+  -- what comes after the row that opens
   opens_then : {B : Type 0} (j k : ℕ) (frame : Frame) (s : State) (r : Result Meter Fault) (f : Meter → Decoding B) (Q : B → ℕ → Meter → State → Type 0) → plain_row P p s ≡ opens P p true s r frame
       → ((m : Meter) → r ≡ Ok m → 1 + j + (s.pos + L * s.units) ≤ k + (s.pos + L * m.units)) → ((m : Meter) → r ≡ Ok m → Follows P p L j (next s.pos (pushed frame m s)) (f m) Q) → Follows P p L k s (inside r f) Q
   opens_then j k frame s r f Q row pays inner =

@@ -1,4 +1,4 @@
--- Code that stands for a pair of nodes writes what resolution makes of what decoding gives, at every depth.
+-- Code for a pair of nodes writes what resolution makes of what decoding gives, at every depth.
 use Rattle.std.proofs.Common.{◌≡◌, ℕ, zero, suc, ◌+◌, ◌-◌, ◌*◌, ◌≤◌, ◌<◌, false, List, ◌∷◌, ◌++◌, length, Option, Some, Ok, Err, refl, sym, ap, ◌∙◌, subst, arith, slice_get, pos}
 use Rattle.std.specs.Prelude.{slice_index_or}
 use Rattle.avro_bytes.specs.declared.meter.Meter.{Meter}
@@ -77,13 +77,13 @@ module _ (W R : List Node) (P : Program) (Begins : Section → ℕ → Type 0) (
 
     -- ---- the writer's union
 
-    -- the member of a position, whose code begins at a place
+    -- the branch at a position, whose code begins at a place
     record Member (k at : ℕ) (members : List ℕ) (n r e : ℕ) : Type 0 where
       member : ℕ
       there : slice_get members n ≡ Some member
       runs : Run left k at e (Plain member) (λ d. bytes_of (resolved W R member r d))
 
-    -- a jump behind what was written
+    -- a jump after what was written
     jumps_on : (j k pc q e : ℕ) (reader : Reader Datum) (effect : Datum → Resolved (List ℕ)) → slice_get P.code q ≡ Some (op.Jump e) → j + 1 ≤ k → Run left j pc q reader effect → Run left k pc e reader effect
     jumps_on j k pc q e reader effect back le runs at u calls s ready =
         follows_row P p L j k (between pc at calls s u) (reader at (meter s u)) (Wrote P p L q calls s u effect) (Wrote P p L e calls s u effect) le (runs at u calls s ready)

@@ -53,7 +53,7 @@ module _ (P : Program) (p : List ℕ) (L : ℕ) where
   becomes_both (Ok x) b left calls s t last r h k = becomes_after P.misses x b s last r.fit r.current (subst (λ (z : Store). Becomes P.misses b z last) h k)
   becomes_both (Err m) b left calls s t last r h k = marked_on P.misses m b s t last h k
 
-  -- a part behind one that wrote, in the same terms
+  -- a part after one that wrote, in the same terms
   part_after : {B : Type 0} (left k pc q : ℕ) (reader : Reader B) (effect : B → Resolved (List ℕ)) → Writes P p L left k pc q reader effect → (first : Resolved (List ℕ)) (calls : List ℕ) (s : Store) (u : ℕ) → IsReady left calls s → (at : ℕ) (m : Meter) (d : State) (t : Store) → d ≡ between pc at calls t m.units → m ≡ meter s m.units → u ≤ m.units → Becomes P.misses first s t
       → Follows P p L k d (reader at m) (Wrote P p L q calls s u (λ b. both first (effect b)))
   part_after left k pc q reader effect runs first calls s u ready at m d t d_is m_is le after =

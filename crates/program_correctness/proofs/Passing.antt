@@ -43,7 +43,8 @@ module _ (P : Program) (p : List ℕ) (L : ℕ) where
   abbrev pub Passed : {A : Type 0} → ℕ → List ℕ → Store → ℕ → A → ℕ → Meter → State → Type 0
   Passed q calls s u v to m d = (d ≡ between q to calls s m.units) × (m ≡ meter s m.units) × (u ≤ m.units)
 
-  -- where so many more records, arrays and maps may be opened: from pc the rows follow the reader to q, in so many rows a byte
+  -- where `left` more records, arrays and maps may be opened: from pc the rows follow the reader to q, in at most `k`
+  -- rows more than are paid
   abbrev pub Passes : {A : Type 0} → ℕ → ℕ → ℕ → ℕ → Reader A → Type 0
   Passes left k pc q reader = (at u : ℕ) (calls : List ℕ) (s : Store) → HasRoom left calls s → Follows P p L k (between pc at calls s u) (reader at (meter s u)) (Passed q calls s u)
 

@@ -27,7 +27,7 @@ module _ (P : Program) (p : List ℕ) where
   unfoldable pub plain_row : State → Option State
   plain_row s = unless_ended s.end s
 
-  -- the row of the instruction that stands there
+  -- the row of the instruction that is there
   pub row_of_instr : (s : State) (i : Instr) → s.end ≡ None → slice_get P.code s.pc ≡ Some i → plain_row s ≡ row P p true i s
   unfolding plain_row
   row_of_instr s i e h = rw (e, h) refl

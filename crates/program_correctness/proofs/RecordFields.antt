@@ -47,12 +47,12 @@ module _ (W R : List Node) (P : Program) (Begins : Section → ℕ → Type 0) (
       abbrev Held : Option ℕ → Resolved Slots → Store → Type 0
       Held cur acc t = HoldsSlots P p gs left less calls s fit deeper few cur (acc >>= λ slots. Ok (buffers slots)) t
 
-      -- behind fields, whose data lie in the slots
+      -- after fields, whose data are in the slots
       abbrev pub FieldsWritten : List FieldNode → ℕ → ℕ → (Data → Resolved Slots) → Data → ℕ → Meter → State → Type 0
       FieldsWritten fs q u res ds to m d = (t : Store) × (d ≡ between q to calls t m.units) × (m ≡ record { depth = suc (length s.frames); units = m.units }) × (u ≤ m.units) × (how_many ds ≡ length fs) × (cur : Option ℕ)
           × HoldsSlots P p gs left less calls s fit deeper few cur (res ds >>= λ slots. Ok (buffers slots)) t
 
-      -- the fields behind one
+      -- the fields after one
       one_more : (f : FieldNode) (fs : List FieldNode) (route : Route) (routes : List Route) (q u now k : ℕ) (acc acc1 : Resolved Slots) (x : Datum) (d : State) (to : ℕ) (m : Meter) → u ≤ now → ((ds : Data) → fields_left W R acc1 routes ds ≡ fields_left W R acc (route ∷ routes) (more x ds))
           → Follows P p L k d (fields_at decoder fs to m) (FieldsWritten fs q now (λ ds. fields_left W R acc1 routes ds)) → Follows P p L k d (fields_at decoder fs to m >> λ ds end last. Complete (more x ds) end last) (FieldsWritten (f ∷ fs) q u (λ ds. fields_left W R acc (route ∷ routes) ds))
       one_more f fs route routes q u now k acc acc1 x d to m le same runs =

@@ -1,4 +1,4 @@
--- Stores at which so many more records, arrays and maps may be opened.
+-- Stores at which `left` more records, arrays and maps may be opened.
 use Rattle.std.proofs.Common.{◌≡◌, ℕ, suc, ◌-◌, ◌≤◌, ◌<◌, true, List, length, refl, arith}
 use Rattle.avro_bytes.specs.declared.limits.TheConstants.{MOST_DEPTH}
 use Rattle.isa.specs.State.{Store, has_current}

@@ -21,7 +21,7 @@ RowsStay = (P : Program) (input more : List ℕ) (ended : Bool) (s new : State) 
 abbrev pub RowsStayBounded : Type 0
 RowsStayBounded = (P : Program) (input : List ℕ) (ended : Bool) (s new : State) → row_of P input ended s ≡ Some new → IsBounded s → IsBounded new
 
--- the first row, and those behind it
+-- the first row, and those after it
 pub record First (P : Program) (input : List ℕ) (ended : Bool) (n : ℕ) (s d : State) : Type 0 where
   pub next : State
   pub row : row_of P input ended s ≡ Some next
@@ -43,7 +43,7 @@ none_taken : (P : Program) (input : List ℕ) (ended : Bool) (s d : State) → r
 unfolding rows_from
 none_taken P input ended s d e = cc
 
--- ---- rows behind rows
+-- ---- rows after rows
 
 rows_behind : (P : Program) (input : List ℕ) (ended : Bool) (n more : ℕ) (s d : State) → rows_from P input ended n s ≡ Some d → rows_from P input ended (n + more) s ≡ rows_from P input ended more d
 rows_behind P input ended zero more s d e = let same : 0 + more ≡ more = omega arith in ap (λ (k : ℕ). rows_from P input ended k s) same ∙ ap (rows_from P input ended more) (none_taken P input ended s d e)

@@ -1,4 +1,4 @@
--- Code that stands to skip a node passes over what decoding it gives, at every depth.
+-- Code to skip a node passes over what decoding it gives, at every depth.
 use Rattle.std.proofs.Common.{◌≡◌, ℕ, zero, suc, ◌+◌, ◌*◌, ◌-◌, ◌≤◌, ◌<◌, false, List, ◌∷◌, length, Ok, Option, Some, refl, sym, ap, ◌∙◌, subst, arith, slice_get}
 use Rattle.std.specs.Prelude.{slice_index_or}
 use Rattle.avro_bytes.specs.declared.meter.Meter.{Meter}
@@ -136,7 +136,7 @@ module _ (W : List Node) (P : Program) (Begins : Section → ℕ → Type 0) (p 
 
     -- ---- unions
 
-    -- a jump behind what was passed over
+    -- a jump after what was passed over
     jumps_on : (j k pc q e : ℕ) (reader : Reader Datum) → slice_get P.code q ≡ Some (op.Jump e) → j + 1 ≤ k → Over left j pc q reader → Over left k pc e reader
     jumps_on j k pc q e reader back le runs at u calls s room =
         follows_row P p L j k (between pc at calls s u) (reader at (meter s u)) (Passed P p L q calls s u) (Passed P p L e calls s u) le (runs at u calls s room)
@@ -147,7 +147,7 @@ module _ (W : List Node) (P : Program) (Begins : Section → ℕ → Type 0) (p 
           pays = subst (λ (x : State). 1 + cost P p L x ≤ 1 + (to + L * m.units)) (sym h.0) (omega arith);
         })
 
-    -- the member of a position, from where its code begins
+    -- the branch at a position, from where its code begins
     members_pass : (pc : ℕ) (members places : List ℕ) (e : ℕ) → SkipsMembers W P Begins pc members places e → (n : ℕ) → n < length members → Over left (e - pc) (slice_index_or places n 0) e (λ at m. member_at Plain (slice_get members n) at m)
     members_pass pc _ _ _ k_no_member n lt = absurd (omega arith)
     members_pass pc _ _ e (k_last {member = member} u code) zero lt = plain_passes pc member e code

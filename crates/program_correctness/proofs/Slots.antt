@@ -35,7 +35,7 @@ added_where_empty zero e (None ∷ slots) h = refl
 added_where_empty zero e (Some d ∷ slots) h = absurd cc
 added_where_empty (suc j) e (o ∷ slots) h = ap (λ (l : List (List ℕ)). buffer o ∷ l) (added_where_empty j e slots h)
 
--- ---- as the slots stand where the defaults below a position are filled in
+-- ---- the slots, where the defaults below a position are filled in
 
 abbrev pub mixed : ℕ → List FieldNode → Slots → List (List ℕ)
 mixed j [] slots = []

@@ -1,4 +1,4 @@
--- What is proved of the code that stands for nodes, where so many more records, arrays and maps may be opened.
+-- What is proved of the code for nodes, where `left` more records, arrays and maps may be opened.
 use Rattle.std.proofs.Common.{ℕ, ◌-◌, List, length}
 use Rattle.avro_types.specs.Node.{Node}
 use Rattle.avro_datum.specs.Decoding.{Decoder}
@@ -11,10 +11,10 @@ use Rattle.program_correctness.proofs.Effects.{bytes_of}
 use Rattle.program_correctness.proofs.Passing.{Passes}
 use Rattle.program_correctness.proofs.Writing.{Writes}
 
--- each node that code stands for is passed over
+-- each node is passed over by the code to skip it
 abbrev pub AllSkipped : List Node → (P : Program) → (Section → ℕ → Type 0) → List ℕ → Decoder → ℕ → Type 0
 AllSkipped W P Begins p decoder left = (pc w q : ℕ) → Skips W P Begins pc w q → Passes P p (length P.code) left (q - pc) pc q (decoder w)
 
--- each pair of nodes that code stands for is written
+-- each pair of nodes is written by its code
 abbrev pub AllWritten : (W R : List Node) (P : Program) → (Section → ℕ → Type 0) → List ℕ → Decoder → ℕ → Type 0
 AllWritten W R P Begins p decoder left = (pc w r q : ℕ) → CodeWrites W R P Begins pc w r q → Writes P p (length P.code) left (q - pc) pc q (decoder w) (λ d. bytes_of (resolved W R w r d))

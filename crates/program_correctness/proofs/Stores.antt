@@ -21,7 +21,7 @@ spilt s = emptied (record s { over = true })
 abbrev pub fit : Store → Store
 fit s = cond (is_done s.mark s.over) (emptied s) (cond (nat_lt MOST_OUTPUT (total s)) (spilt s) s)
 
--- as the rows keep it: nothing is held behind a mark or past the limit, and else no more than the limit
+-- as the rows keep it: nothing is held after a mark or past the limit, and else no more than the limit
 pub record IsFit (s : Store) : Type 0 where
   pub nothing : is_done s.mark s.over ≡ true → emptied s ≡ s
   pub few : is_done s.mark s.over ≡ false → nat_lt MOST_OUTPUT (total s) ≡ false

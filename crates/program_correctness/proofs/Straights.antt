@@ -1,4 +1,4 @@
--- Code that stands for nodes that match, neither a union, writes what resolution makes of what decoding gives.
+-- Code for nodes that match, neither a union, writes what resolution makes of what decoding gives.
 use Rattle.std.proofs.Common.{◌≡◌, ℕ, ◌+◌, ◌-◌, ◌<◌, false, List, length, Option, Some, None, Ok, Err, refl, sym, ap, ◌∙◌, subst, arith, slice_get, pos}
 use Rattle.std.specs.Str.{is_utf8}
 use Rattle.avro_bytes.specs.declared.fault.MalformedKind.TheVariants.{BadEnum}

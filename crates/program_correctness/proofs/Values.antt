@@ -1,4 +1,4 @@
--- What is read where no union stands, and the bytes of what resolution makes of it.
+-- What is read where there is no union, and the bytes of what resolution makes of it.
 use Rattle.std.proofs.Common.{◌≡◌, ℕ, Bool, true, false, cond, List, ◌++◌, Option, Some, None, Ok, Err, refl, sym, ap, slice_get, pos, ℤ}
 use Rattle.avro_bytes.specs.declared.meter.Meter.{Meter}
 use Rattle.avro_bytes.specs.Decoding.{Complete}

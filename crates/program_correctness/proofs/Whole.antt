@@ -1,4 +1,4 @@
--- A program that stands for a pair of schemas ends with the outcome of its payload, in few enough rows.
+-- A program for a pair of schemas ends with the outcome of its payload, in few enough rows.
 use Rattle.std.proofs.Common.{◌≡◌, ℕ, ◌+◌, ◌-◌, ◌*◌, ◌≤◌, Bool, true, false, cond, List, [], ◌∷◌, length, Some, None, Ok, Err, refl, sym, ap, ◌∙◌, subst, arith, slice_get}
 use Rattle.std.specs.Prelude.{nat_lt}
 use Rattle.avro_bytes.specs.declared.fault.MalformedKind.TheVariants.{Trailing, Truncated}

@@ -35,11 +35,12 @@ becomes_ready misses (Err m) left calls s t r h =
     (record { fit = stamp_fits h.0 h.1 s; current = current_emptied s.frames ∙ r.current; has_room = room_as left calls s _ r.has_room depth }, depth)
 
 module _ (P : Program) (p : List ℕ) (L : ℕ) where
-  -- behind what was read, with its bytes in the store
+  -- after what was read, with its bytes in the store
   abbrev pub Wrote : {A : Type 0} → ℕ → List ℕ → Store → ℕ → (A → Resolved (List ℕ)) → A → ℕ → Meter → State → Type 0
   Wrote q calls s u effect v to m d = (t : Store) × (d ≡ between q to calls t m.units) × (m ≡ meter s m.units) × (u ≤ m.units) × Becomes P.misses (effect v) s t
 
-  -- from any ready state at pc the rows follow the reader to q, with this effect, in so many rows a byte
+  -- from any ready state at pc the rows follow the reader to q, with this effect, in at most `k` rows more than are
+  -- paid
   abbrev pub Writes : {A : Type 0} → ℕ → ℕ → ℕ → ℕ → Reader A → (A → Resolved (List ℕ)) → Type 0
   Writes left k pc q reader effect = (at u : ℕ) (calls : List ℕ) (s : Store) → IsReady left calls s → Follows P p L k (between pc at calls s u) (reader at (meter s u)) (Wrote q calls s u effect)
 

@@ -30,7 +30,7 @@ NoRowIsBehindTheEnd = run_alone long_list_program one true 12 ≡ None
 abbrev pub HaltWaits : Type 0
 HaltWaits = run_alone long_list_program one false 11 ≡ None
 
--- Cut behind the long, the payload is truncated.
+-- Cut after the long, the payload is truncated.
 abbrev pub CutIsTruncated : Type 0
 CutIsTruncated = run_alone long_list_program (2 ∷ []) true 6 ≡ Some (record {
   pc = 6;

@@ -33,7 +33,7 @@ pub fn runs_alone_are_counted_and_stay()
     isa::row_stays_on_longer_input(); // law
 }
 
-/// The law of what a worked program comes to, run alone: its end, with no row behind it; that it waits before its input
+/// The law of what a worked program comes to, run alone: its end, with no row after it; that it waits before its input
 /// has ended; and the end that a cut input has.
 pub fn worked_program_runs_alone()
     ensures ends { ElevenRowsEnd }

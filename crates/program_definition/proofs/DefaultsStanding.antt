@@ -1,4 +1,4 @@
--- The statements of defaults, where they are placed, stand.
+-- Where the statements of defaults are placed, the program has the code of the defaults.
 use Rattle.std.proofs.Common.{◌≡◌, ℕ, suc, ◌+◌, ◌<◌, Bool, true, false, cond, List, [], ◌∷◌, ◌++◌, length, Option, Some, None, refl, sym, ap, ◌∙◌, subst, arith, length-append}
 use Rattle.std.specs.Prelude.{slice_get}
 use Rattle.avro_datum.specs.Writing.{written}

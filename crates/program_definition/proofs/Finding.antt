@@ -1,4 +1,4 @@
--- There are only so many sections, and so many rounds find all.
+-- There are finitely many sections, and as many rounds find all.
 use Rattle.std.proofs.Common.{◌≡◌, ℕ, zero, suc, ◌+◌, ◌<◌, ◌⊎◌, inl, inr, Bool, true, false, List, [], ◌∷◌, ◌++◌, length, Option, Some, None, refl, sym, ap, ◌∙◌, subst, arith}
 use Rattle.std.specs.Prelude.{slice_get, if◌then◌else◌}
 use Rattle.std.specs.List.{AllByRecursion}
@@ -88,7 +88,7 @@ module _ (W R : List Node) where
   all_among [] h = tt
   all_among (s ∷ ss) h = (among s h.0, all_among ss h.1)
 
--- so many sections are apart that the rounds were not enough
+-- more than n sections that are apart, so that n rounds were not enough
 record Left (W R : List Node) (n : ℕ) : Type 0 where
   sections : List Section
   routines : AllByRecursion (IsRoutine W R) sections

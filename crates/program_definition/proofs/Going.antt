@@ -87,7 +87,7 @@ module _ (section : Section → List Statement) where
       go zero left same = absurd (omega arith)
       go (suc n) left same = record { rounds = n; left = omega arith; same = same ∙ ap (Round n i ss) at; here = omega (arith, long, longer); statements = statements }
 
-  -- what is reached stands after what was there
+  -- what is reached comes after what was there
   reached_extends : (n i : ℕ) (ss qs : List Section) → reached section n i ss ≡ Some qs → Extends same_section section_refl ss qs
   reached_extends zero i ss qs h = go (slice_get ss i) h
     where
@@ -144,7 +144,7 @@ module _ (W R : List Node) where
       ap (assembled (section W R)) (g.same ∙ reached_done (section W R) g.rounds i ss e)
       ∙ ap (λ l. checked l (numbered (start_in (section W R) 0 ss) l)) statements
 
-  -- so many rounds there are
+  -- the rounds so far are fewer than `MOST_INSTRS`
   pub rounds_left : (i : ℕ) (ss : List Section) (ls : List Statement) → Going (section W R) i ss ls → length ls < MOST_INSTRS → i < MOST_INSTRS
   rounds_left i ss ls g lt =
       let len : length ls ≡ length (statements_of (section W R) (take i ss)) = ap length g.statements in

@@ -26,7 +26,7 @@ module _ (W R : List Node) where
   IsRoutine (Write w r) = (p : List FieldNode × List FieldNode) × (field_lists (slice_get W w) (slice_get R r) ≡ Some p)
   IsRoutine (Skip w) = (names : Names) × (fields : List FieldNode) × (slice_get W w ≡ Some (RecordNode names fields))
 
-  -- of a statement that so many come after
+  -- of a statement that n come after
   abbrev pub IsGood : ℕ → Statement → Type 0
   IsGood n (Op i) = (sizes : Sizes) → InstrIsInRange sizes i
   IsGood n (Put bytes) = 0 < length bytes
@@ -39,7 +39,7 @@ module _ (W R : List Node) where
   IsGood n (Branch fars) = AllByRecursion (λ far. far ≤ n) fars
   IsGood n Lost = ⊥
 
-  -- of statements that so many more come after
+  -- of statements that k more come after
   abbrev pub AllGood : ℕ → List Statement → Type 0
   AllGood k [] = Unit {0}
   AllGood k (l ∷ ls) = IsGood (length ls + k) l × AllGood k ls

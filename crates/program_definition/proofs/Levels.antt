@@ -1,4 +1,4 @@
--- So many levels are enough: arrays, maps and unions hold later nodes, or nodes of named types.
+-- How many levels are enough: arrays, maps and unions hold later nodes, or nodes of named types.
 use Rattle.std.proofs.Common.{◌≡◌, ℕ, zero, suc, ◌+◌, ◌<◌, ◌⊎◌, inl, inr, true, false, List, [], ◌∷◌, length, None, sym, ◌∙◌, arith}
 use Rattle.std.specs.Prelude.{slice_get}
 use Rattle.avro_types.specs.Node.{Node}

@@ -1,4 +1,4 @@
--- What stands in a program for a statement, and for statements.
+-- What a program has for a statement, and for statements.
 use Rattle.std.proofs.Common.{◌≡◌, ℕ, ◌+◌, ◌-◌, List, [], ◌∷◌, ◌++◌, length, map, Some, subst, arith}
 use Rattle.std.specs.Prelude.{slice_get}
 use Rattle.isa.specs.declared.entry.Entry.{Entry}

@@ -1,4 +1,4 @@
--- K's statements, where they are placed, stand.
+-- Where K's statements are placed, the program has K's code.
 use Rattle.std.proofs.Common.{◌≡◌, ℕ, zero, suc, ◌+◌, ◌-◌, true, false, List, [], ◌∷◌, ◌++◌, length, map, Option, Some, None, refl, sym, ap, ◌∙◌, subst, arith, length-append}
 use Rattle.std.specs.Prelude.{slice_get}
 use Rattle.std.specs.List.{AllByRecursion}
@@ -16,7 +16,7 @@ pub loop_length : (next : ℕ → Instr) (body : List Statement) → length (loo
 loop_length next body = let e = length-append body (Back (length body + 1) ∷ []) in omega (arith, e)
 
 module _ (P : Program) (Begins : Section → ℕ → Type 0) where
-  -- a loop's body stands between its NEXT and its JUMP
+  -- a loop's body is between its NEXT and its JUMP
   pub loop_placed : (pc : ℕ) (next : ℕ → Instr) (body : List Statement) → Placed P Begins pc (looped next body) → At P pc (next (pc + 1 + length body + 1)) × Placed P Begins (pc + 1) body × At P (pc + 1 + length body) (op.Jump pc)
   loop_placed pc next body h =
       let ahead : pc + (length body + 2) ≡ pc + 1 + length body + 1 = omega arith in
@@ -32,7 +32,7 @@ module _ (W : List Node) (P : Program) (Begins : Section → ℕ → Type 0) whe
   plain_skips pc w q apart (k_plain n s) = s
   plain_skips pc w q apart (k_union members places t is at jumps s) = absurd (let two : true ≡ false = sym (ap is_union is) ∙ apart in let no : ⊥ = cc in no)
 
-  -- that many statements stand wherever they are placed
+  -- wherever the statements are placed, K(w) is there, and ends after as many addresses
   abbrev pub SkipsAll : (ℕ → List Statement) → Type 0
   SkipsAll K = (pc w : ℕ) → Placed P Begins pc (K w) → SkipsAt pc w (pc + length (K w))
 

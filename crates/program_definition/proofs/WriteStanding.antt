@@ -1,4 +1,4 @@
--- X's statements, where they are placed, stand.
+-- Where X's statements are placed, the program has X's code.
 use Rattle.std.proofs.Common.{◌≡◌, ℕ, zero, suc, ◌+◌, ◌⊎◌, inl, inr, Bool, true, false, List, [], ◌∷◌, ◌++◌, length, map, Option, Some, None, refl, sym, ap, ◌∙◌, subst, arith, length-append}
 use Rattle.std.specs.Prelude.{slice_get, if◌then◌else◌}
 use Rattle.std.specs.List.{AllByRecursion}
@@ -43,7 +43,7 @@ module _ (W R : List Node) (P : Program) (Begins : Section → ℕ → Type 0) w
   plain_writes pc w r q apart (x_plain n s) = s
   plain_writes pc w r q apart (x_union members places t is at jumps s) = absurd (let two : true ≡ false = sym (ap is_union is) ∙ apart in let no : ⊥ = cc in no)
 
-  -- that many statements stand wherever they are placed
+  -- wherever the statements are placed, X(w, r) is there, and ends after as many addresses
   abbrev pub WritesAll : (ℕ → ℕ → List Statement) → Type 0
   WritesAll X = (pc w r : ℕ) → Here pc (X w r) → WritesAt pc w r (pc + length (X w r))
 

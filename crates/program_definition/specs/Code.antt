@@ -23,7 +23,7 @@ abbrev pub checked : List Statement → Program → Option Program
 checked statements P = if are_whole statements && is_within_limits P then Some P else None
 
 module _ (section : Section → List Statement) where
-  -- the sections that are called for, from section i on; none where so many rounds do not find all
+  -- the sections that are called for, from section i on; none where n rounds do not find all
   abbrev pub reached : ℕ → ℕ → List Section → Option (List Section)
   reached zero i sections = given (slice_get sections i) (Some sections) (λ s. None)
   reached (suc n) i sections =

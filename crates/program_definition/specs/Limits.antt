@@ -12,7 +12,7 @@ use Rattle.program_definition.specs.Writing.{section}
 abbrev pub whole_program : List Node → List Node → List Section → Program
 whole_program W R sections = numbered (start_in (section W R) 0 sections) (statements_of (section W R) sections)
 
--- so many rounds find all sections
+-- this number of rounds finds all sections
 abbrev pub AreAll : List Node → List Node → ℕ → List Section → Type 0
 AreAll W R rounds sections = reached (section W R) rounds 0 (Main ∷ []) ≡ Some sections
 

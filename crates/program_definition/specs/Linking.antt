@@ -15,7 +15,7 @@ pub record BeginsIn (W R : List Node) (listed : List Section) (s : Section) (a :
   pub is_listed : has same_section s listed ≡ true
   pub at : start_in (section W R) 0 listed s ≡ a
 
--- X(0, 0) and HALT stand at the beginning, and each routine that is called stands where its CALL goes.
+-- X(0, 0) and HALT are at the beginning, and each routine that is called is where its CALL goes.
 pub record IsLinked (W R : List Node) (P : Program) : Type 0 where
   pub listed : List Section
   pub opening : Opening W R P (BeginsIn W R listed)

@@ -82,7 +82,7 @@ entry_of misses (To n) = entries.Position n
 entry_of misses (Lacks m) = entries.Miss (number same_miss m misses)
 
 module _ (starts : Section → ℕ) (constants : List (List ℕ)) (misses : List Mismatch) where
-  -- at this address, after so many maps and jump tables
+  -- at this address, after the given counts of maps and jump tables
   abbrev pub linked : ℕ → ℕ → ℕ → Statement → Instr
   linked pc maps jumps (Op i) = i
   linked pc maps jumps (Put bytes) = op.Put (number bytes_eq bytes constants)

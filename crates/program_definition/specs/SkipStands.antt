@@ -1,4 +1,4 @@
--- Code that reads a datum of the writer's and writes nothing, as it stands in a program.
+-- Code that reads a datum of the writer's and writes nothing, as it is in a program.
 -- All of this is this project's own.
 use Rattle.std.specs.Prelude.{◌≡◌, ℕ, ◌+◌, false, List, [], ◌∷◌, length, Option, Some, slice_get}
 use Rattle.avro_types.specs.Node.{Node, Names, FieldNode, NullNode, BooleanNode, IntNode, LongNode, BytesNode, TextNode}
@@ -16,7 +16,7 @@ At P pc i = slice_get P.code pc ≡ Some i
 -- Begins s a: the routine of section s begins at address a
 module _ (W : List Node) (P : Program) (Begins : Section → ℕ → Type 0) where
   mutual
-    -- K(w) stands from an address to another, where the code after it begins
+    -- K(w) from one address up to another, where the code after it begins
     pub data Skips : ℕ → ℕ → ℕ → Type 0 where
       k_plain : {pc w q : ℕ} → is_union (slice_get W w) ≡ false → SkipsPlain pc w q → Skips pc w q
       -- union: BRANCH t; K of each member; t holds where each begins
@@ -24,7 +24,7 @@ module _ (W : List Node) (P : Program) (Begins : Section → ℕ → Type 0) whe
           → At P pc (op.Branch t) → slice_get P.jumps t ≡ Some places → SkipsMembers (pc + 1) members places q
           → Skips pc w q
 
-    -- the same where w is no union
+    -- K(w) where w is no union
     pub data SkipsPlain : ℕ → ℕ → ℕ → Type 0 where
       -- null: nothing
       k_null : {pc w : ℕ} → slice_get W w ≡ Some NullNode → SkipsPlain pc w pc
@@ -44,7 +44,7 @@ module _ (W : List Node) (P : Program) (Begins : Section → ℕ → Type 0) whe
       k_array : {pc w : ℕ} (item q : ℕ) → slice_get W w ≡ Some (ArrayNode item) → At P pc op.SkipBlocks
           → At P (pc + 1) (op.SkipNext (q + 1)) → Skips (pc + 1 + 1) item q → At P q (op.Jump (pc + 1))
           → SkipsPlain pc w (q + 1)
-      -- map: the same with STEXT before K(values)
+      -- map: SBLOCKS; L: SNEXT e; STEXT; K(values); JUMP L; e:
       k_map : {pc w : ℕ} (value q : ℕ) → slice_get W w ≡ Some (MapNode value) → At P pc op.SkipBlocks
           → At P (pc + 1) (op.SkipNext (q + 1)) → At P (pc + 1 + 1) op.SkipText
           → Skips (pc + 1 + 1 + 1) value q → At P q (op.Jump (pc + 1)) → SkipsPlain pc w (q + 1)
@@ -53,7 +53,7 @@ module _ (W : List Node) (P : Program) (Begins : Section → ℕ → Type 0) whe
           → slice_get W w ≡ Some (RecordNode names fields) → Begins (Skip w) a → At P pc (op.Call a)
           → SkipsPlain pc w (pc + 1)
 
-    -- the codes of members, each of which begins at its place, after each but the last a JUMP to where the last ends
+    -- the code of each branch, which begins at its place, after each but the last a JUMP to where the last ends
     pub data SkipsMembers : ℕ → List ℕ → List ℕ → ℕ → Type 0 where
       k_no_member : {pc : ℕ} → SkipsMembers pc [] [] pc
       k_last : {pc member q : ℕ} → is_union (slice_get W member) ≡ false → SkipsPlain pc member q

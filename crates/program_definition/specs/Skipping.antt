@@ -4,7 +4,7 @@ use Rattle.avro_types.specs.Node.{Node, FieldNode, NullNode, BooleanNode, IntNod
 use Rattle.isa.specs.declared.instr.Instr.TheVariants as op
 use Rattle.program_definition.specs.Statements.{Statement, Op, Call, Lost, Skip, branched, looped}
 
--- the code of a node, by that of its items, values and members
+-- the code of a node, by that of its items, values and branches
 abbrev pub skip_node : (ℕ → List Statement) → ℕ → Option Node → List Statement
 skip_node K w (Some NullNode) = []
 skip_node K w (Some BooleanNode) = Op op.SkipBool ∷ []
@@ -21,7 +21,7 @@ skip_node K w (Some (RecordNode names fields)) = Call (Skip w) ∷ []
 skip_node K w None = Lost ∷ []
 
 module _ (W : List Node) where
-  -- arrays, maps and unions hold each other so deep at most
+  -- arrays, maps and unions hold each other at most n deep
   unfoldable pub skip_within : ℕ → ℕ → List Statement
   skip_within zero w = Lost ∷ []
   skip_within (suc n) w = skip_node (skip_within n) w (slice_get W w)

@@ -1,4 +1,4 @@
--- Code that reads a datum of the writer's and writes what the reader makes of it, as it stands in a program.
+-- Code that reads a datum of the writer's and writes what the reader makes of it, as it is in a program.
 -- All of this is this project's own.
 use Rattle.std.specs.Prelude.{◌≡◌, ℕ, suc, ◌+◌, ◌<◌, pos, true, false, List, [], ◌∷◌, length, Option, Some, None, slice_get}
 use Rattle.avro_bytes.specs.Shortest.{shortest}
@@ -42,7 +42,7 @@ PutsNothing (Some d) = written d ≡ []
 -- Begins s a: the routine of section s begins at address a
 module _ (W R : List Node) (P : Program) (Begins : Section → ℕ → Type 0) where
   mutual
-    -- X(w, r) stands from an address to another, where the code after it begins
+    -- X(w, r) from one address up to another, where the code after it begins
     pub data Writes : ℕ → ℕ → ℕ → ℕ → Type 0 where
       x_plain : {pc w r q : ℕ} → is_union (slice_get W w) ≡ false → WritesPlain pc w r q → Writes pc w r q
       -- w is a union: BRANCH t; X(member, r) for each member; t holds where each begins
@@ -50,7 +50,7 @@ module _ (W R : List Node) (P : Program) (Begins : Section → ℕ → Type 0) w
           → At P pc (op.Branch t) → slice_get P.jumps t ≡ Some places → WritesMembers (pc + 1) members r places q
           → Writes pc w r q
 
-    -- the same where w is no union
+    -- X(w, r) where w is no union
     pub data WritesPlain : ℕ → ℕ → ℕ → ℕ → Type 0 where
       -- r is a union, member j is the first that matches: PUT spelling of j; X(w, j)
       x_into : {pc w r q : ℕ} (j member c : ℕ) → place W R w r ≡ IntoMember j member → At P pc (op.Put c)
@@ -63,7 +63,7 @@ module _ (W R : List Node) (P : Program) (Begins : Section → ℕ → Type 0) w
           → slice_get P.misses m ≡ Some (miss kinds.NoMatch w r) → Skips W P Begins (pc + 1) w q → WritesPlain pc w r q
       x_straight : {pc w r q : ℕ} → place W R w r ≡ Straight → Straights pc w r q → WritesPlain pc w r q
 
-    -- the same for nodes that match, neither a union
+    -- X(w, r) for nodes that match, neither a union
     pub data Straights : ℕ → ℕ → ℕ → ℕ → Type 0 where
       -- null: nothing
       s_null : {pc w r : ℕ} → slice_get W w ≡ Some NullNode → Straights pc w r pc
@@ -103,7 +103,7 @@ module _ (W R : List Node) (P : Program) (Begins : Section → ℕ → Type 0) w
           → slice_get W w ≡ Some (RecordNode names fs) → slice_get R r ≡ Some (RecordNode others gs)
           → lacking fs gs ≡ None → Begins (Write w r) a → At P pc (op.Call a) → Straights pc w r (pc + 1)
 
-    -- the codes of members, each of which begins at its place, after each but the last a JUMP to where the last ends
+    -- the code of each branch, which begins at its place, after each but the last a JUMP to where the last ends
     pub data WritesMembers : ℕ → List ℕ → ℕ → List ℕ → ℕ → Type 0 where
       x_no_member : {pc r : ℕ} → WritesMembers pc [] r [] pc
       x_last : {pc member r q : ℕ} → is_union (slice_get W member) ≡ false → WritesPlain pc member r q
@@ -112,7 +112,7 @@ module _ (W R : List Node) (P : Program) (Begins : Section → ℕ → Type 0) w
           → WritesPlain pc member r q → At P q (op.Jump e) → WritesMembers (q + 1) (other ∷ members) r places e
           → WritesMembers pc (member ∷ other ∷ members) r (pc ∷ places) e
 
-  -- for each of w's fields, in order, SLOT j and X where the partner is r's field j, else K
+  -- for each of w's fields, in order: SLOT j and X where its partner is r's field j, else K
   pub data Fields : ℕ → List Route → ℕ → Type 0 where
     no_field : {pc : ℕ} → Fields pc [] pc
     dropped : {pc e : ℕ} {route : Route} {others : List Route} (q : ℕ) → route.partner ≡ None

@@ -35,8 +35,8 @@ pub data Statement : Type 0 where
   Back : (far : ℕ) → Statement
   -- BRANCH to addresses so far ahead
   Branch : (fars : List ℕ) → Statement
-  -- no code: a node that is none of the schema's, or whose arrays, maps and unions hold each other without end, or nodes
-  -- that do not go together
+  -- no code: a node that is none of the schema's, or whose arrays, maps and unions hold each other without end, or
+  -- nodes that do not go together
   Lost : Statement
 
 abbrev pub miss : MismatchKind → ℕ → ℕ → Mismatch
@@ -57,6 +57,6 @@ abbrev pub begins : ℕ → List (List Statement) → List ℕ
 begins far [] = []
 begins far (code ∷ codes) = far ∷ begins (far + length code + 1) codes
 
--- BRANCH t; one code for each member
+-- BRANCH t; the code of each branch
 abbrev pub branched : List (List Statement) → List Statement
 branched codes = Branch (begins 1 codes) ∷ one_of codes

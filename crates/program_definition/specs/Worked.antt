@@ -84,7 +84,7 @@ reader =
     ∷ record { name = 100 ∷ []; aliases = []; node = 3; default = Some (LongDatum (pos 7)) } ∷ [])
     ∷ EnumNode (names 69 []) ((65 ∷ []) ∷ []) None ∷ LongNode ∷ LongNode ∷ []
 
--- No member matches the long, and B has no symbol: three misses. The bytes are skipped, and 7 is put.
+-- No branch matches the long, and B has no symbol: three misses. The bytes are skipped, and 7 is put.
 abbrev pub ReaderHasItsProgram : Type 0
 ReaderHasItsProgram = code_of writer reader ≡ Some (record {
   code = op.Call 2 ∷ op.Halt

@@ -79,7 +79,7 @@ module _ (W R : List Node) where
   write_node X w r (Some (UnionNode members)) = branched (map (λ member. X member r) members)
   write_node X w r _ = placed_node X w r (place W R w r)
 
-  -- arrays, maps and unions of the writer hold each other so deep at most
+  -- arrays, maps and unions of the writer hold each other at most n deep
   unfoldable pub write_within : ℕ → ℕ → ℕ → List Statement
   write_within zero w r = Lost ∷ []
   write_within (suc n) w r = write_node (write_within n) w r (slice_get W w)

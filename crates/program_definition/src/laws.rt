@@ -7,7 +7,7 @@ ghost use Rattle.program_definition.specs.Worked.{RenamedHasItsProgram};
 
 use avro_types::Nodes;
 
-/// The law that the code of a pair of schemas stands in its program, statement by statement as the compiler's table has
+/// The law that the code of a pair of schemas is in its program, statement by statement as the compiler's table has
 /// it: the roots' code first, and each routine where it is called.
 pub fn program_is_linked(writer: &Nodes, reader: &Nodes)
     ensures { ProgramIsLinked writer.now reader.now }
@@ -15,7 +15,7 @@ pub fn program_is_linked(writer: &Nodes, reader: &Nodes)
     writer.is_well_formed(); // law
 }
 
-/// The law that the program of a pair of schemas names nothing that it has not: `isa` takes it as it is.
+/// The law that the program of a pair of schemas refers only to what it has, so that `isa` takes it as it is.
 pub fn program_is_in_range(writer: &Nodes, reader: &Nodes)
     ensures { ProgramIsInRange writer.now reader.now }
 {
@@ -34,8 +34,8 @@ pub fn no_program_only_past_a_limit(writer: &Nodes, reader: &Nodes)
     reader.is_well_formed(); // law
 }
 
-/// The law that worked pairs have the programs that the compiler's table gives them: two records to themselves, one to
-/// a record that takes its fields by aliases, and one with misses, an entry of a map, a skipped field and a default.
+/// The law that worked pairs have the programs that the compiler's table makes of them: two records to themselves, one
+/// to a record that takes its fields by aliases, and one with misses, an entry of a map, a skipped field and a default.
 pub fn worked_pairs_have_their_programs()
     ensures list { LongListHasItsProgram }
     ensures same { PairHasItsProgram }

@@ -1,4 +1,4 @@
--- Where sections stand, with one more after the others.
+-- The indices of sections, with one more after the others.
 use Rattle.std.proofs.Common.{◌≡◌, ℕ, suc, ◌+◌, ◌<◌, drop, get_or, Bool, true, false, cond, List, [], ◌∷◌, ◌++◌, length, Option, Some, None, is_some, refl, sym, ap, ◌∙◌, arith}
 use Rattle.std.specs.Prelude.{◌==◌, ◌&&◌, if◌then◌else◌}
 use Rattle.std.proofs.Math.Seq.{drop-cons}
@@ -47,11 +47,11 @@ or_none : (o : Option ℕ) → or_else o None ≡ o
 or_none None = refl
 or_none (Some n) = refl
 
--- another section stands where it stood
+-- another section keeps its index
 pub place_other : (s x : Section) (ss : List Section) → same_section s x ≡ false → place s (ss ++ x ∷ []) ≡ place s ss
 place_other s x ss apart = place_last 0 s x ss ∙ ap (λ b. or_else (place s ss) (if b then Some (0 + length ss) else None)) apart ∙ or_none (place s ss)
 
--- the new one stands last
+-- the new one is the last
 pub place_new : (s x : Section) (ss : List Section) → same_section s x ≡ true → place s ss ≡ None → place s (ss ++ x ∷ []) ≡ Some (length ss)
 place_new s x ss same fresh = place_last 0 s x ss ∙ ap (λ b. or_else (place s ss) (if b then Some (0 + length ss) else None)) same ∙ ap (λ o. or_else o (Some (0 + length ss))) fresh ∙ (let e : 0 + length ss ≡ length ss = omega arith in ap Some e)
 

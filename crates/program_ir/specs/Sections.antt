@@ -12,7 +12,7 @@ use Rattle.program_ir.specs.Statements.{section_of}
 abbrev pub sections_in : List rust.Section → List Section
 sections_in ss = map section_of ss
 
--- where a section stands first, from a number on
+-- the index of a section's first occurrence, counted from n
 abbrev pub place_from : ℕ → Section → List Section → Option ℕ
 place_from n s [] = None
 place_from n s (x ∷ xs) = if same_section s x then Some n else place_from (suc n) s xs
@@ -24,7 +24,7 @@ place s ss = place_from 0 s ss
 abbrev pub pair_cmp : ℕ × ℕ → ℕ × ℕ → Ordering
 pair_cmp p q = ordering_then (nat_cmp p.0 q.0) (nat_cmp p.1 q.1)
 
--- the main section stands first, and under the nodes of the others stands where they are
+-- the main section is the first, and under the nodes of the others are their indices
 pub record AreNumbered (s : Inside) : Type 0 where
   pub main : place Main (sections_in s.list.items) ≡ Some 0
   pub writes : (p : ℕ × ℕ) → get pair_cmp s.writes p ≡ place (Write p.0 p.1) (sections_in s.list.items)

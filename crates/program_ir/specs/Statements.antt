@@ -69,7 +69,7 @@ statements_in W R ls = map (statement_of W R) ls
 abbrev pub parts_in : List Node → List Node → List (Vec rust.Statement) → List (List Statement)
 parts_in W R parts = map (λ part. statements_in W R part.items) parts
 
--- a jump so far ahead, if that is anywhere
+-- a jump so far ahead, unless that is 0
 abbrev pub jump_statements : ℕ → List Statement
 jump_statements zero = []
 jump_statements (suc far) = Ahead op.Jump (suc far) ∷ []

@@ -30,13 +30,13 @@ key_cmp p q = ordering_then (ordering_then (nat_cmp p.0 q.0) (nat_cmp p.1 q.1)) 
 abbrev pub bytes_cmp : Vec ℕ → Vec ℕ → Ordering
 bytes_cmp a b = slice_cmp nat_cmp a.items b.items
 
--- under its key stands the number of each
+-- under its key is the number of each
 abbrev pub AreMisses : misses.Inside → Type 0
 AreMisses s = (m : Mismatch) → get key_cmp s.numbers (key_of m) ≡ found same_miss m s.list.items
 
 abbrev pub AreConstants : constants.Inside → Type 0
 AreConstants s = (v : Vec ℕ) → get bytes_cmp s.numbers v ≡ found bytes_eq v.items s.list
 
--- what a symbol with that position becomes, or else the miss of a number
+-- what a symbol becomes: the position, or else the miss with the index `lacking`
 abbrev pub entry_at : ℕ → Option ℕ → Entry
 entry_at lacking position = given position (entries.Miss lacking) entries.Position

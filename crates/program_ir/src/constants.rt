@@ -1,4 +1,4 @@
-//! The constants that statements name, each once.
+//! The constants that statements refer to, each once.
 
 ghost use Rattle.std.specs.Prelude.{◌≡◌, ◌++◌, ◌∷◌, [], None, length, IfOk};
 ghost use Rattle.std.specs.Str.{bytes_eq};
@@ -10,7 +10,7 @@ use std::alloc::{AllocError, Global};
 use std::collections::BTreeMap;
 use std::marker::Model;
 
-/// Constants in the order in which they are named first, each once. Callers see them as a list.
+/// Constants in the order in which they are referred to first, each once. Callers see them as a list.
 #[derive(Drop)]
 pub struct Constants {
     list: Lists<u8>,
@@ -29,7 +29,7 @@ impl Model for Constants {
 }
 
 impl Constants {
-    /// No constant.
+    /// Returns an empty list of constants.
     pub fn new(alloc: Global) -> Constants
         ensures { result ≡ [] }
     {
@@ -39,21 +39,21 @@ impl Constants {
         }
     }
 
-    /// The number of a constant that is there.
+    /// Returns the index of a constant; `None` where it is none of them.
     fn get(&self, bytes: &Vec<u8>) -> Option<usize>
         ensures { result ≡ found bytes_eq bytes.now.items self.now }
     {
         self.numbers.get(bytes).copied()
     }
 
-    /// The number of a constant, or how many there are where it is none of them.
+    /// Returns the index of a constant, or the number of constants where it is none of them.
     pub fn number_of(&self, bytes: &Vec<u8>) -> usize
         ensures { result ≡ number bytes_eq bytes.now.items self.now }
     {
         self.get(bytes).unwrap_or(self.len())
     }
 
-    /// These with a constant that is not there.
+    /// Returns these with a constant appended that is none of them.
     fn with_new(self, bytes: Vec<u8>) -> Result<Constants, AllocError>
         requires { found bytes_eq bytes.items self ≡ None }
         ensures { IfOk result (λ more. more ≡ self ++ bytes.items ∷ []) }
@@ -68,7 +68,7 @@ impl Constants {
         Ok(Constants { list, numbers })
     }
 
-    /// These with a constant, if it is not there.
+    /// Returns these with a constant appended, if it is none of them.
     pub fn with(self, bytes: Vec<u8>) -> Result<Constants, AllocError>
         ensures { IfOk result (λ more. more ≡ adding bytes_eq self (bytes.items ∷ [])) }
     {
@@ -78,14 +78,14 @@ impl Constants {
         self.with_new(bytes)
     }
 
-    /// How many there are.
+    /// Returns the number of constants.
     pub fn len(&self) -> usize
         ensures { result ≡ length self.now }
     {
         self.list.len()
     }
 
-    /// Their bytes.
+    /// Returns their bytes, in order.
     pub fn into_list(self) -> Lists<u8>
         ensures { result ≡ self }
     {

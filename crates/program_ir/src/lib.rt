@@ -1,7 +1,7 @@
 //! Programs; used by `program_lowering`, `program_compiler`.
 //!
-//! The statements of a pair's code, and what they name: routines, constants and misses, each once and with its number,
-//! and what the symbols of a pair of enums become.
+//! The statements of a pair's code, and what they refer to: routines, constants and misses, each once and with its
+//! number, and what the symbols of a pair of enums become.
 #![tactic(auto)]
 
 mod constants;

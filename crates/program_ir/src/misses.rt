@@ -1,4 +1,4 @@
-//! The misses that statements name, each once.
+//! The misses that statements refer to, each once.
 
 ghost use Rattle.std.specs.Prelude.{◌≡◌, ◌++◌, ◌∷◌, [], None, length, OnErr, OnOk};
 ghost use Rattle.program_definition.specs.Numbering.{adding, number, same_miss};
@@ -10,14 +10,14 @@ use std::alloc::{AllocError, Global};
 use std::collections::BTreeMap;
 use std::marker::Model;
 
-/// How a miss is looked up.
+/// Returns the key by which a miss is looked up.
 fn key_of(miss: Mismatch) -> (u8, usize, usize)
     ensures { result ≡ key_of_miss miss }
 {
     (miss.kind.code(), miss.writer_node, miss.reader_node)
 }
 
-/// Misses in the order in which they are named first, each once. Callers see them as a list.
+/// Misses in the order in which they are referred to first, each once. Callers see them as a list.
 #[derive(Drop)]
 pub struct Misses {
     list: Vec<Mismatch>,
@@ -37,7 +37,7 @@ impl Model for Misses {
 }
 
 impl Misses {
-    /// No miss.
+    /// Returns an empty list of misses.
     pub fn new(alloc: Global) -> Misses
         ensures { result ≡ [] }
     {
@@ -47,21 +47,21 @@ impl Misses {
         }
     }
 
-    /// The number of a miss that is there.
+    /// Returns the index of a miss; `None` where it is none of them.
     fn get(&self, miss: Mismatch) -> Option<usize>
         ensures { result ≡ found same_miss miss self.now }
     {
         self.numbers.get(&key_of(miss)).copied()
     }
 
-    /// The number of a miss, or how many there are where it is none of them.
+    /// Returns the index of a miss, or the number of misses where it is none of them.
     pub fn number_of(&self, miss: Mismatch) -> usize
         ensures { result ≡ number same_miss miss self.now }
     {
         self.get(miss).unwrap_or(self.len())
     }
 
-    /// Adds a miss that is not there.
+    /// Appends a miss that is none of them. An `Err` leaves them as they were.
     fn add_new(&mut self, miss: Mismatch) -> Result<(), AllocError>
         requires { found same_miss miss self.old ≡ None }
         ensures added { OnOk result (self.new ≡ self.old ++ miss ∷ []) }
@@ -74,7 +74,7 @@ impl Misses {
         Ok(())
     }
 
-    /// Adds a miss, if it is not there.
+    /// Appends a miss, if it is none of them. An `Err` leaves them as they were.
     pub fn add(&mut self, miss: Mismatch) -> Result<(), AllocError>
         ensures added { OnOk result (self.new ≡ adding same_miss self.old (miss ∷ [])) }
         ensures refused { OnErr result (self.new ≡ self.old) }
@@ -85,14 +85,14 @@ impl Misses {
         self.add_new(miss)
     }
 
-    /// How many there are.
+    /// Returns the number of misses.
     pub fn len(&self) -> usize
         ensures { result ≡ length self.now }
     {
         self.list.len()
     }
 
-    /// All of them, in order.
+    /// Returns all of them, in order.
     pub fn into_list(self) -> Vec<Mismatch>
         ensures { result.items ≡ self }
     {

@@ -33,7 +33,7 @@ impl Model for Sections {
 }
 
 impl Sections {
-    /// The main section alone.
+    /// Returns a list of the main section alone.
     pub fn new(alloc: Global) -> Result<Sections, AllocError>
         ensures { IfOk result (λ s. s ≡ Main ∷ []) }
     {
@@ -46,14 +46,14 @@ impl Sections {
         })
     }
 
-    /// The section of a number.
+    /// Returns the section at an index; `None` where there is none.
     pub fn get(&self, number: usize) -> Option<Section>
         ensures { option_map section_of result ≡ slice_get self.now number }
     {
         self.list.get(number).copied()
     }
 
-    /// The number of a section.
+    /// Returns the index of a section; `None` where it is none of them.
     pub fn number_of(&self, section: Section) -> Option<usize>
         ensures number { result ≡ place (section_of section) self.now }
         ensures main { place Main self.now ≡ Some 0 }
@@ -65,7 +65,7 @@ impl Sections {
         }
     }
 
-    /// Adds a routine that is not there.
+    /// Appends a routine that is none of them.
     fn add_write(&mut self, wn: usize, rn: usize) -> Result<(), AllocError>
         requires { place (Write wn rn) self.old ≡ None }
         ensures { OnOk result (self.new ≡ self.old ++ Write wn rn ∷ []) }
@@ -77,7 +77,7 @@ impl Sections {
         Ok(())
     }
 
-    /// Adds a routine that skips and is not there.
+    /// Appends a routine that skips and is none of them.
     fn add_skip(&mut self, wn: usize) -> Result<(), AllocError>
         requires { place (Skip wn) self.old ≡ None }
         ensures { OnOk result (self.new ≡ self.old ++ Skip wn ∷ []) }
@@ -89,7 +89,7 @@ impl Sections {
         Ok(())
     }
 
-    /// Adds a section, if it is not there.
+    /// Appends a section, if it is none of them.
     pub fn add(&mut self, section: Section) -> Result<(), AllocError>
         ensures { OnOk result (self.new ≡ adding same_section self.old (section_of section ∷ [])) }
     {
@@ -104,7 +104,7 @@ impl Sections {
     }
 }
 
-/// Adds the section that a statement calls, if it calls one.
+/// Appends the section that a statement calls, if it calls one that is none of them.
 fn note_call(sections: &mut Sections, statement: &Statement) -> Result<(), AllocError>
     ensures { OnOk result
         ((W R : List Node) → sections.new
@@ -116,7 +116,7 @@ fn note_call(sections: &mut Sections, statement: &Statement) -> Result<(), Alloc
     }
 }
 
-/// Adds the sections that statements call.
+/// Appends the sections that statements call, each once.
 pub fn note_calls(sections: &mut Sections, statements: &[Statement]) -> Result<(), AllocError>
     ensures { OnOk result ((W R : List Node) → sections.new
         ≡ adding same_section sections.old (named_in calls_of (statements_in W R statements.now))) }

@@ -21,7 +21,7 @@ pub enum Section {
     Skip(usize),
 }
 
-/// What goes to a place ahead.
+/// What jumps ahead.
 #[derive(Clone, Copy)]
 pub enum Go {
     Next,
@@ -29,10 +29,10 @@ pub enum Go {
     Jump,
 }
 
-/// Bytes that are put, told by where they come from.
+/// Bytes that are put, described by where they come from.
 #[derive(Clone, Copy)]
 pub enum Constant {
-    /// The spelling of a member's position.
+    /// The encoding of a branch's position.
     Position(u32),
     /// The written default of a field of a reader's record.
     Default { reader: usize, field: usize },
@@ -48,17 +48,17 @@ pub enum Statement {
     /// The nodes of a writer's enum and a reader's.
     Enum { writer: usize, reader: usize },
     Call(Section),
-    /// To a place so many statements ahead.
+    /// To a statement this many statements ahead.
     Ahead(Go, usize),
-    /// To a place so many statements back.
+    /// To a statement this many statements back.
     Back(usize),
-    /// How far ahead the code of each member is.
+    /// How many statements ahead the code of each branch is.
     Branch(Vec<usize>),
     /// No code. It is not among the statements of any pair of well-formed schemas.
     Lost,
 }
 
-/// A mismatch of that kind, with both nodes.
+/// Returns the mismatch of a kind between two nodes.
 pub fn miss(kind: MismatchKind, writer_node: usize, reader_node: usize) -> Mismatch
     ensures { result ≡ miss kind writer_node reader_node }
 {
@@ -69,7 +69,7 @@ pub fn miss(kind: MismatchKind, writer_node: usize, reader_node: usize) -> Misma
     }
 }
 
-/// Adds one statement.
+/// Appends one statement.
 pub fn put(statements: &mut Vec<Statement>, statement: Statement) -> Result<(), AllocError>
     ensures { OnOk result
         ((W R : List Node) → statements_in W R statements.new.items ≡ statements_in W R statements.old.items
@@ -79,7 +79,7 @@ pub fn put(statements: &mut Vec<Statement>, statement: Statement) -> Result<(), 
     Ok(())
 }
 
-/// Adds statements.
+/// Appends statements.
 #[tactic(auto, using(crate::proofs::Appended::statements_on))]
 pub fn put_all(statements: &mut Vec<Statement>, mut more: Vec<Statement>) -> Result<(), AllocError>
     ensures { OnOk result
@@ -90,7 +90,7 @@ pub fn put_all(statements: &mut Vec<Statement>, mut more: Vec<Statement>) -> Res
     Ok(())
 }
 
-/// Adds a loop with that body.
+/// Appends a loop with a body: a jump ahead to where it ends, the body, and a jump back.
 pub fn put_loop(
     statements: &mut Vec<Statement>,
     go: Go,
@@ -106,7 +106,7 @@ pub fn put_loop(
     put(statements, Statement::Back(len + 1))
 }
 
-/// Adds a jump so far ahead, and no statement where that is nowhere.
+/// Appends a jump to `far` statements ahead, or no statement where `far` is 0.
 fn put_jump(statements: &mut Vec<Statement>, far: usize) -> Result<(), AllocError>
     ensures { OnOk result ((W R : List Node) → statements_in W R statements.new.items
         ≡ statements_in W R statements.old.items ++ jump_statements far) }
@@ -117,8 +117,8 @@ fn put_jump(statements: &mut Vec<Statement>, far: usize) -> Result<(), AllocErro
     put(statements, Statement::Ahead(Go::Jump, far))
 }
 
-/// Adds a branch to each of these parts, and the parts, after each but the last a jump to where the last ends. There
-/// is room for all of them before the first is added.
+/// Appends a branch to each of these parts, and the parts, after each but the last a jump to where the last ends.
+/// There is room for all of them before the first is added.
 pub fn put_branched(
     alloc: Global,
     statements: &mut Vec<Statement>,
@@ -128,7 +128,7 @@ pub fn put_branched(
         ≡ statements_in W R statements.old.items ++ branched (parts_in W R parts.items)) }
 {
     let mut fars = Vec::new(alloc);
-    // How far ahead the end is.
+    // How many statements ahead the end is.
     let mut far = 0;
     for part in &parts {
         fars.push(far + 1)?;
@@ -144,8 +144,8 @@ pub fn put_branched(
     Ok(())
 }
 
-/// Adds the statement that a record begins with: the call of its routine, or the miss of the first of the reader's
-/// fields that lacks.
+/// Appends the statement that a record begins with: the call of its routine, or the miss of the first of the reader's
+/// fields that has neither a partner nor a default.
 pub fn put_record(
     statements: &mut Vec<Statement>,
     writer_node: usize,
@@ -167,7 +167,7 @@ pub fn put_record(
     }
 }
 
-/// Adds the statement that selects the slot of one of the writer's fields, if it has a partner: slots stand in the
+/// Appends the statement that selects the slot of one of the writer's fields, if it has a partner: slots are in the
 /// order of the reader's fields.
 pub fn put_slot(
     statements: &mut Vec<Statement>,
@@ -188,7 +188,7 @@ pub fn put_slot(
     }
 }
 
-/// Adds the routine of two records, with the statements of the writer's fields and of the defaults.
+/// Appends the routine of two records, with the statements of the writer's fields and of the defaults.
 pub fn put_routine(
     statements: &mut Vec<Statement>,
     slots: u32,

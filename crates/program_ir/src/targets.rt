@@ -13,7 +13,8 @@ use outcome::{Mismatch, MismatchKind};
 use resolver::symbol_for;
 use std::alloc::{AllocError, Global};
 
-/// The position of a writer's symbol with a reader's enum.
+/// Returns the position of a writer's symbol in a reader's enum, or that of the enum's default; `None` where it has
+/// neither.
 pub fn position_for(nodes: &Nodes, node: usize, symbol: &str) -> Option<u32>
     ensures { result ≡ position_of_symbol (slice_get nodes.now node) symbol.now }
 {
@@ -24,7 +25,8 @@ pub fn position_for(nodes: &Nodes, node: usize, symbol: &str) -> Option<u32>
     }
 }
 
-/// What a symbol of a writer's becomes with a reader's enum: its position there, or else the miss of a number.
+/// Returns what a writer's symbol becomes in a reader's enum: a position there, or else the miss at the index
+/// `lacking`.
 fn entry_for(r: &Nodes, reader: usize, symbol: &str, lacking: u32) -> Entry
     ensures { result ≡ entry_at lacking (position_of_symbol (slice_get r.now reader) symbol.now) }
 {
@@ -34,7 +36,7 @@ fn entry_for(r: &Nodes, reader: usize, symbol: &str, lacking: u32) -> Entry
     }
 }
 
-/// What each symbol of a writer's enum becomes with a reader's.
+/// Returns what each symbol of a writer's enum becomes in a reader's.
 pub fn entries(
     alloc: Global,
     reader: &Nodes,

@@ -51,7 +51,8 @@ module _ (W R : List Node) where
   only_named w m full named apart (string_to_bytes at there) = absurd (none_some full (ap full_name_of (sym at) ∙ named))
   only_named w m full named apart (bytes_to_string at there) = absurd (none_some full (ap full_name_of (sym at) ∙ named))
 
-  -- where all nodes that have the name are candidates, the first candidate that matches is the first member that matches
+  -- where all nodes that have the name are candidates, the first candidate that matches is the first member that
+  -- matches
   pub among_candidates : (w : ℕ) (members candidates : List ℕ) (full : List ℕ) → full_name_of (slice_get W w) ≡ Some full → ((i m : ℕ) → slice_get members i ≡ Some m → is_union (slice_get R m) ≡ false)
       → ((m : ℕ) → matches W R w m ≡ true → Matches W R w m) → ((m : ℕ) → is_among m candidates ≡ is_used (unqualified full) (unqualified_names (slice_get R m)))
       → first_member (λ m. is_among m candidates && matches W R w m) 0 members ≡ first_member (matches W R w) 0 members

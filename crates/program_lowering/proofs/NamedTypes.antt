@@ -28,7 +28,7 @@ named_on parts p part last own old new before at so_far put =
     joined true false some before = ap (λ b. b || before) (sym (or_false some))
     joined false one some before = refl
 
--- the part of an alias stands behind that of the name
+-- the part of an alias comes after that of the name
 pub alias_part : (names : Names) (p : ℕ) (part : List ℕ) → Some part ≡ option_map unqualified (slice_get names.aliases p) → slice_get (last_parts names) (p + 1) ≡ Some part
 alias_part names p part at = ap (slice_get (last_parts names)) (add-one p) ∙ slice_get-map unqualified names.aliases p ∙ sym at
 

@@ -39,7 +39,7 @@ module _ (section : Section → List Statement) where
       ap (λ l. l ++ at ∷ []) so_far ∙ ap (λ k. starts_of 0 (take i ss) ++ k ∷ []) from
       ∙ sym (starts_on 0 (take i ss) s) ∙ sym (ap (starts_of 0) (ap (λ k. take k (adding same_section ss (named_in calls_of (section s)))) next ∙ ap (take (suc i)) more.1 ∙ take_next ss more.0 i s here))
 
-  -- what stands under a section's place is where it begins
+  -- what is at a section's place is where it begins
   pub place_start : (front : List ℕ) (pc d : ℕ) (ss : List Section) (s : Section) → d ≡ pc + length (statements_of section ss) → given (place_from (length front) s ss) d (λ n. slice_index_or (front ++ starts_of pc ss) n d) ≡ start_in section pc ss s
   place_start front pc d [] s e = omega (arith, e)
   place_start front pc d (x ∷ ss) s e = go (same_section s x) (rest (place_start (front ++ pc ∷ []) (pc + length (section x)) d ss s after))

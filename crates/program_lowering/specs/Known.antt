@@ -15,12 +15,12 @@ abbrev pub lacking_node : List Node → List Node → ℕ × ℕ → Option ℕ
 lacking_node W R pair =
     given (field_lists (slice_get W pair.0) (slice_get R pair.1)) None (λ p. option_map (λ g. g.node) (lacking p.0 p.1))
 
--- under a pair of records stands that node
+-- under a pair of records is that node
 abbrev pub AreLacking : List Node → List Node → BTreeMap (ℕ × ℕ) (Option ℕ) → Type 0
 AreLacking W R nodes = (pair : ℕ × ℕ) (node : Option ℕ) → get pair_cmp nodes pair ≡ Some node
     → node ≡ lacking_node W R pair
 
--- under a union stand the positions of its members
+-- under a union are the positions of its branches
 abbrev pub ArePlaced : List Node → BTreeMap ℕ (BTreeMap ℕ ℕ) → Type 0
 ArePlaced R positions = (r : ℕ) (members : List ℕ) (found : BTreeMap ℕ ℕ) → slice_get R r ≡ Some (UnionNode members)
     → get nat_cmp positions r ≡ Some found → ArePositionsOf members found

@@ -23,14 +23,14 @@ unqualified_names _ = []
 abbrev pub is_among : ℕ → List ℕ → Bool
 is_among node nodes = list_any (λ other. other == node) nodes
 
--- the nodes that stand under a text
+-- the nodes that are under a text
 abbrev pub nodes_under : {A : Type 0} → BTreeMap (String A) (Vec ℕ) → List ℕ → List ℕ
 nodes_under nodes text = given (get_by_text nodes text) [] (λ own. own.items)
 
 abbrev pub stands_under : {A : Type 0} → BTreeMap (String A) (Vec ℕ) → List ℕ → ℕ → Bool
 stands_under nodes text node = is_among node (nodes_under nodes text)
 
--- Under an unqualified name stand the nodes that have it, and no others.
+-- Under an unqualified name are the nodes that have it, and no others.
 abbrev pub AreTypesOf : List Node → NamedTypes → Type 0
 AreTypesOf R types = (last : List ℕ) (node : ℕ)
     → stands_under types.nodes last node ≡ is_used last (unqualified_names (slice_get R node))

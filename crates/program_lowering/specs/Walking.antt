@@ -33,7 +33,7 @@ Walks W R (Ok l) = AreSectionStatements W R l
 Walks W R (Err ProgramTooLarge) = code_of W R ≡ None
 Walks W R (Err NoMemory) = Unit {0}
 
--- the same of sections, begins and statements that are filled in
+-- the walk's answer, where it fills in sections, starts and statements
 abbrev pub Fills : List Node → List Node → List Section → List ℕ → List rust.Statement → Result (Unit {0}) CompileError
     → Type 0
 Fills W R sections starts statements (Ok done) =

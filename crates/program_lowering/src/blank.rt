@@ -6,7 +6,7 @@ ghost use Rattle.avro_datum.specs.Writing.{written, written_data};
 
 use avro_types::Datum;
 
-/// Whether a datum is written as no bytes. No byte is looked at after the first.
+/// Returns whether a datum is written as no bytes. No byte is looked at after the first.
 #[cycle(blank)]
 #[tactic(auto, using(avro_datum::proofs::Written::record_written), unfolding(avro_datum::specs::Writing::written))]
 pub(crate) fn is_blank(datum: &Datum) -> bool
@@ -28,7 +28,7 @@ pub(crate) fn is_blank(datum: &Datum) -> bool
     }
 }
 
-/// Whether data are all written as no bytes.
+/// Returns whether data are all written as no bytes.
 #[cycle(blank)]
 #[tactic(auto, using(crate::proofs::NoBytes::blank_here), unfolding(avro_datum::specs::Writing::written))]
 fn are_blank(each: &[Datum]) -> bool

@@ -15,22 +15,22 @@ use resolver_matching::{Destination, matches_by_rule, place_of, routes};
 use std::alloc::{AllocError, Global};
 use std::collections::BTreeMap;
 
-/// What is known of nodes that have met, which is found once: a pair that is met again costs no more than a look-up.
+/// What is known of nodes that have met. It is found once: a pair that is met again costs no more than a look-up.
 #[derive(Drop)]
 pub(crate) struct Known {
     /// Under two records, the node of the first of the reader's fields that has neither a partner nor a default.
     lacking: BTreeMap<(usize, usize), Option<usize>>,
-    /// The reader's named types, once a union of many members has met one of the writer's.
+    /// The reader's named types, once a union of many branches has met one of the writer's.
     types: Option<NamedTypes>,
-    /// Under a reader's union of many members, their positions, each under its node.
+    /// Under a reader's union of many branches, their positions, each under its node.
     positions: BTreeMap<usize, BTreeMap<usize, u32>>,
 }
 
-/// So many members, or so many candidates for one, are looked through one by one.
+/// Up to this many branches of a union are compared one by one; of a larger union, up to this many candidates are.
 const FEW: usize = 16;
 
 impl Known {
-    /// Nothing.
+    /// Returns an empty record: nothing is known yet.
     pub(crate) fn new(alloc: Global) -> Known
         ensures { (W R : List Node) → AreKnown W R result }
     {
@@ -41,7 +41,8 @@ impl Known {
         }
     }
 
-    /// The node of the first of the reader's fields that has neither a partner nor a default.
+    /// Returns the node of the first of the reader's fields that has neither a partner nor a default; `None` where
+    /// each has one of them.
     pub(crate) fn lacking_node(
         &mut self,
         pair: &SchemaPair<'_>,
@@ -63,7 +64,7 @@ impl Known {
         Ok(node)
     }
 
-    /// Notes the reader's named types.
+    /// Notes the reader's named types, unless they are noted already.
     fn note_types(&mut self, alloc: Global, r: &Nodes) -> Result<(), AllocError>
         ensures { (W : List Node) → AreKnown W r.now self.old → AreKnown W r.now self.new }
     {
@@ -73,7 +74,7 @@ impl Known {
         Ok(())
     }
 
-    /// Notes the positions of the members of a reader's union.
+    /// Notes the positions of the branches of a reader's union, unless they are noted already.
     fn note_positions(
         &mut self,
         alloc: Global,
@@ -93,8 +94,10 @@ impl Known {
         Ok(())
     }
 
-    /// Where a value of a writer's named type goes with a reader's union: no other member can match than those that
-    /// have its unqualified name. Where too many nodes have it, each member is compared.
+    /// Returns where a value of a writer's named type goes in a reader's union.
+    ///
+    /// Only the branches that have its unqualified name can match, so only these are compared. Where more than `FEW`
+    /// nodes have it, or the union is not noted, each branch is compared.
     fn place_by_name(
         &self,
         pair: &SchemaPair<'_>,
@@ -124,7 +127,7 @@ impl Known {
         pair.find_member(wn, members, positions, candidates)
     }
 
-    /// Where a value of a writer's node goes with a reader's node.
+    /// Returns where a value of a writer's node goes in a reader's node.
     pub(crate) fn place_of(
         &mut self,
         pair: &SchemaPair<'_>,
@@ -155,8 +158,8 @@ impl Known {
 }
 
 impl SchemaPair<'_> {
-    /// The node of the first of the reader's fields that has neither a partner nor a default, found by all of both
-    /// records' fields.
+    /// Returns the node of the first of the reader's fields that has neither a partner nor a default, found by
+    /// matching the fields of both records; `None` where each has one of them.
     fn find_lacking(&self, wn: usize, rn: usize) -> Result<Option<usize>, AllocError>
         requires writer { wn < length self.now.writer.now }
         requires reader { rn < length self.now.reader.now }

@@ -1,4 +1,4 @@
-//! The member of a union that a node goes into.
+//! The branch of a union that a node goes into.
 
 ghost use Rattle.std.specs.Prelude.{◌≡◌, ◌<◌, ◌≤◌, ◌&&◌, None, if◌then◌else◌, length, option_map, slice_get, IfOk};
 ghost use Rattle.std.specs.BTreeMap.{get};
@@ -15,7 +15,7 @@ use resolver_matching::{Destination, matches};
 use std::alloc::{AllocError, Global};
 use std::collections::BTreeMap;
 
-/// The full name of a record, an enum or a fixed.
+/// Returns the full name of a record, an enum or a fixed; `None` for any other node.
 pub(crate) fn name_of(nodes: &Nodes, node: usize) -> Option<&Name>
     requires { node < length nodes.now }
     ensures { option_map (λ name. name.now) result ≡ full_name_of (slice_get nodes.now node) }
@@ -28,7 +28,7 @@ pub(crate) fn name_of(nodes: &Nodes, node: usize) -> Option<&Name>
     }
 }
 
-/// The positions of a union's members, each under its node.
+/// Returns the positions of a union's branches, each under its node.
 pub(crate) fn positions_of(
     alloc: Global,
     members: &[usize],
@@ -43,7 +43,7 @@ pub(crate) fn positions_of(
     Ok(positions)
 }
 
-/// The lesser of two positions, or the one that there is.
+/// Returns the lesser of two positions, or the one that there is.
 fn least(one: Option<u32>, other: Option<u32>) -> Option<u32>
     ensures { result ≡ least one other }
 {
@@ -55,7 +55,7 @@ fn least(one: Option<u32>, other: Option<u32>) -> Option<u32>
 }
 
 impl SchemaPair<'_> {
-    /// The position of a node, where it is a member and matches.
+    /// Returns the position of a node, where it is a branch and matches the writer's node.
     fn matching_position(
         &self,
         wn: usize,
@@ -74,7 +74,7 @@ impl SchemaPair<'_> {
         }
     }
 
-    /// The first of a union's members that is a candidate and matches.
+    /// Returns the first of a union's branches that is a candidate and matches the writer's node, or `Nowhere`.
     pub(crate) fn find_member(
         &self,
         writer_node: usize,

@@ -10,15 +10,15 @@ use avro_types::{Aliases, Kind, Name, Nodes};
 use std::alloc::{AllocError, Global};
 use std::collections::BTreeMap;
 
-/// The records, enums and fixed of a schema, found by their unqualified names: each stands under the last part of its
-/// own name and under those of its aliases.
+/// The records, enums and fixed of a schema, found by their unqualified names: each is listed under the last part of
+/// its own name and under those of its aliases.
 #[derive(Drop)]
 pub(crate) struct NamedTypes {
     nodes: BTreeMap<String, Vec<usize>>,
 }
 
 impl NamedTypes {
-    /// Those of all nodes.
+    /// Returns the named types of a schema.
     pub(crate) fn of_nodes(alloc: Global, schema: &Nodes) -> Result<NamedTypes, AllocError>
         ensures { IfOk result (AreTypesOf schema.now) }
     {
@@ -29,7 +29,7 @@ impl NamedTypes {
         Ok(NamedTypes { nodes })
     }
 
-    /// The nodes that have an unqualified name.
+    /// Returns the nodes that have an unqualified name.
     pub(crate) fn of_name(&self, last: &str) -> &[usize]
         ensures { result.now ≡ nodes_under self.now.nodes last.now }
     {
@@ -40,7 +40,7 @@ impl NamedTypes {
     }
 }
 
-/// Puts a node behind others, if it is not the last of them.
+/// Appends a node, unless it is the last of the nodes.
 fn put_last(nodes: &mut Vec<usize>, node: usize) -> Result<(), AllocError>
     ensures { (n : ℕ) → OnOk result (is_among n nodes.new.items ≡ ((n == node) || is_among n nodes.old.items)) }
 {
@@ -51,7 +51,7 @@ fn put_last(nodes: &mut Vec<usize>, node: usize) -> Result<(), AllocError>
     Ok(())
 }
 
-/// Puts a node under an unqualified name.
+/// Adds a node under an unqualified name.
 fn put(
     alloc: Global,
     nodes: &mut BTreeMap<String, Vec<usize>>,
@@ -65,7 +65,7 @@ fn put(
     put_last(own, node)
 }
 
-/// Puts a node under the last part of its name and under those of its aliases.
+/// Adds a node under the last part of its name and under those of its aliases.
 fn put_names(
     alloc: Global,
     nodes: &mut BTreeMap<String, Vec<usize>>,
@@ -86,7 +86,7 @@ fn put_names(
     Ok(())
 }
 
-/// Puts a node under its unqualified names, if it is a record, an enum or a fixed.
+/// Adds a node under its unqualified names, if it is a record, an enum or a fixed.
 fn put_kind(
     alloc: Global,
     nodes: &mut BTreeMap<String, Vec<usize>>,

@@ -25,7 +25,7 @@ use resolver::field_lists;
 use resolver_matching::{Route, routes};
 use std::alloc::{AllocError, Global};
 
-/// Which of so many reader's fields have partners.
+/// Returns for each of `many` reader's fields whether it has a partner.
 fn have_partners(alloc: Global, routes: &[Route], many: usize) -> Result<Vec<bool>, AllocError>
     ensures each { IfOk result (λ v. length v.items ≡ many) }
     ensures mark { IfOk result
@@ -155,7 +155,7 @@ impl SchemaPair<'_> {
         Ok(())
     }
 
-    /// Adds the statements of the routine of two records whose fields go together so.
+    /// Adds the statements of the routine of two records whose fields are matched by the routes.
     fn put_routes(
         &self,
         known: &mut Known,
@@ -261,7 +261,7 @@ impl SchemaPair<'_> {
         }
     }
 
-    /// The statements of a section.
+    /// Returns the statements of a section.
     pub(crate) fn section(
         &self,
         known: &mut Known,

@@ -12,7 +12,7 @@ use program_ir::{Go, Section, Statement, put, put_branched, put_loop};
 use std::alloc::AllocError;
 
 impl SchemaPair<'_> {
-    /// Adds the statements that skip a node, of so many levels.
+    /// Adds the statements that skip a node, down to `levels` levels of nodes; below them there is no code (`Lost`).
     #[cycle(skip)]
     #[tactic(auto, unfolding(program_definition::specs::Skipping::skip_within))]
     fn skip_within(
@@ -65,7 +65,7 @@ impl SchemaPair<'_> {
         }
     }
 
-    /// The statements that skip each of these members.
+    /// Returns the statements that skip each of these branches.
     #[cycle(skip)]
     fn skip_members(
         &self,

@@ -32,14 +32,14 @@ impl Model for SectionStatements {
 }
 
 impl SectionStatements {
-    /// The statements of all sections, one after the other.
+    /// Returns the statements of all sections, one after the other.
     pub fn statements(&self) -> &[Statement]
         ensures { result.now ≡ self.now.statements }
     {
         self.statements.as_slice()
     }
 
-    /// Where a section begins, in statements from the first one, or how many statements there are where it is not
+    /// Returns where a section begins, in statements from the first one; the number of all statements where it is not
     /// called for.
     pub fn start_of(&self, section: Section) -> usize
         ensures { result ≡ start_at self.now (section_of section) }
@@ -53,8 +53,9 @@ impl SectionStatements {
 }
 
 impl SchemaPair<'_> {
-    /// Adds the sections that are called for to the main one, in the order of their first calls, where each begins, and
-    /// their statements. `ProgramTooLarge` where they have more statements than a program may have instructions.
+    /// Adds the sections that are called for, in the order of their first calls after the main one, with where each
+    /// begins and their statements. `ProgramTooLarge` where they have more statements than a program may have
+    /// instructions.
     fn add_sections(
         &self,
         known: &mut Known,
@@ -82,8 +83,8 @@ impl SchemaPair<'_> {
     }
 }
 
-/// The sections of a pair of schemas, in the order of their first calls. `ProgramTooLarge` where they have more
-/// statements than a program may have instructions.
+/// Returns the sections of a pair of schemas with their statements, in the order of their first calls.
+/// `ProgramTooLarge` where they have more statements than a program may have instructions.
 pub fn walk(
     alloc: Global,
     writer: &Nodes,

@@ -24,7 +24,7 @@ use resolver_matching::{Destination, both_items, both_values};
 use std::alloc::AllocError;
 
 impl SchemaPair<'_> {
-    /// Adds the statement that writes bytes, which have to be UTF-8 where the reader has a string.
+    /// Adds the statement that writes bytes; they have to be UTF-8 where the reader has a string.
     fn put_bytes(
         &self,
         wn: usize,
@@ -128,7 +128,7 @@ impl SchemaPair<'_> {
         put_loop(statements, Go::Next, body)
     }
 
-    /// Adds the statements that write nodes that match, neither a union.
+    /// Adds the statements that write nodes that match, neither of them a union.
     #[cycle(write)]
     fn straight(
         &self,
@@ -180,7 +180,7 @@ impl SchemaPair<'_> {
         }
     }
 
-    /// Adds the statements that write nodes, no union of the writer's.
+    /// Adds the statements that write nodes, the writer's no union.
     #[cycle(write)]
     fn placed(
         &self,
@@ -223,7 +223,8 @@ impl SchemaPair<'_> {
         }
     }
 
-    /// Adds the statements that write a pair of nodes, of so many levels. A writer's union goes first.
+    /// Adds the statements that write a pair of nodes, down to `levels` levels of nodes; below them there is no code
+    /// (`Lost`). A writer's union is written first, by its branches.
     #[cycle(write)]
     fn write_within(
         &self,
@@ -253,7 +254,7 @@ impl SchemaPair<'_> {
         }
     }
 
-    /// The statements that write each of these members.
+    /// Returns the statements that write each of these branches.
     #[cycle(write)]
     fn write_members(
         &self,

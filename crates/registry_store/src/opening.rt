@@ -22,8 +22,8 @@ impl<D: Disk> CommandStore<D> {
     ghost use Rattle.registry_store.specs.Cause.{HasOpenCause};
     ghost use Rattle.registry_store.specs.Store.{HasCommands, Keeps, disk_of, is_open};
 
-    /// Opens a file that a crash may have left, and returns the store and the commands. A crash meanwhile leaves a file
-    /// of the lines that it had. An `Err` gives the disk back.
+    /// Opens a file that a crash may have left, and returns the store and the commands. A crash meanwhile leaves a
+    /// file of the lines that it had. An `Err` hands the disk back.
     pub fn open(
         alloc: Global,
         disk: D,
@@ -51,7 +51,7 @@ impl<D: Disk> CommandStore<D> {
         }
     }
 
-    /// Makes an empty file one of no commands. A crash meanwhile leaves at most two bytes. An `Err` gives the disk
+    /// Makes an empty file one of no commands. A crash meanwhile leaves at most two bytes. An `Err` hands the disk
     /// back.
     pub fn create(alloc: Global, disk: D) -> Result<CommandStore<D>, (io::Error, D)>
         requires { IsTrue (D.is_usable disk) }
@@ -69,7 +69,7 @@ impl<D: Disk> CommandStore<D> {
     }
 }
 
-/// Returns what is said of a file that its journal did not open.
+/// Returns the fault of a file that its journal did not open.
 fn fault_of(error: OpenError) -> OpenFault
     ensures { result ≡ open_fault error }
 {
@@ -96,7 +96,7 @@ fn read_commands(alloc: Global, lines: &[Vec<u8>]) -> Result<Vec<StoredCommand>,
     Ok(commands)
 }
 
-/// Returns what is said of a file whose line of this number, from 1, was not read.
+/// Returns the fault of a file whose line with this number, from 1, was not read.
 fn bad_line(number: usize, fault: LineFault) -> OpenFault
     ensures { result ≡ bad_line number fault }
 {

@@ -18,7 +18,9 @@ use percent_encoding::percent_decode;
 use std::alloc::Global;
 use std::str;
 
-/// Reads a line, without its newline, as the command that it says. Only what would be written for the command is read.
+/// Reads a line, without its newline, as the command that it says. Only what would be written for the command is
+/// read.
+///
 /// `BadCheck`: the line does not end with the check of what is before it. `BadLine`: the check is right, and the line
 /// is that of no command.
 pub fn parse(alloc: Global, line: &[u8]) -> Result<StoredCommand, LineFault>

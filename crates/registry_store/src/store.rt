@@ -33,8 +33,10 @@ impl<D: Disk> CommandStore<D> {
         self.journal.takes_lines()
     }
 
-    /// Adds a registration: a schema's text got this id under a subject. At `Ok` it is on the disk, and each crash
-    /// from then on leaves a file that has it. At `Err` the store is as it was, or it is closed.
+    /// Adds a registration: a schema's text got this id under a subject.
+    ///
+    /// At `Ok` it is on the disk, and each crash from then on leaves a file that has it. At `Err` the store is as it
+    /// was, or it is closed.
     pub fn keep_registration(
         &mut self,
         id: u32,
@@ -148,7 +150,7 @@ impl<D: Disk> CommandStore<D> {
         self.journal.take_back();
     }
 
-    /// Gives the disk back, and takes no more commands.
+    /// Returns the disk. The store is used up, and takes no more commands.
     pub fn into_disk(self) -> D
         ensures { result ≡ disk_of self }
     {
@@ -156,7 +158,7 @@ impl<D: Disk> CommandStore<D> {
     }
 }
 
-/// Returns what the store says where its journal says this.
+/// Returns the fault of the store for an error of its journal.
 fn fault_of(error: AppendError) -> StoreFault
     requires { error ≢ AppendError.HasNewline }
     ensures { SaysSame error result }

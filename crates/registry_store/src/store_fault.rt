@@ -41,7 +41,7 @@ pub enum OpenFault {
     /// The bytes are not those of a file of lines.
     #[error("the file is damaged at byte {}, in line {}", .0.at, .0.line)]
     Damaged(Damage),
-    /// The line of this number, from 1, is not that of a command.
+    /// The line with this number, from 1, is not that of a command.
     #[error("line {number}: {fault}")]
     BadLine { number: usize, fault: LineFault },
     /// A call of the disk failed.

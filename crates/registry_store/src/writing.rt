@@ -60,7 +60,7 @@ fn level_body(alloc: Global, subject: Option<&str>, level: &str) -> Result<Strin
     Ok(body)
 }
 
-/// Appends a level's subject as a field, `*` where there is none. An `Err` is want of memory.
+/// Appends a level's subject as a field, `*` where there is none. An `Err` means that memory ran out.
 fn push_subject(body: &mut String, subject: Option<&str>) -> Result<(), AllocError>
     ensures is_text { IsSubject (option_copied subject.entry) }
     ensures field { OnOk result

@@ -77,7 +77,7 @@ adds_more qs q old mid new a b = elim b.added as (λ _. AddsAll (qs ++ q ∷ [])
   }
 ]
 
--- what is told of a pair that is good, and of one that is bad
+-- what is returned for a pair that is good, and for one that is bad
 pub told_good : (b : Bool) (ps qs : List Pair) → Some qs ≡ unless b ps → (b ≡ false) × (qs ≡ ps)
 told_good true ps qs e = absurd (let no : ⊥ = cc in no)
 told_good false ps qs e = (refl, (let same : qs ≡ ps = cc in same))

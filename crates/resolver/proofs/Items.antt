@@ -76,7 +76,7 @@ module _ (W R : List Node) (w r : ℕ) where
   unfolding resolved_items
   items_end front left whole now e = sym now ∙ ap (λ (x : List rust.Datum). resolved_items W R w r (data_of x) >>= (λ es. Ok (joined (data_of front) es))) e ∙ ap Ok (joined_end (data_of front))
 
-  -- the same of values
+  -- what `Rest` says, of a map's values
   abbrev pub RestPairs : List Pair → List Pair → Resolved Pairs → Type 0
   RestPairs front left whole = resolved_values W R w r (pairs_of left) >>= (λ qs. Ok (joined_pairs (pairs_of front) qs)) ≡ whole
 

@@ -17,7 +17,7 @@ count_set (false ∷ bs) zero lt e = omega arith
 count_set (true ∷ bs) (suc i) lt e = let h = count_set bs i (omega arith) e in omega (arith, h)
 count_set (false ∷ bs) (suc i) lt e = count_set bs i (omega arith) e
 
--- within so many rows
+-- within a table of `writers` rows
 pub in_table : (writers readers a b : ℕ) → a < writers → b < readers → a * readers + b < writers * readers
 in_table writers readers a b la lb = let h : (a + 1) * readers ≤ writers * readers = grind (arith, mul-le-mul_right) in omega (arith, h)
 

@@ -13,7 +13,7 @@ use Rattle.outcome.specs.Outcome.{Outcome, Done, Mismatched, Malformed, OutputTo
 use Rattle.resolver.specs.Outcome.{IsOutcome}
 use Rattle.resolver.specs.Resolution.{Resolved, resolved}
 
--- what is told of a datum, by what resolution makes of it
+-- the outcome of a datum, by what resolution makes of it
 told : Resolved Datum → Outcome
 told (Err m) = Mismatched m
 told (Ok e) = if nat_lt 67108864 (length (written e)) then OutputTooLarge else Done (written e)
@@ -36,7 +36,7 @@ some_outcome either W R payload =
       | inr f ↦ (Malformed f.0 f.1, f.2)
     ]
 
--- an outcome of a payload that spells a datum is what is told of it
+-- an outcome of a payload that spells a datum is the outcome of the datum
 abbrev IsTold : List Node → List Node → List ℕ → Outcome → Type 0
 IsTold W R payload o = (d : Datum) × IsPayload W d payload × (o ≡ told (resolved W R 0 0 d))
 

@@ -54,7 +54,7 @@ pub result_within : (writers readers : ℕ) (ps : List Pair) (res : Result (Vec 
 result_within writers readers ps (Ok v) e a = rw e a
 result_within writers readers ps (Err x) e a = tt
 
--- where the pairs are told, and nothing in their place
+-- where the pairs are returned, or nothing in their place
 pub found_within : (writers readers : ℕ) (b : Bool) (ps : List Pair) (res : Result (Option (Vec Pair)) AllocError) → IfOk res (λ o. option_map (λ (v : Vec Pair). v.items) o ≡ unless b ps)
     → AreWithin writers readers ps → IfOk res (λ o. IfSome o (λ v. AreWithin writers readers v.items))
 found_within writers readers b ps (Ok None) e a = tt

@@ -27,14 +27,14 @@ part_pairs w r =
     option_to_list (both_items w r) ++ option_to_list (both_values w r)
     ++ given (field_lists w r) [] (λ p. partner_pairs (routes p.0 p.1))
 
--- where a datum goes straight into the reader's node, its parts; where it goes into a member, that member
+-- where a datum goes straight into the reader's node, its parts; where it goes into a branch, that branch
 abbrev pub placed_pairs : Destination → Option Node → Option Node → ℕ → List Pair
 placed_pairs Straight wk rk w = part_pairs wk rk
 placed_pairs (IntoMember position node) wk rk w = (w, node) ∷ []
 placed_pairs Nowhere wk rk w = []
 placed_pairs Unmatched wk rk w = []
 
--- each member of a writer's union goes where the union goes
+-- each branch of a writer's union goes where the union goes
 abbrev pub pairs_from : Destination → Option Node → Option Node → ℕ → ℕ → List Pair
 pairs_from place (Some (UnionNode members)) rk w r = map (λ m. (m, r)) members
 pairs_from place wk rk w r = placed_pairs place wk rk w

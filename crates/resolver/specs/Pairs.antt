@@ -14,7 +14,7 @@ pub record Listed : Type 0 where
 abbrev pub listed_of : Inside → Listed
 listed_of s = record { pairs = s.pairs.items; writers = s.writers; readers = s.readers }
 
--- the pair was there, or stands after the others
+-- the pair was there, or comes after the others
 pub record Adds (p : Pair) (old new : Listed) : Type 0 where
   pub writers : new.writers ≡ old.writers
   pub readers : new.readers ≡ old.readers

@@ -69,7 +69,7 @@ symbol_for _ symbol = None
 
 -- ---- unions
 
--- the node of the member of that position
+-- the node of the branch at that position
 abbrev pub member_at : Option Node → ℕ → Option ℕ
 member_at (Some (UnionNode members)) n = slice_get members n
 member_at _ n = None

@@ -1,4 +1,4 @@
--- When the schemas alone tell that every datum of a writer can be read: where no bad pair is reached (Avro 1.11,
+-- When the schemas alone show that every datum of a writer can be read: where no bad pair is reached (Avro 1.11,
 -- "Schema Resolution").
 use Rattle.std.specs.Prelude.{◌≡◌, ℕ, Bool, true, false, List, Option, Some, None, Ok, Err, slice_get}
 use Rattle.avro_types.specs.Node.{Node, FieldNode, EnumNode, UnionNode}
@@ -31,10 +31,10 @@ module _ (W R : List Node) where
 
   -- the pairs that a pair leads to
   pub data LeadsTo : Pair → Pair → Type 0 where
-    -- each member of a writer's union goes where the union goes
+    -- each branch of a writer's union goes where the union goes
     to_member : {w r member : ℕ} (i : ℕ) (members : List ℕ) → slice_get W w ≡ Some (UnionNode members)
         → slice_get members i ≡ Some member → LeadsTo (w, r) (member, r)
-    -- another datum goes into the first member of a reader's union that matches
+    -- another datum goes into the first branch of a reader's union that matches
     to_branch : {w r node : ℕ} (position : ℕ) → is_union (slice_get W w) ≡ false
         → place W R w r ≡ IntoMember position node → LeadsTo (w, r) (w, node)
     -- an item into an item
@@ -52,7 +52,7 @@ module _ (W R : List Node) where
   pub data IsBad : Pair → Type 0 where
     -- the nodes do not match
     no_match : {w r : ℕ} → is_union (slice_get W w) ≡ false → place W R w r ≡ Unmatched → IsBad (w, r)
-    -- no member of the reader's union matches
+    -- no branch of the reader's union matches
     no_branch : {w r : ℕ} → is_union (slice_get W w) ≡ false → place W R w r ≡ Nowhere → IsBad (w, r)
     -- a reader's field has neither a partner nor a default
     no_default : {w r : ℕ} (ws rs : List FieldNode) (g : FieldNode) → GoesStraight w r

@@ -13,7 +13,7 @@ use Rattle.resolver_matching.specs.Partners.{routes}
 use Rattle.resolver_matching.specs.declared.pairing.Route.{Route}
 use Rattle.resolver.specs.Resolution.{Resolved, ◌>>=◌, Slots, mismatch, int_for, text_for, bytes_for, symbol_at, symbol_for, field_lists, filled, lacking, no_slots, unless_lacking, resolved, resolved_items, resolved_values, resolved_fields}
 
--- fields of one record in a schema of so many nodes
+-- fields of one record in a schema of `len` nodes
 pub record AreFields (len : ℕ) (fs : List FieldNode) : Type 0 where
   pub below : FieldsBelow len fs
   pub distinct : HaveDistinctNames fs

@@ -12,7 +12,7 @@ use avro_types::{Datum, Field, Kind, Nodes};
 use resolver_matching::Route;
 use std::alloc::{AllocError, Global};
 
-/// The fields of two records.
+/// Returns the fields of two records, the writer's first; `None` where one of the nodes is no record.
 pub fn field_lists<'a, 'b>(
     writer: &'a Nodes,
     writer_node: usize,
@@ -36,7 +36,7 @@ pub fn field_lists<'a, 'b>(
     }
 }
 
-/// Which of the reader's fields have partners.
+/// Returns for each of the reader's fields whether it has a partner.
 fn have_partners(alloc: Global, routes: &[Route], rs: &[Field]) -> Result<Vec<bool>, AllocError>
     ensures each { IfOk result (λ v. length v.items ≡ length rs.now) }
     ensures mark { IfOk result (λ v. (j : ℕ) → j < length rs.now →
@@ -53,7 +53,7 @@ fn have_partners(alloc: Global, routes: &[Route], rs: &[Field]) -> Result<Vec<bo
     Ok(marks)
 }
 
-/// The first of the reader's fields that has neither a partner nor a default.
+/// Returns the first of the reader's fields that has neither a partner nor a default, if there is one.
 pub fn first_lacking<'a>(
     alloc: Global,
     routes: &[Route],
@@ -71,7 +71,7 @@ pub fn first_lacking<'a>(
     Ok(None)
 }
 
-/// An empty slot for each field.
+/// Returns an empty slot for each field.
 pub(crate) fn empty_slots(alloc: Global, fields: &[Field]) -> Result<Vec<Option<Datum>>, AllocError>
     ensures none { IfOk result (λ v. slots_of v.items ≡ no_slots (fields_of fields.now)) }
     ensures each { IfOk result (λ v. length v.items ≡ length fields.now) }
@@ -83,7 +83,7 @@ pub(crate) fn empty_slots(alloc: Global, fields: &[Field]) -> Result<Vec<Option<
     Ok(slots)
 }
 
-/// The slots with a value in its own, which is at the place that comes with it.
+/// Returns the slots with a value in the slot at the index that comes with it; all unchanged where there is no value.
 pub(crate) fn keep(slots: Vec<Option<Datum>>, value: Option<(usize, Datum)>) -> Vec<Option<Datum>>
     requires { IfSome value (λ p. p.0 < length slots.items) }
     ensures { result.items ≡ kept value slots.items }
@@ -95,7 +95,7 @@ pub(crate) fn keep(slots: Vec<Option<Datum>>, value: Option<(usize, Datum)>) -> 
     slots
 }
 
-/// What a slot holds, and else the default of its field.
+/// Returns what a slot holds, or else a copy of the field's default, if it has one.
 fn or_default(
     alloc: Global,
     slot: Option<Datum>,
@@ -116,7 +116,7 @@ fn or_default(
     }
 }
 
-/// What the slots hold, and else copies of the fields' defaults.
+/// Returns what the slots hold, in order, with copies of the fields' defaults in place of empty slots.
 pub(crate) fn fill(
     alloc: Global,
     fields: &[Field],

@@ -17,7 +17,7 @@ pub fn resolution_is_whole(writer: &Nodes, reader: &Nodes)
     reader.defaults_conform(); // law
 }
 
-/// The law that an answer spells, by the reader's schema, what comes of the payload's datum.
+/// The law that an output encodes, by the reader's schema, what comes of the payload's datum.
 pub fn answer_is_spelled(writer: &Nodes, reader: &Nodes)
     ensures { AnswersAreSpelled writer.now reader.now }
 {
@@ -28,7 +28,7 @@ pub fn answer_is_spelled(writer: &Nodes, reader: &Nodes)
     avro_datum::written_form_is_the_shortest_spelling(); // law
 }
 
-/// The law that each datum of a writer that a reader is safe with is read, but for bytes that are no UTF-8.
+/// The law that a reader that is safe with a writer reads each of its data, but for bytes that are no UTF-8.
 pub fn what_is_safe_can_be_read()
     ensures { SafeDataAreReadable }
 {}

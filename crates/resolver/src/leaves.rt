@@ -10,7 +10,7 @@ use crate::symbols::{symbol_at, symbol_for};
 use avro_types::{Datum, Kind, Nodes};
 use outcome::MismatchKind;
 
-/// An int for a reader's node: a long where that is one.
+/// Returns an int as a datum of a reader's node: as a long where the node is one.
 pub(crate) fn int_for(reader: &Nodes, reader_node: usize, number: i32) -> Datum
     requires { reader_node < length reader.now }
     ensures { datum_of result ≡ int_for (slice_get reader.now reader_node) (IntDatum number) }
@@ -21,7 +21,7 @@ pub(crate) fn int_for(reader: &Nodes, reader_node: usize, number: i32) -> Datum
     }
 }
 
-/// A string for a reader's node: bytes where that is bytes.
+/// Returns a string as a datum of a reader's node: as bytes where the node is bytes.
 pub(crate) fn text_for(reader: &Nodes, reader_node: usize, text: String) -> Datum
     requires { reader_node < length reader.now }
     ensures { datum_of result ≡ text_for (slice_get reader.now reader_node) (string_bytes text) }
@@ -32,7 +32,7 @@ pub(crate) fn text_for(reader: &Nodes, reader_node: usize, text: String) -> Datu
     }
 }
 
-/// Bytes for a reader's node: a string where that is one and they are UTF-8.
+/// Returns bytes as a datum of a reader's node: as a string where the node is one and the bytes are UTF-8.
 #[tactic(auto, using(crate::proofs::Texts::is_text, crate::proofs::Texts::is_no_text))]
 pub(crate) fn bytes_for(
     writer_node: usize,
@@ -53,7 +53,8 @@ pub(crate) fn bytes_for(
     }
 }
 
-/// A writer's symbol for a reader's enum.
+/// Returns the reader's datum for the writer's symbol at a position; a mismatch where the reader's enum has neither
+/// this symbol nor a default.
 #[tactic(auto, unfolding(crate::specs::Steps::inside))]
 pub(crate) fn enum_for(
     writer: &Nodes,

@@ -37,7 +37,7 @@ impl<T: Drop> From<AllocFailed<T>> for ResolveError {
     }
 }
 
-/// The error of a mismatch of two nodes.
+/// Returns the error for a mismatch of a kind between two nodes.
 pub(crate) fn mismatched(kind: MismatchKind, writer_node: usize, reader_node: usize) -> ResolveError
     ensures { result
         ≡ ResolveError.Mismatch (record { kind = kind; writer_node = writer_node; reader_node = reader_node }) }

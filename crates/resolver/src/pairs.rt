@@ -27,7 +27,7 @@ impl Model for PairList {
 }
 
 impl PairList {
-    /// No pairs yet, of so many nodes.
+    /// Returns an empty list for the pairs of the given numbers of writer's and reader's nodes.
     pub(crate) fn new(alloc: Global, writers: usize, readers: usize) -> Result<PairList, AllocError>
         requires writers { writers ≤ MOST_NODES }
         requires readers { readers ≤ MOST_NODES }
@@ -42,7 +42,7 @@ impl PairList {
         })
     }
 
-    /// How many there are.
+    /// Returns the number of pairs.
     pub(crate) fn len(&self) -> usize
         ensures len { result ≡ length self.now.pairs }
         ensures few { result ≤ self.now.writers * self.now.readers }
@@ -50,7 +50,7 @@ impl PairList {
         self.pairs.len()
     }
 
-    /// One of them.
+    /// Returns the pair at an index.
     pub(crate) fn get(&self, place: usize) -> (usize, usize)
         requires { place < length self.now.pairs }
         ensures pair { result ≡ slice_index_or self.now.pairs place result }
@@ -60,7 +60,7 @@ impl PairList {
         self.pairs[place]
     }
 
-    /// Adds a pair that is not there.
+    /// Adds a pair at the end, unless it is in the list already.
     pub(crate) fn add(&mut self, pair: (usize, usize)) -> Result<(), AllocError>
         requires writer { pair.0 < self.old.writers }
         requires reader { pair.1 < self.old.readers }

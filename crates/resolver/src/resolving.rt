@@ -16,7 +16,7 @@ use outcome::MismatchKind;
 use resolver_matching::{Destination, Route, both_items, both_values, place_of, routes};
 use std::alloc::Global;
 
-/// Resolves a datum of a writer's node for a reader's node. A writer's union goes first.
+/// Resolves a datum of a writer's node for a reader's node. A writer's union is resolved first, by its branch.
 #[tactic(auto, unfolding(crate::specs::Resolution::resolved))]
 #[cycle(resolve)]
 fn resolve_at(
@@ -40,7 +40,8 @@ fn resolve_at(
     }
 }
 
-/// Resolves a datum that is no union's into its place.
+/// Resolves a datum that is not a union's: into the reader's node itself, or into the branch of its union that
+/// matches.
 #[cycle(resolve)]
 fn resolve_placed(
     alloc: Global,
@@ -98,7 +99,7 @@ fn resolve_inside(
     }
 }
 
-/// Resolves an array of the writer's into one of the reader's.
+/// Resolves a writer's array into a reader's.
 #[tactic(auto, unfolding(crate::specs::Steps::inside))]
 #[cycle(resolve)]
 fn resolve_array(
@@ -120,7 +121,7 @@ fn resolve_array(
     Ok(Datum::Array(all))
 }
 
-/// Resolves items, one after another.
+/// Resolves the items of an array, in order.
 #[cycle(resolve)]
 fn resolve_items(
     alloc: Global,
@@ -142,7 +143,7 @@ fn resolve_items(
     Ok(all)
 }
 
-/// Resolves a map of the writer's into one of the reader's.
+/// Resolves a writer's map into a reader's.
 #[tactic(auto, unfolding(crate::specs::Steps::inside))]
 #[cycle(resolve)]
 fn resolve_map(
@@ -164,7 +165,7 @@ fn resolve_map(
     Ok(Datum::Map(all))
 }
 
-/// Resolves values, each under its key.
+/// Resolves the values of a map, in order, each under its key.
 #[cycle(resolve)]
 fn resolve_values(
     alloc: Global,
@@ -186,7 +187,7 @@ fn resolve_values(
     Ok(all)
 }
 
-/// Resolves a value, which stays under its key.
+/// Resolves the value of a pair and keeps its key.
 #[cycle(resolve)]
 fn resolve_value(
     alloc: Global,
@@ -206,7 +207,7 @@ fn resolve_value(
     Ok((key, datum))
 }
 
-/// Resolves a record of the writer's into one of the reader's.
+/// Resolves a writer's record into a reader's.
 #[tactic(auto, unfolding(crate::specs::Steps::inside))]
 #[cycle(resolve)]
 fn resolve_record(
@@ -257,7 +258,7 @@ fn resolve_fields(
     Ok(slots)
 }
 
-/// Resolves a field that has a partner, whose position comes with it.
+/// Resolves a field into its partner and returns the value with the partner's index; `None` where it has no partner.
 #[cycle(resolve)]
 fn resolve_field(
     alloc: Global,
@@ -280,8 +281,9 @@ fn resolve_field(
     }
 }
 
-/// What a reader's schema makes of a datum of a writer's (Avro 1.11, "Schema Resolution"), or the first mismatch in the
-/// order of the datum, with the numbers of both nodes.
+/// Resolves a datum of the writer's schema for the reader's (Avro 1.11, "Schema Resolution").
+///
+/// Returns the first mismatch in the order of the datum, with the numbers of both nodes, where there is one.
 pub fn resolve(
     alloc: Global,
     writer: &Nodes,

@@ -15,7 +15,7 @@ use avro_types::{Field, Kind, Nodes};
 use resolver_matching::{Destination, Route, place_of, routes};
 use std::alloc::{AllocError, Global};
 
-/// Returns each member with the reader's node.
+/// Returns each branch of a writer's union, paired with the reader's node.
 fn member_pairs(
     alloc: Global,
     members: &[usize],
@@ -26,7 +26,7 @@ fn member_pairs(
     members.iter().map(|member| (*member, rn)).collect(alloc)
 }
 
-/// Returns one pair alone.
+/// Returns a list of one pair.
 fn one_pair(alloc: Global, pair: (usize, usize)) -> Result<Vec<(usize, usize)>, AllocError>
     ensures { IfOk result (λ v. v.items ≡ pair ∷ []) }
 {
@@ -35,7 +35,7 @@ fn one_pair(alloc: Global, pair: (usize, usize)) -> Result<Vec<(usize, usize)>, 
     Ok(pairs)
 }
 
-/// Returns the nodes of the fields that have partners, and theirs.
+/// Returns the nodes of the fields that have partners, each with its partner's node.
 fn partner_pairs(alloc: Global, routes: &[Route]) -> Result<Vec<(usize, usize)>, AllocError>
     ensures { IfOk result (λ v. v.items ≡ partner_pairs routes.now) }
 {
@@ -48,8 +48,8 @@ fn partner_pairs(alloc: Global, routes: &[Route]) -> Result<Vec<(usize, usize)>,
     Ok(pairs)
 }
 
-/// Returns the nodes of the fields of two records that have partners, and theirs; None where a field of the reader has
-/// neither a partner nor a default. The fields are matched once.
+/// Returns the nodes of the fields of two records that have partners, each with its partner's node; `None` where a
+/// field of the reader has neither a partner nor a default. The fields are matched once.
 fn field_pairs(
     alloc: Global,
     ws: &[Field],
@@ -66,7 +66,7 @@ fn field_pairs(
     Ok(Some(partner_pairs(alloc, &routes)?))
 }
 
-/// Returns the pairs of the items, values or fields of two nodes that match; None where a field of the reader has
+/// Returns the pairs of the items, values or fields of two nodes that match; `None` where a field of the reader has
 /// neither a partner nor a default, or where its enum lacks a symbol and has no default.
 fn part_pairs(
     alloc: Global,
@@ -99,7 +99,7 @@ fn part_pairs(
     }
 }
 
-/// Returns the pairs that a pair leads to; None where it mismatches whatever the datum, or for some symbol.
+/// Returns the pairs that a pair leads to; `None` where the pair mismatches whatever the datum, or for some symbol.
 #[tactic(auto, unfolding(crate::specs::NextPairs::is_bad, crate::specs::NextPairs::next_pairs))]
 fn next_pairs(
     alloc: Global,

@@ -1,4 +1,4 @@
-//! Symbols of enums: which a position names, and which the reader has.
+//! Symbols of enums: which one is at a position, and which the reader has.
 
 ghost use Rattle.std.specs.Prelude.{◌≡◌, ◌<◌, ◌≤◌, length, map, option_map, position, slice_get, string_bytes};
 ghost use Rattle.resolver.specs.Resolution.{symbol_at, symbol_for, symbol_in};
@@ -6,7 +6,7 @@ ghost use Rattle.resolver.specs.NextPairs.{some_missing};
 
 use avro_types::{Kind, MOST_SYMBOLS, Nodes, Symbols};
 
-/// The symbol of a position in an enum.
+/// Returns the symbol at a position of an enum; `None` where there is none or the node is no enum.
 pub fn symbol_at(nodes: &Nodes, node: usize, position: u32) -> Option<&str>
     requires { node < length nodes.now }
     ensures { option_map (λ s. s.now) result ≡ symbol_at (slice_get nodes.now node) position }
@@ -17,7 +17,7 @@ pub fn symbol_at(nodes: &Nodes, node: usize, position: u32) -> Option<&str>
     }
 }
 
-/// The position of a symbol among others, and else the default.
+/// Returns the position of a symbol among others, or else the default.
 fn symbol_in(symbols: &Symbols, default: Option<u32>, symbol: &str) -> Option<u32>
     requires { length (symbols.now) ≤ MOST_SYMBOLS }
     ensures { result ≡ symbol_in (symbols.now) default symbol.now }
@@ -28,7 +28,8 @@ fn symbol_in(symbols: &Symbols, default: Option<u32>, symbol: &str) -> Option<u3
     }
 }
 
-/// The position of a symbol in an enum, and else that of its default.
+/// Returns the position of a symbol in an enum, or else that of its default; `None` where it has neither or the node is
+/// no enum.
 pub fn symbol_for(nodes: &Nodes, node: usize, symbol: &str) -> Option<u32>
     requires { node < length nodes.now }
     ensures { result ≡ symbol_for (slice_get nodes.now node) symbol.now }
@@ -43,7 +44,7 @@ pub fn symbol_for(nodes: &Nodes, node: usize, symbol: &str) -> Option<u32>
     }
 }
 
-/// Whether some of a writer's symbols is not among a reader's, which has no default.
+/// Returns whether the reader's symbols lack one of the writer's and have no default.
 #[tactic(auto, using(crate::proofs::SymbolPlace::missing_here))]
 pub(crate) fn some_missing(theirs: &Symbols, default: Option<u32>, symbols: &[String]) -> bool
     requires { length (theirs.now) ≤ MOST_SYMBOLS }

@@ -20,7 +20,7 @@ pub enum TranscodeError {
     NoMemory,
 }
 
-/// Writes what the reader makes of a datum.
+/// Encodes a resolved datum and returns the outcome: done with the bytes, or `OutputTooLarge`.
 fn write_resolved(alloc: Global, resolved: &Datum) -> Result<Outcome, TranscodeError>
     ensures { WritesOutcome result (datum_of resolved.now) }
 {
@@ -32,8 +32,10 @@ fn write_resolved(alloc: Global, resolved: &Datum) -> Result<Outcome, TranscodeE
     }
 }
 
-/// The outcome of a payload: reads it by the writer's schema, resolves the datum, and writes it by the reader's.
-/// `TooLarge` where the payload passes `MOST_PAYLOAD`: then it is not read.
+/// Returns the outcome of a payload: reads it by the writer's schema, resolves the datum, and writes it by the
+/// reader's.
+///
+/// Returns `TooLarge`, and does not read the payload, where it is longer than `MOST_PAYLOAD`.
 pub fn transcode_tree(
     alloc: Global,
     writer: &Nodes,

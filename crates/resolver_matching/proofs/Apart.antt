@@ -45,7 +45,7 @@ one_place (n ∷ names) (suc i) (suc k) name d a b = ap suc (one_place names i k
 abbrev HaveOneName : (names others : List (List ℕ)) → ℕ → ℕ → Type 0
 HaveOneName names others i j = (name : List ℕ) × (slice_get names i ≡ Some name) × (slice_get others j ≡ Some name)
 
--- partners are apart, and each is one of the first so many readers' fields, or has the name
+-- partners are apart, and each is one of the reader's first `count` fields, or has the same name
 record AreApart (names others : List (List ℕ)) (count : ℕ) (ps : List (Option ℕ)) : Type 0 where
   apart : (i k j : ℕ) → slice_get ps i ≡ Some (Some j) → slice_get ps k ≡ Some (Some j) → i ≡ k
   told : (i j : ℕ) → slice_get ps i ≡ Some (Some j) → (j < count) ⊎ HaveOneName names others i j

@@ -7,7 +7,7 @@ use Rattle.resolver_matching.specs.declared.place.Destination.{Destination}
 use Rattle.resolver_matching.specs.declared.place.Destination.TheVariants.{Straight, IntoMember, Unmatched}
 use Rattle.resolver_matching.specs.Matching.{first_member, place_at}
 
--- the first member that matches stands at its position
+-- the first member that matches, at its position
 pub record Found (match : ℕ → Bool) (i : ℕ) (ms : List ℕ) (position node : ℕ) : Type 0 where
   pub steps : ℕ
   pub at : position ≡ i + steps

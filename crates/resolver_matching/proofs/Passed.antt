@@ -14,7 +14,7 @@ use Rattle.resolver_matching.proofs.Taken.{ArePlaces, by_name_places, first_take
 
 -- ---- one reader's field
 
--- where a text first stands, counted from q
+-- the position of a text's first occurrence, counted from q
 abbrev place_from : ℕ → List ℕ → List (List ℕ) → Option ℕ
 place_from q text texts = position_from (λ other. bytes_eq other text) q texts
 
@@ -25,7 +25,7 @@ no_less text q (s ∷ texts) m e = by_test (bytes_eq s text) e (no_less text (q 
   by_test true h later = let same : q ≡ m = cc in omega (arith, same)
   by_test false h later = let le = later h in omega (arith, le)
 
--- a position is taken, whose name stands among the aliases no later than m
+-- a position is taken, whose name comes among the aliases at m or before
 record IsTakenEarly (names aliases : List (List ℕ)) (q m : ℕ) (found : Option ℕ) : Type 0 where
   taken : ℕ
   is : found ≡ Some taken
@@ -78,7 +78,7 @@ module _ (names : List (List ℕ)) (ps : List (Option ℕ)) (i : ℕ) (name : Li
 -- ---- all of them
 
 module _ (names others : List (List ℕ)) where
-  -- a partner is by name, or one of the first so many reader's fields
+  -- a partner is by name, or one of the reader's first `count` fields
   abbrev AreEarly : ℕ → List (Option ℕ) → Type 0
   AreEarly count ps = (i l : ℕ) (name : List ℕ) → slice_get names i ≡ Some name → slice_get ps i ≡ Some (Some l) → (is_used name others ≡ true) ⊎ (l < count)
 

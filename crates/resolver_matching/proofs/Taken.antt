@@ -86,7 +86,7 @@ module _ (names : List (List ℕ)) (i : ℕ) (name : List ℕ) (at : place_of na
       let number : suc count + j ≡ count + suc j = omega arith in
       (rest.0, rest.1 ∙ ap (λ (m : ℕ). Some (Some m)) number)
 
--- where names are distinct, a name's place is where it stands
+-- where names are distinct, a name's place is its index
 pub only_place : (names : List (List ℕ)) (i : ℕ) (name : List ℕ) → ((k : ℕ) → slice_get names k ≡ Some name → k ≡ i) → slice_get names i ≡ Some name → (o : Option ℕ) → place_of name names ≡ o → place_of name names ≡ Some i
 only_place names i name one at None is = absurd (let clash : true ≡ false = sym (used_there name names i at) ∙ none-used name names is in cc)
 only_place names i name one at (Some n) is = is ∙ ap (λ (k : ℕ). Some k) (one n (place-some name names n is))

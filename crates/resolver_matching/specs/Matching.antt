@@ -86,7 +86,7 @@ place W R w r = place_at (matches W R w) (slice_get R r) r
 abbrev pub ArePair : List Node → List Node → ℕ × ℕ → Type 0
 ArePair W R p = (p.0 < length W) × (p.1 < length R)
 
--- the node of a member is one of so many
+-- the node of a branch is below `len`
 abbrev pub IsNodeOf : ℕ → Destination → Type 0
 IsNodeOf len (IntoMember position node) = node < len
 IsNodeOf len Straight = Unit {0}

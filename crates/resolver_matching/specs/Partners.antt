@@ -113,7 +113,7 @@ goes_to j r = given r.partner false (λ p. p.position == j)
 abbrev pub has_partner : ℕ → List Route → Bool
 has_partner j rs = list_any (goes_to j) rs
 
--- of nodes of both schemas, and of so many of the reader's fields
+-- its nodes are nodes of both schemas, and its partner, if it has one, is one of `places` fields of the reader's
 pub record IsRoute (writers readers places : ℕ) (r : Route) : Type 0 where
   pub node : r.node < writers
   pub partner : IfSome r.partner (λ p. (p.position < places) × (p.node < readers))

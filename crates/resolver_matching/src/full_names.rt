@@ -7,8 +7,8 @@ ghost use Rattle.avro_types.specs.Symbols.{is_used};
 
 use avro_types::{Aliases, Name};
 
-/// Whether the last parts of two full names are the same. They are compared from their ends, since the names of many
-/// types differ there, and often there alone.
+/// Returns whether the last parts of two full names are the same. They are compared from their ends, since the names
+/// of many types differ there, and often there alone.
 fn have_same_last(one: &Name, other: &Name) -> bool
     ensures { result ≡ bytes_eq (unqualified one.now) (unqualified other.now) }
 {
@@ -16,7 +16,7 @@ fn have_same_last(one: &Name, other: &Name) -> bool
     one.len() == other.len() && one.last() == other.last() && one == other
 }
 
-/// Whether the last parts of two full names are the same, or the writer's is an alias of the reader's.
+/// Returns whether the last parts of two full names are the same, or the writer's is an alias of the reader's.
 pub(crate) fn have_matching_names(writer: &Name, reader: &Name, aliases: &Aliases) -> bool
     ensures { result ≡ (bytes_eq (unqualified writer.now) (unqualified reader.now)
         || is_used writer.now aliases.now) }

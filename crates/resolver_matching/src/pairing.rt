@@ -9,7 +9,7 @@ ghost use Rattle.resolver_matching.specs.Partners.{by_alias, by_name, field_name
 use avro_types::{Field, Symbols};
 use std::alloc::{AllocError, Global};
 
-/// The partner of a writer's field: its position among the reader's fields, and its node.
+/// The partner of a writer's field: its index among the reader's fields, and its node.
 #[derive(Clone, Copy, Debug, PartialEq, Eq)]
 pub struct Partner {
     pub position: usize,
@@ -23,10 +23,10 @@ pub struct Route {
     pub partner: Option<Partner>,
 }
 
-/// So many names are looked through one by one.
+/// Up to this many names are compared one by one.
 const FEW: usize = 16;
 
-/// The names of fields as a table, where they are many.
+/// Returns the names of fields as a table, where there are more than `FEW`.
 fn table(alloc: Global, fields: &[Field]) -> Result<Option<Symbols>, AllocError>
     ensures { IfOk result (λ o. IfSome o (λ names. names ≡ field_names (fields_of fields.now))) }
 {
@@ -41,14 +41,14 @@ fn table(alloc: Global, fields: &[Field]) -> Result<Option<Symbols>, AllocError>
     Symbols::of_texts(alloc, names)
 }
 
-/// The position of the field of a name, looked for one by one.
+/// Returns the index of the field with a name, found by comparing one by one.
 fn scan(fields: &[Field], name: &str) -> Option<usize>
     ensures { result ≡ position (is_named name.now) fields.now }
 {
     fields.iter().position(|field| field.name.as_str() == name)
 }
 
-/// The position of the field of a name.
+/// Returns the index of the field with a name; `None` where no field has it.
 fn position_of(fields: &[Field], table: &Option<Symbols>, name: &str) -> Option<usize>
     requires { IfSome table.now (λ names. names ≡ field_names (fields_of fields.now)) }
     ensures place { result ≡ place_of name.now (field_names (fields_of fields.now)) }
@@ -60,7 +60,7 @@ fn position_of(fields: &[Field], table: &Option<Symbols>, name: &str) -> Option<
     }
 }
 
-/// For each of the writer's fields, the position of the reader's of the same name.
+/// Returns for each of the writer's fields the index of the reader's field with the same name.
 fn by_name(alloc: Global, ws: &[Field], rs: &[Field]) -> Result<Vec<Option<usize>>, AllocError>
     ensures { IfOk result (λ v. v.items ≡ by_name (fields_of ws.now) (fields_of rs.now)) }
 {
@@ -72,7 +72,7 @@ fn by_name(alloc: Global, ws: &[Field], rs: &[Field]) -> Result<Vec<Option<usize
     Ok(partners)
 }
 
-/// The position of the first of these names that is of a writer's field without a partner.
+/// Returns the index of the writer's field that the first of these aliases names whose field has no partner.
 fn first_free(
     ws: &[Field],
     table: &Option<Symbols>,
@@ -94,7 +94,7 @@ fn first_free(
     None
 }
 
-/// The writer's field that a reader's takes by an alias, where it has none of its name.
+/// Returns the index of the writer's field that a reader's field takes by an alias, where no field has its name.
 fn by_alias(
     ws: &[Field],
     table: &Option<Symbols>,
@@ -115,7 +115,8 @@ fn by_alias(
     }
 }
 
-/// The names of the writer's fields as a table, where they are many and aliases are looked for among them.
+/// Returns the names of the writer's fields as a table, where there are more than `FEW` and the reader's fields have
+/// aliases.
 fn table_for(alloc: Global, ws: &[Field], rs: &[Field]) -> Result<Option<Symbols>, AllocError>
     ensures { IfOk result (λ o. IfSome o (λ names. names ≡ field_names (fields_of ws.now))) }
 {
@@ -125,7 +126,7 @@ fn table_for(alloc: Global, ws: &[Field], rs: &[Field]) -> Result<Option<Symbols
     table(alloc, ws)
 }
 
-/// For each of the writer's fields, the position of its partner among the reader's: by name, and then by an alias.
+/// Returns for each of the writer's fields the index of its partner among the reader's: by name, and then by an alias.
 pub fn partners(
     alloc: Global,
     writer_fields: &[Field],
@@ -143,7 +144,7 @@ pub fn partners(
     Ok(partners)
 }
 
-/// Where a writer's field goes whose partner is at that position.
+/// Returns where a writer's field goes whose partner is at an index.
 fn route_of(rs: &[Field], field: &Field, partner: Option<usize>) -> Route
     ensures { result ≡ route_of (fields_of rs.now) (field_of field.now) partner }
 {
@@ -157,7 +158,7 @@ fn route_of(rs: &[Field], field: &Field, partner: Option<usize>) -> Route
     }
 }
 
-/// The reader's field at a position, as a partner.
+/// Returns the reader's field at an index, as a partner; `None` where there is none.
 fn partner_at(rs: &[Field], position: usize) -> Option<Partner>
     ensures { result ≡ partner_at (fields_of rs.now) position }
 {
@@ -170,7 +171,7 @@ fn partner_at(rs: &[Field], position: usize) -> Option<Partner>
     }
 }
 
-/// Where each of the writer's fields goes.
+/// Returns where each of the writer's fields goes.
 pub fn routes(
     alloc: Global,
     writer_fields: &[Field],

@@ -1,4 +1,4 @@
-//! Where a value of a writer's node goes with a reader's node.
+//! Where a value of a writer's node goes in a reader's node.
 
 ghost use Rattle.std.specs.Prelude.{◌≡◌, ◌<◌, ◌≤◌, length};
 ghost use Rattle.std.specs.List.{AllByRecursion};
@@ -7,20 +7,20 @@ ghost use Rattle.resolver_matching.specs.Matching.{IsNodeOf, first_member, match
 use crate::rule::matches;
 use avro_types::{Kind, MOST_NODES, Nodes};
 
-/// Where a value of a writer's node goes with a reader's node.
+/// Where a value of a writer's node goes in a reader's node.
 #[derive(Clone, Copy, Debug, PartialEq, Eq)]
 pub enum Destination {
     /// Into the reader's node itself.
     Straight,
-    /// Into a member of the reader's union, at this position and of this node.
+    /// Into a branch of the reader's union, at this position and with this node.
     IntoMember { position: u32, node: usize },
-    /// Nowhere, since no member of the reader's union matches.
+    /// Nowhere, since no branch of the reader's union matches.
     Nowhere,
     /// Nowhere, since the reader's node does not match.
     Unmatched,
 }
 
-/// The first of a union's members that matches a writer's node.
+/// Returns the first of a union's branches that matches a writer's node, or `Nowhere`.
 fn first_member(w: &Nodes, wn: usize, r: &Nodes, members: &[usize]) -> Destination
     requires writer { wn < length w.now }
     requires members { AllByRecursion (λ m. m < length r.now) members.now }
@@ -39,7 +39,7 @@ fn first_member(w: &Nodes, wn: usize, r: &Nodes, members: &[usize]) -> Destinati
     Destination::Nowhere
 }
 
-/// Where a value of a writer's node goes with a reader's node.
+/// Returns where a value of a writer's node goes in a reader's node.
 pub fn place_of(
     writer: &Nodes,
     writer_node: usize,

@@ -8,7 +8,7 @@ ghost use Rattle.resolver_matching.specs.Matching.{ArePair, both_items, both_val
 use crate::full_names::have_matching_names;
 use avro_types::{Kind, Nodes};
 
-/// Whether a node is a union.
+/// Returns whether a node is a union.
 fn is_union(kind: &Kind) -> bool
     ensures { result ≡ is_union (Some (node_of kind.now)) }
 {
@@ -18,7 +18,7 @@ fn is_union(kind: &Kind) -> bool
     }
 }
 
-/// Whether both are the same primitive type, or the writer's is promoted to the reader's.
+/// Returns whether both are the same primitive type, or the writer's is promoted to the reader's.
 fn primitives_match(writer: &Kind, reader: &Kind) -> bool
     ensures { result ≡ primitives_match (node_of writer.now) (node_of reader.now) }
 {
@@ -33,7 +33,7 @@ fn primitives_match(writer: &Kind, reader: &Kind) -> bool
     }
 }
 
-/// Whether both are enums, fixed or records that match by their names, fixed by their sizes too.
+/// Returns whether both are enums, fixed or records that match by their names, fixed by their sizes too.
 fn names_match(writer: &Kind, reader: &Kind) -> bool
     ensures { result ≡ names_match (node_of writer.now) (node_of reader.now) }
 {
@@ -66,7 +66,7 @@ fn names_match(writer: &Kind, reader: &Kind) -> bool
     }
 }
 
-/// The nodes of the items of two arrays.
+/// Returns the nodes of the items of two arrays, the writer's first; `None` where a node is no array.
 pub fn both_items(
     writer: &Nodes,
     writer_node: usize,
@@ -84,7 +84,7 @@ pub fn both_items(
     }
 }
 
-/// The nodes of the values of two maps.
+/// Returns the nodes of the values of two maps, the writer's first; `None` where a node is no map.
 pub fn both_values(
     writer: &Nodes,
     writer_node: usize,
@@ -102,7 +102,7 @@ pub fn both_values(
     }
 }
 
-/// Whether two nodes match by what they are, whatever their parts.
+/// Returns whether two nodes match by what they are, whatever their parts.
 fn kinds_match(writer: &Kind, reader: &Kind) -> bool
     ensures { result ≡ kinds_match (node_of writer.now) (node_of reader.now) }
 {
@@ -112,7 +112,8 @@ fn kinds_match(writer: &Kind, reader: &Kind) -> bool
         || names_match(writer, reader)
 }
 
-/// Whether a writer's node and a reader's node match, by so many steps into items and values.
+/// Returns whether a writer's node and a reader's node match, within `steps` steps into items and values; `false`
+/// where more are needed.
 #[tactic(auto, unfolding(crate::specs::Matching::matches_within))]
 fn matches_within(steps: usize, w: &Nodes, wn: usize, r: &Nodes, rn: usize) -> bool
     requires writer { wn < length w.now }
@@ -127,7 +128,7 @@ fn matches_within(steps: usize, w: &Nodes, wn: usize, r: &Nodes, rn: usize) -> b
     }
 }
 
-/// Whether a writer's node and a reader's node match.
+/// Returns whether a writer's node and a reader's node match.
 pub fn matches(writer: &Nodes, writer_node: usize, reader: &Nodes, reader_node: usize) -> bool
     requires writer { writer_node < length writer.now }
     requires reader { reader_node < length reader.now }

@@ -6,7 +6,7 @@ use avro_schema::{Datum, Nodes, Schema, SchemaError};
 use resolver::{Outcome, ResolveError, TranscodeError, can_read, resolve, transcode_tree};
 use std::alloc::{AllocError, Global};
 
-/// A schema, parsed again where memory ran out the first time.
+/// Returns a text's schema, parsed again where memory ran out the first time.
 pub(crate) fn parsed(alloc: Global, text: &str) -> Result<Schema, SchemaError> {
     match Schema::parse(alloc, text) {
         Err(SchemaError::NoMemory) => Schema::parse(alloc, text),
@@ -14,7 +14,7 @@ pub(crate) fn parsed(alloc: Global, text: &str) -> Result<Schema, SchemaError> {
     }
 }
 
-/// A payload's datum, read again where memory ran out the first time.
+/// Returns a payload's datum, read again where memory ran out the first time.
 pub(crate) fn read_again(
     alloc: Global,
     nodes: &Nodes,
@@ -34,7 +34,7 @@ pub(crate) fn written(datum: &Datum, out: &mut Vec<u8>) -> Result<(), WriteError
     }
 }
 
-/// Whether a reader is safe with a writer, asked again where memory ran out the first time.
+/// Returns whether a reader is safe with a writer, asked again where memory ran out the first time.
 pub(crate) fn readable(alloc: Global, writer: &Nodes, reader: &Nodes) -> Result<bool, AllocError> {
     match can_read(alloc, writer, reader) {
         Err(AllocError) => can_read(alloc, writer, reader),
@@ -42,7 +42,7 @@ pub(crate) fn readable(alloc: Global, writer: &Nodes, reader: &Nodes) -> Result<
     }
 }
 
-/// An outcome, asked again where memory ran out the first time.
+/// Returns an outcome, asked again where memory ran out the first time.
 pub(crate) fn outcome(
     alloc: Global,
     writer: &Nodes,
@@ -55,7 +55,7 @@ pub(crate) fn outcome(
     }
 }
 
-/// What a reader makes of a payload's datum, or of none where that is not read.
+/// Returns what a reader makes of a payload's datum, or of none where the payload is not read.
 fn resolved_once(
     alloc: Global,
     w: &Nodes,
@@ -68,7 +68,7 @@ fn resolved_once(
     }
 }
 
-/// The same, asked again where memory ran out the first time.
+/// Returns what `resolved_once` returns, asked again where memory ran out the first time.
 pub(crate) fn resolved(
     alloc: Global,
     writer: &Nodes,
@@ -81,8 +81,8 @@ pub(crate) fn resolved(
     }
 }
 
-/// Whether all of a writer's fields go to the reader's of the same positions, asked again where memory ran out the
-/// first time.
+/// Returns whether all of a writer's fields go to the reader's at the same positions, asked again where memory ran out
+/// the first time.
 pub(crate) fn ordered(alloc: Global, writer: &Nodes, reader: &Nodes) -> Result<bool, AllocError> {
     match in_order(alloc, writer, reader) {
         Err(AllocError) => in_order(alloc, writer, reader),

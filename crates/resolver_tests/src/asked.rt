@@ -21,9 +21,9 @@ pub(crate) enum Asked {
     Payload,
     /// Whether a payload that is read twice is one datum, which is written as it.
     Alike,
-    /// How a payload after one byte is read and skipped, with so many units before it.
+    /// How a payload after one byte is read and skipped, with `units` units before it.
     Skipped { units: u32 },
-    /// What is told of a text that would be written too large.
+    /// What is reported of a text that would be written too large.
     Longest,
     /// The outcome of a payload.
     Outcome,
@@ -37,7 +37,7 @@ pub(crate) enum Asked {
     Order,
 }
 
-/// What is answered of the nodes of a writer and a reader and of a payload.
+/// Returns what is answered of the nodes of a writer and a reader and of a payload.
 fn of_nodes(
     alloc: Global,
     asked: Asked,
@@ -65,7 +65,8 @@ fn of_nodes(
     }
 }
 
-/// What is answered of a row of schemas and a payload. Where it has one schema, that is the writer's and the reader's.
+/// Returns what is answered of a row of schemas and a payload. Where it has one schema, that is the writer's and the
+/// reader's.
 fn of_schemas(alloc: Global, asked: Asked, row: &str) -> Result<String, AllocError> {
     let (writer, rest) = row.split_once('\n').unwrap_or((row, ""));
     let (reader, payload) = rest.split_once('\n').unwrap_or((writer, rest));
@@ -75,7 +76,7 @@ fn of_schemas(alloc: Global, asked: Asked, row: &str) -> Result<String, AllocErr
     }
 }
 
-/// What is answered of a row: of schemas where something is asked of them, and else of a call on bytes.
+/// Returns what is answered of a row: of schemas where something is asked of them, and else of a call on bytes.
 fn answer(
     alloc: Global,
     walk: &mut BlockWalk,
@@ -90,7 +91,8 @@ fn answer(
     }
 }
 
-/// Whether each row is answered so. Rows of calls have a line each, and others are parted by empty lines.
+/// Asserts that each row is answered as it says. Rows of calls have a line each, and others are separated by empty
+/// lines.
 pub(crate) fn assert_rows(
     rt: &(impl Abort + AllocGlobal),
     asked: Option<Asked>,

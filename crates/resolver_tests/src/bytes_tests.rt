@@ -1,4 +1,4 @@
-//! Worked spellings of the Avro 1.11 Specification ("Binary Encoding"), and each fault from outside data.
+//! Worked encodings of the Avro 1.11 Specification ("Binary Encoding"), and each fault from outside data.
 
 ghost use Rattle.std.specs.Prelude.{◌≤◌, length};
 
@@ -12,7 +12,7 @@ use avro_bytes::{
 use std::alloc::{AllocError, Global};
 use std::fmt::Debug;
 
-/// Numbers, how many bytes they are told to take, and the bytes that they are put as.
+/// Numbers, the length that is reported for each, and the bytes that it is put as.
 const PUT: &str = "put 0 -> 1 00
 put -1 -> 1 01
 put 1 -> 1 02
@@ -24,8 +24,8 @@ put 27 -> 1 36
 put 9223372036854775807 -> 10 feffffffffffffffff01
 put -9223372036854775808 -> 10 ffffffffffffffffff01";
 
-/// A form that is read and skipped, or a call that reads, where it begins, how many units are before it, and the bytes.
-/// Then the value, the place after it and the meter there, or the first fault.
+/// A form that is read and skipped, or a call that reads, the offset where it begins, how many units are before it,
+/// and the bytes. Then the value, the offset after it and the meter there, or the first fault.
 const NUMBERS: &str = "long 0 0 00 -> Ok((0, 1, Meter { depth: 0, units: 0 }))
 long 0 0 01 -> Ok((-1, 1, Meter { depth: 0, units: 0 }))
 long 0 0 02 -> Ok((1, 1, Meter { depth: 0, units: 0 }))
@@ -61,7 +61,7 @@ boolean 0 0 02 -> Err(Malformed { kind: BadBoolean, at: 0 })
 boolean 0 0 8000 -> Err(Malformed { kind: BadBoolean, at: 0 })
 boolean 0 0 - -> Err(Need)";
 
-/// The same of texts, whose lengths are at most 16,777,216, of bytes and of fixed ones.
+/// As `NUMBERS`, but of texts, whose lengths are at most 16,777,216, of bytes and of fixed ones.
 const CONTENTS: &str = r#"text 0 0 06666f6f00 -> Ok(("foo", 4, Meter { depth: 0, units: 0 }))
 text 0 0 02ff -> Err(Malformed { kind: BadText, at: 1 })
 text 0 0 04c328 -> Err(Malformed { kind: BadText, at: 1 })
@@ -95,8 +95,8 @@ item 5 0 0 -> Ok(Meter { depth: 0, units: 1 })
 begin 5 0 1000 -> malformed TooDeep at 5";
 
 /// Walks over blocks: where each begins, after how many units and levels, and where it goes on, inside one level and
-/// after so many units, and the bytes. Then the next item or the end and the meter there, or the first fault. A walk
-/// that tells its parts goes on from them.
+/// after how many units, and the bytes. Then the next item or the end and the meter there, or the first fault. A walk
+/// that reports its parts goes on from them.
 const WALKS: &str = "begin 0 0 0 -> Meter { depth: 1, units: 0 }
 next 0 0 023600 -> Ok((true, 1, Meter { depth: 1, units: 1 }))
 next 2 1 023600 -> Ok((false, 3, Meter { depth: 0, units: 1 }))
@@ -125,7 +125,7 @@ next 0 0 0180 -> Err(Need)
 next 0 0 - -> Err(Need)
 next 0 1048576 0236 -> Err(Malformed { kind: TooMany, at: 1 })";
 
-/// What is read of a form, again where memory ran out the first time, and skipped, in words.
+/// Returns what is read of a form, again where memory ran out the first time, and what is skipped, in words.
 pub(crate) fn both<F: WireForm>(
     alloc: Global,
     form: &F,
@@ -151,7 +151,7 @@ where
     debug_line(alloc, read)
 }
 
-/// What a form or a call reads, in words.
+/// Returns what a form or a call reads, in words.
 fn read_line(
     alloc: Global,
     form: &str,
@@ -185,7 +185,7 @@ fn read_line(
     }
 }
 
-/// What a number is put as, and how many bytes it is told to take.
+/// Returns the length that is reported for a number, and what it is put as.
 fn put_line(alloc: Global, n: i64) -> Result<String, AllocError> {
     let mut out = Vec::new(alloc);
     put_long(&mut out, n)?;
@@ -193,7 +193,7 @@ fn put_line(alloc: Global, n: i64) -> Result<String, AllocError> {
     format!(in alloc; "{} {digits}", long_len(n))
 }
 
-/// The meter inside the blocks over which a walk begins, or the fault in words.
+/// Returns the meter inside the blocks over which a walk begins, or the fault in words.
 fn begun_line(
     alloc: Global,
     walk: &mut BlockWalk,
@@ -209,8 +209,8 @@ fn begun_line(
     }
 }
 
-/// The parts of a walk: how many items are left, where the count and the items stand, and the size. The walk goes on
-/// from them.
+/// Returns the parts of a walk: how many items are left, the offsets of the count and of the items, and the size. The
+/// walk goes on from them.
 fn parts(walk: &mut BlockWalk) -> (u64, usize, usize, Option<i64>) {
     let (left, count_at) = (walk.left(), walk.count_at());
     let (items_at, size) = (walk.items_at(), walk.size());
@@ -218,12 +218,12 @@ fn parts(walk: &mut BlockWalk) -> (u64, usize, usize, Option<i64>) {
     (left, count_at, items_at, size)
 }
 
-/// A number of a row.
+/// Parses a number of a row.
 fn number(word: &str) -> u32 {
     word.parse::<u32>().unwrap_or(u32::MAX)
 }
 
-/// What is read at a place of bytes, or where a walk goes on, after so many units, in words.
+/// Returns what is read at an offset of bytes, or where a walk goes on, after the given number of units, in words.
 fn bytes_line(
     alloc: Global,
     walk: &mut BlockWalk,
@@ -240,7 +240,7 @@ fn bytes_line(
     }
 }
 
-/// What the call of a row answers, in words.
+/// Returns what the call of a row answers, in words.
 pub(crate) fn call_line(
     alloc: Global,
     walk: &mut BlockWalk,

@@ -7,24 +7,24 @@ use resolver::{MOST_OUTPUT, Outcome, Route, partners, routes};
 use std::alloc::{AllocError, Global};
 use std::fmt::Debug;
 
-/// These words.
+/// Returns these words.
 pub(crate) fn words_line(alloc: Global, words: &str) -> Result<String, AllocError> {
     String::from_str(alloc, words)
 }
 
-/// A value as it is told where something goes wrong.
+/// Returns a value as it is printed where something goes wrong.
 pub(crate) fn debug_line<T: Debug + Drop>(alloc: Global, value: T) -> Result<String, AllocError> {
     format!(in alloc; "{value:?}")
 }
 
-/// Bytes in hexadecimal after a word, or `-` where there are none.
+/// Returns bytes in hexadecimal after a word, or `-` where there are none.
 fn hex_line(alloc: Global, word: &str, bytes: &[u8]) -> Result<String, AllocError> {
     let digits = hex::encode(alloc, bytes)?;
     let none = if bytes.is_empty() { "-" } else { "" };
     format!(in alloc; "{word} {none}{digits}")
 }
 
-/// The bytes of a row, in hexadecimal, where `-` stands for none.
+/// Returns the bytes of a row, which are in hexadecimal, or `-` for none.
 pub(crate) fn bytes_of(alloc: Global, digits: &str) -> Result<Vec<u8>, AllocError> {
     match hex::decode(alloc, digits.trim_start_matches('-')) {
         Ok(bytes) => Ok(bytes),
@@ -32,7 +32,7 @@ pub(crate) fn bytes_of(alloc: Global, digits: &str) -> Result<Vec<u8>, AllocErro
     }
 }
 
-/// What a datum is written as after a byte that was there.
+/// Returns what a datum is written as after a byte that was there.
 fn written_line(alloc: Global, datum: &Datum) -> Result<String, AllocError> {
     let mut out = vec![in alloc; 9u8]?;
     let done = written(datum, &mut out);
@@ -43,14 +43,14 @@ fn written_line(alloc: Global, datum: &Datum) -> Result<String, AllocError> {
     }
 }
 
-/// What is told of a text that would be written too large.
+/// Returns what is reported of a text that would be written too large.
 pub(crate) fn longest_line(alloc: Global) -> Result<String, AllocError> {
     let piece = "0123456789abcdef0123456789abcdef0123456789abcdef0123456789abcdef";
     let longest = Datum::Text(piece.repeat(alloc, MOST_OUTPUT / 64)?);
     written_line(alloc, &longest)
 }
 
-/// What a payload's datum is written as, or the first fault.
+/// Returns what a payload's datum is written as, or the first fault.
 pub(crate) fn payload_line(
     alloc: Global,
     nodes: &Nodes,
@@ -62,7 +62,7 @@ pub(crate) fn payload_line(
     }
 }
 
-/// The outcome of a payload.
+/// Returns the outcome of a payload.
 pub(crate) fn outcome_line(
     alloc: Global,
     writer: &Nodes,
@@ -83,7 +83,7 @@ pub(crate) fn outcome_line(
     }
 }
 
-/// Whether a payload that is read twice is one datum, which is written as it.
+/// Returns whether a payload that is read twice is one datum, which is written as it.
 pub(crate) fn alike(alloc: Global, nodes: &Nodes, payload: &[u8]) -> Result<bool, PayloadError> {
     let datum = read_again(alloc, nodes, payload)?;
     let mut out = Vec::new(alloc);
@@ -92,7 +92,7 @@ pub(crate) fn alike(alloc: Global, nodes: &Nodes, payload: &[u8]) -> Result<bool
     Ok(done == Ok(()) && out.as_slice() == payload && again == Ok(datum))
 }
 
-/// Whether all of a writer's fields go to the reader's of the same positions.
+/// Returns whether all of a writer's fields go to the reader's at the same positions.
 fn are_in_order(partners: &[Option<usize>], routes: &[Route]) -> bool {
     if partners.len() != routes.len() {
         return false;
@@ -105,7 +105,8 @@ fn are_in_order(partners: &[Option<usize>], routes: &[Route]) -> bool {
     true
 }
 
-/// Whether two first nodes are records, and all of the writer's fields go to the reader's of the same positions.
+/// Returns whether two first nodes are records, and all of the writer's fields go to the reader's at the same
+/// positions.
 pub(crate) fn in_order(alloc: Global, writer: &Nodes, reader: &Nodes) -> Result<bool, AllocError> {
     writer.is_well_formed();
     reader.is_well_formed();

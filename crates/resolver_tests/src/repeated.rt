@@ -1,4 +1,4 @@
-//! Texts of rows, in which what stands between tildes is told so many times.
+//! Texts of rows, in which what is between tildes is repeated, as many times as its first word says.
 
 use std::alloc::AllocError;
 
@@ -13,7 +13,7 @@ fn push_numbered(text: &mut String, piece: &str, number: u32) -> Result<(), Allo
     Ok(())
 }
 
-/// Appends a piece so many times, each time with its number, from 1 on.
+/// Appends a piece as many times as its first word says, each time with its number, from 1 on.
 fn push_repeated(text: &mut String, row: &str) -> Result<(), AllocError> {
     let (times, piece) = row.split_once(' ').unwrap_or(("", row));
     for number in 1..=times.parse::<u32>().unwrap_or(0) {
@@ -22,7 +22,7 @@ fn push_repeated(text: &mut String, row: &str) -> Result<(), AllocError> {
     Ok(())
 }
 
-/// Appends the text of a row, in which what stands between tildes is repeated.
+/// Appends the text of a row, in which what is between tildes is repeated.
 pub(crate) fn push_text(text: &mut String, row: &str) -> Result<(), AllocError> {
     for (number, piece) in row.split('~').enumerate() {
         if number % 2 == 0 {

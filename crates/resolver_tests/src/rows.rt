@@ -1,5 +1,6 @@
-//! Worked rows, parted by empty lines: schemas, a line each, a payload in hexadecimal, or `-`, and what is answered.
-//! What stands between tildes is told so many times, each time with its number in place of each `#`.
+//! Worked rows, separated by empty lines: schemas, a line each, a payload in hexadecimal, or `-`, and what is
+//! answered. What is between tildes is repeated as many times as its first word says, each time with its number in
+//! place of each `#`.
 
 /// A schema, a payload, and what its datum is written as, or the first fault.
 pub(crate) const DATA: &str =
@@ -349,8 +350,8 @@ pub(crate) const SAFETY: &str =
 {"type":"enum","name":"n.E","aliases":["n.H"],"symbols":["A"]}
 - -> Ok(true)"#;
 
-/// A schema of records inside one another, a payload of so many, and whether it is read twice alike and written as it
-/// came, or the first fault.
+/// A schema of records inside one another, a payload of many of them, and whether it is read twice alike and written
+/// as it came, or the first fault.
 pub(crate) const NESTED: &str =
     r#"{"type":"record","name":"C","fields":[{"name":"next","type":["null","C"]}]}
 ~999 02~00 -> Ok(true)
@@ -366,12 +367,12 @@ pub(crate) const SKIPPED: &str =
 {"type":"map","values":"int"}
 0701060261020009 -> Ok((Map([("a", Int(1))]), 7, Meter { depth: 0, units: 1 }))"#;
 
-/// The same where no further unit may be read.
+/// As `SKIPPED`, but where no further unit may be read.
 pub(crate) const FULL: &str =
     r#"{"type":"record","name":"T","fields":[{"name":"a","type":"long"},{"name":"b","type":"string"}]}
 003606666f6f01 -> Err(Malformed { kind: TooMany, at: 1 })"#;
 
-/// What is told of a text that would be written too large.
+/// What is reported of a text that would be written too large.
 pub(crate) const LONGEST: &str = r#""string"
 "string"
 - -> the written datum passes its limit"#;

@@ -1,5 +1,6 @@
-//! Texts of schemas, and what is told of them. The rows of a table are its lines, or, where it has empty ones, parted
-//! by these; what stands between tildes is told so many times, each time with its number where there is a `#`.
+//! Texts of schemas, and what is reported of them. The rows of a table are its lines, or, where it has empty ones,
+//! separated by these; what is between tildes is repeated as many times as its first word says, each time with its
+//! number where there is a `#`.
 
 /// A text, the kinds of its nodes, and its compact text.
 pub(crate) const TEXTS: &str = r#""null" -> Null = "null"
@@ -23,7 +24,7 @@ pub(crate) const TEXTS: &str = r#""null" -> Null = "null"
 
 {"type":"int","name":"1","type":"record","name":"_1","fields":[]} -> _1 = {"fields":[],"name":"_1","type":"record"}"#;
 
-/// The same, told of a copy.
+/// As `TEXTS`, but of a copy.
 pub(crate) const COPIED: &str =
     r#"{ "type": "record", "name": "T", "fields": [ {"name": "a", "type": ["null", "T"]} ] }
  -> T(a 1 [] None) Union([2, 0]) Null = {"fields":[{"name":"a","type":["null","T"]}],"name":"T","type":"record"}
@@ -87,7 +88,7 @@ null -> Unknown
 {"type":"fixed","name":"F","size":null} -> BadNumber
 {"type":"fixed","name":"F","size":1048577} -> TooLarge"#;
 
-/// The same of texts with aliases.
+/// As `FAULTS`, but of texts with aliases.
 pub(crate) const ALIAS_FAULTS: &str =
     r#"{"type":"record","name":"Q","fields":[],"aliases":"A"} -> Unknown
 {"type":"record","name":"Q","fields":[],"aliases":null} -> Unknown
@@ -109,7 +110,7 @@ pub(crate) const ALIAS_FAULTS: &str =
 {"type":"record","name":"T","fields":[{"name":"f","type":"float","aliases":["1"]}]} -> BadName
 {"type":"record","name":"T","fields":[{"name":"1","type":"int","aliases":3}]} -> BadName"#;
 
-/// A text, and the kinds of its nodes; of names the namespace stands before a slash.
+/// A text, and the kinds of its nodes; of names the namespace is before a slash.
 pub(crate) const KINDS: &str =
     r#"{"type":"record","name":"LongList","fields":[{"name":"value","type":"long"},{"name":"next","type":["null","LongList"]}]}
  -> LongList(value 1 [] None)(next 2 [] None) Long Union([3, 0]) Null
@@ -214,7 +215,7 @@ pub(crate) const BOUNDS: &str = r#"{"type":"enum","name":"E","symbols":["S0"~409
 
 "int"~262140  ~ -> TooLarge"#;
 
-/// Two texts, parted by a bar, and for each node of the one which names of the other's fixed types are its aliases:
+/// Two texts, separated by a bar, and for each node of the one which names of the other's fixed types are its aliases:
 /// `+`, or `-`.
 pub(crate) const MARKS: &str = r#"{"type":"record","name":"a.b","aliases":["c","x.y","c"],"fields":[
         {"name":"d","aliases":["e","e","int"],"type":{"type":"fixed","name":"F","namespace":"","size":1,"aliases":["int","n.long","G"]}},

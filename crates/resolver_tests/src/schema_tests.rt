@@ -18,7 +18,7 @@ enum Asked {
     Kinds,
     /// The kinds of its nodes and its compact text.
     Text,
-    /// The same, of a copy that is left when the schema itself is let go.
+    /// The kinds and the compact text of a copy that is left when the schema itself is dropped.
     Copy,
     /// How many nodes it has.
     Len,
@@ -26,7 +26,7 @@ enum Asked {
     Marks,
 }
 
-/// The text of a row, in its place in a frame.
+/// Returns the text of a row, in its place in a frame.
 fn framed(alloc: Global, frame: &str, row: &str) -> Result<String, AllocError> {
     let (before, after) = frame.split_once('$').unwrap_or(("", frame));
     let mut text = String::from_str(alloc, before)?;
@@ -35,7 +35,7 @@ fn framed(alloc: Global, frame: &str, row: &str) -> Result<String, AllocError> {
     Ok(text)
 }
 
-/// A copy of the schema of a text, which is left when the schema itself is let go.
+/// Returns a copy of the schema of a text, which is left when the schema itself is dropped.
 fn copied(alloc: Global, text: &str) -> Result<Schema, SchemaError> {
     let schema = parsed(alloc, text)?;
     Ok(schema.copy()?)
@@ -95,7 +95,7 @@ fn push_kinds(out: &mut String, schema: &Schema) -> Result<(), AllocError> {
     Ok(())
 }
 
-/// Whether a full name is an alias of a kind.
+/// Returns whether a full name is an alias of a kind.
 fn is_alias(kind: &Kind, name: &Name) -> bool {
     match kind {
         Kind::Record { aliases, .. } | Kind::Enum { aliases, .. } | Kind::Fixed { aliases, .. } =>
@@ -114,7 +114,8 @@ fn push_marks(out: &mut String, kind: &Kind, names: &Schema) -> Result<(), Alloc
     Ok(())
 }
 
-/// Appends the same for each node of a schema.
+/// Appends for each node of a schema which names of another's fixed types are its aliases, with a space between the
+/// nodes.
 fn push_all_marks(out: &mut String, schema: &Schema, names: &Schema) -> Result<(), AllocError> {
     for node in 0..schema.len() {
         out.push_str(if node == 0 { "" } else { " " })?;
@@ -123,7 +124,7 @@ fn push_all_marks(out: &mut String, schema: &Schema, names: &Schema) -> Result<(
     Ok(())
 }
 
-/// Appends the same where the names are those of a text.
+/// Appends for each node of a schema which names of a text's fixed types are its aliases, or the text's fault.
 fn push_marks_of(
     alloc: Global,
     out: &mut String,
@@ -173,7 +174,7 @@ fn push_answer(
     }
 }
 
-/// What is asked of the schema of a row's text, or the first fault of the text.
+/// Returns what is asked of the schema of a row's text, or the first fault of the text.
 fn answer(alloc: Global, asked: Asked, frame: &str, row: &str) -> Result<String, AllocError> {
     let text = framed(alloc, frame, row)?;
     let mut out = String::new(alloc);
@@ -181,8 +182,8 @@ fn answer(alloc: Global, asked: Asked, frame: &str, row: &str) -> Result<String,
     Ok(out)
 }
 
-/// Whether each row is answered so, where its text stands in a frame. Rows are lines, or, where there are empty ones,
-/// parted by these.
+/// Asserts that each row is answered as it says, where its text is in a frame. Rows are lines, or, where there are
+/// empty ones, separated by these.
 fn assert_rows(
     rt: &(impl Abort + AllocGlobal),
     asked: Asked,

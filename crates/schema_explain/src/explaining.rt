@@ -108,8 +108,10 @@ fn step_of(
 }
 
 /// Returns what becomes of every part of a message that one schema writes and another reads, depth first: a line for
-/// each, the fields of a record in the reader's order and then those that are dropped. Parts that recur are explained
-/// where they come first. A line's nodes are nodes of the schemas. The error is that memory ran out.
+/// each, the fields of a record in the reader's order and then those that are dropped.
+///
+/// Parts that recur are explained where they come first. A line's nodes are nodes of the schemas. It fails only where
+/// an allocation fails.
 pub fn explain(alloc: Global, writer: &Nodes, reader: &Nodes) -> Result<Vec<Line>, AllocError>
     ensures lines { IfOk result (λ lines. IsExplanation writer.now reader.now lines.items) }
     ensures nodes { IfOk result (λ lines. AllByRecursion (HasNodesOf writer.now reader.now) lines.items) }

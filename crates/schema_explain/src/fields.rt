@@ -12,7 +12,7 @@ use outcome::MismatchKind;
 use resolver_matching::{Route, routes};
 use std::alloc::{AllocError, Global};
 
-/// Returns the position and the node of the writer's field whose partner is the reader's field at a position; None
+/// Returns the position and the node of the writer's field whose partner is the reader's field at a position; `None`
 /// where there is none.
 fn source_of(routes: &[Route], position: usize) -> Option<(usize, usize)>
     ensures { result ≡ source position 0 routes.now }

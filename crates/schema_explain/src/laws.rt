@@ -31,8 +31,8 @@ pub fn mismatches_are_at_bad_pairs(writer: &Nodes, reader: &Nodes)
     reader.is_well_formed(); // law
 }
 
-/// The law that whatever mismatch a datum of the writer meets has a line, with its kind and its nodes; of bytes that are
-/// no text, the line that they are promoted if they are.
+/// The law that whatever mismatch a datum of the writer meets has a line, with its kind and its nodes; of bytes that
+/// are no text, the line that they are promoted if they are.
 pub fn each_mismatch_has_a_line(writer: &Nodes, reader: &Nodes)
     ensures { EachMismatchHasALine writer.now reader.now }
 {
@@ -50,8 +50,8 @@ pub fn safe_where_no_line_mismatches(writer: &Nodes, reader: &Nodes)
     mismatches_are_at_bad_pairs(writer, reader); // law
 }
 
-/// The law that each datum becomes what the fate of its pair says: what is copied is the datum, what is promoted is it in
-/// the other type, bytes become a string where they are UTF-8, and what mismatches does so whatever the datum.
+/// The law that each datum becomes what the fate of its pair says: what is copied is the datum, what is promoted is it
+/// in the other type, bytes become a string where they are UTF-8, and what mismatches does so whatever the datum.
 pub fn fates_are_met(writer: &Nodes, reader: &Nodes)
     ensures { FatesAreMet writer.now reader.now }
 {

@@ -7,7 +7,7 @@ use outcome::MismatchKind;
 pub enum Part {
     /// The whole message.
     Root,
-    /// A field, at these positions among the fields of both records; None where that record has no such field.
+    /// A field, at these positions among the fields of both records; `None` where that record has no such field.
     Field {
         writer: Option<usize>,
         reader: Option<usize>,
@@ -50,13 +50,13 @@ pub struct Line {
     /// How many lines it is a part of.
     pub depth: usize,
     pub part: Part,
-    /// The writer's node; None where the reader takes the default of a field. Where a field is the mismatch
+    /// The writer's node; `None` where the reader takes the default of a field. Where a field is the mismatch
     /// NoDefault, the record without it.
     pub writer: Option<usize>,
-    /// The reader's node that it goes into, which is a branch's where the reader has a union; None where a field is
+    /// The reader's node that it goes into, which is a branch's where the reader has a union; `None` where a field is
     /// dropped.
     pub reader: Option<usize>,
-    /// The position of that branch in the reader's union; None where it goes into the reader's node itself.
+    /// The position of that branch in the reader's union; `None` where it goes into the reader's node itself.
     pub branch: Option<usize>,
     pub fate: Fate,
 }

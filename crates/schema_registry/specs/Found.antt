@@ -1,4 +1,4 @@
--- What is found of a schema beside older ones, and what is to be compared. This project's own.
+-- What is found of a new schema compared with older ones. This project's own.
 use Rattle.std.specs.Prelude.{List, IsTrue, ◌↔◌}
 use Rattle.std.specs.List.{AllByRecursion}
 use Rattle.avro_schema.specs.Schema.{Declaration}
@@ -7,6 +7,6 @@ use Rattle.schema_registry.specs.declared.level.Level.{Level}
 use Rattle.schema_registry.specs.Answer.{AreSafe}
 use Rattle.schema_registry.specs.Answers.{pairs_with}
 
--- each finding says whether the new schema goes together with its older one
+-- each finding says whether the pairs that the level names of the new schema and its older one are safe
 abbrev pub AreFound : Level → Declaration → List Finding → Type 0
 AreFound level new found = AllByRecursion (λ f. IsTrue f.goes ↔ AreSafe (pairs_with level new f.old.now)) found

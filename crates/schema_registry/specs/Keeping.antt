@@ -52,7 +52,7 @@ registration_kept lists subject text (Ok schema) =
     else KeptRegistration (id_for schema lists.schemas) subject text ∷ []
 registration_kept lists subject text (Err e) = []
 
--- of a command that is accepted; of a question nothing
+-- what is kept of a command that is accepted; of a question nothing
 abbrev pub kept_of : Lists → Command → List KeptCommand
 kept_of lists (RegisterCommand subject text) = registration_kept lists subject text (declaration_of text)
 kept_of lists (SetLevelCommand subject level) = KeptLevel subject level ∷ []
@@ -68,7 +68,7 @@ abbrev pub kept_from : Lists → List Command → List KeptCommand
 kept_from lists [] = []
 kept_from lists (c ∷ cs) = kept_of lists c ++ kept_from (taken lists c) cs
 
--- of the commands that a registry has accepted, in their order
+-- what is kept of the commands that a registry has accepted, in their order
 abbrev pub kept_in : List Command → List KeptCommand
 kept_in commands = kept_from no_lists commands
 

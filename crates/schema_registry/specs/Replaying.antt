@@ -29,7 +29,7 @@ abbrev pub stored_as : KeptCommand → Stored
 stored_as (KeptRegistration id subject text) = Registered id subject text
 stored_as (KeptLevel subject level) = LevelSet subject (level_name level)
 
--- of those that a registry has accepted
+-- what is stored of the commands that a registry has accepted
 abbrev pub stored_in : List Command → List Stored
 stored_in commands = map stored_as (kept_in commands)
 

@@ -66,7 +66,7 @@ impl<'s> Candidate<'s> {
         &self.schema
     }
 
-    /// Returns whether the schema goes together with an older one at a level, where that was found at a place; None
+    /// Returns whether the schema goes together with an older one at a level, where that was found at a place; `None`
     /// where nothing was, or only at another level, or of a schema of another text.
     fn known(&self, place: usize, level: Level, old: &Schema) -> Option<bool>
         ensures { IfSome result (λ b. IsTrue b ↔ AreSafe (pairs_with level self.now old.now)) }

@@ -16,7 +16,7 @@ pub enum KeepFault {
 
 /// Keeps commands, in their order.
 pub trait Keeper {
-    /// It has these commands, and nothing else.
+    /// It has these commands, and no others.
     ghost keeps: { Self → List KeptCommand → Type 0 };
 
     /// A crash at this moment may leave these.
@@ -31,8 +31,9 @@ pub trait Keeper {
     /// A call that took the first and left the second could not keep this command.
     ghost fails: { Self → Self → KeptCommand → Type 0 };
 
-    /// Keeps a registration, with the id that is answered. At `Ok` each crash leaves it. At `Err` the keeper has what
-    /// it had, or takes no more.
+    /// Keeps a registration, with the id that is returned for it.
+    ///
+    /// At `Ok` each crash leaves it. At `Err` the keeper has what it had, or takes no more.
     fn keep_registration(&mut self, id: u32, subject: &str, text: &str) -> Result<(), KeepFault>
         ensures kept { OnOk result ((ks : List KeptCommand) → keeps self.old ks
             → keeps self.new (ks ++ KeptRegistration id subject.now text.now ∷ [])) }

@@ -8,7 +8,7 @@ use avro_schema::Schema;
 use kept_notes::KeptNote;
 use std::marker::Model;
 
-/// What a receipt says, for whoever looks at it: it may lie where threads share it. Callers see it as a `Shown`.
+/// What a receipt says, where threads can share it. Callers see it as a `Shown`.
 #[derive(Drop)]
 pub struct KeptReceipt {
     id: u32,
@@ -41,7 +41,7 @@ impl Receipt {
 }
 
 impl KeptReceipt {
-    /// The id of its schema.
+    /// Returns the id of its schema.
     pub fn id(&self) -> u32
         ensures { result ≡ self.now.id }
     {
@@ -50,7 +50,7 @@ impl KeptReceipt {
 }
 
 impl SharedRegistry {
-    /// The law that a receipt and one that was kept, of one id, stand for one schema.
+    /// The law that a receipt and one that was kept, of one id, represent one schema.
     pub fn agree_with_kept(&self, receipt: &mut Receipt, kept: &KeptReceipt)
         requires receipt { IsReceiptOf self.now receipt.old }
         requires kept { IsReceiptOf self.now kept.now }

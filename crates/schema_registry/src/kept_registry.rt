@@ -26,8 +26,9 @@ pub use crashing::Aftermath;
 pub use opening::{StartFault, Started};
 use std::marker::Model;
 
-/// Returns why a level is not set that was not kept. A registry wants no memory for the level of all, so that memory
-/// ran out for what is kept of it is `NotStored`.
+/// Returns the refusal of a level that was not kept.
+///
+/// A registry needs no memory for the global level, so where memory ran out while that was kept, it is `NotStored`.
 fn level_refusal(fault: KeepFault, subject: &Option<String>) -> Refusal
     ensures memory { result ≡ Refusal.NoMemory → option_map string_bytes subject.now ≢ None }
     ensures stored { result ≡ Refusal.NotStored
@@ -71,7 +72,7 @@ impl<K: Keeper> KeptRegistry<K> {
         KeptRegistry { registry, keeper }
     }
 
-    /// Returns it as one that may have no keeper.
+    /// Returns this registry with an optional keeper, which is its own.
     pub fn into_optional(self) -> KeptRegistry<Option<K>>
         ensures registry { result.registry ≡ self.registry }
         ensures keeper { result.keeper ≡ Some self.keeper }
@@ -89,15 +90,17 @@ impl<K: Keeper> KeptRegistry<K> {
         let _opened = &self.registry; // read for the proof
     }
 
-    /// Returns the registry, to be asked alone.
+    /// Returns the registry without its keeper, for commands that change nothing.
     pub(crate) fn registry(&self) -> &Registry
         ensures { result.now ≡ self.now.registry }
     {
         &self.registry
     }
 
-    /// Does or answers what a command asks, or refuses it; then no command changes. At `Ok` it is kept, where it
-    /// changed something. `NotStored` where it would be accepted, and the keeper failed.
+    /// Executes a command and returns its reply, or returns why it is refused.
+    ///
+    /// At `Ok` the command is kept, where it changed something. `NotStored` where it would be accepted, and the
+    /// keeper failed. A refusal changes no command.
     pub fn apply(&mut self, command: Command) -> Result<Reply, Refusal>
         ensures answer { IfOk result (λ reply. Gives (answer_to (registry_after self.old.registry)
             (command_of command)) (Ok reply)) }
@@ -119,9 +122,10 @@ impl<K: Keeper> KeptRegistry<K> {
         }
     }
 
-    /// Registers the schema of a text, which was parsed from it, for a subject, and returns its id. At `Ok` it is kept.
-    /// `NotStored` where it would be accepted, and the keeper failed; else it is refused as a registry refuses it. A
-    /// refusal changes no command.
+    /// Registers the schema of a text, which was parsed from it, for a subject, and returns its id.
+    ///
+    /// At `Ok` it is kept. `NotStored` where it would be accepted, and the keeper failed; else the refusal is that of
+    /// a registry. A refusal changes no command.
     pub(crate) fn register(
         &mut self,
         subject: String,
@@ -210,9 +214,11 @@ impl<K: Keeper> KeptRegistry<K> {
         self.registry.register_decided(decision, command, schema)
     }
 
-    /// Sets the level of a subject, or of all. At `Ok` it is kept. `NotStored` where it would be set, and the keeper
-    /// failed, or memory ran out for what is kept of the level of all, for which a registry wants none; else it is
-    /// refused as a registry refuses it. A refusal changes no command.
+    /// Sets the level of a subject, or the global one.
+    ///
+    /// At `Ok` it is kept. `NotStored` where it would be set, and the keeper failed, or memory ran out while the
+    /// global level was kept, for which a registry needs none; else the refusal is that of a registry. A refusal
+    /// changes no command.
     pub(crate) fn set_level(
         &mut self,
         subject: Option<String>,
@@ -240,7 +246,8 @@ impl<K: Keeper> KeptRegistry<K> {
         self.set_free_level(subject, level)
     }
 
-    /// Sets the level of a subject, or of all, where nothing but memory and the keeper is against it.
+    /// Sets the level of a subject, or the global one, where nothing but memory and the keeper can be a reason to
+    /// refuse it.
     fn set_free_level(&mut self, subject: Option<String>, level: Level) -> Result<Reply, Refusal>
         requires { IsAnswer (answer_to (registry_after self.old.registry)
             (SetLevelCommand (option_map string_bytes subject) level)) (Ok (LevelReply level)) }
@@ -271,7 +278,7 @@ impl<K: Keeper> KeptRegistry<K> {
         }
     }
 
-    /// Answers a command that only asks, of which nothing is kept.
+    /// Returns the reply to a command that only asks, of which nothing is kept.
     pub(crate) fn ask(&mut self, question: Command) -> Result<Reply, Refusal>
         requires { IsQuestion (command_of question) }
         ensures answer { Gives (answer_to (registry_after self.old.registry) (command_of question)) result }

@@ -1,4 +1,4 @@
-//! Laws of what a registry tells.
+//! Laws of what a registry replies.
 
 ghost use Rattle.std.specs.Prelude.{◌≡◌, ◌++◌, ℕ, Err, List, Some, map};
 ghost use Rattle.avro_schema.specs.Schema.{Declaration};
@@ -12,8 +12,8 @@ ghost use Rattle.schema_registry.specs.Keeping.{command_for, kept_in};
 ghost use Rattle.schema_registry.specs.Lists.{Lists, numbered};
 ghost use Rattle.schema_registry.specs.Shared.{IsSomeRefusal};
 
-/// The law that want of memory is never told as a kind of bad schema, by no answer of a registry, and by no refusal of
-/// one that threads share.
+/// The law that a failed allocation is never reported as a kind of bad schema, by no reply of a registry, and by no
+/// refusal of one that threads share.
 pub fn memory_is_no_bad_schema()
     ensures answers { (lists : Lists) → (c : Command) → ¬ (IsAnswer (answer_to lists c) (Err (BadSchema NoMemory))) }
     ensures refusals { (c : Command) → ¬ (IsSomeRefusal c (BadSchema NoMemory)) }

@@ -57,7 +57,7 @@ impl Model for Registry {
 }
 
 impl Registry {
-    /// An empty registry.
+    /// Returns an empty registry, whose global level is `Backward`.
     pub fn new(alloc: Global) -> Registry
         ensures { result ≡ [] }
     {
@@ -71,12 +71,12 @@ impl Registry {
         }
     }
 
-    /// Returns the allocator of what it holds.
+    /// Returns the allocator of its contents.
     pub(crate) fn alloc(&self) -> Global {
         self.alloc
     }
 
-    /// Does or answers what a command asks, or refuses it; then nothing changes.
+    /// Executes a command and returns its reply, or returns why it is refused; then nothing changes.
     pub fn apply(&mut self, command: Command) -> Result<Reply, Refusal>
         ensures answer { Gives (answer_to (registry_after self.old) (command_of command)) result }
         ensures ok { OnOk result (self.new ≡ self.old ++ command_of command ∷ []) }
@@ -88,7 +88,7 @@ impl Registry {
         self.apply_and_keep(command, history)
     }
 
-    /// Does or answers what a command asks, and keeps the history.
+    /// Executes a command and returns its reply. At `Ok` the history becomes the given one, else nothing changes.
     fn apply_and_keep(&mut self, command: Command, history: History) -> Result<Reply, Refusal>
         requires { history.commands ≡ self.old ++ command_of command ∷ [] }
         ensures answer { Gives (answer_to (registry_after self.old) (command_of command)) result }
@@ -108,7 +108,7 @@ impl Registry {
         }
     }
 
-    /// Answers a command that only asks.
+    /// Returns the reply to a command that only asks.
     fn answer(&self, question: Command) -> Result<Reply, Refusal>
         requires { IsQuestion (command_of question) }
         ensures answer { Gives (answer_to (registry_after self.now) (command_of question)) result }
@@ -131,7 +131,7 @@ impl Registry {
         }
     }
 
-    /// The schema of an id.
+    /// Returns the schema of an id; `None` where no schema has it.
     pub fn find(&self, id: u32) -> Option<&Schema>
         ensures { option_map (λ s. s.now) result ≡ numbered (registry_after self.now).schemas id }
     {

@@ -40,7 +40,7 @@ impl Model for SchemaTable {
     ghost invariant = { λ t. AreIdsOf t.ids t.schemas.items };
 }
 
-/// Puts an item behind the others, if it is new. Generic, so that a proof sees nothing of the item.
+/// Appends an item, if it is new. Generic, so that a proof sees nothing of the item.
 fn push_new<T: Drop>(items: &mut Vec<T>, is_new: bool, item: T)
     requires { vec_len items.old < vec_capacity items.old }
     ensures { items.new.items ≡ (if is_new then items.old.items ++ item ∷ [] else items.old.items) }
@@ -60,7 +60,7 @@ impl SchemaTable {
         }
     }
 
-    /// The schema of an id.
+    /// Returns the schema of an id; `None` where no schema has it.
     pub(crate) fn get(&self, id: u32) -> Option<&Schema>
         ensures { option_map (λ s. s.now) result ≡ numbered self.now id }
     {
@@ -70,7 +70,7 @@ impl SchemaTable {
         self.schemas.get(id as usize - 1)
     }
 
-    /// The id of the schema with a compact text.
+    /// Returns the id of the schema with a compact text; `None` where no schema has it.
     pub(crate) fn id_of(&self, text: &str) -> Option<u32>
         ensures { result ≡ id_of text.now self.now }
     {
@@ -88,7 +88,7 @@ impl SchemaTable {
         }
     }
 
-    /// Whether there is no room for the schema of a compact text.
+    /// Returns whether there is no room for the schema of a compact text.
     pub(crate) fn has_no_id(&self, text: &str) -> bool
         ensures { result ≡ has_no_id self.now text.now }
     {

@@ -1,4 +1,4 @@
--- What stands in a map by its texts once one text has something else.
+-- What a map has under its texts once one text has something else.
 use Rattle.std.proofs.Common.{◌≡◌, ℕ, ◌+◌, List, [], ◌∷◌, ◌++◌, Bool, true, false, cond, Option, Some, None, refl, sym, ap, subst, ◌∙◌, String, Global}
 use Rattle.std.specs.BTreeMap.{BTreeMap, get_by_text}
 use Rattle.std.specs.Str.{bytes_eq}
@@ -6,7 +6,7 @@ use Rattle.std.proofs.lemmas.Slice.Eq.{bytes_eq-Decides}
 use Rattle.schema_registry_maps.specs.Maps.{AreSame, Puts, id_or_next, ids_in}
 
 module _ {X : Type 0} (m n : BTreeMap (String Global) X) (text : List ℕ) where
-  -- what stands under the text and under each other one
+  -- what the map has under the text and under each other one
   pub at-text : (o : Option X) → get_by_text m text ≡ o → (t : List ℕ) → cond (bytes_eq text t) o (get_by_text m t) ≡ get_by_text m t
   at-text o is t = at (bytes_eq text t) refl
     where
@@ -14,7 +14,7 @@ module _ {X : Type 0} (m n : BTreeMap (String Global) X) (text : List ℕ) where
       at true same = sym (subst (λ t. get_by_text m t ≡ o) ((bytes_eq-Decides text t).0 same) is)
       at false other = refl
 
-  -- the same once more
+  -- what the text has is put again
   pub put-again : (x : X) → get_by_text m text ≡ Some x → Puts m m text x
   put-again x is t = sym (at-text (Some x) is t)
 
@@ -31,7 +31,7 @@ module _ {X : Type 0} (m n : BTreeMap (String Global) X) (text : List ℕ) where
       at true e = refl
       at false e = e
 
--- more versions under the name of a subject, which are told of what was there
+-- one more version under the name of a subject, in terms of what was there
 pub versions-put : (m n : BTreeMap (String Global) (List ℕ)) (subject : List ℕ) (o : Option (List ℕ)) (id : ℕ) (ids : List ℕ) → get_by_text m subject ≡ o → ids ≡ ids_in o ++ id ∷ []
     → Puts m n subject ids → Puts m n subject (ids_in (get_by_text m subject) ++ id ∷ [])
 versions-put m n subject o id ids is are put = subst (Puts m n subject) (are ∙ ap (λ o. ids_in o ++ id ∷ []) (sym is)) put

@@ -3,7 +3,7 @@
 ghost use Rattle.std.specs.Prelude.{◌≡◌, true, false, MatchOption};
 ghost use Rattle.schema_registry_maps.specs.Comparing.{compared, last_of};
 
-/// All of some ids, or the last of them.
+/// Returns all of some ids, or the last of them alone.
 pub fn compared(is_transitive: bool, ids: &[u32]) -> &[u32]
     ensures { result.now ≡ compared is_transitive ids.now }
 {
@@ -13,7 +13,7 @@ pub fn compared(is_transitive: bool, ids: &[u32]) -> &[u32]
     last_of(ids)
 }
 
-/// The last of some ids, if there is one.
+/// Returns the last of some ids alone; none where there is none.
 fn last_of(ids: &[u32]) -> &[u32]
     ensures { result.now ≡ last_of ids.now }
 {
@@ -23,7 +23,8 @@ fn last_of(ids: &[u32]) -> &[u32]
     &ids[ids.len() - 1..]
 }
 
-/// The writer and its reader, where a new one has to read what an older one wrote.
+/// Returns the older one as writer and the new one as reader, where the new one has to read what the older one wrote;
+/// else `None`.
 pub fn newer_reads<'a, S>(is_asked: bool, new: &'a S, old: &'a S) -> Option<(&'a S, &'a S)>
     ensures { MatchOption result (is_asked ≡ false)
         (λ p. (is_asked ≡ true) × (p.0.now ≡ old.now) × (p.1.now ≡ new.now)) }
@@ -34,7 +35,8 @@ pub fn newer_reads<'a, S>(is_asked: bool, new: &'a S, old: &'a S) -> Option<(&'a
     Some((old, new))
 }
 
-/// The writer and its reader, where an older one has to read what a new one writes.
+/// Returns the new one as writer and the older one as reader, where the older one has to read what the new one
+/// writes; else `None`.
 pub fn older_reads<'a, S>(is_asked: bool, new: &'a S, old: &'a S) -> Option<(&'a S, &'a S)>
     ensures { MatchOption result (is_asked ≡ false)
         (λ p. (is_asked ≡ true) × (p.0.now ≡ new.now) × (p.1.now ≡ old.now)) }

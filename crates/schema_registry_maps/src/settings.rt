@@ -5,7 +5,7 @@ ghost use Rattle.schema_registry_maps.specs.Maps.{set_for};
 
 use std::collections::BTreeMap;
 
-/// What is set for a subject, which is its own or else the global one; without a subject the global one.
+/// Returns what is set for a subject, which is its own or else the global one; without a subject the global one.
 pub fn set_for<L: Copy>(own: &BTreeMap<String, L>, global: L, subject: Option<&str>) -> L
     ensures { result ≡ set_for own.now global (option_map (λ s. s.now) subject.entry) }
 {

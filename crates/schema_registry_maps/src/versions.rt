@@ -28,7 +28,7 @@ impl Model for Versions {
 }
 
 impl Versions {
-    /// One version, with the schema of an id.
+    /// Returns one version, with the schema of an id.
     pub(crate) fn one(alloc: Global, id: u32) -> Result<Versions, AllocError>
         requires { id ≤ MOST_ID }
         ensures { IfOk result (λ versions. versions ≡ id ∷ []) }
@@ -41,7 +41,7 @@ impl Versions {
         Ok(versions)
     }
 
-    /// How many there are.
+    /// Returns the number of versions.
     pub fn len(&self) -> usize
         ensures len { result ≡ length self.now }
         ensures few { result < 2 ^ 32 }
@@ -49,14 +49,14 @@ impl Versions {
         self.ids.len()
     }
 
-    /// The ids of their schemas, in the order of the versions.
+    /// Returns the ids of their schemas, in the order of the versions.
     pub fn ids(&self) -> &[u32]
         ensures { result.now ≡ self.now }
     {
         &self.ids
     }
 
-    /// The id of the schema of a version.
+    /// Returns the id of the schema of a version; `None` where there is no such version.
     pub fn id_at(&self, number: u32) -> Option<u32>
         ensures { result ≡ numbered self.now number }
     {
@@ -66,7 +66,7 @@ impl Versions {
         self.ids.get(number as usize - 1).copied()
     }
 
-    /// The version that has the schema of an id.
+    /// Returns the version that has the schema of an id; `None` where none has.
     pub fn number_of(&self, id: u32) -> Option<u32>
         ensures { result ≡ number_of id self.now }
     {

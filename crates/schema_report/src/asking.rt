@@ -38,8 +38,9 @@ pub(crate) fn refused(alloc: Global, refusal: Refusal, text: &[u8]) -> Result<Re
 }
 
 /// Returns a line for each node of the schema in a line, in order of their numbers: the number, what the node is and
-/// its full name, and the path in the line's JSON value to where it is declared. Where the line is no schema that is
-/// said, and the answer is no.
+/// its full name, and the path in the line's JSON value to where it is declared.
+///
+/// Where the line is no schema the report says so, and the verdict is no.
 pub fn nodes_report(alloc: Global, line: &[u8]) -> Result<Report, AllocError>
     ensures { IfOk result (λ report. AnswersNodes line.now (string_bytes report.text) report.verdict) }
 {
@@ -108,8 +109,10 @@ fn checked(alloc: Global, lines: String, is_safe: bool) -> Result<Report, AllocE
 
 /// Returns whether the schemas in two lines are compatible at a level, or a line for each bad pair of nodes, in the
 /// order in which they are reached first: the kind, the writer's node and the reader's, their paths, and what it is
-/// about in words. At `Full` the level that a pair is bad for is before each line. Where a line is no schema that is
-/// said, of the first before the second. The answer is yes where the schemas are compatible.
+/// about in words.
+///
+/// At `Full` the level that a pair is bad for is before each line. Where a line is no schema the report says so, for
+/// the first line before the second, and the verdict is no. The verdict is yes where the schemas are compatible.
 pub fn check_report(
     alloc: Global,
     level: Level,

@@ -1,7 +1,7 @@
 //! What becomes of every part of a message, as a tree and as JSON.
 //!
 //! Which lines there are, and what each says, is `schema_explain`'s contract; that these are its words no clause says,
-//! but the tests of `schema_report_tests`.
+//! but the tests of `schema_tests`.
 
 use crate::asking::refused;
 use crate::listing::push_path;
@@ -106,7 +106,7 @@ fn push_node(
     Ok(true)
 }
 
-/// Returns what a pair of nodes is, and its lines without their indentation. The answer is no where there is no such
+/// Returns what a pair of nodes is, and its lines without their indentation. The verdict is no where there is no such
 /// node.
 fn pair_of(
     alloc: Global,
@@ -191,7 +191,7 @@ fn position_value(position: Option<usize>) -> Value {
     }
 }
 
-/// Returns the position of a branch of the writer's union, or of a symbol of its enum; None for other parts.
+/// Returns the position of a branch of the writer's union, or of a symbol of its enum; `None` for other parts.
 fn part_position(part: Part) -> Option<usize> {
     match part {
         Part::Branch(position) | Part::Symbol(position) => Some(position),
@@ -270,7 +270,7 @@ fn json_of(alloc: Global, both: &Both, lines: &[Line]) -> Result<String, AllocEr
 }
 
 /// Returns what becomes of every part of a message that the schema in the first line writes and the one in the second
-/// reads. Where a line is no schema that is said, and the answer is no.
+/// reads. Where a line is no schema the report says so, and the verdict is no.
 pub fn explain_report(
     alloc: Global,
     form: Form,

@@ -23,7 +23,7 @@ pub(crate) struct PathedSchema {
     pub(crate) paths: Vec<Vec<Step>>,
 }
 
-/// Returns the JSON value of the text of a schema. `AllocError` where memory ran out.
+/// Returns the JSON value of the text of a schema. `AllocError` where an allocation failed.
 fn value_of(alloc: Global, text: &[u8]) -> Result<Value, AllocError>
     ensures { IfOk result (λ value. read text.now ≡ Some (view value)) }
 {
@@ -62,7 +62,7 @@ fn schema_of_line(alloc: Global, line: &[u8]) -> Result<Schema, SchemaError>
 }
 
 impl Refusal {
-    /// Returns the refusal of the schema in a line. Memory that ran out is no fault of a schema.
+    /// Returns the refusal of the schema in a line. A failed allocation is no fault of a schema.
     fn of_schema(line: u8, error: SchemaError) -> Refusal
         ensures memory { error ≡ SchemaError.NoMemory → result ≡ Refusal.NoMemory }
         ensures bad { error ≢ SchemaError.NoMemory → result ≡ Refusal.BadSchema line error }
@@ -75,8 +75,8 @@ impl Refusal {
     }
 }
 
-/// Returns the schema of a line of an input, with the paths of its nodes. The line of this number is bad where it is no
-/// schema.
+/// Returns the schema of a line of an input, with the paths of its nodes. `BadSchema` with the line's number where it
+/// is no schema.
 pub(crate) fn read_schema(alloc: Global, line: &[u8], number: u8) -> Result<PathedSchema, Refusal>
     ensures schema { IfOk result (λ s. schema_of_line line.now ≡ Ok s.schema.nodes) }
     ensures value { IfOk result (λ s. read line.now ≡ Some (view s.value)) }

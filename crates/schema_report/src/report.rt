@@ -26,7 +26,7 @@ pub struct Report {
     pub verdict: Verdict,
 }
 
-/// Returns the number of a line that is no schema, and its first fault.
+/// Returns the words that the line with this number is no schema, and its first fault.
 fn bad_schema(alloc: Global, number: u8, error: SchemaError) -> Result<String, AllocError>
     ensures { IfOk result (λ text. string_bytes text ≡ bad_schema number error) }
 {
@@ -53,7 +53,7 @@ fn has_place(error: SchemaError) -> bool
     }
 }
 
-/// Returns what is between a quote at the beginning of a text and one at its end. `None` where one of them lacks.
+/// Returns what is between a quote at the beginning of a text and one at its end; `None` where one of them is missing.
 fn unquoted(text: &str) -> Option<&str>
     ensures { (inner : List ℕ) → text.now ≡ codes "\"" ++ (inner ++ codes "\"")
         → option_map (λ t. t.now) result ≡ Some inner }

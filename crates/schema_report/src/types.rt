@@ -56,8 +56,8 @@ pub(crate) fn push_type(output: &mut String, nodes: &Nodes, node: usize) -> Resu
     }
 }
 
-/// Appends the type of a node beside a node of another schema: as long as both are arrays or both are maps, the word for
-/// that and then the type of what they hold, by at most this many steps.
+/// Appends the type of a node beside a node of another schema: as long as both are arrays or both are maps, the word
+/// for that and then the type of what they hold, by at most this many steps.
 pub(crate) fn push_beside(
     output: &mut String,
     nodes: &Nodes,

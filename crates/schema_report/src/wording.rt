@@ -1,6 +1,6 @@
 //! The words of a line of an explanation: which part it is of, and what becomes of it.
 //!
-//! No clause says what they are: the tests of `schema_report_tests` do.
+//! No clause says what they are: the tests of `schema_tests` do.
 
 use crate::reading::PathedSchema;
 use crate::types::push_type;
@@ -41,7 +41,7 @@ fn fields_of(nodes: &Nodes, node: Option<usize>) -> &[Field] {
     }
 }
 
-/// Returns the symbols of an enum, and the position of its default; None where the node is no enum.
+/// Returns the symbols of an enum, and the position of its default; `None` where the node is no enum.
 fn enum_of(nodes: &Nodes, node: Option<usize>) -> Option<(&Symbols, Option<u32>)> {
     match node {
         Some(node) if node < nodes.len() => match nodes.kind(node) {
@@ -71,7 +71,8 @@ pub(crate) struct Holder {
     pub(crate) reader: Option<usize>,
 }
 
-/// Returns the name of a line's part: a field's of the reader, and else of the writer; a symbol; None for other parts.
+/// Returns the name of a line's part: a field's of the reader, and else of the writer; a symbol; `None` for other
+/// parts.
 pub(crate) fn part_name<'s>(both: &Both<'s>, holder: Holder, part: Part) -> Option<&'s str> {
     let (ws, rs) = (both.writer.schema.nodes(), both.reader.schema.nodes());
     match part {
@@ -114,7 +115,7 @@ pub(crate) fn old_name<'s>(both: &Both<'s>, holder: Holder, part: Part) -> Optio
 /// The most objects that may wrap a record's declaration, which is how deep JSON may nest here.
 const MOST_WRAPPERS: usize = 128;
 
-/// Returns the fields that a value lists, which declares a record or wraps one; None where it does not.
+/// Returns the fields that a value lists, which declares a record or wraps one; `None` where it does not.
 fn listed_fields(value: &Value) -> Option<&Value> {
     let mut value = value;
     for _wrapper in 0..MOST_WRAPPERS {
@@ -126,7 +127,7 @@ fn listed_fields(value: &Value) -> Option<&Value> {
     None
 }
 
-/// Returns the JSON value of the default of the field at a position of a reader's record; None where there is none.
+/// Returns the JSON value of the default of the field at a position of a reader's record; `None` where there is none.
 pub(crate) fn default_of<'s>(
     alloc: Global,
     reader: &'s PathedSchema,
@@ -147,7 +148,7 @@ pub(crate) fn default_of<'s>(
     Ok(field.and_then(|field| field.get("default")))
 }
 
-/// Returns the symbol that a reader's enum takes for those that it lacks; None where it takes none.
+/// Returns the symbol that a reader's enum takes for those that it lacks; `None` where it takes none.
 pub(crate) fn default_symbol<'s>(both: &Both<'s>, holder: Holder) -> Option<&'s str> {
     match enum_of(both.reader.schema.nodes(), holder.reader) {
         Some((symbols, Some(position))) => symbols.get(position as usize),

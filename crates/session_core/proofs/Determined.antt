@@ -1,4 +1,4 @@
--- Replies tell what happened: acts with theirs lead to one session, and events to one world.
+-- Replies determine what happened: acts with theirs lead to one session, and events to one world.
 use Rattle.std.proofs.Common.{◌≡◌, ◌<◌, ℕ, Bool, true, false, List, [], ◌∷◌, ◌++◌, Option, Some, None, refl, sym, ap, ◌∙◌, subst, inl, inr, slice_get, slice_set, arith}
 use Rattle.std.specs.Prelude.{Result, Ok, Err}
 use Rattle.std.proofs.Math.Nat.{lt_irrefl}

@@ -48,7 +48,7 @@ TakesPiece bytes reply old new = (done : Result (Unit {0}) PieceRefusal) × (rep
     old.session new.session
     × IfErr done (λ e. e ≡ pieces.NoMemory → 0 < length bytes) × (new ≡ with_session new.session old)
 
--- A breakpoint is set. One that is set takes no memory.
+-- A breakpoint is set. One that is set already takes no memory.
 abbrev pub SetsBreak : ℕ → EventReply → Held → Held → Type 0
 SetsBreak address reply old new = (done : Result (Unit {0}) BreakRefusal) × (reply ≡ reply_by of_break done)
     × Maybe breaks.NoMemory (break_refusal address old.session) (set_at address old.session) done

@@ -43,7 +43,7 @@ act_of (acts.Walk rows) = Walk rows
 act_of (acts.Go rows) = Go rows
 act_of acts.Refuse = Refuse
 
--- the event that a value of the program stands for
+-- the event that a value of the program represents
 abbrev pub event_of : rust.Event → Event
 event_of (events.Register subject text) = Register (string_bytes subject) (string_bytes text)
 event_of (events.Level subject level) = SetLevel (option_map string_bytes subject) level

@@ -38,7 +38,7 @@ abbrev pub Registers : Command → EventReply → World → World → Type 0
 Registers c (Id id) old new = Accepts c (replies.IdReply id) old new
 Registers c reply old new = Refuses c reply old new
 
--- for a private clause: what is replied where the registry was told to set a level
+-- for a private clause: what is replied where the registry was asked to set a level
 abbrev pub level_reply : Result rust.Reply Refusal → EventReply
 level_reply (Ok reply) = Done
 level_reply (Err refusal) = Refused (refusals.OfRegistry refusal)

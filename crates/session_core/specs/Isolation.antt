@@ -54,7 +54,7 @@ pub record IsItsOwn (s : ℕ) (steps : List Step) (held : Held) : Type 0 where
   pub began : HasBegun s held.writer held.reader steps
   pub lived : Lived (own_acts s steps) (begun_by held.writer held.reader held.session.program) held
 
--- each of a world's
+-- each session of a world is its own
 abbrev pub AreTheirOwn : List Step → World → Type 0
 AreTheirOwn steps world = (s : ℕ) (held : Held) → slice_get world.sessions s ≡ Some held → IsItsOwn s steps held
 

@@ -32,7 +32,7 @@ pub record World : Type 0 where
 abbrev pub no_world : World
 no_world = record { commands = []; published = []; sessions = [] }
 
--- the schema of an id, after these commands
+-- the schema with an id, after these commands
 abbrev pub schema_after : List Command → ℕ → Option Declaration
 schema_after commands id = numbered (registry_after commands).schemas id
 

@@ -7,19 +7,19 @@ pub enum Act {
     Piece(Vec<u8>),
     /// No more bytes come.
     Finish,
-    /// Rows, at most so many, none at a breakpoint at which no content is begun, taken by the worker that holds the
+    /// Takes at most this many rows, none at a breakpoint at which no content is begun, by the worker that holds the
     /// session.
     Slice { worker: u32, rows: u64 },
-    /// Another worker holds the session.
+    /// Makes another worker the holder of the session.
     Steal(u32),
     /// Sets a breakpoint at an address.
     Break(u32),
     /// Clears the breakpoint at an address.
     Clear(u32),
-    /// Rows, at most so many, whatever breakpoints are set.
+    /// Takes at most this many rows, whatever breakpoints are set.
     Walk(u64),
-    /// Rows, at most so many, of which the first alone may be at a breakpoint at which no content is begun.
+    /// Takes at most this many rows, of which the first alone may be at a breakpoint at which no content is begun.
     Go(u64),
-    /// Memory is refused to the session.
+    /// Refuses memory to the session.
     Refuse,
 }

@@ -6,7 +6,7 @@ use schema_registry::Level;
 /// What happens to a world of sessions.
 #[derive(Drop)]
 pub enum Event {
-    /// Gives the schema of a text an id, and makes it a version of the subject.
+    /// Registers the schema of a text: gives it an id, and makes it a version of the subject.
     Register {
         subject: String,
         text: String,
@@ -26,7 +26,7 @@ pub enum Event {
         writer: u32,
         reader: u32,
     },
-    /// Happens to a session, by its number.
+    /// Does an act on a session, by its index.
     On {
         session: usize,
         act: Act,

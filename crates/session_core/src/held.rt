@@ -28,7 +28,7 @@ impl<'p> Model for Held<'p> {
 }
 
 impl<'p> Held<'p> {
-    /// What happens to the session.
+    /// Applies an act to the session, and returns the reply.
     pub(crate) fn act(&mut self, act: &Act) -> EventReply
         ensures { Acts (act_of act.now) result self.old self.new }
     {
@@ -54,7 +54,7 @@ impl<'p> Held<'p> {
         }
     }
 
-    /// More bytes come.
+    /// Appends a piece to the session's bytes, and returns the reply.
     fn piece(&mut self, bytes: &[u8]) -> EventReply
         ensures { Acts (Piece bytes.now) result self.old self.new }
     {
@@ -64,7 +64,7 @@ impl<'p> Held<'p> {
         }
     }
 
-    /// A breakpoint is set.
+    /// Sets the breakpoint at an address, and returns the reply.
     fn set_break(&mut self, address: u32) -> EventReply
         ensures { Acts (Break address) result self.old self.new }
     {
@@ -74,7 +74,7 @@ impl<'p> Held<'p> {
         }
     }
 
-    /// A breakpoint is cleared.
+    /// Clears the breakpoint at an address, and returns the reply.
     fn clear_break(&mut self, address: u32) -> EventReply
         ensures { Acts (Clear address) result self.old self.new }
     {
@@ -84,7 +84,8 @@ impl<'p> Held<'p> {
         }
     }
 
-    /// Rows, taken by the worker that holds the session.
+    /// Takes at most `rows` rows of the session, and returns how many were taken; `NotHeld` where another worker
+    /// holds it.
     fn slice(&mut self, worker: u32, rows: u64) -> EventReply
         ensures { Acts (Slice worker rows) result self.old self.new }
     {

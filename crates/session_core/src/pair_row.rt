@@ -15,8 +15,8 @@ use program_compiler::CompileError;
 use std::alloc::{AllocError, Global};
 use std::marker::Model;
 
-/// A row with a cell for each of so many pairs of schemas, as which number callers see it. A cell that a pair has taken
-/// is that pair's for good.
+/// A row of cells, each of which can take the program of a pair of schemas. Callers see it as the number of its
+/// cells. A cell that a pair has taken is that pair's for good.
 #[derive(Drop)]
 pub struct PairRow {
     alloc: Global,
@@ -32,7 +32,7 @@ impl Model for PairRow {
 }
 
 impl PairRow {
-    /// A row for so many pairs.
+    /// Returns a row of `pairs` cells, which are empty.
     pub fn new(alloc: Global, pairs: usize) -> Result<PairRow, AllocError>
         ensures { IfOk result (λ row. row ≡ pairs) }
     {
@@ -58,7 +58,7 @@ impl Programs for PairRow {
     }
 }
 
-/// What a cell has, which is this pair's where it had none.
+/// Returns the pair with its program that a cell has. Where it has none, it takes this pair's first.
 fn pair_in<'c>(
     alloc: Global,
     cell: &'c OnceBox<PairProgram>,
@@ -74,7 +74,7 @@ fn pair_in<'c>(
     Ok(cell.get_or_init(move || made))
 }
 
-/// A pair with its program.
+/// Returns a pair with its program.
 fn made_for(alloc: Global, writer: &Schema, reader: &Schema) -> Result<PairProgram, PublishError>
     ensures { IfErr result (λ e. e ≡ ProgramTooLarge → code_of writer.now.nodes reader.now.nodes ≡ None) }
 {

@@ -8,7 +8,7 @@ use machine::PlannedProgram;
 
 /// A store of the programs of pairs of schemas.
 pub trait Programs {
-    /// The program of a pair, which is made where the store has none.
+    /// Returns the program of a pair, which is made where the store has none.
     fn publish(&self, writer: &Schema, reader: &Schema) -> Result<&PlannedProgram, PublishError>
         ensures { IsPublished writer.now.nodes reader.now.nodes result };
 }

@@ -9,7 +9,7 @@ use thiserror::Error;
 pub enum PublishError {
     #[error("the program passes a limit")]
     ProgramTooLarge,
-    /// The cells that the pair's program may stand in hold those of other pairs.
+    /// The cells that the pair's program may be in hold those of other pairs.
     #[error("no cell is left")]
     Clash,
     #[error("out of memory")]
@@ -20,7 +20,7 @@ impl PublishError {
     ghost use Rattle.std.specs.Prelude.{◌≡◌};
     ghost use Rattle.session_core.specs.Names.{error_name};
 
-    /// Its name, as programs print it.
+    /// Returns its name, as programs print it.
     pub fn name(self) -> &'static str
         ensures { result.now ≡ error_name self }
     {

@@ -36,7 +36,7 @@ impl EventRefusal {
     ghost use Rattle.std.specs.Prelude.{◌≡◌};
     ghost use Rattle.session_core.specs.Names.{refusal_name};
 
-    /// Its name, as programs print it.
+    /// Returns its name, as programs print it.
     pub fn name(self) -> &'static str
         ensures { result.now ≡ refusal_name self }
     {

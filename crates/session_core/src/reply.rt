@@ -8,7 +8,7 @@ pub enum EventReply {
     /// The id of the schema that was registered.
     Id(u32),
     Done,
-    /// The number of the session that began.
+    /// The index of the session that began.
     SessionIs(usize),
     /// How many rows were taken.
     Rows(u64),

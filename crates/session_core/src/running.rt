@@ -14,7 +14,7 @@ use crate::reply::EventReply;
 use crate::world::World;
 use std::alloc::{AllocError, Global};
 
-/// Events happen to a world, one after another, and a reply to each is kept.
+/// Applies events to a world, one after another, and appends the reply to each to `replies`.
 fn take_events<'p, P: Programs>(
     programs: &'p P,
     events: &[Event],
@@ -34,9 +34,11 @@ fn take_events<'p, P: Programs>(
 }
 
 impl<'p> World<'p> {
-    /// Returns the world after events, one after another, with a reply to each. A session's machine is its pair's
-    /// program, run alone on its own bytes for as many rows as it counts, and ends with their outcome; and each session
-    /// is what its own accepted acts make of it since it began. An `Err` where a reply found no memory.
+    /// Returns the world after events, one after another, with a reply to each.
+    ///
+    /// A session's machine is its pair's program, run alone on its own bytes for as many rows as it counts, and ends
+    /// with their outcome; and each session is what its own accepted acts make of it since it began. `Err` where a
+    /// reply found no memory.
     pub fn run_events<P: Programs>(
         alloc: Global,
         programs: &'p P,

@@ -48,7 +48,7 @@ impl<'p> Model for World<'p> {
         IsKept (record { commands = w.registry; published = w.published.items; sessions = w.sessions.items }) };
 }
 
-/// The command that registers the schema of a text.
+/// Returns the command that registers the schema of a text.
 fn registration(subject: &String, text: &String) -> Result<Command, AllocError>
     ensures { IfOk result (λ c. command_of c ≡ RegisterCommand (string_bytes subject.now) (string_bytes text.now)) }
 {
@@ -58,7 +58,7 @@ fn registration(subject: &String, text: &String) -> Result<Command, AllocError>
     })
 }
 
-/// The command that sets a level.
+/// Returns the command that sets a level.
 fn level_command(subject: &Option<String>, level: Level) -> Result<Command, AllocError>
     ensures command { IfOk result (λ c. command_of c ≡ SetLevelCommand (option_map string_bytes subject.now) level) }
     ensures memory { OnErr result (IsSome (option_map string_bytes subject.now)) }
@@ -70,7 +70,7 @@ fn level_command(subject: &Option<String>, level: Level) -> Result<Command, Allo
     Ok(Command::SetLevel { subject, level })
 }
 
-/// What is replied where the registry was told to set a level.
+/// Returns the reply to a level that was to be set, by the registry's answer.
 fn level_reply(answer: Result<Reply, Refusal>) -> EventReply
     ensures { result ≡ level_reply answer }
 {
@@ -81,7 +81,7 @@ fn level_reply(answer: Result<Reply, Refusal>) -> EventReply
 }
 
 impl<'p> World<'p> {
-    /// A world before any event. It takes no memory.
+    /// Returns a world before any event. It takes no memory.
     pub fn new(alloc: Global) -> World<'p>
         ensures { result ≡ no_world }
     {
@@ -119,7 +119,7 @@ impl<'p> World<'p> {
         }
     }
 
-    /// A session by its number.
+    /// Returns a session by its index; `None` where there is none.
     pub fn session(&self, session: usize) -> Option<&Session<'p>>
         ensures { option_map (λ s. s.now) result
             ≡ option_map (λ held. held.session) (slice_get self.now.sessions session) }
@@ -128,7 +128,7 @@ impl<'p> World<'p> {
         Some(&held.session)
     }
 
-    /// A schema is registered.
+    /// Registers a schema, and returns the reply.
     fn register(&mut self, subject: &String, text: &String) -> EventReply
         ensures { Happens (Register (string_bytes subject.now) (string_bytes text.now)) result self.old self.new }
     {
@@ -149,7 +149,8 @@ impl<'p> World<'p> {
         }
     }
 
-    /// Why no level is set for a subject, where there is memory. The global one is always set.
+    /// Returns why no level can be set for a subject, unless memory runs out; `None` where one can. The global one
+    /// can always be set.
     fn level_refusal(&self, subject: &Option<String>) -> Option<Refusal>
         ensures answer { (level : Level) → answer_to (registry_after self.now.commands)
             (SetLevelCommand (option_map string_bytes subject.now) level) ≡ unless_refused result (LevelReply level) }
@@ -158,7 +159,7 @@ impl<'p> World<'p> {
         self.registry.level_refusal(subject.as_deref()?)
     }
 
-    /// A level is set.
+    /// Sets a level, and returns the reply.
     fn set_level(&mut self, subject: &Option<String>, level: Level) -> EventReply
         ensures { Happens (SetLevel (option_map string_bytes subject.now) level) result self.old self.new }
     {
@@ -171,7 +172,7 @@ impl<'p> World<'p> {
         level_reply(self.registry.apply(command))
     }
 
-    /// The program of a published pair.
+    /// Returns the program of a published pair, by the ids of its schemas; `None` where the pair is not published.
     fn program_at(&self, writer: u32, reader: u32) -> Option<&'p PlannedProgram>
         ensures { option_map (λ p. p.now) result ≡ program_at writer reader self.now }
     {
@@ -182,7 +183,7 @@ impl<'p> World<'p> {
         Some(published.program)
     }
 
-    /// A pair is published.
+    /// Publishes a pair, by the ids of its schemas, and returns the reply.
     fn publish<P: Programs>(&mut self, programs: &'p P, writer: u32, reader: u32) -> EventReply
         ensures { Happens (Publish writer reader) result self.old self.new }
     {
@@ -198,7 +199,7 @@ impl<'p> World<'p> {
         }
     }
 
-    /// A session of a published pair begins.
+    /// Begins a session of a published pair, by the ids of its schemas, and returns the reply. Worker 0 holds it.
     fn begin(&mut self, writer: u32, reader: u32) -> EventReply
         ensures { Happens (Begin writer reader) result self.old self.new }
     {
@@ -217,7 +218,7 @@ impl<'p> World<'p> {
         }
     }
 
-    /// What happens to one session.
+    /// Applies an act to the session at an index, and returns the reply; `NoSession` where there is none.
     fn act(&mut self, session: usize, act: &Act) -> EventReply
         ensures { Happens (On session (act_of act.now)) result self.old self.new }
     {
@@ -227,7 +228,7 @@ impl<'p> World<'p> {
         self.sessions[session].act(act)
     }
 
-    /// Adds a pair and its program.
+    /// Adds a pair and its program, and returns the reply.
     fn add_publication(
         &mut self,
         writer: u32,
@@ -248,7 +249,7 @@ impl<'p> World<'p> {
         }
     }
 
-    /// What an event does.
+    /// Applies an event to the world, and returns the reply.
     pub fn event<P: Programs>(&mut self, programs: &'p P, event: &Event) -> EventReply
         ensures { Happens (event_of event.now) result self.old self.new }
     {

@@ -5,7 +5,7 @@ use machine::PlannedProgram;
 use session_core::{PairRow, Programs, PublishError};
 use std::alloc::{AllocError, Global};
 
-/// A schema, parsed again where memory ran out the first time.
+/// Returns a schema, parsed again where memory ran out the first time.
 pub(crate) fn parsed(alloc: Global, text: &str) -> Result<Schema, SchemaError> {
     match Schema::parse(alloc, text) {
         Err(SchemaError::NoMemory) => Schema::parse(alloc, text),
@@ -13,7 +13,7 @@ pub(crate) fn parsed(alloc: Global, text: &str) -> Result<Schema, SchemaError> {
     }
 }
 
-/// A row for so many pairs, made again where memory ran out the first time.
+/// Returns a row for `pairs` pairs, made again where memory ran out the first time.
 pub(crate) fn row_for(alloc: Global, pairs: usize) -> Result<PairRow, AllocError> {
     match PairRow::new(alloc, pairs) {
         Err(_) => PairRow::new(alloc, pairs),
@@ -21,7 +21,7 @@ pub(crate) fn row_for(alloc: Global, pairs: usize) -> Result<PairRow, AllocError
     }
 }
 
-/// The program of a pair, asked for again where memory ran out the first time.
+/// Returns the program of a pair, asked for again where memory ran out the first time.
 pub(crate) fn published<'r>(
     row: &'r PairRow,
     writer: &Schema,

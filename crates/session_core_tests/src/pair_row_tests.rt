@@ -8,7 +8,7 @@ use session_core::{PairRow, PublishError};
 use std::alloc::Global;
 use std::test::Fail;
 
-/// How many instructions the program of a pair has.
+/// Returns how many instructions the program of a pair has.
 fn len_of(row: &PairRow, writer: &Schema, reader: &Schema) -> Result<usize, PublishError> {
     Ok(published(row, writer, reader)?.program().len())
 }
@@ -53,14 +53,14 @@ fn each_pair_has_its_own_cell(rt: HostRuntime) -> Result<(), Fail> {
     Ok(())
 }
 
-/// The schema of such a union.
+/// Returns the schema of a union of `many` records, as `push_rows` writes it.
 fn rows(alloc: Global, many: usize) -> Result<Schema, Fail> {
     let mut text = String::new(alloc);
     push_rows(&mut text, many)?;
     Ok(parsed(alloc, &text)?)
 }
 
-/// The schema of such a record.
+/// Returns the schema of a record of `many` ints, as `push_fields` writes it.
 fn wide(alloc: Global, many: usize) -> Result<Schema, Fail> {
     let mut text = String::new(alloc);
     push_fields(&mut text, many)?;

@@ -3,8 +3,8 @@
 use std::fmt::Debug;
 use std::process::Abort;
 
-/// What was found is what is wanted. All is compared here: what an assertion does where it fails is then looked at
-/// once.
+/// Asserts that what was found is what is wanted. All is compared here: what an assertion does where it fails is then
+/// looked at once.
 pub(crate) fn same<T: PartialEq + Debug + Copy>(rt: &impl Abort, found: T, want: T) {
     assert_eq!(rt; found, want);
 }

@@ -6,12 +6,12 @@ use session_state::{BreakRefusal, ClearRefusal, PieceRefusal, Session, Slice, St
 use std::process::Abort;
 use std::test::Fail;
 
-/// So many rows, and why no more.
+/// Returns a slice of this number of rows, and why no more.
 fn slice(rows: u64, stopped: Stopped) -> Slice {
     Slice { rows, stopped }
 }
 
-/// Whether a new session of a program of two instructions takes its rows as bytes and breakpoints let it.
+/// Asserts that a new session of a program of two instructions takes its rows as bytes and breakpoints let it.
 fn assert_stops(rt: &impl Abort, session: &mut Session) -> Result<(), Fail> {
     same(rt, session.slice(9), slice(0, Stopped::Waits));
     session.piece(&[2])?;

@@ -2,7 +2,7 @@
 
 use std::alloc::AllocError;
 
-/// Appends a union of so many records, all named R, without fields.
+/// Appends a union of `many` records, all named R, without fields.
 pub(crate) fn push_rows(text: &mut String, many: usize) -> Result<(), AllocError> {
     for row in 0..many {
         let before = if row == 0 { "[" } else { "," };
@@ -15,7 +15,7 @@ pub(crate) fn push_rows(text: &mut String, many: usize) -> Result<(), AllocError
     Ok(())
 }
 
-/// Appends a record R of so many ints that are 0 by default.
+/// Appends a record R of `many` ints that are 0 by default.
 pub(crate) fn push_fields(text: &mut String, many: usize) -> Result<(), AllocError> {
     text.push_str("{\"type\":\"record\",\"name\":\"R\",\"fields\":")?;
     for field in 0..many {

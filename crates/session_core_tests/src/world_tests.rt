@@ -7,7 +7,7 @@ use session_core::{Act, Event, EventRefusal, EventReply, PublishError, World};
 use std::alloc::{AllocError, Global};
 use std::test::Fail;
 
-/// The registration of a text.
+/// Returns the event that registers a text.
 fn registration(alloc: Global, subject: &str, text: &str) -> Result<Event, AllocError> {
     Ok(Event::Register {
         subject: String::from_str(alloc, subject)?,
@@ -15,8 +15,8 @@ fn registration(alloc: Global, subject: &str, text: &str) -> Result<Event, Alloc
     })
 }
 
-/// Two schemas, and the pair of the first with itself; a second pair; and a session of the first on a payload of one
-/// byte.
+/// Returns the events that register two schemas, publish the pair of the first with itself and a second pair, and
+/// begin a session of the first on a payload of one byte.
 fn events(alloc: Global) -> Result<Vec<Event>, AllocError> {
     let mut events = Vec::new(alloc);
     events.push(registration(alloc, "s", "\"int\"")?)?;
@@ -48,7 +48,7 @@ const REPLIES: [EventReply; 8] = [
     EventReply::Rows(2),
 ];
 
-/// Whether the first session of a world has ended with these bytes.
+/// Returns whether the first session of a world has ended with these bytes.
 fn is_done(world: &World, bytes: &[u8]) -> bool {
     match world.session(0).and_then(|session| session.machine().end()) {
         Some(EndView::Done(output)) => output == bytes,

@@ -78,7 +78,7 @@ module _ (P : Program) (old mid new : Known) (i slot word : ℕ) (y x : Session)
     pub leaves_it : left_word ≡ word → Finds old slot (left_or (pass_of slot new)) new
     leaves_it e = subst (λ (w : ℕ). Finds old slot w new) (sym (left_now ∙ e)) found_now
 
--- ---- rows that are told
+-- ---- rows that are reported
 
 pub told_rows : (a : Account) (y x : Session) → At a y → RowsOn y x → told_all a x ≡ with_seen x.count a
 told_rows a y x f on = let r = rows_keep y x on in

@@ -24,8 +24,8 @@ IsEnd W R sent (Out outcome) s = (s.end ≡ Some (state.Out outcome)) × IsOutco
 IsEnd W R sent (Trapped trap) s = ⊥
 IsEnd W R sent OutOfMemory s = s.end ≡ None
 
--- The program of the pass's pair, run alone on all that was sent, came to a state after as many rows as are told, no
--- fewer than were told before; and the end is that of this state.
+-- The program of the pass's pair, run alone on all that was sent, came to a state after as many rows as are reported,
+-- no fewer than were reported before; and the end is that of this state.
 pub record Finishes (pass : Pass) (a : Account) (finished : Finished) : Type 0 where
   pub seen : a.seen ≤ finished.rows
   pub state : State

@@ -23,9 +23,9 @@ pub record IsFor (writer reader : Option Declaration) (pass : Pass) : Type 0 whe
   pub of_writer : writer ≡ Some pass.pair.writer
   pub of_reader : reader ≡ Some pass.pair.reader
 
--- A session of the pass's program has begun, of which nothing was told, in the first slot that was found free, when it
--- was looked at and when it was claimed: the slots below were found taken, in order. The seat had no pass for it, and
--- the slot is left ready.
+-- A session of the pass's program has begun, with a new account, in the first slot that was found free, when it was
+-- looked at and when it was claimed: the slots below were found taken, in order. The seat had no pass for it, and the
+-- slot is left ready.
 pub record HasOpened (old : ClientSeat) (pass : Pass) (new : ClientSeat) : Type 0 where
   pub begun : told new pass ≡ new_account pass.pair.program
   pub left : left new pass ≡ ready

@@ -1,7 +1,7 @@
 -- In which order a worker looks for a session. All of this is this project's own.
 -- First it looks into its own deque, then into each other worker's, then at all slots. A seat has a list of the words
--- that it found, and one of the numbers that it took for each deque: what came first is told by the seat in between, to
--- which one part of the search led and from which the next went on.
+-- that it found, and one of the numbers that it took for each deque: what came first is shown by the seat in between,
+-- to which one part of the search led and from which the next went on.
 use Rattle.std.specs.Prelude.{◌≡◌, ◌≢◌, ◌<◌, ◌≤◌, ◌⊎◌, ℕ, ◌+◌, List, [], ◌∷◌, ◌++◌, Option, Some, None}
 use Rattle.std.specs.Prelude.{MatchOption}
 use Rattle.session_pool_jobs.specs.declared.seat.JobSeat.{JobSeat}
@@ -54,15 +54,15 @@ pub record OwnLeads (slot : ℕ) (old new : WorkerSeat) : Type 0 where
 
 -- ---- the deques of other workers
 
--- a job was stolen from this worker, who is another, or none was, and led to no session
+-- a job was stolen from this worker, which is another, or none was, and led to no session
 pub record StealMisses (from : ℕ) (old new : WorkerSeat) : Type 0 where
   pub other : from ≢ number_of old.jobs
   pub answer : Option ℕ
   pub steals : Steals from answer old.jobs new.jobs
   pub misses : Misses answer old.slots new.slots
 
--- Of the workers below this number each was stolen from once, in order, but the worker itself; no job led to a session.
--- A steal that answered none leaves no trace with the thief, so of such a one it is not told that it was made.
+-- Each worker numbered below this one was stolen from once, in order, but the worker itself; no job led to a session.
+-- A steal that answered none leaves no trace with the thief, so nothing shows that it was made.
 pub data StealsMiss : ℕ → WorkerSeat → WorkerSeat → Type 0 where
   none : (seat : WorkerSeat) → StealsMiss 0 seat seat
   itself : (from : ℕ) (old new : WorkerSeat) → StealsMiss from old new → from ≡ number_of new.jobs
@@ -70,7 +70,7 @@ pub data StealsMiss : ℕ → WorkerSeat → WorkerSeat → Type 0 where
   other : (from : ℕ) (old mid new : WorkerSeat) → StealsMiss from old mid → StealMisses from mid new
       → StealsMiss (from + 1) old new
 
--- Each was so below a worker, who is another; the job that was stolen from that one led to the session of this slot.
+-- So it was with each below a worker, which is another; the job stolen from that one led to the session of this slot.
 pub record StealsLead (workers slot : ℕ) (old new : WorkerSeat) : Type 0 where
   pub from : ℕ
   pub within : from < workers

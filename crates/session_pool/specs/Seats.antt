@@ -22,7 +22,7 @@ use Rattle.session_pool.specs.Pass.{Pass}
 abbrev pub Rests : SessionPool → ClientSeat → Type 0
 Rests pool seat = slots.Rests pool.slots seat.slots
 
--- the same of a worker's seat, whose jobs are of this pool's
+-- the worker's seat and its jobs are of this pool, and no session is out with it
 pub record RestsWorker (pool : SessionPool) (seat : WorkerSeat) : Type 0 where
   pub rests : slots.Rests pool.slots seat.slots
   pub jobs : jobs.IsSeatOf pool.jobs seat.jobs

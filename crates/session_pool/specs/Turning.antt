@@ -1,4 +1,4 @@
--- What a worker's turn tells. All of this is this project's own.
+-- What a worker's turn reports. All of this is this project's own.
 use Rattle.std.specs.Prelude.{◌≡◌, ◌<◌, ◌≤◌, ℕ, [], ◌∷◌, ◌++◌}
 use Rattle.session_state.specs.declared.slice.Stopped.{Stopped}
 use Rattle.session_state.specs.Ending.{EndsInOneSlice}

@@ -20,7 +20,7 @@ impl DebugError {
     ghost use Rattle.std.specs.Prelude.{◌≡◌};
     ghost use Rattle.session_pool.specs.DebugErrors.{break_error, clear_error};
 
-    /// Why a breakpoint was not set.
+    /// Returns the error for a breakpoint that was not set.
     pub(crate) fn of_break(refusal: BreakRefusal) -> DebugError
         ensures { result ≡ break_error refusal }
     {
@@ -31,7 +31,7 @@ impl DebugError {
         }
     }
 
-    /// Why a breakpoint was not cleared.
+    /// Returns the error for a breakpoint that was not cleared.
     pub(crate) fn of_clear(refusal: ClearRefusal) -> DebugError
         ensures { result ≡ clear_error refusal }
     {

@@ -17,10 +17,9 @@ pub enum DebugCommand {
     Set(u32),
     /// To clear the breakpoint at an address.
     Clear(u32),
-    /// To take rows, at most as many as this, whatever breakpoints are set.
+    /// To take at most this many rows, whatever breakpoints are set.
     Step(u64),
-    /// To take rows, at most as many as this, of which the first alone may be at a breakpoint at which no content is
-    /// begun.
+    /// To take at most this many rows, of which the first alone may be at a breakpoint at which no content is begun.
     Go(u64),
     /// For the text of its state.
     Show,
@@ -31,9 +30,9 @@ pub enum DebugCommand {
 /// What a debugger is answered.
 #[derive(Debug, Drop, PartialEq, Eq)]
 pub enum DebugReply {
-    /// It is done.
+    /// The command was done.
     Done,
-    /// As many rows as this were taken.
+    /// This many rows were taken.
     Rows(u64),
     /// The text.
     Text(String),
@@ -43,7 +42,7 @@ impl DebugCommand {
     ghost use Rattle.session_core.specs.Event.{act_of};
     ghost use Rattle.session_pool.specs.Commands.{command_of};
 
-    /// The command that an act of a session is, where it is one that a debugger asks for.
+    /// Returns the command that an act of a session is; `None` where it is none that a debugger asks for.
     pub fn of(act: &Act) -> Option<DebugCommand>
         ensures { result ≡ command_of (act_of act.now) }
     {
@@ -67,9 +66,11 @@ impl<'p> SessionPool<'p> {
     ghost use Rattle.session_pool.specs.Debugging.{Debugs, Leaves};
     ghost use Rattle.session_pool.specs.declared.debugging.DebugCommand.{DebugCommand};
 
-    /// Does what a debugger asks, and returns what it is answered. `Busy` where a worker has the session, `BadAddress`
-    /// where an address is none of the program's, then `TooManyBreaks` where a breakpoint would be one too many;
-    /// `NoMemory` for a breakpoint that is not set yet and for a text. Refused, nothing has changed.
+    /// Executes a command of a debugger on a session, and returns its reply.
+    ///
+    /// `Busy` where a worker has the session, `BadAddress` where an address is none of the program's, then
+    /// `TooManyBreaks` where a breakpoint would be one too many; `NoMemory` for a breakpoint that is not set yet and
+    /// for a text. A refusal changes nothing.
     pub fn debug(
         &self,
         seat: &mut ClientSeat<'p>,

@@ -14,9 +14,10 @@ impl<'p> SessionPool<'p> {
     ghost use Rattle.session_pool.specs.Seats.{Finds, HandsBackAs, IsPassOf, KeepsOthers, LetsGoOn, Rests, told};
     ghost use Rattle.session_pool.specs.Feeding.{IsWhyNoPiece, LeavesRefused};
 
-    /// Appends a piece to a session's payload, and leaves the session ready, or ended where it has ended. `Busy` where
-    /// a worker has it, `TooLarge` where all bytes would pass the limit of a payload, then `Ended` after `end`,
-    /// `NoMemory` for a piece with bytes: then the piece is handed back, and the session is as it was.
+    /// Appends a piece to a session's payload, and leaves the session ready, or ended where it has ended.
+    ///
+    /// `Busy` where a worker has it, `TooLarge` where all bytes would pass the limit of a payload, then `Ended` after
+    /// `end`, `NoMemory` for a piece with bytes: then the piece is handed back, and the session is as it was.
     pub fn piece(
         &self,
         seat: &mut ClientSeat<'p>,

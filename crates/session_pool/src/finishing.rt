@@ -1,4 +1,4 @@
-//! How a session ended, and giving one up.
+//! How a session ended, and how one is abandoned.
 
 ghost use Rattle.std.specs.Prelude.{◌≡◌, IfErr, IfOk, OnErr, OnOk, Some, true};
 ghost use Rattle.session_state.specs.Ending.{end_of};
@@ -20,7 +20,8 @@ pub struct Finished {
     pub rows: u64,
 }
 
-/// What a session that has ended came to. It goes back to its begin.
+/// Takes the end of a session that has ended, and returns it with the number of its rows. The session goes back to
+/// its beginning.
 fn come_to(session: &mut Session) -> Finished
     requires { has_ended session.old ≡ true }
     ensures finished { EndsOf session.old result }
@@ -37,8 +38,10 @@ impl<'p> SessionPool<'p> {
     ghost use Rattle.session_pool.specs.Seats.{Finds, IsGone, IsPassOf, KeepsOthers, Rests, told};
     ghost use Rattle.session_pool.specs.Finishing.{Finishes, IsWhyNotYet};
 
-    /// How a session ended and after how many rows, where it has; then its slot is free. `Busy` where a worker has it,
-    /// `Pending` where it has not ended: then the pass is handed back, and the session is as it was.
+    /// Returns how a session ended and after how many rows, and frees its slot.
+    ///
+    /// `Busy` where a worker has it, `Pending` where it has not ended: then the pass is handed back, and the session
+    /// is as it was.
     pub fn result(
         &self,
         seat: &mut ClientSeat<'p>,
@@ -77,7 +80,7 @@ impl<'p> SessionPool<'p> {
         Ok(finished)
     }
 
-    /// Gives a session up, and frees its slot. `Busy` where a worker has it: then the pass is handed back.
+    /// Abandons a session, and frees its slot. `Busy` where a worker has it: then the pass is handed back.
     pub fn abandon(&self, seat: &mut ClientSeat<'p>, pass: Pass) -> Result<(), ReturnedPass<Busy>>
         requires seat { Rests self.now seat.old }
         requires pass { IsPassOf seat.old pass }

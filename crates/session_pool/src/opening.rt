@@ -14,8 +14,10 @@ impl<'p> SessionPool<'p> {
     ghost use Rattle.session_pool.specs.Opening.{HasOpened};
 
     /// Opens a session of the program of two receipts' schemas, in the first slot that is found free, and leaves it
-    /// ready. `ProgramTooLarge` where the two have no program, then `Clash` where their cell in the cache has what
-    /// another pair was compiled to, which the seat shows from then on, then `Full` where each slot was found taken, in
+    /// ready. Returns the pass for it.
+    ///
+    /// `ProgramTooLarge` where the two have no program, then `Clash` where their cell in the cache has what another
+    /// pair was compiled to, which the seat shows from then on, then `Full` where each slot was found taken, in
     /// order; `NoMemory` where the program found none. It waits for no thread.
     pub fn open(
         &self,

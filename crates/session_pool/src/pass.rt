@@ -42,7 +42,7 @@ impl Model for Pass {
 impl Pass {
     ghost use Rattle.session_pool.specs.Pass.{LeadsToOutcomes};
 
-    /// A pass for a slot, with a session of a pair's program.
+    /// Returns a pass for a slot, with a session of a pair's program.
     pub(crate) fn new(slot: u32, writer: &Schema, reader: &Schema, program: &PlannedProgram) -> Pass
         requires { code_of writer.now.nodes reader.now.nodes ≡ Some program.now }
         ensures { result ≡ record {
@@ -67,7 +67,7 @@ impl Pass {
         let _slot = self.slot; // read for the proof
     }
 
-    /// The number of its slot.
+    /// Returns the index of its slot.
     pub fn slot(&self) -> u32
         ensures { result ≡ self.now.slot }
     {

@@ -37,8 +37,8 @@ pub struct WorkerSeat<'p> {
 impl<'p> ClientSeat<'p> {
     ghost use Rattle.session_pool.specs.Opening.{open_error, shown_by};
 
-    /// What the last `open` found in the cell of its pair, which is of another pair, where it answered `Clash`. `None`
-    /// after any other answer, and before the first.
+    /// Returns what the last `open` found in the cell of its pair, which is of another pair, where that returned
+    /// `Clash`. `None` after any other result, and before the first.
     pub fn other_pair(&self) -> Option<&'p Compiled>
         ensures { result ≡ self.now.other_pair }
     {
@@ -69,8 +69,8 @@ impl<'p> SessionPool<'p> {
     ghost use Rattle.session_pool_jobs.specs.Seats.{IsSeatOf};
     ghost use Rattle.session_pool_slots.specs.Seats as slots;
 
-    /// A pool whose slots are free, with seats for so many clients, 1 to `MOST_CLIENTS`, and so many workers, 1 to
-    /// `MOST_WORKERS`.
+    /// Returns a pool whose slots are all free, with seats for `clients` clients, 1 to `MOST_CLIENTS`, and `workers`
+    /// workers, 1 to `MOST_WORKERS`.
     pub fn new(
         alloc: Global,
         cache: &'p ProgramCache<'p>,
@@ -97,14 +97,14 @@ impl<'p> SessionPool<'p> {
         Ok((pool, clients, workers))
     }
 
-    /// The cache of programs under it.
+    /// Returns the cache of programs that it uses.
     pub fn cache(&self) -> &'p ProgramCache<'p>
         ensures { result.now ≡ self.now.cache.now }
     {
         self.cache
     }
 
-    /// Seats for so many clients, made beside a first one.
+    /// Returns seats for `count` clients, made beside a first one.
     fn client_seats(
         &self,
         first: &mut SlotSeat<'p>,
@@ -125,7 +125,7 @@ impl<'p> SessionPool<'p> {
         Ok(seats)
     }
 
-    /// Seats for the workers of these jobs, made beside a first one.
+    /// Returns seats for the workers of these jobs, made beside a first one.
     fn worker_seats(
         &self,
         first: &mut SlotSeat<'p>,

@@ -37,7 +37,7 @@ pub struct ReturnedPiece {
     pub piece: Vec<u8>,
 }
 
-/// Why a session's end is not told yet.
+/// Why a session's end is not returned yet.
 #[derive(Clone, Copy, Debug, PartialEq, Eq, Error)]
 pub enum NotYet {
     #[error("a worker has the session")]
@@ -57,7 +57,7 @@ impl PieceError {
     ghost use Rattle.std.specs.Prelude.{◌≡◌};
     ghost use Rattle.session_pool.specs.Feeding.{piece_error};
 
-    /// The refusal of a session.
+    /// Returns the error for a piece that a session refused.
     pub(crate) fn of(refusal: PieceRefusal) -> PieceError
         ensures { result ≡ piece_error refusal }
     {

@@ -15,8 +15,9 @@ impl<'p> SessionPool<'p> {
     ghost use Rattle.session_pool.specs.Order.{KeepsFurther, KeepsOne, Scans, StealsLead, StealsMiss};
     ghost use Rattle.session_pool.specs.Searching.{FindsByJobs, FindsReady, LooksOn};
 
-    /// Takes a session that is ready: by one of the worker's own jobs, else by one that it steals from each other
-    /// worker in turn, else the first that a scan of all slots finds.
+    /// Takes a session that is ready, and returns the index of its slot: by one of the worker's own jobs, else by one
+    /// that it steals from each other worker in turn, else the first that a scan of all slots finds. `None` where
+    /// none was found ready.
     pub(crate) fn find(&self, seat: &mut WorkerSeat<'p>) -> Option<u32>
         requires { RestsWorker self.now seat.old }
         ensures jobs { IsSeatOf self.now.jobs seat.new.jobs }
@@ -82,7 +83,7 @@ impl<'p> SessionPool<'p> {
         None
     }
 
-    /// Takes the session of a job's slot, where it is ready. A number that is no slot's is let go.
+    /// Takes the session of a job's slot, where it is ready. An index that is no slot's is ignored.
     fn take_job(&self, seat: &mut SlotSeat<'p>, slot: u32) -> Option<u32>
         requires { IsAtRest self.now.slots seat.old }
         ensures seat { IsSlotSeatOf self.now.slots seat.new }

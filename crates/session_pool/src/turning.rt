@@ -18,7 +18,7 @@ use session_pool_slots::RunSlice;
 pub enum Turn {
     /// No slot was found ready.
     Idle,
-    /// The session of a slot ran, for as many rows as this.
+    /// The session of a slot ran, for this many rows.
     Ran { slot: u32, rows: u64 },
 }
 
@@ -28,9 +28,11 @@ impl<'p> SessionPool<'p> {
     ghost use Rattle.session_pool.specs.Turning.{Turned};
     ghost use Rattle.session_pool_slots.specs.Seats.{knows};
 
-    /// Runs one session that is ready for a slice of at most `limit` rows: by one of the worker's own jobs, else by one
-    /// that it steals from each other worker in turn, else the first slot that a scan finds ready. With no breakpoint,
-    /// a session that has an end within these rows has ended then. It waits for no thread.
+    /// Runs one session that is ready for a slice of at most `limit` rows.
+    ///
+    /// It finds one by one of the worker's own jobs, else by one that it steals from each other worker in turn, or
+    /// else as the first slot that a scan finds ready. With no breakpoint, a session that has an end within these
+    /// rows has ended then. It waits for no thread.
     pub fn turn(&self, seat: &mut WorkerSeat<'p>, limit: u64) -> Turn
         requires { RestsWorker self.now seat.old }
         ensures seat { RestsWorker self.now seat.new }

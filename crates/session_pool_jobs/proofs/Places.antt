@@ -1,4 +1,4 @@
--- What stands at each place of a list with one element more, or with another one.
+-- What is at each index of a list with one element more, or with one replaced.
 use Rattle.std.proofs.Common.{◌≡◌, ◌≢◌, ◌⊎◌, ℕ, zero, suc, List, [], ◌∷◌, ◌++◌, All, Some, length, slice_get, set, get_or, arith}
 use Rattle.std.proofs.lemmas.Grind.{common_steps}
 use Rattle.std.proofs.lemmas.Option.{slice_get-get_or}

@@ -71,7 +71,8 @@ impl Jobs {
     ghost use Rattle.session_pool_jobs.specs.Seats.{IsSeatOf, kept_by, put_by, taken_by, workers_of};
     ghost use Rattle.session_pool_jobs.specs.Calls.{AreNew, HasNoRoom, Puts, Stays, Steals, Takes};
 
-    /// Returns empty deques for some workers, 1 to `MOST_WORKERS`, and the seat of each, whose number is its place.
+    /// Returns empty deques for some workers, 1 to `MOST_WORKERS`, and the seat of each, which is numbered by its
+    /// index.
     pub fn new(alloc: Global, workers: usize) -> Result<(Jobs, Vec<JobSeat>), AllocError>
         requires { (1 ≤ workers) × (workers ≤ MOST_WORKERS) }
         ensures count { IfOk result (λ made. vec_len made.1 ≡ workers) }
@@ -86,7 +87,7 @@ impl Jobs {
         Ok((jobs, seats))
     }
 
-    /// How many workers there are.
+    /// Returns the number of workers.
     pub fn workers(&self) -> usize
         ensures { result ≡ workers_of self.now }
     {

@@ -26,7 +26,7 @@ pub struct JobSeat {
 impl JobSeat {
     ghost use Rattle.session_pool_jobs.specs.Seats.{IsAlone, kept_by, number_of};
 
-    /// A worker's empty deque, and no passes yet.
+    /// Returns a worker's seat with an empty deque, and no passes yet.
     pub(crate) fn alone(alloc: Global, number: usize) -> Result<JobSeat, AllocError>
         ensures { IfOk result (IsAlone number) }
     {
@@ -39,15 +39,15 @@ impl JobSeat {
         })
     }
 
-    /// Which of the workers' it is, from 0. It stays the same for good.
+    /// Returns the index of its worker, from 0. It never changes.
     pub fn number(&self) -> usize
         ensures { result ≡ number_of self.now }
     {
         self.number
     }
 
-    /// How many numbers the worker has put and not taken back since it last found its own deque empty: `MOST_KEPT` at
-    /// most.
+    /// Returns how many numbers the worker has put and not taken back since it last found its own deque empty:
+    /// `MOST_KEPT` at most.
     pub fn kept(&self) -> usize
         ensures kept { result ≡ kept_by self.now }
         ensures most { result ≤ MOST_KEPT }

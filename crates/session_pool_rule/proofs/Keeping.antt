@@ -28,11 +28,11 @@ module _ {S A : Type 0} (At : A → S → Type 0) (over : S → Bool) where
   abbrev word_at : St → ℕ → ℕ
   word_at s i = get_or s.words i 0
 
-  -- how the slot i stands
+  -- the state of the slot i
   abbrev Here : St → ℕ → Type 0
   Here s i = Stands At over (word_at s i) (get_elem? s.homes i) (passes_at s.views i) (notes_at s.views i)
 
-  -- what stands at a slot depends on what each seat has for it
+  -- a slot keeps its state where each seat has for it what it had
   stands_as : (w : ℕ) (h : Place S) (P Q : ℕ → Option (PassData S A)) (T U : ℕ → Option S) → ((j : ℕ) → Q j ≡ P j) → ((j : ℕ) → U j ≡ T j) → Stands At over w h P T → Stands At over w h Q U
   stands_as w h P Q T U p t s = subst (λ (R : ℕ → Option (PassData S A)). Stands At over w h R U) (λ k j. sym (p j) k) (subst (λ (R : ℕ → Option S). Stands At over w h P R) (λ k j. sym (t j) k) s)
 
@@ -121,7 +121,7 @@ module _ {S A : Type 0} (At : A → S → Type 0) (over : S → Bool) where
     moved_note new h t e f here = moved s k i id v w (set s.words i new) (set s.homes i h) me (length-set s.words i new) (length-set s.homes i h)
         (λ r ne. get_or-set_other s.words i r new 0 ne) (λ r ne. set_else s.homes i r h ne) (same_note v w i t e f) here
 
-  -- ---- what stands, by what the seat has
+  -- ---- the state of a slot, by what the seat has
 
   one_pass : (i : ℕ) (v : View S A) (p q : PassData S A) → pass_of i v ≡ Some p → pass_of i v ≡ Some q → p ≡ q
   one_pass i v p q a b = cc
@@ -335,7 +335,7 @@ module _ {S A : Type 0} (At : A → S → Type 0) (over : S → Bool) where
       → Allows (IsInOrder At over) n id m i (λ _. free) (λ _. freed (step n i free 0 none) m free)
   frees_at n id m v i p y kept more at inside mine out = subst (λ (z : Seat S A). Allows (IsInOrder At over) n id z i (λ _. free) (λ _. freed (step n i free 0 none) z free)) (sym at) (frees n id v i p y kept more inside mine out)
 
-  -- a client takes its own session, from ready or from what the word stands as
+  -- a client takes its own session, where it expects `ready` or the word that it found to stay
   abbrev pub MayExpect : ℕ → PassData S A → Type 0
   MayExpect old p = (old ≡ ready) ⊎ ((free < old) × (old < with_client) × (p.stood ≡ old))
 

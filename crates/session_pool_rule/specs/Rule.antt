@@ -1,4 +1,4 @@
--- The rule of the table: what stands at each slot, by its word. All of this is this project's own.
+-- The rule of the table: the state of each slot, by its word. All of this is this project's own.
 use Rattle.std.specs.Prelude.{◌≡◌, ◌≢◌, ◌⊎◌, ◌<◌, ℕ, Bool, List, length, slice_index, Option, Some, None}
 use mathlib.Core.Option as plain
 use mathlib.Core.Option.{none, some}
@@ -39,10 +39,10 @@ module _ {S A : Type 0} where
   abbrev pub notes_at : List (View S A) → ℕ → ℕ → Option S
   notes_at views slot seat = look (note_of slot) None (get_elem? views seat)
 
--- ---- the four ways in which a slot can stand, by its word, the place of its content, and each seat's pass and note
+-- ---- the four states of a slot, by its word, the place of its content, and each seat's pass and note
 
 module _ {S A : Type 0} (word : ℕ) (place : Place S) (passes : ℕ → Option (PassData S A)) (notes : ℕ → Option S) where
-  -- A free slot keeps whatever lies in it: a session that is used again, or nothing.
+  -- A free slot keeps what is in it: a session that is used again, or nothing.
   pub record IsFree : Type 0 where
     pub is : word ≡ free
     pub kept : Option S
@@ -50,8 +50,8 @@ module _ {S A : Type 0} (word : ℕ) (place : Place S) (passes : ℕ → Option 
     pub unowned : Nobody passes
     pub unnoted : Nobody notes
 
-  -- The session is at home. `At` says that an account is that of a session, and `over` that a session has ended. What
-  -- stood is the word, which then is not ready: so no worker takes it from there.
+  -- The session is at home. `At` says that an account is that of a session, and `over` that a session has ended. If the
+  -- pass has a word that stays, it is the slot's, and not ready: so no worker takes the session from there.
   pub record IsHome (At : A → S → Type 0) (over : S → Bool) : Type 0 where
     pub owner : ℕ
     pub pass : PassData S A
@@ -90,7 +90,7 @@ module _ {S A : Type 0} (word : ℕ) (place : Place S) (passes : ℕ → Option 
     pub home : pass.out ≡ None
     pub stood : pass.stood ≡ free
 
--- how a slot stands
+-- the state of a slot
 pub data Stands {S A : Type 0} (At : A → S → Type 0) (over : S → Bool)
     (word : ℕ) (place : Place S) (passes : ℕ → Option (PassData S A)) (notes : ℕ → Option S) : Type 0 where
   stands_free : IsFree word place passes notes → Stands At over word place passes notes
@@ -98,7 +98,7 @@ pub data Stands {S A : Type 0} (At : A → S → Type 0) (over : S → Bool)
   stands_with_client : IsWithClient word place passes notes → Stands At over word place passes notes
   stands_with_worker : IsWithWorker word place passes notes At → Stands At over word place passes notes
 
--- the rule: there are so many slots, each stands, and each seat has room for a pass and a note of each
+-- the rule: there are `slots` slots, each in one of these states, and each seat has room for a pass and a note of each
 pub record IsInOrder {S A : Type 0} (At : A → S → Type 0) (over : S → Bool)
     (s : State (Option S) (View S A)) : Type 0 where
   pub words : length s.words ≡ slots

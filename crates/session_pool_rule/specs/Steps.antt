@@ -1,4 +1,4 @@
--- What each kind of step tells: of the step, the seat m before, the word that it found, and the seat n after.
+-- What each kind of step says: of the step, the seat m before, the word that it found, and the seat n after.
 use Rattle.std.specs.Prelude.{◌≡◌, ◌≢◌, ◌<◌, ◌≤◌, ℕ, Bool, false, ◌∷◌, length, Option, Some, None}
 use mathlib.Core.Option.{some}
 use Rattle.atomic_table.specs.Table.{Me, Step, rest}
@@ -9,7 +9,7 @@ use Rattle.session_pool_rule.specs.Views.{Handed, PassData, View, note_of, pass_
 abbrev pub Seat : Type 0 → Type 0 → Type 0
 Seat S A = Me (Option S) (View S A)
 
--- what a kind of step tells its caller
+-- what a kind of step says to its caller
 abbrev pub Telling : Type 0 → Type 0 → Type 1
 Telling S A = Step (Option S) → Seat S A → ℕ → Seat S A → Type 0
 

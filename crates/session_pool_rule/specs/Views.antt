@@ -36,7 +36,7 @@ pub record View (S A : Type 0) : Type 0 where
   -- what the seat gave back, one after another
   pub handed : List (Handed S)
 
--- for so many slots nothing
+-- nothing for each of n slots
 unfoldable pub vacant : {A : Type 0} → ℕ → List (Option A)
 vacant n = replicate n None
 

@@ -4,7 +4,7 @@ use Rattle.isa.specs.Program.{Program}
 use Rattle.session_state.specs.Rows.{TakesRows}
 use Rattle.session_state.specs.Session.{Session, end_in}
 
--- the program that the client asked for, and what it was told
+-- the program that the client asked for, and what it knows of the session from its calls
 pub record Account : Type 0 where
   pub program : Program
   -- the pieces that were taken, joined
@@ -13,7 +13,7 @@ pub record Account : Type 0 where
   pub closed : Bool
   -- the breakpoints, in the order in which they were set
   pub breaks : List ℕ
-  -- the most rows that an answer told
+  -- the most rows that an answer reported
   pub seen : ℕ
 
 -- before the first call
@@ -32,11 +32,11 @@ with_close a = record a { closed = true }
 abbrev pub with_breaks : List ℕ → Account → Account
 with_breaks breaks a = record a { breaks = breaks }
 
--- so many rows were told
+-- `seen` rows were reported
 abbrev pub with_seen : ℕ → Account → Account
 with_seen seen a = record a { seen = seen }
 
--- the account is that of the session, of which at least as many rows were taken as were told
+-- the account is that of the session, of which at least as many rows were taken as were reported
 pub record At (a : Account) (s : Session) : Type 0 where
   pub program : s.program ≡ a.program
   pub bytes : s.bytes ≡ a.sent
@@ -48,19 +48,19 @@ pub record At (a : Account) (s : Session) : Type 0 where
 abbrev pub has_ended : Session → Bool
 has_ended s = is_some (end_in s)
 
--- the account of a session where an answer told so many rows
+-- the account of a session of which `seen` rows were reported
 abbrev pub account_of : Session → ℕ → Account
 account_of s seen = record { program = s.program; sent = s.bytes; closed = s.closed; breaks = s.breaks; seen = seen }
 
--- of a session that is new to its client
+-- the account of a session that is new to its client
 abbrev pub opened : Session → Account
 opened s = account_of s 0
 
--- no more rows were told than before
+-- no more rows were reported than before
 abbrev pub kept : Account → Session → Account
 kept a s = account_of s a.seen
 
--- all rows were told
+-- all rows were reported
 abbrev pub told_all : Account → Session → Account
 told_all a s = account_of s s.count
 

@@ -1,9 +1,9 @@
--- What each kind of step on this table tells: the general ones, of sessions and their accounts.
+-- What each kind of step on this table says: the general definitions, for sessions and their accounts.
 use Rattle.session_state.specs.Session.{Session}
 use Rattle.session_pool_rule.specs.Steps as steps
 use Rattle.session_pool_slots.specs.Account.{Account, At, NoRows, RowsOn, has_ended, kept, opened, told_all}
 
--- what a kind of step tells its caller
+-- what a kind of step says to its caller
 abbrev pub Telling : Type 1
 Telling = steps.Telling Session Account
 
@@ -23,11 +23,11 @@ claimed = steps.claimed opened
 abbrev pub taken : Telling
 taken = steps.taken At has_ended
 
--- a client gives back, no rows on
+-- a client gives its session back, no rows on
 abbrev pub given : Telling
 given = steps.given kept NoRows
 
--- a client gives back, some rows on, and is told how many were taken in all
+-- a client gives its session back, some rows on, and learns how many were taken in all
 abbrev pub told : Telling
 told = steps.given told_all RowsOn
 
@@ -39,6 +39,6 @@ freed = steps.freed
 abbrev pub stolen : Telling
 stolen = steps.stolen has_ended
 
--- a worker gives back, some rows on
+-- a worker gives a session back, some rows on
 abbrev pub returned : Telling
 returned = steps.returned RowsOn

@@ -1,4 +1,4 @@
--- What a seat knows, and the rule of the table: the general ones, of sessions and their accounts.
+-- What a seat knows, and the rule of the table: the general definitions, for sessions and their accounts.
 use Rattle.std.specs.Prelude.{ℕ, Option}
 use Rattle.atomic_table.specs.Table.{State}
 use Rattle.session_state.specs.Session.{Session}

@@ -1,4 +1,4 @@
-//! The rule of the table, and the kinds of step on it. No value of these is made: they name what a step tells.
+//! The rule of the table, and the kinds of step on it. No value of these is made: they name what a step does.
 
 ghost use Rattle.session_pool_slots.specs.Known.{IsInOrder, blank};
 ghost use Rattle.session_pool_slots.specs.Kinds.{claimed, freed, given, looked, returned, stolen, taken, told};
@@ -7,7 +7,7 @@ use crate::view::View;
 use atomic_table::{Play, Split, TableRule};
 use session_state::Session;
 
-/// The rule: what stands at each slot, by its word.
+/// The rule: what is at each slot, by its word.
 pub struct Order;
 
 impl<'p> TableRule<Option<Session<'p>>, View, ()> for Order {
@@ -53,7 +53,7 @@ impl<'p> Play<Option<Session<'p>>, View> for Give {
     ghost then = { given };
 }
 
-/// A client gives its session back, some rows on, and is told how many were taken of it.
+/// A client gives its session back, some rows on, and learns how many were taken of it.
 pub struct Tell;
 
 impl<'p> Play<Option<Session<'p>>, View> for Tell {

@@ -12,8 +12,8 @@ use machine::PlannedProgram;
 use session_pool_rule::{FREE, READY, SLOTS, WITH_CLIENT};
 use session_state::Session;
 
-/// A session of a program that has just begun: the one that a free slot kept, set back, or else the one that was
-/// offered.
+/// Returns a session of a program that has just begun: the one that a free slot kept, set back, or else the one that
+/// was offered.
 fn renewed<'p>(
     kept: Option<Session<'p>>,
     offer: Option<Session<'p>>,
@@ -35,7 +35,8 @@ impl<'p> SessionSlots<'p> {
     ghost use Rattle.session_pool_slots.specs.Seats.{HoldsNothing, IsSeatOf, Rests, knows};
     ghost use Rattle.session_pool_slots.specs.Opening.{FindsNoneFree, HasBegun, HasClaimed, IsClaimed, LooksTaken};
 
-    /// Begins a session of a program in the first slot that is found free, and leaves it ready. `None` where none is.
+    /// Begins a session of a program in the first slot that is found free, and leaves it ready. Returns the slot.
+    /// `None` where none is.
     pub fn begin(&self, seat: &mut SlotSeat<'p>, program: &'p PlannedProgram) -> Option<u32>
         requires { Rests self.now seat.old }
         ensures seat { Rests self.now seat.new }
@@ -53,8 +54,8 @@ impl<'p> SessionSlots<'p> {
         None
     }
 
-    /// Looks at a slot, and claims it for the session that is offered where it is free. Answers the word that was found
-    /// last.
+    /// Looks at a slot, and claims it for the session that is offered where it is free. Returns the word that was
+    /// found last.
     fn claim_at(&self, seat: &mut SlotSeat<'p>, slot: u32, offer: &Option<Session<'p>>) -> u64
         requires seat { Rests self.now seat.old }
         requires offer { (slot < slots) × ((session : Session) × (offer.now ≡ Some session)) }
@@ -72,7 +73,7 @@ impl<'p> SessionSlots<'p> {
         self.claim(seat, slot, offer)
     }
 
-    /// Claims a slot for the session that is offered, where the slot is free. Answers the word that was found.
+    /// Claims a slot for the session that is offered, where the slot is free. Returns the word that was found.
     fn claim(&self, seat: &mut SlotSeat<'p>, slot: u32, offer: &Option<Session<'p>>) -> u64
         requires seat { Rests self.now seat.old }
         requires offer { (slot < slots) × ((session : Session) × (offer.now ≡ Some session)) }

@@ -28,7 +28,7 @@ pub struct SlotSeat<'p> {
 impl<'p> SessionSlots<'p> {
     ghost use Rattle.session_pool_slots.specs.Seats.{IsSeatOf, Rests, knows};
 
-    /// A table of slots that are free and empty, and its first seat.
+    /// Returns a table of slots that are free and empty, and its first seat.
     pub fn new(alloc: Global) -> Result<(SessionSlots<'p>, SlotSeat<'p>), AllocError>
         ensures seat { IfOk result (λ made. Rests made.0 made.1) }
         ensures blank { IfOk result (λ made. knows made.1 ≡ blank) }
@@ -37,7 +37,7 @@ impl<'p> SessionSlots<'p> {
         Ok((SessionSlots { alloc, table }, SlotSeat { seat }))
     }
 
-    /// A further seat, which knows nothing yet. The seat that is there stays as it is.
+    /// Returns a further seat, which knows nothing yet. The seat that is there stays as it is.
     pub fn another(&self, seat: &mut SlotSeat<'p>) -> SlotSeat<'p>
         requires { IsSeatOf self.now seat.old }
         ensures same { IsSeatOf self.now seat.new × (seat.new.seat.me ≡ seat.old.seat.me) }

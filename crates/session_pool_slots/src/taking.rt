@@ -31,7 +31,7 @@ impl<'p> SessionSlots<'p> {
     ghost use Rattle.session_pool_slots.specs.Seats.{HoldsEmpty, HoldsNothing, IsSeatOf, Rests, knows};
     ghost use Rattle.session_pool_slots.specs.Taking.{Expects, FindsBusy, HasTaken, TakesOut};
 
-    /// Tries to take the client's session from this word. Answers the word that was found.
+    /// Tries to take the client's session from this word. Returns the word that was found.
     fn take_from(&self, seat: &mut SlotSeat<'p>, slot: u32, expected: u64) -> u64
         requires seat { IsSeatOf self.now seat.old }
         requires pass { Expects (knows seat.old) slot expected }
@@ -43,7 +43,7 @@ impl<'p> SessionSlots<'p> {
             .compare_exchange::<Take>(&mut seat.seat, slot as usize, expected, WITH_CLIENT)
     }
 
-    /// Takes the client's session, unless a worker has it. Answers the word that was found.
+    /// Takes the client's session, unless a worker has it. Returns the word that was found.
     fn seize(&self, seat: &mut SlotSeat<'p>, slot: u32) -> u64
         requires seat { Rests self.now seat.old }
         requires pass { HasIn (knows seat.old) slot }
@@ -60,7 +60,8 @@ impl<'p> SessionSlots<'p> {
         found
     }
 
-    /// Takes the client's session out of its slot. `Busy` where a worker has it.
+    /// Takes the client's session out of its slot, and returns it with the word that was found. `Busy` where a worker
+    /// has it.
     pub fn take_out(&self, seat: &mut SlotSeat<'p>, slot: u32) -> Result<TakenOut<'p>, Busy>
         requires seat { Rests self.now seat.old }
         requires pass { HasIn (knows seat.old) slot }
@@ -81,7 +82,7 @@ impl<'p> SessionSlots<'p> {
         Ok(TakenOut { session, word })
     }
 
-    /// Gives back the session that the client took out, no rows on, with this word.
+    /// Puts the session that the client took out back into its slot, no rows on, with this word.
     pub fn give_back(&self, seat: &mut SlotSeat<'p>, slot: u32, session: Session<'p>, word: u64)
         requires seat { IsSeatOf self.now seat.old × HoldsEmpty slot seat.old }
         requires pass { HasOut (knows seat.old) slot
@@ -100,8 +101,8 @@ impl<'p> SessionSlots<'p> {
             .store::<Give>(&mut seat.seat, slot as usize, word);
     }
 
-    /// Gives back the session that the client took out, some rows on, with this word. The client is told how many rows
-    /// were taken of it in all.
+    /// Puts the session that the client took out back into its slot, some rows on, with this word. The client learns
+    /// how many rows were taken of it in all.
     pub fn tell_back(&self, seat: &mut SlotSeat<'p>, slot: u32, session: Session<'p>, word: u64)
         requires seat { IsSeatOf self.now seat.old × HoldsEmpty slot seat.old }
         requires pass { HasOut (knows seat.old) slot (λ pass before. RowsOn before session) }

@@ -8,7 +8,7 @@ ghost use Rattle.session_pool_slots.specs.Leaving.{word_after, word_after_slice}
 use session_pool_rule::{ENDED, READY, WAITING};
 use session_state::{Session, Stopped};
 
-/// The word of a session after a client's call that lets it go on: ended where it has, else ready.
+/// Returns the word of a session after a client's call that lets it go on: ended where it has, else ready.
 pub fn word_after(session: &Session) -> u64
     ensures word { result ≡ word_after session.now }
     ensures fits { IsWordOf (has_ended session.now) result }
@@ -16,7 +16,7 @@ pub fn word_after(session: &Session) -> u64
     if session.has_ended() { ENDED } else { READY }
 }
 
-/// The word of a session after a slice, by why no more rows were taken.
+/// Returns the word of a session after a slice, by why no more rows were taken.
 pub fn word_after_slice(stopped: Stopped) -> u64
     ensures { result ≡ word_after_slice stopped }
 {

@@ -23,7 +23,7 @@ impl<'p> SessionSlots<'p> {
     ghost use Rattle.session_pool_slots.specs.Seats.{HoldsNothing, IsSeatOf, Rests, knows};
     ghost use Rattle.session_pool_slots.specs.Working.{FindsNoneReady, LooksUnready, Runs, Sees, TakesFirst};
 
-    /// Takes the session of a slot, where it is ready. Answers the word that was found.
+    /// Takes the session of a slot, where it is ready. Returns the word that was found.
     fn take_ready(&self, seat: &mut SlotSeat<'p>, slot: u32) -> u64
         requires seat { Rests self.now seat.old }
         requires slot { slot < slots }
@@ -38,7 +38,7 @@ impl<'p> SessionSlots<'p> {
             .compare_exchange::<Steal>(&mut seat.seat, slot as usize, READY, WITH_WORKER)
     }
 
-    /// Returns the word of a slot, which the seat finds. A session that is out with the seat stays out.
+    /// Looks at the word of a slot, and returns it. A session that is out with the seat stays out.
     pub fn look(&self, seat: &mut SlotSeat<'p>, slot: u32) -> u64
         requires seat { IsSeatOf self.now seat.old }
         requires slot { slot < slots }
@@ -50,7 +50,7 @@ impl<'p> SessionSlots<'p> {
             .load::<Look>(&mut seat.seat, slot as usize)
     }
 
-    /// Looks at a slot, and takes its session where it is ready. Answers the word that was found last.
+    /// Looks at a slot, and takes its session where it is ready. Returns the word that was found last.
     pub fn take_at(&self, seat: &mut SlotSeat<'p>, slot: u32) -> u64
         requires seat { Rests self.now seat.old }
         requires slot { slot < slots }

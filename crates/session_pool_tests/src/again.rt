@@ -1,5 +1,5 @@
-//! Calls that are made once more where they tell want of memory, while two sessions are open at once. One of the two at
-//! most ends for want of memory, and is then run anew.
+//! Calls that are made once more where they report that memory ran out, while two sessions are open at once. At most
+//! one of the two ends because memory ran out, and is then run anew.
 
 ghost use Rattle.std.specs.Prelude.{◌≡◌, IfOk};
 ghost use Rattle.schema_registry.specs.Receipt.{IsReceiptOf};
@@ -23,7 +23,7 @@ use std::process::Abort;
 use std::sync::Wait;
 use std::test::Fail;
 
-/// The schema of the record, parsed once more where memory was refused.
+/// Returns the schema of the record, parsed once more where memory was refused.
 fn parsed_again(alloc: Global) -> Result<Schema, SchemaError> {
     match Schema::parse(alloc, RECORD) {
         Err(SchemaError::NoMemory) => Schema::parse(alloc, RECORD),
@@ -80,7 +80,7 @@ fn opened_again<'p>(
     }
 }
 
-/// The bytes of a piece, copied once more where memory was refused.
+/// Returns a copy of the bytes of a piece, copied once more where memory was refused.
 fn copied_again(alloc: Global, bytes: &[u8]) -> Result<Vec<u8>, AllocError> {
     match Vec::from_slice(alloc, bytes) {
         Err(AllocError) => Vec::from_slice(alloc, bytes),
@@ -116,7 +116,7 @@ fn sent_again<'p>(
     }
 }
 
-/// What a debugger is answered to a command, asked once more where memory was refused.
+/// Returns what a debugger is answered to a command, asked once more where memory was refused.
 fn debugged_again<'p>(
     pool: &SessionPool<'p>,
     seat: &mut ClientSeat<'p>,
@@ -185,7 +185,7 @@ call 1
 rec 0 36 -
 ";
 
-/// Whether a debugger's answer is the one that is wanted.
+/// Returns whether a debugger's answer is the one that is wanted.
 fn is_wanted(reply: &DebugReply, wanted: Wanted) -> bool {
     match (reply, wanted) {
         (DebugReply::Done, Wanted::Done) => true,
@@ -204,7 +204,7 @@ struct Answered {
     rows: u64,
 }
 
-/// How many rows a reply tells.
+/// Returns how many rows a reply reports.
 fn rows_of(reply: &DebugReply) -> u64 {
     match reply {
         DebugReply::Rows(rows) => *rows,
@@ -288,13 +288,13 @@ fn taken_until_idle<'p>(
 enum Ended {
     /// To the output that is wanted, after ten rows, with all that was asked of it answered as is wanted.
     AsWanted,
-    /// To no output for want of memory, after the rows that were taken of it before.
+    /// To no output because memory ran out, after the rows that were taken of it before.
     NoMemory,
     /// To anything else.
     Otherwise,
 }
 
-/// What a session came to of which this output is wanted, and of which as many rows as this were taken.
+/// Returns what a session came to of which this output is wanted, and of which as many rows as this were taken.
 fn came_to(finished: &Finished, output: &[u8], rows: u64) -> Ended {
     if finished.rows != rows {
         return Ended::Otherwise;
@@ -308,7 +308,7 @@ fn came_to(finished: &Finished, output: &[u8], rows: u64) -> Ended {
     }
 }
 
-/// What a session came to that a debugger has asked of too.
+/// Returns what a session came to that a debugger has asked of too.
 fn came_to_as_asked(finished: &Finished, output: &[u8], rows: u64, answered: Answered) -> Ended {
     match came_to(finished, output, rows.wrapping_add(answered.rows)) {
         Ended::AsWanted if answered.as_wanted != ASKED.len() => Ended::Otherwise,
@@ -334,7 +334,8 @@ fn fed_to_end<'p>(
     pool.end(seat, pass).expect(rt, "the end of a payload");
 }
 
-/// What two sessions that are open at once come to, each on a payload in two pieces. A debugger asks of the first.
+/// Returns what two sessions that are open at once come to, each on a payload in two pieces. A debugger asks of the
+/// first.
 fn both_ended<'p>(
     rt: &impl Abort,
     alloc: Global,
@@ -384,7 +385,7 @@ fn both_ended<'p>(
     )
 }
 
-/// Runs a session anew that was ended by want of memory: now it comes to this output.
+/// Runs a session anew that ended because memory ran out: now it comes to this output.
 fn assert_anew<'p>(
     rt: &impl Abort,
     alloc: Global,
@@ -407,14 +408,15 @@ fn assert_anew<'p>(
     same(rt, came_to(&finished, output, taken.first), Ended::AsWanted);
 }
 
-/// The program that is published for the record with itself is the record's own.
+/// Asserts that the program that is published for the record with itself is the record's own.
 fn assert_published(rt: &impl Abort, alloc: Global, cache: &ProgramCache<'_>) {
     let schema = parsed_again(alloc).expect(rt, "a schema");
     let listing = published_again(alloc, cache, &schema).expect(rt, "a program");
     same(rt, listing.as_str(), RECORD_LISTING);
 }
 
-/// Of two sessions that are open at once one at most is ended by want of memory, and that one runs anew.
+/// Asserts that of two sessions that are open at once at most one ends because memory ran out, and that this one runs
+/// anew.
 fn assert_one_at_most<'p, R: Wait + Abort>(
     rt: &R,
     alloc: Global,

@@ -21,7 +21,7 @@ use std::thread::Threads;
 /// How often the worker inside of the first session looks whether the second is answered.
 const MOST_LOOKS: u32 = 1_000_000;
 
-/// What the threads tell one another.
+/// What the threads signal to one another.
 #[derive(Drop)]
 pub(crate) struct Flags {
     /// The second session is answered.
@@ -60,7 +60,7 @@ fn stay(flags: &Flags) {
     }
 }
 
-/// Takes turns until both sessions are answered. Answers how many sessions it ran.
+/// Takes turns until both sessions are answered. Returns how many sessions it ran.
 fn work(working: Working) -> u64 {
     let Working {
         pool,
@@ -89,7 +89,7 @@ fn work(working: Working) -> u64 {
     ran
 }
 
-/// Whether both sessions are answered, the second first.
+/// Returns whether both sessions are answered, the second first.
 fn wait(waiting: Waiting) -> bool
     requires { IsPassOf waiting.first waiting.first_pass × IsPassOf waiting.second waiting.second_pass }
 {
@@ -108,7 +108,7 @@ fn wait(waiting: Waiting) -> bool
     of_first.is_ok() && of_second.is_ok()
 }
 
-/// What each worker is given.
+/// Returns what each worker receives.
 fn all_working<'a, 'p>(
     alloc: Global,
     pool: &'a SessionPool<'p>,
@@ -127,7 +127,7 @@ fn all_working<'a, 'p>(
     Ok(working)
 }
 
-/// Each worker in a thread of its own.
+/// Runs each worker in a thread of its own.
 fn work_all<'a, 'p, R: Threads + Sync>(
     rt: &R,
     workers: Vec<Working<'a, 'p>>,
@@ -135,7 +135,7 @@ fn work_all<'a, 'p, R: Threads + Sync>(
     thread::map_vec(rt, workers, &|working: Working<'_, '_>| work(working))
 }
 
-/// All threads at once: whether both sessions are answered, the second first.
+/// Runs all threads at once. Returns whether both sessions are answered, the second first.
 fn run_all<'a, 'p, R: Threads + Sync>(
     rt: &R,
     workers: Vec<Working<'a, 'p>>,
@@ -148,7 +148,7 @@ fn run_all<'a, 'p, R: Threads + Sync>(
     Ok(waited)
 }
 
-/// Two sessions are answered, the second while a worker is inside of the first.
+/// Asserts that two sessions are answered, the second while a worker is inside of the first.
 fn assert_at_once<'a, 'p, R: Threads + Wait + Abort + Sync>(
     rt: &R,
     alloc: Global,

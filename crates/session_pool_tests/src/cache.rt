@@ -35,7 +35,7 @@ fn register_lines<R: Wait>(
     Ok(())
 }
 
-/// How many instructions the program of a pair of ids has. `Clash` where an id has no schema.
+/// Returns how many instructions the program of a pair of ids has. `Clash` where an id has no schema.
 fn len_of(cache: &ProgramCache<'_>, writer: u32, reader: u32) -> Result<usize, PublishError> {
     let registry = cache.registry();
     let (Some((_, mut writer)), Some((_, mut reader))) = (
@@ -47,7 +47,7 @@ fn len_of(cache: &ProgramCache<'_>, writer: u32, reader: u32) -> Result<usize, P
     Ok(cache.program(&mut writer, &mut reader)?.program().len())
 }
 
-/// The listing of the program that a pair is compiled to.
+/// Returns the listing of the program that a pair is compiled to.
 fn compiled(alloc: Global, writer: &Schema, reader: &Schema) -> Result<String, PublishError> {
     match compile(alloc, writer.nodes(), reader.nodes()) {
         Ok(program) => Ok(disassemble(alloc, &program)?),
@@ -56,7 +56,7 @@ fn compiled(alloc: Global, writer: &Schema, reader: &Schema) -> Result<String, P
     }
 }
 
-/// Whether a cache has the program that the schemas of two ids are compiled to.
+/// Returns whether a cache has the program that the schemas of two ids are compiled to.
 fn has_own(
     alloc: Global,
     cache: &ProgramCache<'_>,
@@ -75,7 +75,7 @@ fn has_own(
     Ok(found == compiled(alloc, first, second)?)
 }
 
-/// Whether all pairs of the ids 1, 2 and 3 have their own programs in a cache.
+/// Returns whether all pairs of the ids 1, 2 and 3 have their own programs in a cache.
 fn all_have_own(alloc: Global, cache: &ProgramCache<'_>) -> Result<bool, PublishError> {
     for number in 0..9_u32 {
         if !has_own(alloc, cache, 1 + number / 3, 1 + number % 3)? {
@@ -100,7 +100,7 @@ fn each_pair_has_its_own_program(rt: HostRuntime) -> Result<(), Fail> {
     Ok(())
 }
 
-/// Whether two calls for the pair of a schema with itself answer one program.
+/// Returns whether two calls for the pair of a schema with itself return one program.
 fn is_kept(
     alloc: Global,
     cache: &ProgramCache<'_>,
@@ -171,7 +171,7 @@ fn schemas_are_published_by_their_texts(rt: HostRuntime) -> Result<(), Fail> {
     Ok(())
 }
 
-/// The texts of a union of 648 records R without fields, and of a record R of 200 fields, all by default.
+/// Returns the texts of a union of 648 records R without fields, and of a record R of 200 fields, all by default.
 fn wide_texts(alloc: Global) -> Result<String, AllocError> {
     let mut text = String::new(alloc);
     for number in 0..648 {
@@ -214,7 +214,7 @@ fn a_pair_without_program_is_refused(rt: HostRuntime) -> Result<(), Fail> {
     Ok(())
 }
 
-/// The texts of fixeds, as many as are asked for, each of its own name.
+/// Returns the texts of `count` fixeds, each with its own name.
 fn fixed_texts(alloc: Global, count: usize) -> Result<String, AllocError> {
     let mut text = String::new(alloc);
     for number in 0..count {
@@ -226,7 +226,7 @@ fn fixed_texts(alloc: Global, count: usize) -> Result<String, AllocError> {
     Ok(text)
 }
 
-/// Whether each of nine pairs, which have the same eight slots of the cache's table, has its own program.
+/// Returns whether each of nine pairs, which have the same eight slots of the cache's table, has its own program.
 fn nine_have_own(alloc: Global, cache: &ProgramCache<'_>) -> Result<bool, PublishError> {
     for number in 0..9_u32 {
         if !has_own(alloc, cache, 1 + number, 1 + 251 * (8 - number))? {
@@ -248,7 +248,7 @@ fn pairs_with_the_same_slots_have_their_own_programs(rt: HostRuntime) -> Result<
     Ok(())
 }
 
-/// Whether all pairs have their own programs, as each of four threads finds it.
+/// Returns whether all pairs have their own programs, as each of four threads finds it.
 fn asked_by_four<R: Threads + Sync>(
     rt: &R,
     alloc: Global,

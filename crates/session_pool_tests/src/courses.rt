@@ -1,4 +1,4 @@
-//! Sessions from their begin to their end.
+//! Sessions from their beginning to their end.
 
 ghost use Rattle.std.specs.Prelude.{◌≡◌, IfOk};
 ghost use Rattle.schema_registry.specs.Receipt.{IsReceiptOf};
@@ -45,7 +45,7 @@ pub(crate) fn send<'p>(
     }
 }
 
-/// The output of a session that is done; another end is an error.
+/// Returns the output of a session that is done; another end is an error.
 pub(crate) fn output_of(end: SessionEnd) -> Result<Vec<u8>, SessionEnd> {
     match end {
         SessionEnd::Out(Outcome::Done(output)) => Ok(output),
@@ -75,7 +75,7 @@ pub(crate) fn pending<'p>(
     }
 }
 
-/// What came of a session that has ended.
+/// Returns what came of a session that has ended.
 pub(crate) fn finished<'p>(
     pool: &SessionPool<'p>,
     seat: &mut ClientSeat<'p>,
@@ -91,7 +91,7 @@ pub(crate) fn finished<'p>(
     }
 }
 
-/// A pass of a new session, which has a whole payload.
+/// Returns a pass of a new session, which has a whole payload.
 pub(crate) fn fed<'p>(
     alloc: Global,
     pool: &SessionPool<'p>,
@@ -113,7 +113,7 @@ pub(crate) fn fed<'p>(
     Ok(pass)
 }
 
-/// A session on a whole payload, to its end in one turn.
+/// Runs a session on a whole payload, to its end in one turn.
 pub(crate) fn run_through<'p>(
     alloc: Global,
     pool: &SessionPool<'p>,

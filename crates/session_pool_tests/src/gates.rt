@@ -53,7 +53,7 @@ struct Asking<'a, 'p> {
     ghost ready: { Rests pool.now seat },
 }
 
-/// Takes a turn that is held inside, and then turns until the client needs no more. Answers the first.
+/// Takes a turn that is held inside, and then turns until the client needs no more. Returns the first.
 fn hold(held: Held) -> Turn {
     let Held {
         pool,
@@ -79,8 +79,8 @@ fn hold(held: Held) -> Turn {
     first
 }
 
-/// The pass of a session that a worker is inside of, where each call of its client is refused as busy, and hands all
-/// back.
+/// Returns the pass of a session that a worker is inside of, where each call of its client is refused as busy, and
+/// hands all back.
 fn refused_as_busy<'p>(
     alloc: Global,
     pool: &SessionPool<'p>,
@@ -122,8 +122,8 @@ fn refused_as_busy<'p>(
     }
 }
 
-/// What came of a session, where each call was refused as busy while the worker was inside, and the session was fed
-/// after that.
+/// Returns what came of a session, where each call was refused as busy while the worker was inside, and the session
+/// was fed after that.
 fn asked_and_fed<'p>(
     alloc: Global,
     pool: &SessionPool<'p>,
@@ -154,7 +154,7 @@ fn asked_and_fed<'p>(
     }
 }
 
-/// The same, and then the worker needs to wait for nothing more.
+/// Returns what `asked_and_fed` returns; after that the worker needs to wait for nothing more.
 fn ask(asking: Asking) -> Option<Finished>
     requires { IsPassOf asking.seat asking.pass }
 {
@@ -178,7 +178,7 @@ struct Met {
     finished: Option<Finished>,
 }
 
-/// Both at once.
+/// Runs the worker and the client at once.
 fn meet<'a, 'p, R: Threads>(rt: &R, held: Held<'a, 'p>, asking: Asking<'a, 'p>) -> Met
     requires { IsPassOf asking.seat asking.pass }
 {
@@ -186,7 +186,8 @@ fn meet<'a, 'p, R: Threads>(rt: &R, held: Held<'a, 'p>, asking: Asking<'a, 'p>) 
     Met { turn, finished }
 }
 
-/// A worker is held inside of a session, each call of whose client is refused as busy; then both come to its end.
+/// Asserts that a worker is held inside of a session, each call of whose client is refused as busy, and that both
+/// then come to its end.
 fn assert_met<'a, 'p, R: Threads + Wait + Abort>(
     rt: &R,
     alloc: Global,

@@ -10,7 +10,7 @@ use std::process::Abort;
 use std::test::Fail;
 use std::thread;
 
-/// The last of some workers' seats.
+/// Takes out the last of some workers' seats.
 fn last(rt: &impl Abort, jobs: &Jobs, seats: &mut Vec<JobSeat>) -> JobSeat
     requires { All (IsSeatOf jobs.now) seats.old.items }
     ensures seat { IsSeatOf jobs.now result }
@@ -68,7 +68,7 @@ fn one_number_too_many_is_refused(rt: HostRuntime) -> Result<(), Fail> {
     Ok(())
 }
 
-/// Tries so often to steal from a worker, and answers what was stolen.
+/// Tries `tries` times to steal from a worker, and returns what was stolen.
 fn stolen(
     alloc: Global,
     jobs: &Jobs,
@@ -88,7 +88,7 @@ fn stolen(
     Ok(slots)
 }
 
-/// Takes what is left of the worker's own, and answers it.
+/// Takes what is left of the worker's own, and returns it.
 fn left(alloc: Global, jobs: &Jobs, seat: &mut JobSeat, most: u32) -> Result<Vec<u32>, AllocError>
     requires { IsSeatOf jobs.now seat.old }
 {

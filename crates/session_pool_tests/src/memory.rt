@@ -16,7 +16,7 @@ use std::process::Abort;
 use std::sync::Wait;
 use std::test::Fail;
 
-/// A payload of the record with a string of 1 MiB.
+/// Returns a payload of the record with a string of 1 MiB.
 fn large_payload(alloc: Global) -> Result<Vec<u8>, AllocError> {
     let mut payload = Vec::from_slice(alloc, &[0x36, 0x80, 0x80, 0x80, 0x01])?;
     for _ in 0..1 << 20 {
@@ -62,7 +62,7 @@ fn run_three<'p, R: Wait>(
     })
 }
 
-/// Three sessions come to their outputs in one slot, of which the first had a large payload.
+/// Asserts that three sessions come to their outputs in one slot, of which the first had a large payload.
 fn assert_used_again<'p, R: Wait + Abort>(
     rt: &R,
     alloc: Global,

@@ -15,7 +15,7 @@ fn push_reply(output: &mut String, reply: &DebugReply) -> Result<(), AllocError>
     }
 }
 
-/// Appends the lines of an answer. Want of memory is an error.
+/// Appends the lines of an answer. Where memory ran out it is an error.
 fn push_answer(
     output: &mut String,
     answer: Result<DebugReply, DebugError>,
@@ -31,7 +31,7 @@ fn push_answer(
     }
 }
 
-/// What a debugger is answered to some commands, one after another.
+/// Returns what a debugger is answered to some commands, one after another.
 pub(crate) fn answers<'p>(
     alloc: Global,
     pool: &SessionPool<'p>,

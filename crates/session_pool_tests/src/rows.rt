@@ -73,15 +73,15 @@ fn feed_by_pieces<'p>(
     Ok(Feeding { turns, course })
 }
 
-/// The session came to this output after so many rows, in the first slot.
+/// Asserts that the session came to this output after this number of rows, in the first slot.
 fn assert_course(rt: &impl Abort, course: &Course, output: &[u8], rows: u64) {
     same(rt, course.slot, 0);
     same(rt, course.output.as_slice(), output);
     same(rt, course.rows, rows);
 }
 
-/// A session in the first slot, which was used before, answers a debugger while more of its payload may come, and then
-/// comes to its output.
+/// Asserts that a session in the first slot, which was used before, answers a debugger while more of its payload may
+/// come, and then comes to its output.
 fn assert_debugged<'p>(
     rt: &impl Abort,
     alloc: Global,
@@ -113,7 +113,7 @@ fn assert_debugged<'p>(
     Ok(())
 }
 
-/// A session that is fed piece by piece comes to its output, and so do the next two in its slot.
+/// Asserts that a session that is fed piece by piece comes to its output, and so do the next two in its slot.
 fn assert_fed<'p, R: Wait + Abort>(
     rt: &R,
     alloc: Global,
@@ -192,7 +192,7 @@ avro program 1
 8 RET
 ";
 
-/// What a debugger is answered while a session runs on a whole payload, which then comes to its output.
+/// Asserts what a debugger is answered while a session runs on a whole payload, which then comes to its output.
 fn debugging<'p, R: Wait + Abort>(
     rt: &R,
     alloc: Global,
@@ -238,7 +238,7 @@ struct BreaksSet {
     refusal: Option<DebugError>,
 }
 
-/// Sets breakpoints from address 0 on until one is refused, so many at most.
+/// Sets breakpoints from address 0 on until one is refused, at most `most`.
 fn set_breaks<'p>(
     pool: &SessionPool<'p>,
     seat: &mut ClientSeat<'p>,
@@ -264,8 +264,8 @@ fn set_breaks<'p>(
     }
 }
 
-/// One breakpoint too many is refused, and the others stay: one of them is set again, and one is cleared for the new
-/// one.
+/// Asserts that one breakpoint too many is refused, and the others stay: one of them is set again, and one is cleared
+/// for the new one.
 fn assert_breaks<'p, R: Wait + Abort>(
     rt: &R,
     alloc: Global,
@@ -308,7 +308,7 @@ fn a_breakpoint_too_many_is_refused(rt: HostRuntime) -> Result<(), Fail> {
     assert_breaks(&rt, alloc, &pool, &mut client)
 }
 
-/// A piece is refused so, and as many bytes are handed back.
+/// Asserts that a piece is refused so, and as many bytes are handed back.
 fn assert_refused<'p>(
     rt: &impl Abort,
     pool: &SessionPool<'p>,
@@ -332,7 +332,7 @@ fn assert_refused<'p>(
     }
 }
 
-/// Pieces that are too large or come after the end are refused and change nothing of the session.
+/// Asserts that pieces that are too large or come after the end are refused and change nothing of the session.
 fn assert_pieces<'p, R: Wait + Abort>(
     rt: &R,
     alloc: Global,

@@ -12,7 +12,7 @@ use std::sync::Wait;
 pub(crate) const RECORD: &str =
     r#"{"type":"record","name":"T","fields":[{"name":"a","type":"long"},{"name":"b","type":"string"}]}"#;
 
-/// The same with its fields the other way round.
+/// That record with its fields the other way round.
 pub(crate) const SWAPPED: &str =
     r#"{"type":"record","name":"T","fields":[{"name":"b","type":"string"},{"name":"a","type":"long"}]}"#;
 

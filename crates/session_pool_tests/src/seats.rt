@@ -20,7 +20,7 @@ pub(crate) struct Seated<'p> {
     ghost workers_rest: { All (IsNewWorker pool) workers.items },
 }
 
-/// A pool over a cache, for so many clients and workers.
+/// Returns a pool over a cache, with seats for `clients` clients and `workers` workers.
 pub(crate) fn new_pool<'p>(
     alloc: Global,
     cache: &'p ProgramCache<'p>,
@@ -38,7 +38,7 @@ pub(crate) fn new_pool<'p>(
     })
 }
 
-/// Takes the last of some clients' seats.
+/// Takes out the last of some clients' seats. `None` where none is left.
 pub(crate) fn pop_client<'p>(
     pool: &SessionPool<'p>,
     seats: &mut Vec<ClientSeat<'p>>,
@@ -50,7 +50,7 @@ pub(crate) fn pop_client<'p>(
     seats.pop()
 }
 
-/// Takes the last of some workers' seats.
+/// Takes out the last of some workers' seats. `None` where none is left.
 pub(crate) fn pop_worker<'p>(
     pool: &SessionPool<'p>,
     seats: &mut Vec<WorkerSeat<'p>>,
@@ -62,7 +62,7 @@ pub(crate) fn pop_worker<'p>(
     seats.pop()
 }
 
-/// The last of some clients' seats.
+/// Takes out the last of some clients' seats.
 pub(crate) fn last_client<'p>(
     rt: &impl Abort,
     pool: &SessionPool<'p>,
@@ -78,7 +78,7 @@ pub(crate) fn last_client<'p>(
     }
 }
 
-/// The last of some workers' seats.
+/// Takes out the last of some workers' seats.
 pub(crate) fn last_worker<'p>(
     rt: &impl Abort,
     pool: &SessionPool<'p>,

@@ -16,7 +16,7 @@ use std::process::Abort;
 use std::sync::Wait;
 use std::test::Fail;
 
-/// A turn that ran one row of a slot's session.
+/// Returns a turn that ran one row of a slot's session.
 fn one_row(slot: u32) -> Turn {
     Turn::Ran { slot, rows: 1 }
 }
@@ -38,7 +38,7 @@ fn open_three<'p>(
     Ok(())
 }
 
-/// A worker comes to each of three sessions in turn.
+/// Asserts that a worker comes to each of three sessions in turn.
 fn assert_in_turn<'p, R: Wait + Abort>(
     rt: &R,
     alloc: Global,
@@ -73,7 +73,7 @@ fn a_worker_comes_to_each_session_in_turn(rt: HostRuntime) -> Result<(), Fail> {
     assert_in_turn(&rt, alloc, &pool, &mut client, &mut worker)
 }
 
-/// A worker runs the first of three sessions, and another steals the second.
+/// Asserts that a worker runs the first of three sessions, and another steals the second.
 fn assert_stolen<'p, R: Wait + Abort>(
     rt: &R,
     alloc: Global,
@@ -116,7 +116,7 @@ struct Opened {
     refusal: Option<OpenError>,
 }
 
-/// Opens sessions until one is refused, so many at most, and lets go of their passes.
+/// Opens sessions until one is refused, at most `most`, and drops their passes.
 fn open_all<'p>(
     pool: &SessionPool<'p>,
     seat: &mut ClientSeat<'p>,
@@ -143,7 +143,8 @@ fn open_all<'p>(
     }
 }
 
-/// A client takes a slot, and another all that are left; once the first gives its own up, it has that slot again.
+/// Asserts that a client takes a slot, and another all that are left, and that once the first frees its own, it has
+/// that slot again.
 fn assert_full<'p, R: Wait + Abort>(
     rt: &R,
     alloc: Global,

@@ -14,7 +14,8 @@ use std::process::Abort;
 use std::sync::Wait;
 use std::test::Fail;
 
-/// A turn stops at a breakpoint, at which no further turn goes on; once it is cleared a turn takes the rest.
+/// Asserts that a turn stops at a breakpoint, at which no further turn goes on; once it is cleared a turn takes the
+/// rest.
 fn assert_stopped<'p, R: Wait + Abort>(
     rt: &R,
     alloc: Global,

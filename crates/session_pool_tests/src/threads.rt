@@ -47,7 +47,7 @@ struct Asking<'a, 'p> {
     ghost swapped_known: { IsReceiptOf pool.now.cache.now swapped },
 }
 
-/// Takes turns until the clients are over. Answers how often it ran a session.
+/// Takes turns until the clients are over. Returns how often it ran a session.
 fn work(working: Working) -> u64 {
     let Working {
         pool,
@@ -67,7 +67,7 @@ fn work(working: Working) -> u64 {
     ran
 }
 
-/// Whether a session on the payload in two pieces comes to this output, after ten rows.
+/// Returns whether a session on the payload in two pieces comes to this output, after ten rows.
 fn is_answered<'p>(
     alloc: Global,
     pool: &SessionPool<'p>,
@@ -107,7 +107,7 @@ fn is_answered<'p>(
     }
 }
 
-/// Runs both sessions so many rounds. Answers how many rounds were answered rightly.
+/// Runs both sessions in each of the rounds. Returns how many rounds were answered correctly.
 fn ask(asking: Asking) -> u32 {
     let Asking {
         alloc,
@@ -142,7 +142,7 @@ fn ask(asking: Asking) -> u32 {
     right
 }
 
-/// What each worker is given.
+/// Returns what each worker receives.
 fn all_working<'a, 'p>(
     alloc: Global,
     pool: &'a SessionPool<'p>,
@@ -165,7 +165,7 @@ fn all_working<'a, 'p>(
     Ok(workers)
 }
 
-/// What each client is given.
+/// Returns what each client receives.
 fn all_asking<'a, 'p>(
     alloc: Global,
     pool: &'a SessionPool<'p>,
@@ -194,7 +194,7 @@ fn all_asking<'a, 'p>(
     Ok(clients)
 }
 
-/// Each worker in a thread of its own.
+/// Runs each worker in a thread of its own.
 fn work_all<'a, 'p, R: Threads + Sync>(
     rt: &R,
     workers: Vec<Working<'a, 'p>>,
@@ -202,7 +202,7 @@ fn work_all<'a, 'p, R: Threads + Sync>(
     thread::map_vec(rt, workers, &|working: Working<'_, '_>| work(working))
 }
 
-/// Each client in a thread of its own. Then the workers end.
+/// Runs each client in a thread of its own. Then the workers end.
 fn ask_all<'a, 'p, R: Threads + Sync>(
     rt: &R,
     is_over: &AtomicBool,
@@ -213,7 +213,7 @@ fn ask_all<'a, 'p, R: Threads + Sync>(
     right
 }
 
-/// All threads at once: how many rounds of each client were answered rightly.
+/// Runs all threads at once. Returns how many rounds of each client were answered correctly.
 fn run_all<'a, 'p, R: Threads + Sync>(
     rt: &R,
     is_over: &AtomicBool,
@@ -229,7 +229,7 @@ fn run_all<'a, 'p, R: Threads + Sync>(
     right
 }
 
-/// Each of eight clients is answered rightly in each round.
+/// Asserts that each of eight clients is answered correctly in each round.
 fn assert_answered<'a, 'p, R: Threads + Wait + Abort + Sync>(
     rt: &R,
     alloc: Global,

@@ -11,7 +11,7 @@ use std::thread;
 /// How often a call is made, or a flag looked at, at most.
 pub(crate) const MOST_TRIES: u32 = 10_000_000;
 
-/// Whether a flag is set within so many looks.
+/// Returns whether a flag is set within `looks` looks.
 pub(crate) fn is_set_within(flag: &AtomicBool, looks: u32) -> bool {
     for _ in 0..looks {
         if flag.load(Ordering::SeqCst) {
@@ -70,7 +70,7 @@ pub(crate) fn end_when_free<'p>(
     Err(Busy)
 }
 
-/// What a session comes to, once it has.
+/// Returns what a session comes to, once it has.
 pub(crate) fn finished_in_time<'p>(
     pool: &SessionPool<'p>,
     seat: &mut ClientSeat<'p>,

@@ -52,12 +52,12 @@ refused s = if is_some (end_in s) then s else record s { out_of_memory = true }
 
 -- ---- answers
 
--- It is done, or the refusal is told and nothing changes.
+-- It is done, or the refusal is returned and nothing changes.
 abbrev pub Surely : {E : Type 0} → Option E → Session → Result (Unit {0}) E → Session → Session → Type 0
 Surely refusal done (Ok u) old new = (refusal ≡ None) × (new ≡ done)
 Surely refusal done (Err e) old new = (refusal ≡ Some e) × (new ≡ old)
 
--- The same, unless memory ran out where it would be done, which changes nothing either.
+-- As `Surely`, except that memory may run out where it would be done, which changes nothing either.
 abbrev pub Maybe : {E : Type 0} → E → Option E → Session → Result (Unit {0}) E → Session → Session → Type 0
 Maybe no_memory refusal done (Ok u) old new = (refusal ≡ None) × (new ≡ done)
 Maybe no_memory refusal done (Err e) old new =

@@ -10,7 +10,7 @@ use Rattle.session_state.specs.declared.end.SessionEnd as rust
 use Rattle.session_state.specs.declared.end.SessionEnd.TheVariants as ends
 use Rattle.session_state.specs.Session.{OutOfMemory, Out, Session, SessionEnd, Trapped, end_in, state_of}
 
--- the end that a value of the program stands for
+-- the end that a value of the program represents
 abbrev pub end_of : rust.SessionEnd → SessionEnd
 end_of (ends.Out outcome) = Out (outcome_of outcome)
 end_of (ends.Trap trap) = Trapped trap

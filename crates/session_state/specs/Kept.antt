@@ -8,7 +8,7 @@ use Rattle.session_state.specs.Changes.{break_refusal, finished, piece_refusal, 
 use Rattle.session_state.specs.Rows.{walk_rows}
 use Rattle.session_state.specs.Session.{Session, begun, has_break, state_of}
 
--- no address stands twice
+-- no address occurs twice
 abbrev pub AreDistinct : List ℕ → Type 0
 AreDistinct [] = Unit {0}
 AreDistinct (address ∷ breaks) = (has_break address breaks ≡ false) × AreDistinct breaks

@@ -15,14 +15,14 @@ abbrev pub is_counted_out : State → Bool
 is_counted_out s = s.count == 2 ^ 64 - 1
 
 module _ (P : Program) (input : List ℕ) (ended : Bool) where
-  -- the rows from a state on: at most so many, none at a breakpoint at which no content is begun, and none that
-  -- cannot be counted
+  -- how many rows are taken from a state on: no more than are asked for, none at a breakpoint at which no content is
+  -- begun, and none that cannot be counted
   unfoldable pub slice_from : List ℕ → ℕ → State → ℕ
   slice_from breaks zero s = 0
   slice_from breaks (suc k) s = if is_counted_out s || stops_at breaks s then 0
       else given (row_of P input ended s) 0 (λ (next : State). 1 + slice_from breaks k next)
 
-  -- the same, though the first row may be at a breakpoint
+  -- as `slice_from`, but the first row may be at a breakpoint
   abbrev pub go_from : List ℕ → ℕ → State → ℕ
   go_from breaks zero s = 0
   go_from breaks (suc k) s = if is_counted_out s then 0
@@ -52,7 +52,7 @@ heeded heeds s = if heeds then s.breaks else []
 abbrev pub go_rows : ℕ → Session → ℕ
 go_rows n s = rows_of s (go_from s.program s.bytes s.closed s.breaks n)
 
--- the next row may want memory: its instruction may grow something, and it tells no fault and no trap
+-- the next row may need memory: its instruction may grow something, and it ends the run in no fault and no trap
 abbrev pub NextMayGrow : Session → Type 0
 NextMayGrow s = (state : State) × (state_of s ≡ Some state) × MayGrow (slice_get s.program.code state.pc)
     × GoesOn state (row_of s.program s.bytes s.closed state)

@@ -30,6 +30,6 @@ IsStoppedAs true breaks k rows stopped s = stopped ≡ Ended
 IsStoppedAs false breaks k rows stopped s = (state : State) × (state_of s ≡ Some state)
     × IsWhy s.program s.bytes s.closed breaks (why_of stopped) k rows state
 
--- why a session stopped, of which so many rows were taken where at most k were asked for, under these breakpoints
+-- why a session stopped, of which `rows` rows were taken where at most k were asked for, under these breakpoints
 abbrev pub IsStopped : List ℕ → ℕ → ℕ → Stopped → Session → Type 0
 IsStopped breaks k rows stopped s = IsStoppedAs s.out_of_memory breaks k rows stopped s

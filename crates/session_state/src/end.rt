@@ -10,6 +10,6 @@ pub enum SessionEnd {
     Out(Outcome),
     /// With a trap, as no program of two schemas does.
     Trap(Trap),
-    /// For want of memory, at its last row.
+    /// Because memory ran out, at its last row.
     NoMemory,
 }

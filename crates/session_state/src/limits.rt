@@ -5,8 +5,8 @@ ghost use Rattle.std.specs.Prelude.{◌≡◌};
 /// The greatest number of breakpoints of a session.
 pub const MOST_BREAKS: usize = 64;
 
-/// For how many bytes a session that has ended or begins anew keeps memory that it has no use for, in each of its lists
-/// of bytes; for a 64th of so many items in each other list.
+/// For how many bytes a session that has ended or begins anew keeps memory that it has no use for, in each of its
+/// lists of bytes; in each other list, for a 64th of that number of items.
 pub const MOST_ROOM: usize = 65_536;
 
 /// The law of what the limits are.

@@ -43,7 +43,7 @@ impl PieceRefusal {
     ghost use Rattle.std.specs.Prelude.{◌≡◌};
     ghost use Rattle.session_state.specs.Names.{piece_refusal_name};
 
-    /// Its name, as programs print it.
+    /// Returns its name, as programs print it.
     pub fn name(self) -> &'static str
         ensures { result.now ≡ piece_refusal_name self }
     {
@@ -59,7 +59,7 @@ impl BreakRefusal {
     ghost use Rattle.std.specs.Prelude.{◌≡◌};
     ghost use Rattle.session_state.specs.Names.{break_refusal_name};
 
-    /// Its name, as programs print it.
+    /// Returns its name, as programs print it.
     pub fn name(self) -> &'static str
         ensures { result.now ≡ break_refusal_name self }
     {
@@ -75,7 +75,7 @@ impl ClearRefusal {
     ghost use Rattle.std.specs.Prelude.{◌≡◌};
     ghost use Rattle.session_state.specs.Names.{clear_refusal_name};
 
-    /// Its name, as programs print it.
+    /// Returns its name, as programs print it.
     pub fn name(self) -> &'static str
         ensures { result.now ≡ clear_refusal_name self }
     {

@@ -24,7 +24,7 @@ use program_correctness::runs_alone_are_counted_and_stay;
 use std::alloc::Global;
 use std::marker::Model;
 
-/// Takes an address away, where it stands.
+/// Removes an address from breakpoints, where it is among them.
 fn clear(breaks: &mut Vec<u32>, address: u32)
     ensures cleared { breaks.new.items ≡ without_break address breaks.old.items }
     ensures fewer { length breaks.new.items ≤ length breaks.old.items }
@@ -32,21 +32,21 @@ fn clear(breaks: &mut Vec<u32>, address: u32)
     breaks.retain(|b| *b != address);
 }
 
-/// Whether an address is among breakpoints.
+/// Returns whether an address is among breakpoints.
 fn is_set(breaks: &[u32], address: u32) -> bool
     ensures { result ≡ has_break address breaks.now }
 {
     breaks.contains(&address)
 }
 
-/// The breakpoints that are heeded: all, or none.
+/// Returns the breakpoints that count: all, or none.
 fn heeded(breaks: &[u32], heeds: bool) -> &[u32]
     ensures { result.now ≡ (if heeds then breaks.now else []) }
 {
     if heeds { breaks } else { &[] }
 }
 
-/// How a session ended: for want of memory, or as its machine did.
+/// Returns how a session ended: because memory ran out, or as its machine did. `None` where it has not ended.
 fn end_after(out_of_memory: bool, end: Option<End>) -> Option<SessionEnd>
     ensures { option_map end_of result
         ≡ (if out_of_memory then Some OutOfMemory else option_map session_end (option_map machine_end_of end)) }
@@ -61,7 +61,7 @@ fn end_after(out_of_memory: bool, end: Option<End>) -> Option<SessionEnd>
     }
 }
 
-/// Lets go of memory above what is held, and above that for `MOST_ROOM` bytes, where a run takes no more rows.
+/// Releases memory above what is held, and above that for `MOST_ROOM` bytes, where a run takes no more rows.
 fn let_go(run: &mut Run, why: Why)
     ensures { run.new ≡ run.old }
 {
@@ -73,7 +73,7 @@ fn let_go(run: &mut Run, why: Why)
 /// A program that is run on bytes that come in pieces, with breakpoints.
 ///
 /// Callers see how many rows were taken, and by them what its machine is: the program run alone on the bytes that
-/// came, however they were cut and whoever took the rows. What takes rows answers how many; where it finds no memory
+/// came, however they were cut and whoever took the rows. What takes rows returns how many; where it finds no memory
 /// for one, the session has ended there, and no other has. What holds of every session is `IsSession`, and what makes
 /// it `IsMade`.
 #[derive(Drop)]
@@ -112,7 +112,7 @@ impl<'p> Session<'p> {
     ghost use Rattle.isa.specs.State.{State};
     ghost use Rattle.session_state.specs.Session.{begun};
 
-    /// A session before its first piece. It takes no memory.
+    /// Returns a session before its first piece. It takes no memory.
     pub fn begin(alloc: Global, program: &'p PlannedProgram) -> Session<'p>
         ensures { result ≡ begun program.now }
     {
@@ -125,7 +125,7 @@ impl<'p> Session<'p> {
         }
     }
 
-    /// Goes back to what `begin` gives for a program, in the room that it has.
+    /// Goes back to what `begin` returns for a program, in the memory that it has.
     pub fn reset(&mut self, program: &'p PlannedProgram)
         ensures { self.new ≡ begun program.now }
     {
@@ -135,8 +135,10 @@ impl<'p> Session<'p> {
         self.out_of_memory = false;
     }
 
-    /// Appends bytes to the payload. `TooLarge` where all bytes would pass `MOST_PAYLOAD`, and then `Ended` where no
-    /// more were to come. A session that has ended takes them too. No bytes take no memory.
+    /// Appends bytes to the payload.
+    ///
+    /// `TooLarge` where all bytes would pass `MOST_PAYLOAD`, and then `Ended` where no more were to come. A session
+    /// that has ended takes them too. No bytes take no memory.
     pub fn piece(&mut self, bytes: &[u8]) -> Result<(), PieceRefusal>
         ensures taken { Maybe PieceRefusal.NoMemory (piece_refusal bytes.now self.old) (with_piece bytes.now self.old)
             result self.old self.new }
@@ -155,8 +157,8 @@ impl<'p> Session<'p> {
         Ok(())
     }
 
-    /// Appends bytes to the payload, as `piece` does. More than `MOST_ROOM` of them that are the first are not copied.
-    /// Refused, they are handed back.
+    /// Appends bytes to the payload, as `piece` does. More than `MOST_ROOM` of them that are the first are not
+    /// copied. Where they are refused, they are handed back.
     pub fn piece_owned(&mut self, bytes: Vec<u8>) -> Result<(), RefusedPiece>
         ensures ok { OnOk result ((piece_refusal bytes.items self.old ≡ None)
             × (self.new ≡ with_piece bytes.items self.old)) }
@@ -228,8 +230,8 @@ impl<'p> Session<'p> {
         Ok(())
     }
 
-    /// Ends it for want of memory, where it has not ended, and lets go of memory above what is held, and above that for
-    /// `MOST_ROOM` bytes and a 64th of so many slots, frames and calls.
+    /// Ends it as where memory ran out, if it has not ended, and releases memory above what is held, and above that
+    /// for `MOST_ROOM` bytes and a 64th of that number of slots, frames and calls.
     pub fn refuse(&mut self)
         ensures { self.new ≡ refused self.old }
     {
@@ -240,7 +242,7 @@ impl<'p> Session<'p> {
         self.run.shrink_to(MOST_ROOM);
     }
 
-    /// Takes rows: at most `limit`, under its breakpoints, or under none.
+    /// Takes at most `limit` rows, under its breakpoints, or under none. Returns how many, and why no more.
     fn take_rows(&mut self, heeds_breaks: bool, limit: u64) -> Slice
         ensures rows { TakesRows (rows_under (heeded heeds_breaks self.old) limit self.old) self.old result.rows
             self.new }
@@ -265,8 +267,10 @@ impl<'p> Session<'p> {
         }
     }
 
-    /// Takes rows: at most `limit`, and none at a breakpoint at which no content is begun. Answers how many, and why no
-    /// more. With no breakpoint, a session that has an end within `limit` rows has ended then.
+    /// Takes at most `limit` rows, and none at a breakpoint at which no content is begun. Returns how many, and why
+    /// no more.
+    ///
+    /// With no breakpoint, a session that has an end within `limit` rows has ended then.
     pub fn slice(&mut self, limit: u64) -> Slice
         ensures rows { TakesRows (slice_rows limit self.old) self.old result.rows self.new }
         ensures most { result.rows ≤ limit }
@@ -277,7 +281,7 @@ impl<'p> Session<'p> {
         self.take_rows(true, limit)
     }
 
-    /// Takes rows: at most `limit`, whatever breakpoints are set.
+    /// Takes at most `limit` rows, whatever breakpoints are set. Returns how many.
     pub fn step(&mut self, limit: u64) -> u64
         ensures rows { TakesRows (walk_rows limit self.old) self.old result self.new }
         ensures most { result ≤ limit }
@@ -285,7 +289,8 @@ impl<'p> Session<'p> {
         self.take_rows(false, limit).rows
     }
 
-    /// Takes rows: at most `limit`, of which the first alone may be at a breakpoint at which no content is begun.
+    /// Takes at most `limit` rows, of which the first alone may be at a breakpoint at which no content is begun.
+    /// Returns how many.
     pub fn go(&mut self, limit: u64) -> u64
         ensures rows { TakesRows (go_rows limit self.old) self.old result self.new }
         ensures most { result ≤ limit }
@@ -301,35 +306,35 @@ impl<'p> Session<'p> {
         1 + self.slice(limit - 1).rows
     }
 
-    /// The program that is run.
+    /// Returns the program that is run.
     pub fn program(&self) -> &'p Program
         ensures { result.now ≡ self.now.program }
     {
         self.run.program()
     }
 
-    /// The bytes that came.
+    /// Returns the bytes that came.
     pub fn bytes(&self) -> &[u8]
         ensures { result.now ≡ self.now.bytes }
     {
         self.run.input()
     }
 
-    /// Whether no more bytes come.
+    /// Returns whether no more bytes come.
     pub fn is_closed(&self) -> bool
         ensures { result ≡ self.now.closed }
     {
         self.run.is_closed()
     }
 
-    /// Its breakpoints, in the order in which they were set.
+    /// Returns its breakpoints, in the order in which they were set.
     pub fn breaks(&self) -> &[u32]
         ensures { result.now ≡ self.now.breaks }
     {
         self.breaks.as_slice()
     }
 
-    /// Its machine, to read the state.
+    /// Returns its machine, to read the state.
     pub fn machine(&self) -> &Machine
         ensures state { state_of self.now ≡ Some result.now.state }
         ensures count { result.now.state.count ≡ self.now.count }
@@ -339,7 +344,8 @@ impl<'p> Session<'p> {
         self.run.machine()
     }
 
-    /// The bytes of a character that is cut at the end of what has moved of a text; none where there is no such thing.
+    /// Returns the bytes of a character that is cut at the end of what has moved of a text; none where no character
+    /// is cut.
     pub fn carry(&self) -> &[u8]
         ensures { (state : State) × (state_of self.now ≡ Some state)
             × IsCarry (slice_get self.now.program.code state.pc) self.now.bytes state.pos state.content result.now }
@@ -348,14 +354,14 @@ impl<'p> Session<'p> {
         self.run.carry()
     }
 
-    /// Whether want of memory has ended it.
+    /// Returns whether it has ended because memory ran out.
     pub fn no_memory(&self) -> bool
         ensures { result ≡ self.now.out_of_memory }
     {
         self.out_of_memory
     }
 
-    /// Whether it has ended.
+    /// Returns whether it has ended.
     pub fn has_ended(&self) -> bool
         ensures { result ≡ is_some (end_in self.now) }
     {
@@ -363,14 +369,14 @@ impl<'p> Session<'p> {
         self.out_of_memory || self.run.machine().has_ended()
     }
 
-    /// How it ended, where it has.
+    /// Returns how it ended; `None` where it has not.
     pub fn into_end(self) -> Option<SessionEnd>
         ensures { option_map end_of result ≡ end_in self.entry }
     {
         self.into_parts().0
     }
 
-    /// How it ended, where it has, and the bytes that came.
+    /// Returns how it ended, or `None` where it has not, and the bytes that came.
     pub fn into_parts(self) -> (Option<SessionEnd>, Vec<u8>)
         ensures end { option_map end_of result.0 ≡ end_in self.entry }
         ensures bytes { result.1.items ≡ self.entry.bytes }
@@ -380,8 +386,8 @@ impl<'p> Session<'p> {
         (end_after(self.out_of_memory, end), bytes)
     }
 
-    /// How it ended, where it has, which is taken out: the session goes back to what `begin` gives for its program, in
-    /// the room that is left, of which it lets go as `refuse` does.
+    /// Takes out how it ended; `None` where it has not. The session goes back to what `begin` returns for its
+    /// program, in the memory that is left, of which it releases some as `refuse` does.
     pub fn take_end(&mut self) -> Option<SessionEnd>
         ensures end { option_map end_of result ≡ end_in self.old }
         ensures begun { self.new ≡ begun self.old.program }
@@ -404,8 +410,8 @@ impl<'p> Session<'p> {
     }
 
     /// The law of what a session is: what one piece of its bytes, the end of the payload where it is closed, its
-    /// breakpoints and a walk of as many rows as it counts make of one that has begun, or that one ended by want of
-    /// memory.
+    /// breakpoints and a walk of as many rows as it counts make of one that has begun, or that one ended where
+    /// memory ran out.
     pub fn is_made(&self)
         ensures { IsMade self.now }
     {

@@ -1,11 +1,11 @@
-//! So many rows of a session, and why no more.
+//! A number of rows of a session, and why no more.
 
 use machine::Why;
 
 /// Why no more rows were taken of a session: the first of these that is true of what is left.
 #[derive(Clone, Copy, Debug, PartialEq, Eq)]
 pub enum Stopped {
-    /// The session has ended, also for want of memory.
+    /// The session has ended, also where memory ran out.
     Ended,
     /// As many rows were taken as were asked for, or as can be counted.
     Spent,
@@ -15,7 +15,7 @@ pub enum Stopped {
     Waits,
 }
 
-/// So many rows of a session, and why no more.
+/// How many rows were taken of a session, and why no more.
 #[derive(Clone, Copy, Debug, PartialEq, Eq)]
 pub struct Slice {
     pub rows: u64,
@@ -26,7 +26,7 @@ impl Stopped {
     ghost use Rattle.std.specs.Prelude.{◌≡◌};
     ghost use Rattle.session_state.specs.Stopping.{stopped_of};
 
-    /// Why a session stopped whose run took no more rows for this reason: want of memory ends it.
+    /// Returns why a session stopped whose run took no more rows for this reason: it ends where memory ran out.
     pub(crate) fn of(why: Why) -> Stopped
         ensures { result ≡ stopped_of why }
     {

@@ -1,4 +1,4 @@
-//! Taking rows of a run, and telling want of memory apart.
+//! Taking rows of a run, where a row that finds no memory is reported apart.
 
 ghost use Rattle.std.specs.Prelude.{◌≡◌, ◌≢◌, ◌≤◌, ◌<◌, ◌+◌, slice_get};
 ghost use Rattle.isa.specs.Row.{row_of};
@@ -11,7 +11,8 @@ ghost use Rattle.machine_stepper.specs.Slice.{IsWhy};
 use machine::{Run, Slice, Why};
 use program_correctness::runs_alone_are_counted_and_stay;
 
-/// Takes rows of a run, at most so many, none at a breakpoint at which no content is begun.
+/// Takes at most `limit` rows of a run, none at a breakpoint at which no content is begun. Returns how many, and why
+/// no more.
 pub(crate) fn take(run: &mut Run, breaks: &[u32], limit: u64) -> Slice
     ensures all { result.why ≢ NoMemory → result.rows
         ≡ slice_from run.old.program run.old.input run.old.ended breaks.now limit run.old.machine.state }

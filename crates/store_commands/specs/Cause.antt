@@ -15,7 +15,7 @@ use Rattle.store_commands.specs.declared.exporting.ExportFault.TheVariants.{Traf
 use Rattle.store_commands.specs.declared.listing.ListingFault.{ListingFault}
 use Rattle.store_commands.specs.declared.listing.ListingFault.TheVariants as listings
 
--- ---- what each of these is told as
+-- ---- what each of these is reported as
 
 abbrev pub IsOfRead : ReadError → ExportFault → Type 0
 IsOfRead reads.NoMemory fault = fault ≡ Traffic runs.NoMemory
@@ -31,7 +31,7 @@ IsOfListing (listings.NotAccepted number) fault = fault ≡ NotAccepted number
 
 -- ---- why
 
--- the command of this number, from 1, has other names
+-- the command with this number, counted from 1, has other names
 pub record LacksNames (commands : List Stored) (number : ℕ) : Type 0 where
   pub before : List Stored
   pub command : Stored

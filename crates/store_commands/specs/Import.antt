@@ -27,7 +27,7 @@ Say (line ∷ lines) commands =
     (first : List Command) × (rest : List Command) × (said_in line ≡ Some first) × Say lines rest
     × (commands ≡ first ++ rest)
 
--- the lines before the one of this number, from 1, are taken, and say this
+-- the lines before the one with this number, counted from 1, are taken, and say this
 pub record AreBefore (lines : List (List ℕ)) (number : ℕ) (commands : List Command) : Type 0 where
   pub before : List (List ℕ)
   pub after : List (List ℕ)

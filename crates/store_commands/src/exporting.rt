@@ -27,7 +27,7 @@ pub enum ExportFault {
     /// The bytes are not those of a store.
     #[error("{0}")]
     Store(OpenFault),
-    /// The line of this number, from 1, is that of a command that no registry accepts.
+    /// The line with this number, from 1, is that of a command that no registry accepts.
     #[error("line {number}: no registry accepts the command")]
     NotAccepted { number: usize },
 }
@@ -82,7 +82,7 @@ impl From<ListingFault> for ExportFault {
     }
 }
 
-/// Returns what is said of a store whose line of this number, from 1, was not read.
+/// Returns the fault of a store whose line with this number, from 1, was not read.
 fn bad_line(number: usize, fault: LineFault) -> OpenFault
     ensures { result ≡ bad_line number fault }
 {

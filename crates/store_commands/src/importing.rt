@@ -52,9 +52,11 @@ fn line_fault(path: &str, line: UntakenLine) -> ImportFault<'_> {
     ImportFault::Line { path, line }
 }
 
-/// Makes a store in a new file at the path, of the lines of `replay` that the reader has, and writes `imported N`, with
-/// the number of commands that they say. A file that is there is left as it is. The input is read to its end before the
-/// file is made. Where a line is not taken, the file is left with the commands of the lines before it.
+/// Makes a store in a new file at the path, of the lines of `replay` that the reader has, and writes `imported N`,
+/// with the number of commands that they say.
+///
+/// A file that is there is left as it is. The input is read to its end before the file is made. Where a line is not
+/// taken, the file is left with the commands of the lines before it.
 pub fn import<'p, R: Read, W: Write>(
     rt: &HostRuntime,
     alloc: Global,

@@ -45,8 +45,9 @@ pub struct UntakenLine {
     pub trouble: LineTrouble,
 }
 
-/// Returns the command that a line of `replay` says. `BadLine` where it says none that changes a registry, `Refused`
-/// where the level has no name, or memory ran out.
+/// Returns the command that a line of `replay` says.
+///
+/// `BadLine` where it says none that changes a registry, `Refused` where the level has no name, or memory ran out.
 fn command_in(alloc: Global, line: &[u8]) -> Result<Command, LineTrouble>
     ensures { IfOk result (λ command. command_in (replay_line line.now) ≡ Some (command_of command)) }
 {
@@ -72,7 +73,7 @@ fn is_silent(line: &[u8]) -> bool
     }
 }
 
-/// Does what a line says, and returns how many commands it says: none or one.
+/// Executes what a line says, and returns how many commands it says: none or one.
 fn import_line<K: Keeper>(
     alloc: Global,
     kept: &mut KeptRegistry<K>,
@@ -90,8 +91,8 @@ fn import_line<K: Keeper>(
     Ok(1)
 }
 
-/// Does what lines say, one after another, and returns how many commands they say. The error is the first line that is
-/// not taken; then the commands of the lines before it are done.
+/// Executes what lines say, one after another, and returns how many commands they say. The error is the first line
+/// that is not taken; then the commands of the lines before it are done.
 pub fn import_lines<K: Keeper>(
     alloc: Global,
     kept: &mut KeptRegistry<K>,

@@ -87,7 +87,7 @@ fn push_command(output: &mut Vec<u8>, command: &StoredCommand) -> Result<(), All
 #[derive(Clone, Copy, Debug, PartialEq, Eq)]
 pub(crate) enum ListingFault {
     NoMemory,
-    /// The command of this number, from 1, is one that no registry accepts.
+    /// The command with this number, from 1, is one that no registry accepts.
     NotAccepted { number: usize },
 }
 

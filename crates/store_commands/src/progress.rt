@@ -1,23 +1,23 @@
-//! How far the start of a registry has come, for whoever waits for it.
+//! How far the start of a registry has come, for those who wait for it.
 
 use schema_registry::Progress;
 use std::rt::Clock;
 use std::time::Instant;
 
-/// The number of seconds in which nothing is told, from the start and from each line on.
+/// The number of seconds in which no line is printed, from the start and from each line on.
 const QUIET: u64 = 1;
 
-/// Tells how far a start has come, by a line `reading the store: N of M` on standard error once a second; nothing where
-/// the start takes no second.
+/// Prints how far a start has come, by a line `reading the store: N of M` on standard error once a second; nothing
+/// where the start takes less than a second.
 #[derive(Drop)]
 pub struct TimedProgress<'a, R: Clock + Eprint> {
     rt: &'a R,
-    /// When the start began, or a line was told. `None` where there is no clock: then nothing is told.
+    /// When the start began, or a line was printed. `None` where there is no clock: then no line is printed.
     told: Option<Instant>,
 }
 
 impl<'a, R: Clock + Eprint> TimedProgress<'a, R> {
-    /// Returns it for a start that begins now.
+    /// Returns a progress for a start that begins now.
     pub fn new(rt: &'a R) -> TimedProgress<'a, R> {
         TimedProgress {
             rt,

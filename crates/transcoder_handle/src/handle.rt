@@ -29,7 +29,7 @@ pub struct Handle {
 }
 
 impl Handle {
-    /// Returns one that is closed.
+    /// Returns a handle that is closed.
     pub fn closed() -> Handle
         ensures { result.held.value ≡ None }
     {
@@ -39,7 +39,7 @@ impl Handle {
         }
     }
 
-    /// Returns one that is open on a transcoder's pair.
+    /// Returns a handle that is open on a transcoder's pair.
     fn of(transcoder: Box<OwningTranscoder>) -> Handle
         ensures { result.held.value ≡ Some transcoder.value }
     {
@@ -49,7 +49,7 @@ impl Handle {
         }
     }
 
-    /// Returns the transcoder of its pair; None where it is closed.
+    /// Returns the transcoder of its pair; `None` where it is closed.
     fn into_box(self, alloc: Global) -> Option<Box<OwningTranscoder>>
         ensures { option_map (λ b. b.value) result ≡ self.held.value }
     {
@@ -62,7 +62,7 @@ impl Handle {
         }
     }
 
-    /// Closes it, and returns the transcoder that it was open on; None where it was closed.
+    /// Closes it, and returns the transcoder that it was open on; `None` where it was closed.
     fn take(&mut self, alloc: Global) -> Option<Box<OwningTranscoder>>
         ensures taken { option_map (λ b. b.value) result ≡ self.old.held.value }
         ensures left { self.new.held.value ≡ None }
@@ -79,14 +79,14 @@ impl Handle {
         held.discard();
     }
 
-    /// Closes it, and gives back what its transcoder held.
+    /// Closes it, and frees what its transcoder held.
     pub fn close(&mut self, alloc: Global)
         ensures { self.new.held.value ≡ None }
     {
         drop(self.take(alloc));
     }
 
-    /// Lets a closed one go.
+    /// Discards a handle that is closed.
     pub fn discard(self)
         requires { self.held.value ≡ None }
     {
@@ -94,8 +94,8 @@ impl Handle {
         held.discard();
     }
 
-    /// Opens it on the pair that two texts declare, and first closes it. Returns by its number what came of that, and
-    /// writes the fault of a text, 0 where there is none.
+    /// Opens it on the pair that two texts declare, after closing it. Returns the number of the status, and writes the
+    /// number of a text's fault to `fault`, 0 where there is none.
     pub fn open(&mut self, alloc: Global, writer: &[u8], reader: &[u8], fault: &mut u32) -> u32
         ensures { TellsOpening writer.now reader.now self.new.held.value result fault.new }
     {
@@ -115,7 +115,8 @@ impl Handle {
         error.status().code()
     }
 
-    /// Writes the output of a payload to the room's front, where it fits. Returns what is reported of it.
+    /// Writes the output of a payload to the room's front, where it fits. Returns what is reported of it; `Closed`
+    /// where the handle is closed.
     fn report(&mut self, alloc: Global, payload: &[u8], room: &mut [u8]) -> Report
         ensures report { ReportsPayload self.old.held.value payload.now room.new result }
         ensures kept { self.new.held.value ≡ self.old.held.value }
@@ -144,7 +145,8 @@ impl Handle {
         numbers.status
     }
 
-    /// Writes the reader's message of a writer's to the room's front, where it fits. Returns what is reported of it.
+    /// Writes the reader's message of a writer's to the room's front, where it fits. Returns what is reported of it;
+    /// `Closed` where the handle is closed.
     fn report_message(&mut self, alloc: Global, ids: Ids, message: &[u8], room: &mut [u8]) -> Report
         ensures report { ReportsMessage self.old.held.value ids message.now room.new result }
         ensures kept { self.new.held.value ≡ self.old.held.value }
@@ -175,7 +177,7 @@ impl Handle {
     }
 
     /// Writes the outputs of a batch into a room one after another, and what is reported of each payload to its item.
-    /// Returns the number of `Done`; where it is closed that of `Closed`, and then the items are as they were.
+    /// Returns the number of `Done`, or that of `Closed` where the handle is closed; then the items are as they were.
     pub fn transcode_batch(
         &mut self,
         alloc: Global,

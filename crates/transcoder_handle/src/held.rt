@@ -13,7 +13,7 @@ use std::marker::Model;
 use std::ptr::null_mut;
 
 /// A pointer to the block of a transcoder's box, or to nothing. A clause reads the transcoder's pair, where there is
-/// one, as `value`. It is not `Drop`: what it holds goes back into its box, and one that holds nothing is let go by
+/// one, as `value`. It is not `Drop`: what it holds goes back into its box, and one that holds nothing is dropped by
 /// `discard`. (The pointer is to bytes, since C may hold no pointer to what has such blocks in it.)
 #[repr(C)]
 pub struct Held {
@@ -28,14 +28,14 @@ impl Model for Held {
 unsafe impl Send for Held {}
 
 impl Held {
-    /// Returns one that holds nothing.
+    /// Returns a pointer that holds nothing.
     pub(crate) fn none() -> Held
         ensures { result.value ≡ None }
     {
         Held { at: null_mut() }
     }
 
-    /// Returns one that holds what a box's pointer owns.
+    /// Returns a pointer that holds what a box's pointer owns.
     pub(crate) fn of_pointer(pointer: BoxPointer<OwningTranscoder, Global>) -> Held
         ensures { result.value ≡ Some pointer.value }
     {
@@ -55,7 +55,7 @@ impl Held {
         }
     }
 
-    /// Lets one go that holds nothing.
+    /// Discards a pointer that holds nothing.
     pub(crate) fn discard(self)
         requires { self.value ≡ None }
     {

@@ -11,8 +11,8 @@ use Rattle.upstream_answers.specs.declared.limits.TheConstants.{MOST_CONTENT, MO
 abbrev pub limits : Limits
 limits = record { max_head_len = MOST_HEAD; max_extensions_len = MOST_HEAD; max_trailers_len = MOST_HEAD }
 
--- the bytes begin with a response to GET, with this status and this content. It is a final one, and no interim one (1xx,
--- RFC 9110, section 15.2), since nothing asks for those, and it is within the limits.
+-- the bytes begin with a response to GET, with this status and this content. It is a final one, and no interim one
+-- (1xx, RFC 9110, section 15.2), since nothing asks for those, and it is within the limits.
 pub record IsAnswer (received : List ℕ) (status : ℕ) (content : List ℕ) : Type 0 where
   pub response : Response
   pub rest : List ℕ

@@ -1,4 +1,4 @@
--- What the content of an answer says (Confluent Schema Registry API; that null is as good as no member is this
+-- What the content of an answer says (Confluent Schema Registry API; that null counts as an absent key is this
 -- project's own).
 use Rattle.std.specs.Prelude.{◌≡◌, ◌≢◌, ℕ, ◌&&◌, ◌||◌, ◌==◌, Bool, true, false, List, Option, Some, None, Result, Ok, Err, codes, if◌then◌else◌, is_some, length, nat_le, option_and_then}
 use Rattle.std.specs.Option.{ok_or}
@@ -18,7 +18,7 @@ abbrev pub ◌>>=◌ : {A B : Type 0} → Result A ContentFault → (A → Resul
 Ok x >>= f = f x
 Err e >>= f = Err e
 
--- a call gave this result, unless memory ran out
+-- a call returned this result, unless memory ran out
 abbrev pub Tells : {R A : Type 0} → (R → A) → Result R ContentFault → Result A ContentFault → Type 0
 Tells view (Ok given) result = result ≡ Ok (view given)
 Tells view (Err e) result = e ≢ faults.NoMemory → result ≡ Err e

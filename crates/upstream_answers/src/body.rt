@@ -9,8 +9,9 @@ use http1::decode::{Decoded, Decoder};
 use httparse::spans::{EMPTY_HEADER_SPAN, HeaderSpan};
 use std::alloc::Global;
 
-/// Reads one piece of the body into `content`: returns the bytes after it. `None` where the body ends, and `content` is
-/// whole. `NoAnswer` where there is no body within the limits.
+/// Reads one piece of the body into `content`, and returns the bytes after it.
+///
+/// `None` where the body ends, and `content` is whole. `NoAnswer` where there is no body within the limits.
 fn next_piece<'a>(
     decoder: &mut Decoder,
     unread: &'a [u8],

@@ -17,7 +17,7 @@ use std::alloc::{AllocError, Global};
 /// The `error_code` of an answer that the id names no schema.
 const SCHEMA_NOT_FOUND: u64 = 40_403;
 
-/// Returns the text that the bytes spell. `NoJson` where they are no UTF-8.
+/// Returns the bytes as a text. `NoJson` where they are no UTF-8.
 #[tactic(auto, using(crate::proofs::Texts::is_text, crate::proofs::Texts::is_no_text))]
 fn text_in(content: &[u8]) -> Result<&str, ContentFault>
     ensures { Tells (λ t. t.now) result (as_text content.now) }
@@ -95,9 +95,11 @@ fn schema_of(members: Members) -> Result<String, ContentFault>
     text_kept(schema)
 }
 
-/// Returns the text of the schema in the content of an answer. The faults, the first that holds: `NoJson` where the
-/// content is no JSON object, `NotAvro` where its `schemaType` is neither null nor `AVRO`, `HasReferences` where its
-/// `references` are neither null nor empty, `NoSchema` where its `schema` is no text.
+/// Returns the text of the schema in the content of an answer.
+///
+/// The faults, the first that holds: `NoJson` where the content is no JSON object, `NotAvro` where its `schemaType`
+/// is neither null nor `AVRO`, `HasReferences` where its `references` are neither null nor empty, `NoSchema` where
+/// its `schema` is no text.
 pub fn schema_in(alloc: Global, content: &[u8]) -> Result<String, ContentFault>
     ensures { Tells string_bytes result (schema_text content.now) }
 {

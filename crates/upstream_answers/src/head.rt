@@ -52,8 +52,8 @@ fn accepted(received: &[u8], headers: &[HeaderSpan], spans: ResponseSpans) -> Op
     })
 }
 
-/// Finds the head of an answer at the front of the bytes (RFC 9112, sections 4 and 5). `headers` takes where its fields
-/// are.
+/// Finds the head of an answer at the front of the bytes (RFC 9112, sections 4 and 5). `headers` receives where its
+/// fields are.
 pub(crate) fn front_of(received: &[u8], headers: &mut [HeaderSpan]) -> Front
     requires { length headers.old ≡ MOST_FIELDS }
     ensures front { IsFrontOf received.now result }

@@ -5,20 +5,20 @@ ghost use Rattle.upstream_answers.specs.Answer.{limits};
 
 use http1::Limits;
 
-/// The number of bytes that the head of an answer has at most, and the chunk extensions and the trailers of one.
+/// The greatest number of bytes of the head of an answer, and of its chunk extensions and its trailers.
 pub const MOST_HEAD: usize = 16_384;
 
-/// The number of fields that the head of an answer has at most, and of trailers.
+/// The greatest number of fields of the head of an answer, and of trailers.
 pub const MOST_FIELDS: usize = 64;
 
-/// The number of bytes that the content of an answer has at most: room for a schema of the greatest length whose bytes
-/// are all escaped, and for other members.
+/// The greatest number of bytes of the content of an answer: room for a schema of the greatest length whose bytes are
+/// all escaped, and for other members.
 pub const MOST_CONTENT: usize = 8_388_608;
 
-/// The number of bytes that an answer has at most in all: head, content, and as much again for the lines of chunks.
+/// The greatest number of bytes of an answer in all: head, content, and as much again for the lines of chunks.
 pub const MOST_ANSWER: usize = 16_842_752;
 
-/// The number of bytes that the content of an error has at most, where it is read.
+/// The greatest number of bytes of the content of an error, where it is read.
 pub const MOST_ERROR: usize = 65_536;
 
 /// The number of times that a read is tried, where a signal interrupts it each time.
@@ -35,7 +35,7 @@ pub(crate) fn limits() -> Limits
     }
 }
 
-/// States what the limits are.
+/// The law of what the limits are.
 pub fn limits_are_these()
     ensures head { MOST_HEAD ≡ 16384 }
     ensures fields { MOST_FIELDS ≡ 64 }

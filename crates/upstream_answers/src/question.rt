@@ -11,7 +11,7 @@ const MEDIA_TYPE: &str = "application/vnd.schemaregistry.v1+json";
 /// Where the registry is asked, and by whom.
 #[derive(Debug, Drop)]
 pub struct Place {
-    /// As it goes into the Host field, with a port where it is not that of the scheme (RFC 9110, section 7.2).
+    /// The value of the Host field, with a port where it is not that of the scheme (RFC 9110, section 7.2).
     pub host: String,
     /// The path before `/schemas`: empty, or beginning with `/` and not ending with it.
     pub prefix: String,
@@ -19,8 +19,8 @@ pub struct Place {
     pub credentials: String,
 }
 
-/// Returns the field that names who asks, with the end of its line: nothing where the credentials are empty (RFC 7617,
-/// section 2).
+/// Returns the field with the credentials, with the end of its line: nothing where the credentials are empty (RFC
+/// 7617, section 2).
 fn authorization_of(alloc: Global, credentials: &str) -> Result<String, AllocError>
     ensures { IfOk result (λ text. string_bytes text ≡ authorization_text credentials.now) }
 {
@@ -37,8 +37,8 @@ fn request_line(alloc: Global, prefix: &str, id: u32) -> Result<String, AllocErr
     Ok(format!(in alloc; "GET {prefix}/schemas/ids/{id} HTTP/1.1\r\n")?)
 }
 
-/// Returns the request for the schema of an id, in whole: it has no body, and asks for the connection to be closed
-/// after the answer (RFC 9112, sections 3 and 9.6).
+/// Returns the whole request for the schema of an id: it has no body, and asks for the connection to be closed after
+/// the answer (RFC 9112, sections 3 and 9.6).
 pub fn question_of(alloc: Global, place: &Place, id: u32) -> Result<String, AllocError>
     ensures { IfOk result (λ text. string_bytes text ≡ question_text place.now id) }
 {

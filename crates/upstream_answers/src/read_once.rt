@@ -8,8 +8,8 @@ use crate::fault::ReceiveFault;
 use crate::limits::MOST_TRIES;
 use std::io::{ErrorKind, Read};
 
-/// Reads once into the buffer: returns the number of bytes that came, 0 only where the reader has ended or the buffer
-/// has no room. `Failed` where the reader fails, or is interrupted `MOST_TRIES` times.
+/// Reads once into the buffer, and returns the number of bytes that came, 0 only where the reader has ended or the
+/// buffer has no room. `Failed` where the reader fails, or is interrupted `MOST_TRIES` times.
 pub(crate) fn read_once<R: Read>(reader: &mut R, buffer: &mut [u8]) -> Result<usize, ReceiveFault>
     ensures room { length buffer.new ≡ length buffer.old }
     ensures bound { ReadsAtMost result buffer.new }

@@ -16,7 +16,7 @@ use std::io::Read;
 /// The number of bytes that a read asks for.
 const CHUNK: usize = 4_096;
 
-/// Reads once into `chunk`, and appends what came: returns the number of bytes, 0 only where the reader has ended.
+/// Reads once into `chunk`, appends what came, and returns the number of bytes, 0 only where the reader has ended.
 /// `Failed` where the reader fails.
 fn read_more<R: Read>(
     reader: &mut R,

@@ -38,8 +38,8 @@ fn is_too_long(decoder: Decoder) -> bool {
     matches!(decoder, Decoder::Length(len) if len > MOST_CONTENT as u64)
 }
 
-/// Has the decoder look at the bytes received that it has not looked at. `NoAnswer` where no body can follow,
-/// `TooLarge` where it has more content than an answer may have.
+/// Makes the decoder look at the bytes received that it has not looked at, and returns the stage. `NoAnswer` where no
+/// body can follow, `TooLarge` where it has more content than an answer may have.
 fn look_at_body(
     body: BodyStage,
     received: &[u8],
@@ -75,7 +75,7 @@ fn look_at_body(
     }
 }
 
-/// Looks for the head. `NoAnswer` where no head can follow.
+/// Looks for the head, and returns the stage. `NoAnswer` where no head can follow.
 fn look_at_head(received: &[u8], headers: &mut [HeaderSpan]) -> Result<Stage, ReceiveFault>
     requires { length headers.old ≡ MOST_FIELDS }
     ensures stage { IfOk result (IsStageOf (length received.now)) }

@@ -1,4 +1,4 @@
-//! What looks names up and connects, in any thread.
+//! A trait of what looks names up and connects, in any thread.
 
 use std::io;
 use std::net::{SocketAddr, TcpStream};
@@ -10,8 +10,10 @@ pub const MOST_ADDRESSES: usize = 8;
 /// What looks names up and connects, in any thread. The program implements it by its runtime, since no thread may be
 /// given a handle `Net` through a type parameter.
 pub trait Dial {
-    /// Looks up the addresses of a name, each with the port. Returns their number, and writes them to the front of
-    /// `found`: the first ones where there are more than it has room for.
+    /// Looks up the addresses of a name, each with the port.
+    ///
+    /// Returns their number, and writes them to the front of `found`: the first ones where there are more than it has
+    /// room for.
     fn look_up(
         &self,
         host: &str,

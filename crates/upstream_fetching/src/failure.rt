@@ -52,7 +52,7 @@ impl<U: Upstream> Failure<U> {
         self.id == id
     }
 
-    /// Returns why the schema of an id is not held. None where the failure is that of another id, or was found out
+    /// Returns why the schema of an id is not held. `None` where the failure is that of another id, or was found out
     /// longer ago than it is remembered for.
     pub(crate) fn fault_of(&self, id: u32, now: Instant) -> Option<Fault>
         ensures { IfSome result (IsWhyUnheld U.heard U.kept id) }

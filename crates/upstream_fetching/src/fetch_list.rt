@@ -18,7 +18,7 @@ use upstream_schemas::Upstream;
 pub enum Asked {
     /// It was found out less than a second ago that its schema is not held, and why.
     Failed(Fault),
-    /// It is asked for; who asks is woken once that is over.
+    /// It is asked for; the one who asks is woken once that is over.
     Waits,
     /// As many ids are asked for as may be, or memory ran out, or the queue has ended.
     Busy,
@@ -40,7 +40,7 @@ pub(crate) struct FetchList<U: Upstream> {
     under_way: Vec<u32>,
     /// Until when somebody waits for an id, for those of which that is known.
     wanted: Vec<Wanted>,
-    /// The oldest first.
+    /// The failures that are remembered, the oldest first.
     failures: Vec<Failure<U>>,
     is_ended: bool,
     ghost few_asked: { vec_len waiting + vec_len under_way ≤ MOST_ASKED },
@@ -60,7 +60,7 @@ impl<U: Upstream> FetchList<U> {
         }
     }
 
-    /// Returns why the schema of an id is not held. None where no failure of it is remembered.
+    /// Returns why the schema of an id is not held. `None` where no failure of it is remembered.
     fn fault_of(&self, id: u32, now: Instant) -> Option<Fault>
         ensures { IfSome result (IsWhyUnheld U.heard U.kept id) }
     {
@@ -79,7 +79,7 @@ impl<U: Upstream> FetchList<U> {
         self.waiting.contains(&id) || self.under_way.contains(&id)
     }
 
-    /// Adds an id to those that wait. The error is want of memory: for the id, or for its failure later.
+    /// Adds an id to those that wait. The error is that memory ran out: for the id, or for its failure later.
     fn add(&mut self, id: u32) -> Result<(), AllocError>
         requires { vec_len self.old.waiting + vec_len self.old.under_way < MOST_ASKED }
         ensures waiting { OnOk result (self.new.waiting.items ≡ self.old.waiting.items ++ id ∷ []) }
@@ -93,8 +93,8 @@ impl<U: Upstream> FetchList<U> {
         Ok(())
     }
 
-    /// Queues an id to be asked for, unless it is asked for already, or a failure of it is remembered. Returns which of
-    /// these it is.
+    /// Queues an id to be asked for, unless it is asked for already, or a failure of it is remembered. Returns which
+    /// of these holds.
     pub(crate) fn ask(&mut self, id: u32, now: Instant) -> Asked
         ensures failed { IfFailed result (IsWhyUnheld U.heard U.kept id) }
         ensures asked { IfWaits result (is_asked id self.new.waiting.items self.new.under_way.items ≡ true) }
@@ -114,7 +114,7 @@ impl<U: Upstream> FetchList<U> {
         Asked::Waits
     }
 
-    /// Returns the oldest id that waits, which is then under way. None where none waits.
+    /// Returns the oldest id that waits, which is then under way. `None` where none waits.
     pub(crate) fn take(&mut self) -> Option<u32>
         ensures waiting { MatchOption result (self.old.waiting.items ≡ [])
             (λ id. self.old.waiting.items ≡ id ∷ self.new.waiting.items) }
@@ -128,8 +128,8 @@ impl<U: Upstream> FetchList<U> {
         Some(id)
     }
 
-    /// Notes that somebody waits for an id until a moment, or later than that where that was noted before. Where memory is
-    /// wanting nothing is noted.
+    /// Notes that somebody waits for an id until a moment, or later than that where that was noted before. Where
+    /// memory runs out nothing is noted.
     pub(crate) fn want(&mut self, id: u32, until: Instant)
         ensures waiting { self.new.waiting.items ≡ self.old.waiting.items }
         ensures under_way { self.new.under_way.items ≡ self.old.under_way.items }
@@ -177,7 +177,7 @@ impl<U: Upstream> FetchList<U> {
         let _is_kept = self.failures.push(failure);
     }
 
-    /// Ends the asking for an id: its schema is held, or the fault says why not.
+    /// Ends the asking for an id: its schema is held where there is no fault, else the fault is remembered.
     pub(crate) fn tell(&mut self, id: u32, fault: Option<Fault>, now: Instant)
         requires { IfSome fault (IsWhyUnheld U.heard U.kept id) }
     {

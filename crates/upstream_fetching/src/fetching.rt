@@ -36,8 +36,10 @@ fn fetch<R: Wait, U: Upstream>(
     }
 }
 
-/// Fetches the ids of the queue, one at a time, until it has ended: asks for each, and tells the queue and then the
-/// watcher how that ended. It fetches none where the clock cannot be read.
+/// Fetches the ids of the queue, one at a time, until it has ended: asks for each, and reports to the queue and then
+/// to the watcher how that ended.
+///
+/// It fetches none where the clock cannot be read.
 pub fn run_fetcher<R: Wait + Clock, U: Upstream, W: Watcher>(
     rt: &R,
     schemas: &UpstreamSchemas<'_, U>,

@@ -19,7 +19,7 @@ mod timed;
 pub use dial::{Dial, MOST_ADDRESSES};
 pub use fetch_list::Asked;
 pub use fetching::{Watcher, run_fetcher};
-pub use kept_upstream::KeptUpstream;
+pub use kept_upstream::{Beginning, KeptUpstream};
 pub use limits::{FAILURE_TIME, MOST_ASKED, MOST_FAILURES};
 pub use network::Network;
 pub use queue::FetchQueue;

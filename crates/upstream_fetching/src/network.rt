@@ -64,7 +64,7 @@ fn receive_fault(fault: ReceiveFault, is_late: bool) -> ExchangeFault {
     }
 }
 
-/// Returns when a time from now on has passed. None where the clock cannot be read, or has no such moment.
+/// Returns when a time from now on has passed. `None` where the clock cannot be read, or has no such moment.
 fn deadline_after(clock: &impl Clock, time: Duration) -> Option<Instant> {
     Instant::now(clock).ok()?.checked_add(time)
 }

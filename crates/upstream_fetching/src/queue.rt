@@ -30,8 +30,9 @@ impl<U: Upstream> FetchQueue<U> {
     }
 
     /// Queues an id to be asked for, unless it is asked for already, or it was found out less than a second before
-    /// `now` that its schema is not held. Returns which of these it is. Who asks waits until a moment, or without end: an
-    /// id for which nobody waits any more is let go.
+    /// `now` that its schema is not held. Returns which of these holds.
+    ///
+    /// The caller waits until a moment, or without end: an id for which nobody waits any more is dropped.
     pub fn ask<R: Wait>(&self, rt: &R, id: u32, now: Instant, until: Option<Instant>) -> Asked
         ensures { IfFailed result (IsWhyUnheld U.heard U.kept id) }
     {
@@ -46,8 +47,8 @@ impl<U: Upstream> FetchQueue<U> {
         asked
     }
 
-    /// Waits for an id that is to be asked for, and returns the oldest for which somebody waits, which is then under way.
-    /// None once the queue has ended.
+    /// Waits for an id that is to be asked for, and returns the oldest for which somebody waits, which is then under
+    /// way. `None` once the queue has ended.
     pub fn next<R: Wait + Clock>(&self, rt: &R) -> Option<u32> {
         let mut list = self.list.lock(rt);
         for _ in rt.forever() {

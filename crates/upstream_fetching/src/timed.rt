@@ -15,8 +15,10 @@ fn time_left(clock: &impl Clock, deadline: Instant) -> io::Result<Duration> {
     Ok(left)
 }
 
-/// Returns the error of a read or a write that has failed. It is `Interrupted` where the system ended a wait, which it
-/// may do a little before the deadline: who tries again learns whether the deadline has passed.
+/// Returns the error of a read or a write that has failed.
+///
+/// It is `Interrupted` where the system ended a wait, which it may do a little before the deadline: one that tries
+/// again learns whether the deadline has passed.
 fn error_of(error: io::Error) -> io::Error {
     if error.kind() == ErrorKind::WouldBlock {
         return io::Error::from(ErrorKind::Interrupted);

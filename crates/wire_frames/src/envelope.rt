@@ -25,7 +25,7 @@ impl EnvelopeError {
     ghost use Rattle.std.specs.Prelude.{◌≡◌};
     ghost use Rattle.wire_frames.specs.Envelope.{name_of};
 
-    /// Its name, as answers show it.
+    /// Returns its name, as answers show it.
     pub fn name(self) -> &'static str
         ensures { result.now ≡ name_of self }
     {
@@ -36,8 +36,8 @@ impl EnvelopeError {
     }
 }
 
-/// Opens a message: returns the id of the writer's schema, and the part of the message that is its payload (Confluent
-/// wire format). The error says why the bytes are no message.
+/// Opens a message, and returns the id of the writer's schema, and the part of the message that is its payload
+/// (Confluent wire format). The error says why the bytes are no message.
 pub fn open_envelope(message: &[u8]) -> Result<(u32, &[u8]), EnvelopeError>
     ensures opened { IfOk result (λ opened. message.now ≡ envelope opened.0 opened.1.now) }
     ensures refused { IfErr result (IsNoMessage message.now) }
@@ -52,8 +52,8 @@ pub fn open_envelope(message: &[u8]) -> Result<(u32, &[u8]), EnvelopeError>
     Ok((id, &message[PREFIX_LENGTH..]))
 }
 
-/// Appends what comes before a payload that the schema of this id writes. Where memory runs out it is an `Err`, which
-/// leaves the output as it was.
+/// Appends what comes before a payload that the schema of this id writes. It is an `Err` where memory runs out; then
+/// the output is as it was.
 pub fn put_envelope(id: u32, out: &mut Vec<u8>) -> Result<(), AllocError>
     ensures put { OnOk result (out.new.items ≡ out.old.items ++ prefix id) }
     ensures refused { OnErr result (out.new.items ≡ out.old.items) }

@@ -1,10 +1,10 @@
 //! A message that is received in parts.
 
-ghost use Rattle.std.specs.Prelude.{◌≡◌, ◌<◌, ◌≤◌, ◌++◌, List, ℕ, [], IfErr, IfOk, IfSome, OnErr, OnOk, length, take};
+ghost use Rattle.std.specs.Prelude.{◌≡◌, ◌<◌, ◌≤◌, ◌++◌, List, ℕ, [], IfErr, IfOk, OnErr, OnOk, length, take};
 ghost use Rattle.std.specs.Io.KnownBytes.{Keeps};
 ghost use Rattle.byte_transfer.specs.Moving.{Receives};
 ghost use Rattle.wire_frames.specs.declared.envelope.TheConstants.{PREFIX_LENGTH};
-ghost use Rattle.wire_frames.specs.Envelope.{IsNoMessage, envelope};
+ghost use Rattle.wire_frames.specs.Envelope.{IsNoMessage, IsWriterOf, envelope};
 
 use crate::envelope::{EnvelopeError, PREFIX_LENGTH, open_envelope};
 use byte_transfer::read_more;
@@ -13,8 +13,8 @@ use std::io;
 use std::io::Read;
 use std::marker::Model;
 
-/// Bytes that may be a message. What would be its envelope lies apart from what would be its payload, which can so be
-/// taken out as it lies, without a copy.
+/// Bytes that may be a message. What would be its envelope is kept apart from what would be its payload, which can so
+/// be taken out as it is, without a copy.
 #[derive(Drop)]
 pub struct Message {
     envelope: Vec<u8>,
@@ -41,7 +41,7 @@ impl Message {
         }
     }
 
-    /// Returns a message of these bytes. The error is want of memory.
+    /// Returns a message of these bytes. The error is that memory ran out.
     pub fn of(alloc: Global, bytes: &[u8]) -> Result<Message, AllocError>
         ensures { IfOk result (λ message. message ≡ bytes.now) }
     {
@@ -59,10 +59,10 @@ impl Message {
         self.envelope.len() + self.payload.len()
     }
 
-    /// Reads once, and appends what came: returns the number of bytes, 0 only where the reader has ended. It asks for no
-    /// more than `wanted` bytes in all, and memory at most doubles.
+    /// Reads once, appends what came, and returns the number of bytes, 0 only where the reader has ended.
     ///
-    /// The errors are the reader's, and `OutOfMemory` where memory is wanting; then the bytes are as they were.
+    /// It asks for no more than `wanted` bytes in all, and memory at most doubles. The errors are the reader's, and
+    /// `OutOfMemory` where memory runs out; then the bytes are as they were.
     pub fn receive<R: Read>(&mut self, reader: &mut R, wanted: usize) -> io::Result<usize>
         requires { length self.old < wanted }
         ensures received { IfOk result (Receives (R.remaining reader.old) (R.remaining reader.new) self.old self.new) }
@@ -86,7 +86,7 @@ impl Message {
 
     /// Returns the id of the writer's schema, where the bytes are a message. `None` where they are none.
     pub fn writer(&self) -> Option<u32>
-        ensures { IfSome result (λ id. (payload : List ℕ) × (self.now ≡ envelope id payload)) }
+        ensures { IsWriterOf self.now result }
     {
         match open_envelope(&self.envelope) {
             Ok((id, _)) => Some(id),
@@ -94,8 +94,8 @@ impl Message {
         }
     }
 
-    /// Opens the message: returns the id of the writer's schema, and the payload, in the memory that it was received in
-    /// (Confluent wire format). The error says why the bytes are no message.
+    /// Opens the message, and returns the id of the writer's schema, and the payload, in the memory that it was
+    /// received in (Confluent wire format). The error says why the bytes are no message.
     pub fn open(self) -> Result<(u32, Vec<u8>), EnvelopeError>
         ensures opened { IfOk result (λ opened. self ≡ envelope opened.0 opened.1.items) }
         ensures refused { IfErr result (IsNoMessage self) }

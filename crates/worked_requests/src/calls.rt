@@ -13,9 +13,9 @@ pub(crate) enum Trouble {
     InterruptedForGood,
     /// It would block at each second call, for which it is asked once more.
     Blocks,
-    /// It fails at its call of that number, counted from 1 on.
+    /// It fails at its call with this number, from 1 on.
     FailsAt(u32),
-    /// It moves no byte at its call of that number.
+    /// It moves no byte at its call with this number.
     MovesNothingAt(u32),
 }
 
@@ -44,7 +44,7 @@ pub(crate) struct Calls {
 }
 
 impl Calls {
-    /// No calls yet.
+    /// Returns the calls of a device that has made none.
     pub(crate) fn new(behaviour: Behaviour) -> Calls {
         Calls {
             behaviour,
@@ -54,13 +54,13 @@ impl Calls {
         }
     }
 
-    /// Fails with an error of that kind.
+    /// Returns an error of that kind, and notes that the device has failed.
     pub(crate) fn fail(&mut self, kind: ErrorKind) -> io::Error {
         self.has_failed = true;
         io::Error::from(kind)
     }
 
-    /// One more call that is not interrupted: how many bytes it may move.
+    /// Counts one more call that is not interrupted, and returns how many bytes it may move.
     pub(crate) fn make(&mut self) -> io::Result<usize> {
         self.made = self.made.saturating_add(1);
         match self.behaviour.trouble {
@@ -72,7 +72,7 @@ impl Calls {
         }
     }
 
-    /// One more call, which may be interrupted: how many bytes it may move.
+    /// Counts one more call, which may be interrupted, and returns how many bytes it may move.
     pub(crate) fn make_or_interrupt(&mut self) -> io::Result<usize> {
         match self.behaviour.trouble {
             Trouble::InterruptedForGood => Err(self.fail(ErrorKind::Interrupted)),

@@ -19,7 +19,7 @@ const CLIENTS: u32 = 2;
 /// How many connections of each may be open at once.
 const OPEN: u32 = 1_024;
 
-/// How many workers stand beside them.
+/// How many workers there are beside them.
 const WORKERS: u32 = 2;
 
 /// How many seconds a call may wait for the other side at most.
@@ -34,7 +34,7 @@ const PIECES: usize = 3;
 /// How often a connection is tried where none can be had.
 const MOST_TRIES: u32 = 100;
 
-/// A connection to an address.
+/// Returns a connection to an address.
 fn connected<R: Net<Stream = TcpStream>>(rt: &R, address: SocketAddr) -> io::Result<TcpStream> {
     let patience = Duration::from_secs(PATIENCE);
     for _try in 1..MOST_TRIES {
@@ -56,7 +56,7 @@ fn send(stream: &TcpStream, request: &[u8]) {
     }
 }
 
-/// All that comes until the other side ends. An error where the connection is reset: then bytes may be lost.
+/// Reads all that comes until the other side ends. An error where the connection is reset: then bytes may be lost.
 fn receive(alloc: Global, stream: &TcpStream) -> io::Result<Vec<u8>> {
     let mut reader = stream;
     let mut answer = Vec::new(alloc);
@@ -72,7 +72,7 @@ fn receive(alloc: Global, stream: &TcpStream) -> io::Result<Vec<u8>> {
     Err(io::Error::from(ErrorKind::TimedOut))
 }
 
-/// Sends a request over a connection, and gives its answer.
+/// Sends a request over a connection, and returns its answer.
 fn ask(alloc: Global, stream: &TcpStream, row: &Row) -> io::Result<Vec<u8>> {
     let patience = Some(Duration::from_secs(PATIENCE));
     stream.set_read_timeout(patience)?;
@@ -85,14 +85,15 @@ fn ask(alloc: Global, stream: &TcpStream, row: &Row) -> io::Result<Vec<u8>> {
     receive(alloc, stream)
 }
 
-/// Lets no call wait for connections of a listener any more. (Linux lets `accept` fail at a socket that was shut down.)
+/// Stops calls from waiting for connections of a listener. (Linux lets `accept` fail at a socket that was shut down.)
 fn stop(listener: &TcpListener) -> io::Result<()> {
     let socket = OwnedFd::from(listener.try_clone()?);
     TcpStream::from(socket).shutdown(Shutdown::Both)
 }
 
 /// Sends each request over a connection of its own, and makes as many connections more as are wanted, which end at
-/// once. Gives the answers, and none for a request whose answer did not come to its end, or whose connection was reset.
+/// once. Returns the answers, and none for a request whose answer did not come to its end, or whose connection was
+/// reset.
 fn ask_all<R: Net<Stream = TcpStream>>(
     rt: &R,
     alloc: Global,
@@ -127,7 +128,7 @@ fn ask_or_stop<R: Net<Stream = TcpStream>>(
     answers
 }
 
-/// What the server prints while it serves on a listener.
+/// Returns what the server prints while it serves on a listener.
 fn printed<R: Net + Threads + Wait + Clock + Sync>(
     rt: &R,
     alloc: Global,
@@ -142,6 +143,7 @@ fn printed<R: Net + Threads + Wait + Clock + Sync>(
         head_timeout: Duration::from_secs(PATIENCE),
         request_timeout: Duration::from_secs(PATIENCE),
         patience: Duration::from_secs(PATIENCE),
+        persistence: None,
         is_logged: false,
     };
     let mut lines = Vec::new(alloc);
@@ -150,7 +152,7 @@ fn printed<R: Net + Threads + Wait + Clock + Sync>(
     Ok(lines)
 }
 
-/// Appends what the server printed behind the line of its port.
+/// Appends what the server printed after the line of its port.
 fn push_printed(
     alloc: Global,
     output: &mut Vec<u8>,
@@ -167,7 +169,7 @@ fn push_printed(
     }
 }
 
-/// Appends a line for each answer that differs from the one that was given in memory.
+/// Appends a line for each answer that differs from the one that was returned in memory.
 fn push_differences(
     alloc: Global,
     output: &mut Vec<u8>,
@@ -187,7 +189,7 @@ fn push_differences(
 }
 
 /// Sends each request over a connection to a server with a new registry. Appends how many it answered, and a line for
-/// each answer that differs from the one that was given in memory.
+/// each answer that differs from the one that was returned in memory.
 pub(crate) fn push_connections<
     R: Net<Listener = TcpListener, Stream = TcpStream> + Threads + Wait + Clock + Sync,
 >(

@@ -1,11 +1,11 @@
-//! A reader of a request and a writer of its answer, in memory, that behave as they are told.
+//! A reader of a request and a writer of its answer, in memory, that behave as is wanted.
 
 use crate::calls::{Behaviour, Calls};
 use std::alloc::Global;
 use std::io;
 use std::io::{ErrorKind, Read, Write};
 
-/// Gives the bytes of a request.
+/// A reader that sends the bytes of a request.
 #[derive(Drop)]
 pub(crate) struct Sender<'a> {
     pub(crate) calls: Calls,
@@ -14,7 +14,7 @@ pub(crate) struct Sender<'a> {
 }
 
 impl<'a> Sender<'a> {
-    /// Gives these bytes, and then ends; or fails, where it is open.
+    /// Returns a reader of these bytes, which then ends; or fails, where it is open.
     pub(crate) fn new(request: &'a [u8], is_open: bool, behaviour: Behaviour) -> Sender<'a> {
         Sender {
             calls: Calls::new(behaviour),
@@ -37,7 +37,7 @@ impl<'a> Read for Sender<'a> {
     }
 }
 
-/// Takes the bytes of an answer.
+/// A writer that takes the bytes of an answer.
 #[derive(Drop)]
 pub(crate) struct Receiver {
     pub(crate) calls: Calls,
@@ -45,7 +45,7 @@ pub(crate) struct Receiver {
 }
 
 impl Receiver {
-    /// No byte was taken yet.
+    /// Returns a writer that has taken no byte.
     pub(crate) fn new(alloc: Global, behaviour: Behaviour) -> Receiver {
         Receiver {
             calls: Calls::new(behaviour),

@@ -2,23 +2,23 @@
 //!
 //! Answers requests, one after another, in memory and then over connections, and prints each answer.
 //!
-//! Standard input has parts. A line of `# ` and a title begins one, with a new registry, and is printed as it stands.
+//! Standard input has parts. A line of `# ` and a title begins one, with a new registry, and is printed as it is.
 //! Each further line that is not empty is a request, and a line is printed for its answer.
 //!
 //! `METHOD PATH` is a request without a body, and `METHOD PATH BODY` one whose body is the rest of the line and whose
 //! head says its length; where the body begins with `=`, the rest of it is hexadecimal. `raw TEXT` is a request as it
-//! stands, where `\r`, `\n`, `\\` and `\xff` stand for bytes. In all of these, between backticks, `3*ab` is `ababab`,
-//! with 1, 2 and 3 in place of `%`. A raw request ends, where one of the other form could go on and must be answered
-//! without a look at what follows; so must a raw one behind `open `.
+//! is, where `\r`, `\n`, `\\` and `\xff` are escapes of bytes. In all of these, between backticks, `3*ab` is
+//! `ababab`, with 1, 2 and 3 in place of `%`. A raw request ends, where one of the other form could go on and must be
+//! answered without a look at what follows; so must a raw one after `open `.
 //!
-//! An answer is printed as its status and its body, a message in hexadecimal behind `=`, where 1,000 and more equal
-//! bytes in a row are `1000*78` between backticks. Behind `whole ` the request has its whole answer printed, in the
+//! An answer is printed as its status and its body, a message in hexadecimal after `=`, where 1,000 and more equal
+//! bytes in a row are `1000*78` between backticks. After `whole ` the request has its whole answer printed, in the
 //! notation of raw requests.
 //!
 //! Each request is answered in many manners: whole, a byte at a time, by devices that are interrupted, and by devices
-//! that fail at their first call, at their second, and so on; behind `once `, for answers that take long, whole alone.
-//! What differs from the answer that was printed, or does not tell the failure, is printed on a line of `DIFFERS`. At
-//! the end of a part its requests are sent over connections, each in one, to a server of two clients and a new
+//! that fail at their first call, at their second, and so on; after `once `, for answers that take long, whole alone.
+//! What differs from the answer that was printed, or does not report the failure, is printed on a line of `DIFFERS`.
+//! At the end of a part its requests are sent over connections, each in one, to a server of two clients and a new
 //! registry. How many it answered is printed, and each answer that differs or ends with a reset.
 #![tactic(auto)]
 
@@ -42,7 +42,7 @@ use std::sync::Wait;
 use std::thread::Threads;
 use std::time::Clock;
 
-/// What is printed for the parts of a text.
+/// Returns what is printed for the parts of a text.
 fn written<R: Net<Listener = TcpListener, Stream = TcpStream> + Threads + Wait + Clock + Sync>(
     rt: &R,
     alloc: Global,

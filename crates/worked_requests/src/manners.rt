@@ -32,7 +32,7 @@ struct Manner {
     writing: Behaviour,
 }
 
-/// Whether the bytes of an answer begin with its status line.
+/// Returns whether the bytes of an answer begin with its status line.
 fn has_status_line(alloc: Global, served: &Served) -> Result<bool, AllocError> {
     match served.status {
         Ok(status) => {
@@ -43,7 +43,7 @@ fn has_status_line(alloc: Global, served: &Served) -> Result<bool, AllocError> {
     }
 }
 
-/// Whether a request was answered as it should be, by how it is answered at once.
+/// Returns whether a request was answered as it should be, by how it is answered at once.
 fn is_right(served: &Served, at_once: &Served) -> bool {
     let sent = served.bytes.len();
     if served.reader_failed {
@@ -56,8 +56,8 @@ fn is_right(served: &Served, at_once: &Served) -> bool {
     served.status == at_once.status && served.bytes.as_slice() == at_once.bytes.as_slice()
 }
 
-/// Answers a request in a manner, as a whole and in parts, and appends a line where that differs. Whether a device of
-/// the first failed.
+/// Serves a request in a manner, as a whole and in parts, and appends a line where the answer differs. Returns
+/// whether a device of the first failed.
 fn try_manner<R: Wait>(
     rt: &R,
     alloc: Global,
@@ -79,7 +79,7 @@ fn try_manner<R: Wait>(
     Ok(served.reader_failed || served.writer_failed)
 }
 
-/// Devices in which nothing fails, or everything.
+/// Returns the manners with devices in which nothing fails, or everything.
 fn steady_manners(alloc: Global) -> Result<[Manner; 4], AllocError> {
     let of = |piece: usize, trouble: Trouble| Behaviour { piece, trouble };
     Ok([
@@ -106,7 +106,7 @@ fn steady_manners(alloc: Global) -> Result<[Manner; 4], AllocError> {
     ])
 }
 
-/// The manner in which a device fails at its call of that number.
+/// Returns the manner in which a device fails at its call with this number.
 fn failing_manner(
     alloc: Global,
     device: Failing,
@@ -137,7 +137,7 @@ fn failing_manner(
     })
 }
 
-/// Lets a device fail at its first call, at its second, and so on, until it makes no call of that number.
+/// Makes a device fail at its first call, at its second, and so on, until it makes no call with that number.
 fn try_failing<R: Wait>(
     rt: &R,
     alloc: Global,
@@ -157,8 +157,8 @@ fn try_failing<R: Wait>(
     Ok(())
 }
 
-/// Answers a request at once and appends the line of the answer; then in each other manner, and appends a line for each
-/// that differs. Gives the answer.
+/// Serves a request at once and appends the line of the answer; then in each other manner, and appends a line for
+/// each that differs. Returns the answer.
 pub(crate) fn push_row<R: Wait>(
     rt: &R,
     alloc: Global,
@@ -196,7 +196,7 @@ pub(crate) fn push_row<R: Wait>(
     Ok(at_once.bytes)
 }
 
-/// Serves a reader that ends at once, and appends a line where that is not told or a byte is written.
+/// Serves a reader that ends at once, and appends a line where that is not reported or a byte is written.
 pub(crate) fn push_closed<R: Wait>(
     rt: &R,
     alloc: Global,

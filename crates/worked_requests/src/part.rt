@@ -26,7 +26,7 @@ pub(crate) struct Part {
     rows: Vec<Row>,
 }
 
-/// The part of a title and the lines under it.
+/// Returns the part of a title and the lines under it.
 fn part_of(alloc: Global, text: &str) -> Result<Part, RunError> {
     let mut lines = text.split('\n');
     let title = String::from_str(alloc, lines.next().unwrap_or(""))?;
@@ -39,7 +39,7 @@ fn part_of(alloc: Global, text: &str) -> Result<Part, RunError> {
     Ok(Part { title, rows })
 }
 
-/// The parts of a text.
+/// Returns the parts of a text.
 pub(crate) fn parts_of(alloc: Global, text: &str) -> Result<Vec<Part>, RunError> {
     let text = text.strip_prefix("# ").unwrap_or(text);
     let mut parts = Vec::new(alloc);
@@ -49,7 +49,7 @@ pub(crate) fn parts_of(alloc: Global, text: &str) -> Result<Vec<Part>, RunError>
     Ok(parts)
 }
 
-/// Appends the lines of rows that are answered by a service in memory. Gives the answers.
+/// Appends the lines of rows that are answered by a service in memory. Returns the answers.
 fn push_rows<R: Wait>(
     rt: &R,
     alloc: Global,
@@ -66,7 +66,7 @@ fn push_rows<R: Wait>(
 }
 
 /// Appends the lines of rows that are answered by sessions of a pool, which run while their answers are waited for.
-/// Gives the answers.
+/// Returns the answers.
 fn push_by_pool<'p, R: Wait>(
     rt: &R,
     alloc: Global,
@@ -92,7 +92,7 @@ fn push_by_pool<'p, R: Wait>(
     push_rows(rt, alloc, output, rows, &mut service)
 }
 
-/// Appends the lines of rows that are answered in memory, over a new registry. Gives the answers.
+/// Appends the lines of rows that are answered in memory, over a new registry. Returns the answers.
 fn push_in_memory<R: Wait>(
     rt: &R,
     alloc: Global,

@@ -8,7 +8,8 @@ use std::alloc::Global;
 /// From how many equal bytes in a row on a message's byte is printed once, with their number.
 const LEAST_RUN: usize = 1_000;
 
-/// The head of an answer without the empty line that ends it, and the body. `None` where no empty line stands in it.
+/// Returns the head of an answer without the empty line that ends it, and the body. `None` where there is no empty
+/// line in it.
 fn head_and_body(answer: &[u8]) -> Option<(&[u8], &[u8])> {
     for at in 0..answer.len() {
         if let Some(body) = answer[at..].strip_prefix(b"\r\n\r\n") {
@@ -18,7 +19,7 @@ fn head_and_body(answer: &[u8]) -> Option<(&[u8], &[u8])> {
     None
 }
 
-/// Whether the head of an answer says that the body is a message.
+/// Returns whether the head of an answer says that the body is a message.
 fn is_of_message(head: &[u8]) -> bool {
     match std::str::from_utf8(head) {
         Ok(head) => head.contains("\r\ncontent-type: application/octet-stream\r\n"),
@@ -77,7 +78,7 @@ pub(crate) fn push_answer(
     Ok(output.push(b'\n')?)
 }
 
-/// Appends the line of what came of a request otherwise than it should have.
+/// Appends the line of a result of a request that is not as it should be.
 pub(crate) fn push_difference(
     alloc: Global,
     output: &mut Vec<u8>,

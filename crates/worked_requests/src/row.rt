@@ -8,7 +8,7 @@ use std::alloc::Global;
 #[derive(Drop)]
 pub(crate) struct Row {
     pub(crate) request: Vec<u8>,
-    /// Whether its sender could go on, so that no byte behind the request may be waited for.
+    /// Whether its sender could go on, so that no byte after the request may be waited for.
     pub(crate) is_open: bool,
     /// Whether the whole answer is printed.
     pub(crate) shows_whole: bool,
@@ -16,7 +16,7 @@ pub(crate) struct Row {
     pub(crate) is_once: bool,
 }
 
-/// The bytes of a body: text, or hexadecimal behind `=`.
+/// Returns the bytes of a body: text, or hexadecimal after `=`.
 fn body_of(alloc: Global, text: &str) -> Result<Vec<u8>, RunError> {
     match text.strip_prefix('=') {
         Some(digits) => hex::decode(alloc, digits).map_err(|_| RunError::Read),
@@ -24,7 +24,7 @@ fn body_of(alloc: Global, text: &str) -> Result<Vec<u8>, RunError> {
     }
 }
 
-/// The request of a method, a path, and maybe a body behind them, whose length the head then says.
+/// Returns the request of a method, a path, and maybe a body after them, whose length the head then says.
 fn request_of(alloc: Global, line: &str) -> Result<Vec<u8>, RunError> {
     let (method, rest) = line.split_once(' ').ok_or(RunError::Read)?;
     let (path, body) = match rest.split_once(' ') {
@@ -45,7 +45,7 @@ fn request_of(alloc: Global, line: &str) -> Result<Vec<u8>, RunError> {
     Ok(request)
 }
 
-/// A text without a word in front of it, and whether it had that.
+/// Returns a text without a word in front of it, and whether it had that.
 fn without<'a>(word: &str, text: &'a str) -> (&'a str, bool) {
     match text.strip_prefix(word) {
         Some(rest) => (rest, true),
@@ -53,7 +53,7 @@ fn without<'a>(word: &str, text: &'a str) -> (&'a str, bool) {
     }
 }
 
-/// The row of a line.
+/// Returns the row of a line.
 pub(crate) fn row_of(alloc: Global, line: &str) -> Result<Row, RunError> {
     let line = written_out(alloc, line)?;
     let (line, shows_whole) = without("whole ", &line);

@@ -15,7 +15,7 @@ use std::sync::Wait;
 /// The number of turns that a request may take to come, and its answer to go.
 const MOST_TURNS: u32 = 1_000_000;
 
-/// What requests are answered from, and the seat that all of them take in turn.
+/// What requests are answered with, and the seat that all of them take in turn.
 #[derive(Drop)]
 pub(crate) struct Service<'a, 'p> {
     app: App<'a, 'p>,
@@ -38,7 +38,7 @@ pub(crate) struct Served {
 }
 
 impl<'a, 'p> Service<'a, 'p> {
-    /// Answers by sessions that run while their answers are waited for.
+    /// Returns a service that answers by sessions that run while their answers are waited for.
     pub(crate) fn new(
         app: App<'a, 'p>,
         routes: Routes,
@@ -55,7 +55,7 @@ impl<'a, 'p> Service<'a, 'p> {
         }
     }
 
-    /// Answers a request by a reader and a writer that behave so.
+    /// Serves a request by a reader and a writer with these behaviours.
     pub(crate) fn serve<R: Wait>(
         &mut self,
         rt: &R,
@@ -82,8 +82,8 @@ impl<'a, 'p> Service<'a, 'p> {
         }
     }
 
-    /// Answers a request by a reader and a writer that behave so, part by part, as over a connection that does not
-    /// block.
+    /// Serves a request by a reader and a writer with these behaviours, part by part, as over a connection that does
+    /// not block.
     pub(crate) fn serve_in_parts<R: Wait>(
         &mut self,
         rt: &R,

@@ -1,9 +1,9 @@
-//! What the texts of rows stand for: repetitions between backticks, and the escapes of raw requests.
+//! The notation of the texts of rows: repetitions between backticks, and the escapes of raw requests.
 
 use gateway_server::RunError;
 use std::alloc::Global;
 
-/// Appends what stands between two backticks for: so many times a text, with the numbers from 1 on in place of `%`.
+/// Appends what two backticks enclose, written out: a text, repeated, with the numbers from 1 on in place of `%`.
 fn push_repeated(alloc: Global, text: &mut String, quoted: &str) -> Result<(), RunError> {
     let (times, repeated) = quoted.split_once('*').ok_or(RunError::Read)?;
     let times = times.parse::<u32>().map_err(|_| RunError::Read)?;
@@ -14,7 +14,7 @@ fn push_repeated(alloc: Global, text: &mut String, quoted: &str) -> Result<(), R
     Ok(())
 }
 
-/// A line with its repetitions written out.
+/// Returns a line with its repetitions written out.
 pub(crate) fn written_out(alloc: Global, line: &str) -> Result<String, RunError> {
     let mut text = String::new(alloc);
     for (place, part) in line.split('`').enumerate() {
@@ -27,7 +27,7 @@ pub(crate) fn written_out(alloc: Global, line: &str) -> Result<String, RunError>
     Ok(text)
 }
 
-/// Appends the byte that an escape stands for, which begins a text behind a backslash, and the rest of the text.
+/// Appends the byte of an escape, which begins a text after a backslash, and the rest of the text.
 fn push_escape(bytes: &mut Vec<u8>, text: &[u8]) -> Result<(), RunError> {
     match text {
         [b'r', rest @ ..] => {
@@ -49,7 +49,7 @@ fn push_escape(bytes: &mut Vec<u8>, text: &[u8]) -> Result<(), RunError> {
     }
 }
 
-/// The bytes of a text, with what its escapes stand for.
+/// Returns the bytes of a text, with its escapes replaced by their bytes.
 pub(crate) fn unescaped(alloc: Global, text: &str) -> Result<Vec<u8>, RunError> {
     let mut bytes = Vec::new(alloc);
     let mut is_plain = true;

@@ -1,11 +1,12 @@
 //! Tests and bench; a program.
 //!
-//! Obeys commands of `avrogate`, one after another, each on its own part of standard input, and prints what they write.
+//! Executes commands of `avrogate`, one after another, each on its own part of standard input, and prints what they
+//! write.
 //!
-//! A line of `# ` and a command as it is typed begins a part, and the lines up to the next such line are its
-//! input, the last without its LF where a backslash ends it. In these, between backticks, `3*ab` is `ababab`, with 1, 2
-//! and 3 in place of `%` and an LF in place of `\n`, and `=ff` is the byte 255. Before its words `counted` lets the
-//! lines and bytes that a command writes be counted, in place of printing them. Of words that ask for nothing, and of
+//! A line of `# ` and a command as it is typed begins a part, and the lines up to the next such line are its input,
+//! the last without its LF where a backslash ends it. In these, between backticks, `3*ab` is `ababab`, with 1, 2 and
+//! 3 in place of `%` and an LF in place of `\n`, and `=ff` is the byte 255. Where a command begins with the word
+//! `counted`, the lines and bytes that it writes are counted, and not printed. Of words that ask for nothing, and of
 //! those that ask for help, the number that `avrogate` ends with is printed alone.
 #![tactic(auto)]
 
@@ -15,7 +16,7 @@ use std::alloc::{AllocError, Global};
 use std::io::{Read, Write};
 use std::process::ExitCode;
 
-/// Appends so many times a text, with the numbers from 1 on in place of `%`.
+/// Appends a text `times` times, with the numbers from 1 on in place of `%`.
 fn push_times(
     alloc: Global,
     input: &mut Vec<u8>,
@@ -32,7 +33,7 @@ fn push_times(
     Ok(())
 }
 
-/// Appends what stands between two backticks for: bytes in hexadecimal, or so many times a text.
+/// Appends what two backticks enclose, written out: bytes in hexadecimal, or the repetitions of a text.
 fn push_quoted(alloc: Global, input: &mut Vec<u8>, quoted: &str) -> Result<(), RunError> {
     if let Some(digits) = quoted.strip_prefix('=') {
         let bytes = hex::decode(alloc, digits).map_err(|_| RunError::Read)?;
@@ -68,7 +69,7 @@ fn push_counts(alloc: Global, output: &mut Vec<u8>, text: &[u8]) -> Result<(), A
     output.extend_from_slice(counts.as_bytes())
 }
 
-/// What words ask for, or else the number that the program ends with.
+/// Returns what words ask for, or else the number that the program ends with.
 fn asked(alloc: Global, words: &str) -> Result<Result<Verb, i32>, AllocError> {
     let words: Vec<&str> = words.split(' ').collect(alloc)?;
     match cli(alloc)?.try_get_matches_from(words.as_slice()) {
@@ -80,7 +81,7 @@ fn asked(alloc: Global, words: &str) -> Result<Result<Verb, i32>, AllocError> {
     }
 }
 
-/// Appends what the command of some words writes for an input, and answers the number that it ends with.
+/// Appends what the command of some words writes for an input, and returns the number that it ends with.
 fn obey(
     alloc: Global,
     output: &mut Vec<u8>,
@@ -93,7 +94,7 @@ fn obey(
     }
 }
 
-/// Appends what a command writes for an input, or the counts of that, and answers the number that it ends with.
+/// Appends what a command writes for an input, or the counts of that, and returns the number that it ends with.
 fn push_written(
     alloc: Global,
     output: &mut Vec<u8>,
@@ -134,7 +135,7 @@ fn push_part(alloc: Global, output: &mut Vec<u8>, part: &str) -> Result<(), RunE
     Ok(output.extend_from_slice(end.as_bytes())?)
 }
 
-/// What the commands of some rows write, each after the line of its words.
+/// Returns what the commands of some rows write, each after the line of its words.
 fn written(alloc: Global, rows: &str) -> Result<Vec<u8>, RunError> {
     let rows = rows.strip_prefix("# ").unwrap_or(rows);
     let rows = rows.strip_suffix('\n').unwrap_or(rows);

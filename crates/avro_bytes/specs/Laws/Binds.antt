@@ -36,7 +36,7 @@ defect_as (Complete v to m) at P Q f h = tt
 defect_as (Failed (Malformed kind place)) at P Q f h = (h.0, h.1, f (Malformed kind h.0) h.2)
 defect_as (Failed Need) at P Q f h = f Need h
 
--- a defect of what stands after so many bytes
+-- a defect of what comes after `len` bytes, with its offset counted from before them
 pub defect_after : {V : Type 0} (decoding : Decoding V) (at len mid : ℕ) (P Q : Defect → Type 0) → mid ≡ at + len → ((d : Defect) → P d → Q (shifted len d)) → HasDefect decoding mid P → HasDefect decoding at Q
 defect_after (Complete v to m) at len mid P Q e f h = tt
 defect_after (Failed (Malformed kind place)) at len mid P Q e f h = (len + h.0, omega (arith, h.1), f (Malformed kind h.0) h.2)
@@ -58,7 +58,7 @@ failing_shifted at len Need = refl
 
 -- ---- places
 
--- what stands after bytes that begin at an offset
+-- what comes after bytes that begin at an offset
 pub rest_after : (bytes rest all : List ℕ) (at mid : ℕ) → drop at all ≡ bytes ++ rest → mid ≡ at + length bytes → drop mid all ≡ rest
 rest_after bytes rest all at mid parts end = ap (λ (k : ℕ). drop k all) end ∙ sym (drop-drop (length bytes) at all) ∙ ap (drop (length bytes)) parts ∙ drop_at bytes rest (length bytes) refl
 

@@ -1,4 +1,4 @@
--- The first fault of a content, both ways: what is told is there, and what is there is told.
+-- The first fault of a content, both ways: what is reported is there, and what is there is reported.
 use Rattle.std.proofs.Common.{◌≡◌, ℕ, ◌+◌, List, ◌++◌, length, drop, ap, subst, ◌∙◌, append_assoc, arith, inl, inr}
 use Rattle.std.proofs.lemmas.List.{length-append}
 use Rattle.avro_bytes.specs.declared.meter.Meter.{Meter}

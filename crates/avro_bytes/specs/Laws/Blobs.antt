@@ -12,7 +12,7 @@ use Rattle.avro_bytes.specs.Laws.Fixeds.{fixed_complete, fixed_sound, fixed_stea
 use Rattle.avro_bytes.specs.Laws.Lengths.{length_again, length_sound, length_steady}
 use Rattle.avro_bytes.specs.Laws.Numbers.{number_one_form, pos_is}
 
--- a content that stands after its length at an offset
+-- a content after its length, which is at an offset
 pub record ContentParts (all : List ℕ) (at : ℕ) (m : Meter) (content : List ℕ) (to : ℕ) (after : Meter) : Type 0 where
   pub len : List ℕ
   pub rest : List ℕ

@@ -1,4 +1,4 @@
--- The first fault of a walk over blocks, both ways: what is told is there, and what is there is told.
+-- The first fault of a walk over blocks, both ways: what is reported is there, and what is there is reported.
 use Rattle.std.proofs.Common.{◌≡◌, ℕ, zero, suc, ◌+◌, ◌<◌, ◌⊎◌, List, ◌++◌, length, drop, Option, Some, None, Bool, true, false, cond, ℤ, pos, negsuc, refl, sym, ap, subst, ◌∙◌, append_assoc, arith, inl, inr, lit<}
 use Rattle.std.proofs.lemmas.List.{length-append}
 use Rattle.avro_bytes.specs.declared.fault.MalformedKind.TheVariants.{BadBlock}
@@ -116,7 +116,7 @@ inside_told (suc left) walk all at m d some r = item_refused_told (λ within. Co
 pub within_told : (walk : Walk) (all : List ℕ) (at : ℕ) (m : Meter) (d : Defect) → 0 < walk.left → RefusesItem m d → next_item walk all at m ≡ failing at d
 within_told walk all at m d some r = inside_told walk.left walk all at m d some r
 
--- after a block that has its size: what stands where the next should begin
+-- after a block that has its size: what is read where the next should begin
 pub after_met : (walk : Walk) (all : List ℕ) (at : ℕ) (m : Meter) → walk.left ≡ 0 → IsMet walk at → next_item walk all at m ≡ next_block all at m
 after_met walk all at m none met = ap (λ (k : ℕ). next_item (record walk { left = k }) all at m) none ∙ met_end walk all at m met
 

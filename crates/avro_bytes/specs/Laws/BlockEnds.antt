@@ -43,7 +43,7 @@ left_end zero walk all at m to after e =
     as_stands (IsItems []) (Remains (record walk { left = 0 }) at []) all at to (λ bytes i. none_left walk at [] bytes (size_is walk at s.0) i) (block_ends all at m to after s.1)
 left_end (suc left) walk all at m to after e = absurd (no_end (record walk { left = left }) at m to after e)
 
--- where no item is told, none remains
+-- where no item is returned, none remains
 pub end_sound : (walk : Walk) (all : List ℕ) (at : ℕ) (m : Meter) (to : ℕ) (after : Meter) → next_item walk all at m ≡ Complete None to after → Stands (Remains walk at []) all at to
 end_sound walk all at m to after e = left_end walk.left walk all at m to after e
 

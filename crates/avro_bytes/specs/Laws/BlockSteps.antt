@@ -39,7 +39,7 @@ none_left walk at items bytes met s = record { now = []; later = items; rest = b
 block_parts : (head item bytes rest : List ℕ) (now : List (List ℕ)) → bytes ≡ joined now ++ rest → head ++ (item ++ bytes) ≡ head ++ (joined (item ∷ now) ++ rest)
 block_parts head item bytes rest now e = ap (λ (b : List ℕ). head ++ (item ++ b)) e ∙ ap (λ (b : List ℕ). head ++ b) (sym (append_assoc item (joined now) rest))
 
--- a head of so many items, and the walk that it begins
+-- the head of a block of `suc left` items, and the walk that it begins
 pub head_leads : (left count_at to : ℕ) (said : Option ℤ) (head : List ℕ) → IsHead (suc left) said head → Heads (record { left = left; count_at = count_at; items_at = to; size = said }) to head
 head_leads left count_at to said head h item items rest r =
     let len : (to + length item) + length (joined r.now) - to ≡ length (joined (item ∷ r.now)) = omega (arith, length-append item (joined r.now)) in

@@ -52,7 +52,7 @@ has_its_size (Some (negsuc n)) len e = absurd cc
 pub met_is : (walk : Walk) (at : ℕ) → IsMet walk at → is_met walk at ≡ true
 met_is walk at met = has_its_size walk.size (at - walk.items_at) met
 
--- where a block has its size, what stands after it decides
+-- where a block has its size, what comes after it decides
 pub met_end : (walk : Walk) (all : List ℕ) (at : ℕ) (m : Meter) → IsMet walk at → next_item (record walk { left = 0 }) all at m ≡ next_block all at m
 unfolding next_item
 met_end walk all at m met = ap (λ (b : Bool). cond b (next_block all at m) (Failed (Malformed BadBlock walk.count_at))) (met_is walk at met)

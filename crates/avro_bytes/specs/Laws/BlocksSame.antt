@@ -66,7 +66,7 @@ ends_at walk before at a x r e =
 same_front : (a b x y : List ℕ) → length a ≡ length b → a ++ x ≡ b ++ y → a ≡ b
 same_front a b x y len e = sym (take_at a x (length a) refl) ∙ ap (take (length a)) e ∙ take_at b y (length a) (sym len)
 
--- the same bytes have one head and lead to one walk: then the items stand at one place
+-- the same bytes have one head and lead to one walk: then the items begin at one offset
 pub comes_same : (walk : Walk) (at : ℕ) (i j : List ℕ) (is js : List (List ℕ)) (a b x y : List ℕ) (p : Comes walk at i is a) (q : Comes walk at j js b) → a ++ x ≡ b ++ y
     → (p.next ≡ q.next) × (p.head ≡ q.head) × (i ++ (p.rest ++ x) ≡ j ++ (q.rest ++ y))
 comes_same walk at i j is js a b x y p q e =

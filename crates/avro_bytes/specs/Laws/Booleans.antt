@@ -10,7 +10,7 @@ use Rattle.avro_bytes.specs.Laws.Binds.{complete_is}
 use Rattle.avro_bytes.specs.Decoding.{Complete, Defect, Failed, Malformed, Need, Stands}
 use Rattle.avro_bytes.specs.Fault.{HasDefect, failing}
 
--- ---- what stands at an offset
+-- ---- what is at an offset
 
 pub boolean_past : (bytes : List ℕ) (at : ℕ) (m : Meter) → length bytes ≤ at → boolean_at bytes at m ≡ Failed Need
 unfolding boolean_at

@@ -1,4 +1,4 @@
--- The first fault of a number, a content and a text, both ways: what is told is there, and what is there is told.
+-- The first fault of an int or a long, both ways: what is reported is there, and what is there is reported.
 use Rattle.std.proofs.Common.{◌≡◌, ℕ, zero, suc, ◌+◌, ◌<◌, ◌≤◌, List, [], ◌∷◌, ◌++◌, length, drop, refl, sym, ap, ◌∙◌, arith, inl, inr}
 use Rattle.std.proofs.lemmas.Bool.{le-ltb, lt-ltb, cases_lt}
 use Rattle.std.proofs.lemmas.List.{drop_at}

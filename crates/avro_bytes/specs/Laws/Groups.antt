@@ -1,4 +1,4 @@
--- Putting the groups of a number together, one byte after another.
+-- Putting the groups of a varint together, one byte after another.
 use Rattle.std.proofs.Common.{◌≡◌, ℕ, zero, suc, ◌+◌, ◌-◌, ◌*◌, ◌%◌, ◌^◌, ◌<◌, ◌≤◌, List, [], ◌∷◌, ◌++◌, length, take, drop, get_or, refl, sym, ap, subst, ◌∙◌, append_assoc, arith, add-one, add-zero, inl, inr}
 use Rattle.std.proofs.lemmas.Bool.{le-ltb, lt-ltb, cases_lt}
 use Rattle.std.proofs.Math.Seq.{drop-cons, take-suc}
@@ -58,7 +58,7 @@ front_more zero top b bytes h le = absurd (omega arith)
 front_more (suc zero) top b bytes h le = absurd (omega arith)
 front_more (suc (suc left)) top b bytes h le = rw (le-ltb, sub-one) refl
 
--- where the groups of a number's first i bytes have been put together
+-- where the groups of the first i bytes have been put together
 pub record SoFar (bytes : List ℕ) (at most top i value : ℕ) : Type 0 where
   pub inside : at + i ≤ length bytes
   pub more : i < most
@@ -153,7 +153,7 @@ longer_ends b (Ends bytes) ends e = (bytes, refl, cc)
 longer_ends b TooGreat ends e = absurd cc
 longer_ends b Open ends e = absurd cc
 
--- what so many groups can hold
+-- what `suc left` groups can hold
 pub groups_below : (left top : ℕ) (bytes ends : List ℕ) → top < 128 → number_front (suc left) top bytes ≡ Ends ends → groups_sum ends < (top + 1) * 2 ^ (7 * left)
 unfolding number_front
 groups_below zero top [] ends h e = absurd cc

@@ -138,7 +138,7 @@ number_steady limit all more at m le c =
 pub number_complete : (limit : Limit) (before bytes rest : List ℕ) (n : ℤ) (m after : Meter) → IsNumber limit n bytes → m ≡ after → number_at limit (before ++ (bytes ++ rest)) (length before) m ≡ Complete n (length before + length bytes) after
 number_complete limit before bytes rest n m after s e = number_again limit before bytes rest n m s ∙ ap (λ (x : Meter). Complete n (length before + length bytes) x) e
 
--- how great a number of so many bytes can be
+-- how great a number within the limit can be
 pub number_below : (limit : Limit) (n : ℤ) (bytes : List ℕ) → 0 < limit.most → limit.top < 128 → IsNumber limit n bytes → zigzag n < (limit.top + 1) * 2 ^ (7 * (limit.most - 1))
 number_below limit n bytes some top s =
     let again = front_again limit.most limit.top bytes [] s.chained s.short s.last in

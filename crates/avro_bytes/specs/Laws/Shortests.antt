@@ -1,4 +1,4 @@
--- The shortest spelling of a number: writing it group by group, that it is one, and that none is shorter.
+-- The shortest encoding of an int or a long: writing it group by group, that it is one, and that none is shorter.
 use Rattle.std.proofs.Common.{◌≡◌, ℕ, zero, suc, ◌+◌, ◌*◌, ◌/◌, ◌%◌, ◌^◌, ◌<◌, ◌≤◌, List, [], ◌∷◌, ◌++◌, refl, sym, ap, ◌∙◌, arith, append_assoc, length, inl, inr, get_or, subst, ℤ}
 use Rattle.std.proofs.Math.Nat.{mul-le-mul_right}
 use Rattle.std.proofs.Math.Numerals.{sub-one}
@@ -91,7 +91,7 @@ length-shortest_groups (suc left) n =
 
 -- ---- the groups spell the number
 
--- of at most so many bytes, the last of so many being so great at most
+-- of at most `suc left` bytes, where the byte at index `left`, if there is one, is at most `top`
 pub record Spelled (left top n : ℕ) (bytes : List ℕ) : Type 0 where
   pub chained : IsChained bytes
   pub short : length bytes ≤ suc left

@@ -1,4 +1,4 @@
--- The first fault of a text, both ways: what is told is there, and what is there is told.
+-- The first fault of a text, both ways: what is reported is there, and what is there is reported.
 use Rattle.std.proofs.Common.{◌≡◌, ℕ, ◌+◌, ◌-◌, List, ◌++◌, length, drop, Bool, true, false, cond, refl, sym, ap, ◌∙◌, arith, inl, inr}
 use Rattle.std.specs.Str.{IsUtf8, is_utf8}
 use Rattle.std.proofs.lemmas.Str.{is_utf8-from_IsUtf8}

@@ -1,4 +1,5 @@
--- One step of a walk over blocks: where it stands after it, and its meter: at an item one unit more, after the blocks one less deep.
+-- One step of a walk over blocks: where it leads, and its meter, which has one unit more at an item and one level less
+-- after the blocks.
 use Rattle.std.proofs.Common.{◌≡◌, ℕ, zero, suc, ◌+◌, ◌<◌, List, Option, Some, None, Result, Ok, Err, Bool, true, false, cond, ℤ, pos, negsuc, refl, sym, ap, subst, ◌∙◌, arith, lit<}
 use Rattle.avro_bytes.specs.declared.fault.Fault.{Fault}
 use Rattle.avro_bytes.specs.declared.fault.MalformedKind.TheVariants.{BadBlock}
@@ -102,7 +103,7 @@ pub walk_steps : (walk : Walk) (bytes : List ℕ) (at : ℕ) (m : Meter) (step :
     → next_item walk bytes at m ≡ Complete step to after → AfterStep walk.left walk at m step to after
 walk_steps walk bytes at m step to after e = step_from walk.left walk bytes at m step to after e
 
--- ---- the same, for one who asks of one part
+-- ---- the parts of a step, each on its own
 
 item_of : (left : ℕ) (walk next : Walk) (at to : ℕ) (m after : Meter) → AfterStep left walk at m (Some next) to after → OpensItem m after
 item_of zero walk next at to m after s = s.opens

@@ -1,4 +1,4 @@
--- What is spelled within the limits is decoded, whatever stands before and after it.
+-- What is spelled within the limits is decoded, whatever comes before and after it.
 use Rattle.std.proofs.Common.{◌≡◌, ℕ, zero, suc, ◌+◌, ◌-◌, List, ◌++◌, length, Option, Some, false, refl, sym, ap, subst, ◌∙◌, arith, slice_get}
 use Rattle.avro_bytes.specs.declared.fault.MalformedKind.TheVariants.{BadEnum}
 use Rattle.avro_bytes.specs.declared.meter.Meter.{Meter}

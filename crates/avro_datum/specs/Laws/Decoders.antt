@@ -11,7 +11,7 @@ use Rattle.avro_bytes.specs.Decoding.{Complete, Defect, Failed, Need, Stands}
 use Rattle.avro_bytes.specs.Fault.{HasDefect, failing}
 use Rattle.avro_bytes.specs.declared.limits.TheConstants.{MOST_DEPTH}
 
--- what a decoder gives is spelled, where so many more records, arrays and maps may be opened
+-- what a decoder gives is spelled, where `left` more records, arrays and maps may be opened
 abbrev pub IsSound : List Node → List ℕ → Decoder → ℕ → Type 0
 IsSound nodes all decoder left = (node at : ℕ) (m : Meter) (d : Datum) (to : ℕ) (after : Meter) → left ≡ MOST_DEPTH - m.depth → decoder node at m ≡ Complete d to after → Stands (Spells nodes node d) all at to × Counts (depth_of d) (units_of d) m after
 
@@ -23,11 +23,11 @@ IsComplete nodes all decoder left = (node : ℕ) (d : Datum) (before bytes rest 
 abbrev pub IsSteady : List ℕ → Decoder → Decoder → ℕ → Type 0
 IsSteady all decoder further left = (node at : ℕ) (m : Meter) → left ≡ MOST_DEPTH - m.depth → at ≤ length all → decoder node at m ≢ Failed Need → further node at m ≡ decoder node at m
 
--- the fault that a decoder tells is there
+-- the fault that a decoder reports is there
 abbrev pub HasFault : List Node → List ℕ → Decoder → ℕ → Type 0
 HasFault nodes all decoder left = (node at : ℕ) (m : Meter) → left ≡ MOST_DEPTH - m.depth → HasDefect (decoder node at m) at (FaultyDatum nodes node (drop at all) m)
 
--- the fault that is there is told
+-- the fault that is there is reported
 abbrev pub TellsFault : List Node → List ℕ → Decoder → ℕ → Type 0
 TellsFault nodes all decoder left = (node : ℕ) (before bytes : List ℕ) (m : Meter) (d : Defect) → left ≡ MOST_DEPTH - m.depth → all ≡ before ++ bytes → FaultyDatum nodes node bytes m d → decoder node (length before) m ≡ failing (length before) d
 

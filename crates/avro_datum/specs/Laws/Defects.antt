@@ -1,4 +1,4 @@
--- The first fault of a datum: what is told is there.
+-- The first fault of a datum: what is reported is there.
 use Rattle.std.proofs.Common.{◌≡◌, ℕ, zero, suc, ◌-◌, List, drop, Option, true, false, refl, sym, subst, slice_get}
 use Rattle.avro_bytes.specs.declared.meter.Meter.{Meter}
 use Rattle.avro_types.specs.Node.{Node}

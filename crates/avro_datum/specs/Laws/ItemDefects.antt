@@ -1,4 +1,4 @@
--- Where reading the items of an array or a map gives none, the fault that it tells is there.
+-- Where reading the items of an array or a map gives none, the fault that it reports is there.
 use Rattle.std.proofs.Common.{◌≡◌, ℕ, zero, suc, ◌+◌, ◌-◌, ◌<◌, ◌≤◌, List, [], ◌∷◌, ◌++◌, length, drop, Option, Some, None, ℤ, pos, negsuc, refl, sym, ap, subst, ◌∙◌, append_assoc, arith, lit<}
 use Rattle.std.proofs.lemmas.List.{append-nil, length-append}
 use Rattle.avro_bytes.specs.Walk.{Walk}
@@ -19,7 +19,7 @@ use Rattle.avro_bytes.specs.declared.limits.TheConstants.{MOST_DEPTH}
 
 -- ---- the head of a block that is passed
 
--- a block begins at an offset: its head stands there, and its first item after that
+-- a block begins at an offset: its head is there, and its first item after that
 pub record Heads (all : List ℕ) (at : ℕ) (m : Meter) (next : Walk) (to : ℕ) (after : Meter) : Type 0 where
   pub head : List ℕ
   pub rest : List ℕ

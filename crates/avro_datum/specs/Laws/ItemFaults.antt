@@ -1,4 +1,4 @@
--- The first fault of the items of an array or a map: what reading tells is there.
+-- The first fault of the items of an array or a map: what reading reports is there.
 use Rattle.std.proofs.Common.{◌≡◌, ℕ, suc, ◌+◌, ◌-◌, ◌<◌, ◌⊎◌, List, [], ◌∷◌, ◌++◌, length, drop, Option, ℤ, refl, sym, ap, subst, ◌∙◌, append_assoc, arith, inl, inr}
 use Rattle.std.proofs.lemmas.List.{append-nil, length-append}
 use Rattle.avro_bytes.specs.Walk.{Walk, first_walk}

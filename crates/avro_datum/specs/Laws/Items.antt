@@ -17,11 +17,11 @@ use Rattle.avro_bytes.specs.Decoding.{Complete, Failed, Need, Stands, map_decodi
 use Rattle.avro_bytes.specs.declared.limits.TheConstants.{MOST_DEPTH, MOST_UNITS}
 
 module _ {A : Type 0} (Spelled : A → List ℕ → Type 0) (deep units : A → ℕ) where
-  -- what a reader gives is spelled so, where so many more records, arrays and maps may be opened
+  -- what a reader gives is spelled so, where `left` more records, arrays and maps may be opened
   abbrev pub ReadsSound : ℕ → List ℕ → Reader A → Type 0
   ReadsSound left all reader = (at : ℕ) (m : Meter) (v : A) (to : ℕ) (after : Meter) → left ≡ MOST_DEPTH - m.depth → reader at m ≡ Complete v to after → Stands (Spelled v) all at to × Counts (deep v) (units v) m after
 
-  -- the items that remain to a walk spell the values, and the end stands after them
+  -- the items that remain to a walk spell the values, and the end comes after them
   abbrev pub SpellRest : Walk → ℕ → List A → List ℕ → Type 0
   SpellRest walk at vs bytes = (items : List (List ℕ)) × Remains walk at items bytes × SpellEach Spelled vs items
 

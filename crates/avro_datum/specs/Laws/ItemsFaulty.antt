@@ -1,4 +1,4 @@
--- Where reading the items of an array or a map gives none, what it tells is their first fault.
+-- Where reading the items of an array or a map gives none, what it reports is their first fault.
 use Rattle.std.proofs.Common.{◌≡◌, ℕ, zero, suc, ◌+◌, ◌-◌, ◌<◌, List, [], ◌∷◌, ◌++◌, length, drop, Option, Some, None, ℤ, pos, refl, sym, ap, subst, ◌∙◌, append_assoc, arith, inl, inr}
 use Rattle.std.proofs.lemmas.List.{length-append}
 use Rattle.avro_bytes.specs.Walk.{Walk, first_walk}

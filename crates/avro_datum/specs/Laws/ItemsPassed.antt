@@ -18,7 +18,7 @@ use Rattle.avro_datum.specs.Laws.Parts.{counts_nothing}
 use Rattle.avro_bytes.specs.declared.limits.TheConstants.{MOST_DEPTH, MOST_UNITS}
 
 module _ {A : Type 0} (Spelled : A → List ℕ → Type 0) (deep units : A → ℕ) where
-  -- what is spelled is what a reader gives, where so many more records, arrays and maps may be opened
+  -- what is spelled is what a reader gives, where `left` more records, arrays and maps may be opened
   abbrev pub ReadsComplete : ℕ → List ℕ → Reader A → Type 0
   ReadsComplete left all reader = (v : A) (before bytes rest : List ℕ) (m after : Meter) → left ≡ MOST_DEPTH - m.depth → all ≡ before ++ (bytes ++ rest) → Spelled v bytes → Counts (deep v) (units v) m after → reader (length before) m ≡ Complete v (length before + length bytes) after
 
@@ -58,7 +58,7 @@ module _ {A : Type 0} (Spelled : A → List ℕ → Type 0) (deep units : A → 
     reads_there : (v : A) (before bytes rest : List ℕ) (at : ℕ) (m after : Meter) → left ≡ MOST_DEPTH - m.depth → at ≡ length before → all ≡ before ++ (bytes ++ rest) → Spelled v bytes → Counts (deep v) (units v) m after → reader at m ≡ Complete v (at + length bytes) after
     reads_there v before bytes rest at m after l e is s t = subst (λ (k : ℕ). reader k m ≡ Complete v (k + length bytes) after) (sym e) (complete v before bytes rest m after l is s t)
 
-    -- over items of one block, of which so many more follow
+    -- over items of one block, in which `more` items follow
     pub pass_items : (fuel count more : ℕ) (walk : Walk) (now : List (List ℕ)) (vs : List A) (before rest : List ℕ) (at to : ℕ) (m after : Meter)
         → MOST_UNITS - m.units < fuel → left ≡ MOST_DEPTH - m.depth → count ≡ length now + more → all ≡ before ++ (joined now ++ rest) → at ≡ length before → to ≡ at + length (joined now)
         → SpellEach Spelled vs now → Counts (deepest deep vs) (units_all units vs) m after
@@ -84,7 +84,7 @@ module _ {A : Type 0} (Spelled : A → List ℕ → Type 0) (deep units : A → 
         s.1 (record { deep = omega (arith, t.deep); many = omega (arith, t.many); same_depth = t.same_depth; counted = omega (arith, t.counted) }) in
         pass_then fuel (record walk { left = suc count }) (record walk { left = count }) (record walk { left = more }) at (at + length i) to m last after (v ∷ []) vs one others
 
-    -- from after a block into another, of which so many more follow
+    -- from the end of a block over items of another, in which `more` items follow
     pub pass_block : (fuel more : ℕ) (walk : Walk) (said : Option ℤ) (i : List ℕ) (now : List (List ℕ)) (vs : List A) (before head rest : List ℕ) (at to : ℕ) (m after : Meter)
         → MOST_UNITS - m.units < fuel → left ≡ MOST_DEPTH - m.depth → all ≡ before ++ (head ++ (joined (i ∷ now) ++ rest)) → at ≡ length before → to ≡ at + (length head + length (joined (i ∷ now)))
         → IsMet walk at → IsHead (suc (length now + more)) said head → SpellEach Spelled vs (i ∷ now) → Counts (deepest deep vs) (units_all units vs) m after

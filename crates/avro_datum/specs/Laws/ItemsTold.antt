@@ -1,4 +1,4 @@
--- Items that are spelled in blocks are read to the end, and where they are not, the first fault is told.
+-- Items that are spelled in blocks are read to the end, and where they are not, the first fault is reported.
 use Rattle.std.proofs.Common.{◌≡◌, ℕ, zero, suc, ◌+◌, ◌-◌, ◌<◌, List, [], ◌∷◌, ◌++◌, length, Option, Some, None, Result, ℤ, pos, refl, sym, ap, subst, ◌∙◌, append_assoc, arith, inl, inr}
 use Rattle.std.proofs.lemmas.List.{append-nil, length-append}
 use Rattle.avro_bytes.specs.Walk.{Walk, first_walk}

@@ -43,7 +43,7 @@ same_fields p q = cc
 
 -- ---- one part after another
 
--- what stands after equal fronts
+-- what comes after equal fronts
 rest_is : (a b x y : List ℕ) → a ≡ b → a ++ x ≡ b ++ y → x ≡ y
 rest_is a b x y same e = sym (drop_at a x (length a) refl) ∙ ap (drop (length a)) e ∙ drop_at b y (length a) (sym (ap length same))
 

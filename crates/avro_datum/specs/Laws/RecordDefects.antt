@@ -1,4 +1,4 @@
--- The first fault of a record, both ways: what is told is there, and what is there is told.
+-- The first fault of a record, both ways: what is reported is there, and what is there is reported.
 use Rattle.std.proofs.Common.{◌≡◌, ℕ, ◌+◌, ◌-◌, List, [], ◌∷◌, ◌++◌, length, drop, Some, Result, refl, sym, ap, subst, ◌∙◌, append_assoc, arith, slice_get, suc}
 use Rattle.std.proofs.lemmas.List.{length-append}
 use Rattle.avro_bytes.specs.declared.meter.Meter.{Meter}
@@ -15,7 +15,7 @@ use Rattle.avro_datum.specs.Fault.{FaultyDatum, faulty as is_faulty, faulty_reco
 use Rattle.avro_datum.specs.Laws.Decoders.{Deeper, HasFault, IsComplete, IsSound, TellsFault}
 use Rattle.avro_bytes.specs.declared.limits.TheConstants.{MOST_DEPTH}
 
--- ---- what is told is there
+-- ---- what is reported is there
 
 fields_defect : (left : ℕ) (nodes : List Node) (all : List ℕ) (decoder : Decoder) → IsSound nodes all decoder left → HasFault nodes all decoder left → (fields : List FieldNode) (at : ℕ) (m : Meter) → left ≡ MOST_DEPTH - m.depth → HasDefect (fields_at decoder fields at m) at (FaultyFields nodes fields (drop at all) m)
 unfolding fields_at
@@ -44,7 +44,7 @@ record_has_defect left nodes all decoder node sound faulty name fields at m l is
     (defect_as (fields_at decoder fields at within) at (FaultyFields nodes fields (drop at all) within) P (λ d h. is_faulty (RecordNode name fields) is (faulty_record within o h)) (fields_defect (MOST_DEPTH - suc m.depth) nodes all decoder (sound (MOST_DEPTH - suc m.depth) (omega (arith, l, o.shallow))) (faulty (MOST_DEPTH - suc m.depth) (omega (arith, l, o.shallow))) fields at within (omega (arith, o.deeper))))
     (λ ds end last e. tt))
 
--- ---- what is there is told
+-- ---- what is there is reported
 
 fields_told : (left : ℕ) (nodes : List Node) (all : List ℕ) (decoder : Decoder) → IsComplete nodes all decoder left → TellsFault nodes all decoder left → (fields : List FieldNode) (before bytes : List ℕ) (m : Meter) (d : Defect) → left ≡ MOST_DEPTH - m.depth → all ≡ before ++ bytes → FaultyFields nodes fields bytes m d → fields_at decoder fields (length before) m ≡ failing (length before) d
 unfolding fields_at

@@ -1,4 +1,4 @@
--- The first fault of a datum: what is there is told.
+-- The first fault of a datum: what is there is reported.
 use Rattle.std.proofs.Common.{◌≡◌, ℕ, zero, suc, ◌+◌, ◌-◌, ◌<◌, List, ◌++◌, length, Option, Some, None, false, refl, sym, ap, subst, ◌∙◌, append_assoc, arith, slice_get}
 use Rattle.std.proofs.lemmas.List.{length-append}
 use Rattle.avro_bytes.specs.declared.fault.MalformedKind.TheVariants.{BadEnum}
@@ -48,7 +48,7 @@ module _ (nodes : List Node) (all : List ℕ) (decoder : Decoder) (left : ℕ) (
   form_told : {A : Type 0} (f : A → Datum) (form : List ℕ → ℕ → Meter → Decoding A) (before bytes : List ℕ) (m : Meter) (d : Defect) → all ≡ before ++ bytes → form (before ++ bytes) (length before) m ≡ failing (length before) d → map_decoding f (form all (length before) m) ≡ failing (length before) d
   form_told f form before bytes m d is e = ap (λ (b : List ℕ). map_decoding f (form b (length before) m)) is ∙ ap (map_decoding f) e ∙ failing_map (length before) d f
 
-  -- a datum after so many bytes
+  -- a datum after the bytes `front`
   further_told : (inner : ℕ) (before bytes front rest : List ℕ) (m opened : Meter) (further : Defect) → left ≡ MOST_DEPTH - m.depth → all ≡ before ++ bytes → bytes ≡ front ++ rest → m.depth < MOST_DEPTH → opened.depth ≡ m.depth + 1 → FaultyDatum nodes inner rest opened further
       → decoder inner (length before + length front) opened ≡ failing (length before + length front) further
   further_told inner before bytes front rest m opened further l is parts shallow deeper h =

@@ -1,4 +1,4 @@
--- Where a text first stands among others, and whether it is one of them.
+-- The index of a text's first occurrence among others, and whether it is one of them.
 use Rattle.std.proofs.Common.{◌≡◌, ◌<◌, ℕ, suc, ◌+◌, List, [], ◌∷◌, ◌++◌, length, Bool, true, false, cond, ◌||◌, Option, Some, None, slice_get, refl, sym, ap, subst, ◌∙◌, arith}
 use Rattle.std.specs.List.{position_from}
 use Rattle.std.specs.Str.{bytes_eq}
@@ -28,7 +28,7 @@ pub last_not : (n : ℕ) (o : Option ℕ) → or_last false n o ≡ o
 last_not n None = refl
 last_not n (Some i) = refl
 
--- ---- where a text stands among others
+-- ---- the index of a text among others
 
 pub place-behind : (text : List ℕ) (texts : List (List ℕ)) (s : List ℕ) → place_of text (texts ++ s ∷ []) ≡ or_last (bytes_eq s text) (length texts) (place_of text texts)
 place-behind text texts s = position-behind (λ other. bytes_eq other text) 0 texts s ∙ ap (λ n. or_last (bytes_eq s text) n (place_of text texts)) (let z : 0 + length texts ≡ length texts = omega arith in z)
@@ -42,7 +42,7 @@ placed text i (s ∷ texts) n e = at (bytes_eq s text) refl e (placed text (i + 
     at true t e later = (0, sym (some_inside i n e) ∙ (let z : i ≡ i + 0 = omega arith in z), ap Some ((bytes_eq-Decides s text).0 t))
     at false t e later = let k = later e in (suc k.0, omega (arith, k.1), k.2)
 
--- it stands there
+-- the text at that index is the one that was looked for
 pub place-some : (text : List ℕ) (texts : List (List ℕ)) (n : ℕ) → place_of text texts ≡ Some n → slice_get texts n ≡ Some text
 place-some text texts n e =
     let k = placed text 0 texts n e in
@@ -92,7 +92,7 @@ used-push name (x ∷ before) s = ap (λ b. bytes_eq x name || b) (used-push nam
     swap false true c = refl
     swap false false c = refl
 
--- under a text that is new stands the last place
+-- a new text has the last index
 pub named-last : (same : Bool) (o : Option ℕ) (n : ℕ) → (same ≡ true → o ≡ None) → cond same (Some n) o ≡ or_last same n o
 named-last true o n new = sym (ap (or_last true n) (new refl))
 named-last false o n new = sym (last_not n o)

@@ -1,4 +1,4 @@
-//! Images of both versions: those of a program, and what is told of bytes that are no image.
+//! Images of both versions: those of a program, and the fault of bytes that are no image.
 
 use crate::again::again;
 use crate::forms::rows::{Tried, assert_rows, is_answer};
@@ -21,7 +21,7 @@ const IMAGE_1: &str = "\
 00000009\
 1c00021f1100021200000312000105131d";
 
-/// The same, in version 2.
+/// The image of this record in version 2.
 const IMAGE_2: &str = "\
 415652500200000000000000000000000000000000\
 00000009\
@@ -43,8 +43,10 @@ const IMAGE_OF_ALL: &str = "\
 00000006\
 0800001a00001000001b000007000000101f";
 
-/// Images and the listing or the first fault of each. An image is the parts of it one after another, by their names or
-/// in digits; `27=09` puts other bytes in the place of those from 27 on, and behind `>` is the same in version 2.
+/// Images and the listing or the first fault of each.
+///
+/// An image is the parts of it one after another, by their names or in digits; `27=09` replaces the bytes from 27 on
+/// by others. After `>` comes the image in version 2.
 const ROWS: &str = "\
 one>two|@0 CALL 2;1 HALT;2 RECORD 2;3 SLOT 0;4 LONG;5 SLOT 1;6 TEXT;7 ENDREC;8 RET;
 two|@0 CALL 2;1 HALT;2 RECORD 2;3 SLOT 0;4 LONG;5 SLOT 1;6 TEXT;7 ENDREC;8 RET;
@@ -79,7 +81,7 @@ head2 00040000 1f|the image is cut
 head2 00040001 1f|the count or length at 21 passes its limit
 ";
 
-/// The digits of a part of an image.
+/// Returns the digits of a part of an image.
 fn digits(part: &str) -> &str {
     match part {
         "one" => IMAGE_1,
@@ -92,7 +94,7 @@ fn digits(part: &str) -> &str {
     }
 }
 
-/// Puts other bytes in the place of those from one on.
+/// Replaces the bytes from offset `from` on by others.
 fn put(image: &mut Vec<u8>, from: usize, other: &str) -> Result<(), FromHexError> {
     let end = from.saturating_add(other.len() / 2);
     if end > image.len() {
@@ -107,7 +109,7 @@ fn push_digits(alloc: Global, image: &mut Vec<u8>, digits: &str) -> Result<(), F
     Ok(image.extend_from_slice(&bytes)?)
 }
 
-/// Appends an image that is given so.
+/// Appends the image that these parts describe.
 fn push_image(alloc: Global, image: &mut Vec<u8>, parts: &str) -> Result<(), FromHexError> {
     for part in parts.split(' ') {
         match part.split_once('=') {
@@ -118,7 +120,7 @@ fn push_image(alloc: Global, image: &mut Vec<u8>, parts: &str) -> Result<(), Fro
     Ok(())
 }
 
-/// How many bytes the operand of a code has in version 1, and whether it is an address.
+/// Returns how many bytes the operand of a code has in version 1, and whether it is an address.
 fn operand_of(code: u8) -> (usize, bool) {
     match code {
         0x17 | 0x19 | 0x1c | 0x1e => (2, true),
@@ -148,7 +150,7 @@ fn push_version_two(second: &mut Vec<u8>, image: &[u8]) -> Result<(), AllocError
     Ok(())
 }
 
-/// Whether that was found.
+/// Returns whether these bytes were found.
 fn is_found<E: Drop>(found: Result<Vec<u8>, E>, want: &[u8]) -> bool {
     match found {
         Ok(bytes) => bytes.as_slice() == want,
@@ -156,13 +158,13 @@ fn is_found<E: Drop>(found: Result<Vec<u8>, E>, want: &[u8]) -> bool {
     }
 }
 
-/// Whether a program is saved as an image in version 2, and so is another of its images.
+/// Returns whether a program is saved as an image in version 2, and another of its images migrates to the same one.
 fn is_saved(alloc: Global, program: &Program, image: &[u8], second: &[u8]) -> bool {
     is_found(again!(save(alloc, program), AllocError), second)
         && is_found(again!(migrate(alloc, image), LoadError::NoMemory), second)
 }
 
-/// Whether bytes are no image, or that is the same in version 2.
+/// Returns whether bytes are no image, or `second` is their image in version 2.
 fn is_none_or_saved(alloc: Global, bytes: &[u8], second: &[u8]) -> bool {
     match again!(load(alloc, bytes), LoadError::NoMemory) {
         Ok(program) => is_saved(alloc, &program, bytes, second),
@@ -170,14 +172,14 @@ fn is_none_or_saved(alloc: Global, bytes: &[u8], second: &[u8]) -> bool {
     }
 }
 
-/// The same, as the addresses of version 1 tell.
+/// Returns whether bytes are no image, or their image in version 2 is the one that `push_version_two` makes of them.
 fn is_none_or_kept(alloc: Global, bytes: &[u8]) -> Result<bool, AllocError> {
     let mut second = Vec::new(alloc);
     push_version_two(&mut second, bytes)?;
     Ok(is_none_or_saved(alloc, bytes, &second))
 }
 
-/// Whether that is the answer of an image: a listing, and the same in version 2, or a fault.
+/// Returns whether this is the answer for an image: a listing, and its image in version 2, or a fault.
 pub(crate) fn is_image_answer(
     alloc: Global,
     images: &str,
@@ -200,7 +202,7 @@ fn images_have_a_listing_or_a_first_fault(rt: HostRuntime) -> Result<(), Fail> {
     assert_rows(&rt, Tried::Image, ROWS)
 }
 
-/// Each front of bytes is a cut image.
+/// Asserts that each proper prefix of bytes is a cut image.
 fn assert_fronts(rt: &(impl Abort + AllocGlobal), bytes: &[u8]) -> Result<(), AllocError> {
     for len in 0..bytes.len() {
         let front = load(rt.alloc(), &bytes[..len]);
@@ -210,7 +212,7 @@ fn assert_fronts(rt: &(impl Abort + AllocGlobal), bytes: &[u8]) -> Result<(), Al
     Ok(())
 }
 
-/// With each byte at each place, bytes are no image, or one of their program.
+/// Asserts that bytes with any byte at any offset are no image, or one of their program.
 fn assert_bytes(rt: &(impl Abort + AllocGlobal), bytes: &mut Vec<u8>) -> Result<(), AllocError> {
     for at in 0..bytes.len() {
         let was = bytes[at];

@@ -1,4 +1,4 @@
-//! Listings: which texts come back, and what is told of the others.
+//! Listings: which texts come back, and which fault is reported of the others.
 
 use crate::again::again;
 use crate::forms::rows::{Tried, assert_rows, is_answer};
@@ -45,7 +45,7 @@ avro program 1|1 BadLine
 @const 0 00;map 0 5000;|4 NoCode
 ";
 
-/// The same at the limits. A number that is not the next one is told before the limit.
+/// Texts at the limits. A number that is not the next one is reported before the limit.
 const LIMITS: &str = "@map 0{4096: 1};0 HALT;|comes back
 @map 0{4097: 1};|2 TooLarge
 @map 1{4097: 1};|2 BadIndex
@@ -55,7 +55,7 @@ const LIMITS: &str = "@map 0{4096: 1};0 HALT;|comes back
 @{262145:# JUMP #;}|262146 TooLarge
 ";
 
-/// Whether that is the answer of a text: its fault, or that it comes back.
+/// Returns whether this is the answer for a text: its fault, or that it comes back.
 pub(crate) fn is_listing_answer(
     alloc: Global,
     lines: &str,

@@ -1,4 +1,4 @@
-//! Which parts are a program, and what is the first thing that keeps others from being one.
+//! Which parts are a program, and the first thing that keeps others from being one.
 
 use crate::again::again;
 use crate::forms::rows::{Tried, assert_rows, is_answer};
@@ -7,7 +7,8 @@ use outcome::{Mismatch, MismatchKind};
 use std::alloc::{AllocError, Global};
 use std::test::Fail;
 
-/// Something of what parts are made of. A list has so many times these items, and stands there so many times.
+/// A thing that parts are made of: items, how many times a list has them (not for a map), and how many times the list
+/// is there (not for a code).
 enum Thing {
     Code(&'static [Instr], usize),
     Constant(&'static [u8], usize, usize),
@@ -33,7 +34,7 @@ jump bytes empty places-1 jumps node|constant 1 is empty
 jump bytes empty places-65537 jumps node|a limit is passed
 ";
 
-/// The same at the limits.
+/// Rows at the limits.
 const LIMITS: &str = "\
 halts zeros-1048576 places-65536 zeros-4096 node|@const 0 {1048576:00};{65536:map # 0;}\
 jumps 0{4096: 0};jumps 1{4096: 0};miss 0 NoMatch 1023 0;{262144:# HALT;}
@@ -77,7 +78,7 @@ const GREATEST: [Instr; 14] = [
     Instr::Jump(13),
 ];
 
-/// A thing of a row.
+/// Returns the thing that a row names.
 fn named(name: &str) -> Thing {
     match name {
         "list" => Thing::Code(&LIST, 1),
@@ -117,7 +118,7 @@ const MISS: Mismatch = Mismatch {
     reader_node: 0,
 };
 
-/// The same where the reader can have no such node.
+/// Such a mismatch with a node that the reader cannot have.
 const FAR_MISS: Mismatch = Mismatch {
     kind: MismatchKind::NoMatch,
     writer_node: 1_023,
@@ -139,7 +140,7 @@ fn push_first<T: Copy>(lists: &mut Lists<T>) -> Result<(), AllocError> {
     again!(lists.push_again(0), AllocError)
 }
 
-/// So many times these items.
+/// Returns these items, repeated `times` times.
 fn repeated<T: Copy>(alloc: Global, items: &[T], times: usize) -> Result<Vec<T>, AllocError> {
     let mut all = Vec::new(alloc);
     for _time in 0..times {
@@ -148,7 +149,8 @@ fn repeated<T: Copy>(alloc: Global, items: &[T], times: usize) -> Result<Vec<T>,
     Ok(all)
 }
 
-/// Adds a list, and again the first one, so that it was added so many times where there was none before.
+/// Adds a list, and then the first one until `times` lists were added: where there was none before, they
+/// are all this list.
 fn push_times<T: Copy>(lists: &mut Lists<T>, list: &[T], times: usize) -> Result<(), AllocError> {
     again!(lists.push(list), AllocError)?;
     for _time in 1..times {
@@ -157,7 +159,7 @@ fn push_times<T: Copy>(lists: &mut Lists<T>, list: &[T], times: usize) -> Result
     Ok(())
 }
 
-/// Adds a list of so many times these items, so many times.
+/// Adds a list of `items` repeated `long` times, `times` times.
 fn push<T: Copy>(
     alloc: Global,
     lists: &mut Lists<T>,
@@ -199,7 +201,7 @@ fn push_things(
     Ok(())
 }
 
-/// The parts that a code and things make.
+/// Returns the parts that a code and things make.
 fn parts_of(alloc: Global, code: &[Instr], names: &str) -> Result<Parts, AllocError> {
     let mut parts = Parts {
         code: Vec::new(alloc),
@@ -212,7 +214,7 @@ fn parts_of(alloc: Global, code: &[Instr], names: &str) -> Result<Parts, AllocEr
     Ok(parts)
 }
 
-/// Whether that is what a code and things are as a program.
+/// Returns whether this is what a code and things are as a program.
 pub(crate) fn is_program_answer(
     alloc: Global,
     code: &[Instr],
@@ -264,12 +266,12 @@ fn operands_out_of_range_are_told_by_their_address(rt: HostRuntime) -> Result<()
     Ok(())
 }
 
-/// Whether the list at a position is this one.
+/// Returns whether the list at a position is this one.
 fn is_list<T: Copy + PartialEq>(lists: &Lists<T>, position: usize, list: &[T]) -> bool {
     lists.get(position) == Some(list)
 }
 
-/// Whether lists are two numbers, none, the same two and one, and tell what these have.
+/// Returns whether lists are two numbers, none, the first two again and one, and report the lengths that these have.
 fn are_four(lists: &Lists<u8>) -> bool {
     lists.len() == 4
         && is_list(lists, 0, &[1, 2])
@@ -284,7 +286,7 @@ fn are_four(lists: &Lists<u8>) -> bool {
         && !lists.are_within(1)
 }
 
-/// Adds these four.
+/// Adds the four lists of `are_four`.
 fn push_four(lists: &mut Lists<u8>) -> Result<(), AllocError> {
     push_times(lists, &[1, 2], 1)?;
     push_times(lists, &[], 2)?;
@@ -299,7 +301,7 @@ fn keeps_lists_and_shares_them(rt: HostRuntime) -> Result<(), Fail> {
     Ok(())
 }
 
-/// Whether a program shows a code of two instructions, and one thing of each kind.
+/// Returns whether a program shows a code of two instructions, and one thing of each kind.
 fn is_shown(program: &Program, code: &[Instr]) -> bool {
     program.is_in_range();
     program.len() == 2
@@ -312,7 +314,7 @@ fn is_shown(program: &Program, code: &[Instr]) -> bool {
         && program.misses() == [MISS].as_slice()
 }
 
-/// Whether parts are a program that shows a code of two instructions, and one thing of each kind.
+/// Returns whether parts are a program that shows a code of two instructions, and one thing of each kind.
 fn are_shown(parts: Parts, code: &[Instr]) -> bool {
     match Program::new(parts) {
         Ok(program) => is_shown(&program, code),

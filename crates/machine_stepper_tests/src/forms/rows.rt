@@ -1,4 +1,4 @@
-//! Tables of rows: what is tried, a bar, and what is answered.
+//! Tables of rows: what is tried, a bar, and the answer.
 
 use crate::again::again;
 use crate::forms::image_tests::is_image_answer;
@@ -21,19 +21,19 @@ pub(crate) enum Tried {
     Parts,
 }
 
-/// Whether that is the listing of a program.
+/// Returns whether this is the listing of a program.
 fn is_listing(alloc: Global, program: &Program, want: &str) -> Result<bool, AllocError> {
     let listing = again!(disassemble(alloc, program), AllocError)?;
     Ok(listing.as_str() == want)
 }
 
-/// Whether an error is told so.
+/// Returns whether an error is shown as this text.
 fn is_told<E: Display>(alloc: Global, error: &E, want: &str) -> Result<bool, AllocError> {
     let told = format!(in alloc; "{error}")?;
     Ok(told.as_str() == want)
 }
 
-/// Whether that is answered of what was to be a program: its listing, or the error.
+/// Returns whether this is the answer for what was to be a program: its listing, or the error.
 pub(crate) fn is_answer<E: Display + Drop>(
     alloc: Global,
     made: Result<Program, E>,
@@ -45,7 +45,7 @@ pub(crate) fn is_answer<E: Display + Drop>(
     }
 }
 
-/// Whether a row is true.
+/// Returns whether a row is true.
 fn is_true(alloc: Global, tried: Tried, row: &str) -> Result<bool, FromHexError> {
     let (subject, answer) = row.split_once('|').unwrap_or((row, ""));
     let mut want = String::new(alloc);
@@ -57,7 +57,7 @@ fn is_true(alloc: Global, tried: Tried, row: &str) -> Result<bool, FromHexError>
     }
 }
 
-/// The rows are true.
+/// Asserts that the rows are true.
 pub(crate) fn assert_rows(
     rt: &(impl Abort + AllocGlobal),
     tried: Tried,

@@ -14,17 +14,18 @@ use registry_store::CommandStore;
 use sqlite_disk::Crash;
 use std::alloc::Global;
 
-/// What was answered to a command, and what a start found after a crash.
+/// What was replied to a command, and what a start found after a crash.
 pub struct Aftermath<D: Crash> {
     pub answer: Result<Reply, Refusal>,
     pub found: Result<Started<D>, (StartFault, D)>,
 }
 
 impl<D: Crash> KeptRegistry<CommandStore<D>> {
-    /// Does or answers a command; then the machine crashes, and a registry starts from the file. Over a `Fuse` the
-    /// machine stops before any call of the disk that the fuse names. The start finds each command that was accepted
-    /// before, and the command where that was answered, with the ids that were answered, and at most one command more;
-    /// and it names no fault of the file.
+    /// Executes a command; then the machine crashes, and a registry starts from the file.
+    ///
+    /// Over a `Fuse` the machine stops before any call of the disk that the fuse names. The start finds each command
+    /// that was accepted before, and this command where it was accepted, with the ids that were returned, and at most
+    /// one command more; and it reports no fault of the file.
     pub fn apply_and_crash(self, alloc: Global, command: Command) -> Aftermath<D>
         ensures answered { OnOk result.answer (IfOk result.found (λ r. IsTrue (D.Disk.is_clean r.store.journal.disk)
             → IsFoundAfter (self.registry ++ command_of command ∷ []) r.registry)) }

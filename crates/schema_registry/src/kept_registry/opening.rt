@@ -35,8 +35,9 @@ impl<D: Disk> Started<D> {
     ghost use Rattle.schema_registry.specs.Storing.{IsOfFile, IsOfNoRegistry};
 
     /// Starts from a file that a crash may have left: reads its commands and does each of them again, in their order.
-    /// What the file has are then the commands that are kept of the registry's, with the ids that they have in it. At
-    /// `Err` the disk is given back. What `progress` is told has no effect.
+    ///
+    /// The commands of the file are then those that are kept of the registry's, with the ids that they have in it. At
+    /// `Err` the disk is handed back. What is reported to `progress` has no effect.
     pub fn from_disk<P: Progress>(
         alloc: Global,
         disk: D,
@@ -68,7 +69,7 @@ impl<D: Disk> KeptRegistry<CommandStore<D>> {
     ghost use Rattle.schema_registry.specs.Replaying.{stored_in};
     ghost use Rattle.schema_registry.specs.Storing.{IsOfFile, IsOfNoRegistry};
 
-    /// Starts from a file that is on the disk as it reads, and goes on in it. At `Err` the disk is given back.
+    /// Starts from a file that is on the disk as it reads, and goes on in it. At `Err` the disk is handed back.
     pub fn open<P: Progress>(
         alloc: Global,
         disk: D,
@@ -85,7 +86,7 @@ impl<D: Disk> KeptRegistry<CommandStore<D>> {
         Ok(KeptRegistry::over(started.registry, started.store))
     }
 
-    /// Makes an empty file that of an empty registry. At `Err` the disk is given back.
+    /// Makes an empty file that of an empty registry. At `Err` the disk is handed back.
     pub fn create(alloc: Global, disk: D) -> Result<KeptRegistry<CommandStore<D>>, (io::Error, D)>
         requires usable { IsTrue (D.is_usable disk) }
         requires empty { D.seen disk ≡ [] }

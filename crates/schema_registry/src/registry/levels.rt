@@ -1,4 +1,4 @@
-//! Setting and telling levels.
+//! Setting and reading levels.
 
 ghost use Rattle.std.specs.Prelude.{◌≡◌, ◌≢◌, ◌∷◌, [], ◌++◌, Some, IfErr, IfSome, OnOk, OnErr, option_map, string_bytes};
 ghost use Rattle.schema_registry.specs.Accepting.{registry_after};
@@ -19,14 +19,14 @@ use crate::subject::is_subject;
 use schema_registry_maps::{put, set_for};
 
 impl Registry {
-    /// The level of a subject, which is its own or else the global one; without a subject the global one.
+    /// Returns the level of a subject, which is its own or else the global one; without a subject the global one.
     pub(super) fn level_of(&self, subject: Option<&str>) -> Level
         ensures { result ≡ level_of (option_map (λ s. s.now) subject.entry) (registry_after self.now).levels }
     {
         set_for(&self.levels, self.global, subject)
     }
 
-    /// Why no level is set for a subject, where there is memory.
+    /// Returns why no level can be set for a subject, unless memory runs out; `None` where one can.
     pub fn level_refusal(&self, subject: &str) -> Option<Refusal>
         ensures answer { (level : Level)
             → answer_to (registry_after self.now) (SetLevelCommand (Some subject.now) level)
@@ -43,7 +43,8 @@ impl Registry {
         None
     }
 
-    /// Returns why no level is set for a subject, or for all of them, where there is memory; None where one is.
+    /// Returns why no level can be set for a subject, or for all of them, unless memory runs out; `None` where one
+    /// can.
     pub(crate) fn refusal_to_set(&self, subject: &Option<String>) -> Option<Refusal>
         ensures answer { (level : Level)
             → answer_to (registry_after self.now) (SetLevelCommand (option_map string_bytes subject.now) level)
@@ -57,7 +58,7 @@ impl Registry {
         }
     }
 
-    /// Sets the level of a subject, or the global one, and keeps the history.
+    /// Sets the level of a subject, or the global one. At `Ok` the history becomes the given one.
     pub(super) fn set_level(
         &mut self,
         subject: Option<String>,

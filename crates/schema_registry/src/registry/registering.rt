@@ -28,7 +28,7 @@ use crate::subject::is_subject;
 use avro_schema::{Schema, SchemaError};
 use std::alloc::{AllocError, Global};
 
-/// The schema that a text declares.
+/// Returns the schema that a text declares; `BadSchema` where it declares none.
 pub(crate) fn parse_schema(alloc: Global, text: &str) -> Result<Schema, Refusal>
     ensures schema { MatchResult result (λ s. declaration_of text.now ≡ Ok s)
         (λ e. e ≢ Refusal.NoMemory
@@ -43,7 +43,8 @@ pub(crate) fn parse_schema(alloc: Global, text: &str) -> Result<Schema, Refusal>
     }
 }
 
-/// The schema that a text declares, which is to stand under a subject.
+/// Returns the schema that a text declares, which is to be a version of a subject; `BadSubject` where the subject has
+/// no valid name.
 pub(crate) fn schema_for(alloc: Global, subject: &str, text: &str) -> Result<Schema, Refusal>
     ensures ok { IfOk result (λ s. (is_subject subject.now ≡ true) × (declaration_of text.now ≡ Ok s)) }
     ensures err { IfErr result (λ e. e ≢ Refusal.NoMemory → (answer : Declaration → Answer)
@@ -59,7 +60,7 @@ pub(crate) fn schema_for(alloc: Global, subject: &str, text: &str) -> Result<Sch
 }
 
 impl Registry {
-    /// The version of a subject that has a schema.
+    /// Returns the version of a subject that has a schema; `None` where there is none.
     pub(super) fn version_with(&self, subject: &str, schema: &Schema) -> Option<KnownVersion>
         ensures { option_map (λ known. entry_of subject.now known.number known.id) result
             ≡ with_text schema.now.text (registry_after self.now).schemas
@@ -70,8 +71,8 @@ impl Registry {
         Some(KnownVersion { number, id })
     }
 
-    /// Returns whether a schema goes together with those of a subject's versions that the level names, as it was found
-    /// of them, or else by comparing it with them.
+    /// Returns whether a schema goes together with those of a subject's versions that the level names, by what was
+    /// found of them, or else by comparing it with them.
     fn is_compatible(&self, subject: &str, schema: &Candidate<'_>) -> Result<bool, AllocError>
         ensures { IfOk result (λ b. IsTrue b ↔ AreSafe (pairs_of (registry_after self.now)
             (level_of (Some subject.now) (registry_after self.now).levels) schema.now
@@ -86,14 +87,15 @@ impl Registry {
         )
     }
 
-    /// Whether there is no room for a schema, or for a subject.
+    /// Returns whether there is no room for a schema, or for a subject.
     fn is_full(&self, subject: &str, schema: &Schema) -> bool
         ensures { result ≡ is_full (registry_after self.now) schema.now subject.now }
     {
         self.schemas.has_no_id(schema.text()) || has_no_room(&self.subjects, subject, MOST_SUBJECTS)
     }
 
-    /// Whether a schema that a subject lacks may be a version of it, or else why it may not.
+    /// Returns `Ok` where a schema that a subject lacks may be a version of it, or else why not: `Incompatible` or
+    /// `Full`, or `NoMemory`.
     fn may_add(&self, subject: &str, schema: &Candidate<'_>) -> Result<(), Refusal>
         ensures ok { OnOk result (AreSafe (pairs_of (registry_after self.now)
             (level_of (Some subject.now) (registry_after self.now).levels) schema.now
@@ -112,7 +114,7 @@ impl Registry {
         Ok(())
     }
 
-    /// Adds a version that the subject lacks, and keeps the history.
+    /// Adds a version that the subject lacks, and returns its id. At `Ok` the history becomes the given one.
     fn add(&mut self, subject: String, schema: Schema, history: History) -> Result<u32, Refusal>
         requires command { AddsRegistration self.old (string_bytes subject) schema history.commands }
         requires lacking { with_text schema.text (registry_after self.old).schemas
@@ -146,7 +148,8 @@ impl Registry {
         Ok(Decision::New(self.schemas.id_to_be(schema.schema().text())))
     }
 
-    /// Does what was decided of a schema and a subject, and keeps the history. Only memory may be wanted for it.
+    /// Registers a schema for a subject as was decided, and returns its id. At `Ok` the history becomes the given
+    /// one. Only memory can fail.
     fn register_as(
         &mut self,
         decision: Decision,
@@ -173,7 +176,8 @@ impl Registry {
         }
     }
 
-    /// Gives a schema its id, and makes it a version of the subject.
+    /// Registers a schema, which makes it a version of the subject, and returns its id. At `Ok` the history becomes
+    /// the given one.
     pub(crate) fn register(
         &mut self,
         subject: String,
@@ -189,8 +193,8 @@ impl Registry {
         self.register_as(decision, subject, schema, history)
     }
 
-    /// Does what was decided of a command that registers a schema, which was parsed from its text. Only memory may be
-    /// wanted for it.
+    /// Executes a command that registers a schema, which was parsed from its text, as was decided, and returns the
+    /// id. Only memory can fail.
     pub(crate) fn register_decided(
         &mut self,
         decision: Decision,
@@ -209,7 +213,8 @@ impl Registry {
         self.register_asked(decision, command, schema, history)
     }
 
-    /// Does what was decided of a command that registers a schema, and keeps the history.
+    /// Executes a command that registers a schema, as was decided, and returns the id. At `Ok` the history becomes
+    /// the given one.
     fn register_asked(
         &mut self,
         decision: Decision,
@@ -234,7 +239,7 @@ impl Registry {
         }
     }
 
-    /// Registers the schema of a text.
+    /// Registers the schema of a text, and returns its id as a reply.
     pub(super) fn register_text(
         &mut self,
         subject: String,

@@ -44,7 +44,7 @@ impl From<Refusal> for ReplayFault {
 }
 
 impl Registry {
-    /// Does again what was stored. At `Err` nothing changes.
+    /// Executes again a command that was stored. At `Err` nothing changes.
     fn replay(&mut self, command: StoredCommand) -> Result<(), ReplayFault>
         ensures kept { OnOk result (stored_in self.new ≡ stored_in self.old ++ stored_of command ∷ []) }
         ensures err { OnErr result (self.new ≡ self.old) }
@@ -109,13 +109,13 @@ impl Registry {
     }
 }
 
-/// Is told how far a start has come.
+/// A receiver of reports on how far a start has come.
 pub trait Progress {
-    /// This many commands of all are done again.
+    /// Receives the report that `number` commands of `all` are done again.
     fn done(&mut self, number: usize, all: usize);
 }
 
-/// Is told, and does nothing.
+/// A receiver of reports that does nothing with them.
 #[derive(Drop)]
 pub struct Unwatched;
 

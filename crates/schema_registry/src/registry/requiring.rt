@@ -25,8 +25,8 @@ impl Registry {
         }
     }
 
-    /// Returns what a schema has to go together with before it becomes a version of a subject; None where the subject
-    /// has it.
+    /// Returns what a schema has to go together with before it becomes a version of a subject; `None` where the
+    /// subject has it.
     pub(crate) fn requirement(
         &self,
         subject: &str,
@@ -45,7 +45,7 @@ impl Registry {
         Ok(Some(Requirement { level, ids }))
     }
 
-    /// Returns what a schema has to go together with beside a version of a subject; None where there is no such
+    /// Returns what a schema has to go together with beside a version of a subject; `None` where there is no such
     /// version.
     pub(crate) fn requirement_beside(
         &self,

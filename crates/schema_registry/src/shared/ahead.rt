@@ -58,8 +58,8 @@ impl SharedRegistry {
         Ok(!ids.is_empty())
     }
 
-    /// Returns what a schema has to go together with before it becomes a version of a subject; None where the subject
-    /// has it.
+    /// Returns what a schema has to go together with before it becomes a version of a subject; `None` where the
+    /// subject has it.
     fn requirement<R: Wait>(
         &self,
         rt: &R,
@@ -113,7 +113,7 @@ impl SharedRegistry {
         Ok(())
     }
 
-    /// Returns which version of a subject the schema of a text is, or why there is none.
+    /// Returns which version of a subject the schema of a text is, as a reply, or why there is none.
     pub(super) fn lookup<R: Wait>(
         &self,
         rt: &R,
@@ -129,7 +129,8 @@ impl SharedRegistry {
         registry.lookup_schema(subject, &schema)
     }
 
-    /// Returns whether the schema of a text goes with a version of a subject, or why that cannot be told.
+    /// Returns whether the schema of a text goes with a version of a subject, as a reply, or why that cannot be
+    /// found.
     pub(super) fn check<R: Wait>(
         &self,
         rt: &R,

@@ -1,4 +1,4 @@
-//! What a shared registry answers to rows: lines, each with the line of its answer behind it. A line is a command, or
+//! What a shared registry answers to rows: lines, each followed by the line of its answer. A line is a command, or
 //! `find` with an id for the text under it, or `receipt` with a text for what its receipt shows.
 
 ghost use Rattle.std.specs.Prelude.{◌≡◌, ◌<◌, IfOk};
@@ -24,7 +24,7 @@ pub(crate) fn register<R: Wait>(
     Ok(receipt)
 }
 
-/// The text that is shown under an id, or `none`.
+/// Returns the text that is shown under an id, or `none`.
 pub(crate) fn found(shared: &SharedRegistry, id: u32) -> &str {
     match shared.find(id) {
         Some((schema, _)) => schema.text(),
@@ -32,7 +32,7 @@ pub(crate) fn found(shared: &SharedRegistry, id: u32) -> &str {
     }
 }
 
-/// The text that a receipt shows, which agrees with one of its id that is found.
+/// Returns the text that a receipt shows, which agrees with one of its id that is found.
 pub(crate) fn shown<'a>(shared: &'a SharedRegistry, receipt: &mut Receipt) -> &'a str
     requires { IsReceiptOf shared.now receipt.old }
 {
@@ -42,7 +42,7 @@ pub(crate) fn shown<'a>(shared: &'a SharedRegistry, receipt: &mut Receipt) -> &'
     shared.schema(receipt).text()
 }
 
-/// Registers a text, and tells the id with the text that its receipt shows.
+/// Registers a text, and returns the id with the text that its receipt shows.
 fn registered<R: Wait>(
     rt: &R,
     alloc: Global,
@@ -55,7 +55,7 @@ fn registered<R: Wait>(
     Ok(format!(in alloc; "{id} {text}")?)
 }
 
-/// What a shared registry replies to a line.
+/// Returns what a shared registry replies to a line.
 fn reply_to<R: Wait>(
     rt: &R,
     alloc: Global,
@@ -73,7 +73,7 @@ fn reply_to<R: Wait>(
     Ok(reply_line(alloc, reply)?)
 }
 
-/// What a shared registry answers to a line. Where it has no memory it is asked once more.
+/// Returns what a shared registry answers to a line. Where it has no memory it is asked once more.
 pub(crate) fn answer_to<R: Wait>(
     rt: &R,
     alloc: Global,
@@ -86,7 +86,7 @@ pub(crate) fn answer_to<R: Wait>(
     }
 }
 
-/// Rows with the answers that a shared registry gives to every so manieth line, each behind its own.
+/// Returns every `step`th line of some rows, from the first on, each followed by the answer of a shared registry.
 pub(crate) fn answered_by<R: Wait>(
     rt: &R,
     alloc: Global,
@@ -104,7 +104,7 @@ pub(crate) fn answered_by<R: Wait>(
     Ok(answered)
 }
 
-/// Rows behind others, which stand there once for each number from 1 to a count, with the number in place of `#`.
+/// Returns rows after others, which are repeated for each number from 1 to a count, with the number in place of `#`.
 pub(crate) fn rows_after(
     alloc: Global,
     numbered_rows: &str,

@@ -15,8 +15,8 @@ use std::process::Abort;
 use std::sync::Wait;
 use std::test::Fail;
 
-/// Whether a new registry answers each command as its row has it, after other rows that have the numbers from 1 to a
-/// count in place of `#`.
+/// Asserts that a new registry answers each command as its row has it, after other rows that have the numbers from 1
+/// to a count in place of `#`.
 fn assert_after(
     rt: &(impl Abort + AllocGlobal + Wait),
     numbered_rows: &str,
@@ -30,7 +30,7 @@ fn assert_after(
     Ok(())
 }
 
-/// Whether a new registry answers each command as its row has it, for each of some tables of rows.
+/// Asserts that a new registry answers each command as its row has it, for each of some tables of rows.
 fn assert_rows(rt: &(impl Abort + AllocGlobal + Wait), tables: &[&str]) -> Result<(), Fail> {
     for rows in tables {
         assert_after(rt, "", 0, rows)?;
@@ -107,7 +107,7 @@ schema 3
 text "string"
 "#;
 
-/// Whether a registry that has no memory for the command of a line answers the questions as before.
+/// Returns whether a registry that has no memory for the command of a line answers the questions as before.
 fn is_kept<R: Wait>(
     rt: &R,
     alloc: Global,
@@ -122,8 +122,8 @@ fn is_kept<R: Wait>(
     Ok(answered_by(rt, alloc, shared, QUESTIONS, 1)? == before)
 }
 
-/// What a new registry answers to the questions that keeps out each growth that is refused, and makes it where it is
-/// asked for again; or the line of a growth that is not kept out.
+/// Returns what a new registry answers to the questions that keeps out each growth that is refused, and makes it
+/// where it is asked for again; or the line of a growth that is not kept out.
 fn grown<R: Wait>(rt: &R, alloc: Global) -> Result<String, Refusal> {
     let shared = SharedRegistry::new(alloc)?;
     for line in GROWING.lines() {

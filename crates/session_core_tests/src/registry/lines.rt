@@ -3,7 +3,7 @@
 use schema_registry::{Command, Level, Refusal, Reply, Version};
 use std::alloc::{AllocError, Global};
 
-/// The subject of a word, where `*` is none.
+/// Returns the subject that a word names, which is `None` for `*`.
 fn subject_of(alloc: Global, word: &str) -> Result<Option<String>, AllocError> {
     if word == "*" {
         return Ok(None);
@@ -11,7 +11,7 @@ fn subject_of(alloc: Global, word: &str) -> Result<Option<String>, AllocError> {
     Ok(Some(String::from_str(alloc, word)?))
 }
 
-/// The version of a word.
+/// Returns the version that a word names.
 fn version_of(word: &str) -> Result<Version, Refusal> {
     if word == "latest" {
         return Ok(Version::Latest);
@@ -22,7 +22,7 @@ fn version_of(word: &str) -> Result<Version, Refusal> {
     }
 }
 
-/// The command about a subject.
+/// Returns the command about a subject.
 fn about_subject(alloc: Global, verb: &str, word: &str, rest: &str) -> Result<Command, Refusal> {
     let subject = String::from_str(alloc, word)?;
     let text = String::from_str(alloc, rest)?;
@@ -37,7 +37,7 @@ fn about_subject(alloc: Global, verb: &str, word: &str, rest: &str) -> Result<Co
     }
 }
 
-/// The command to check a text against a version.
+/// Returns the command to check a text against a version.
 fn check(alloc: Global, word: &str, rest: &str) -> Result<Command, Refusal> {
     let (version, text) = rest.split_once(' ').unwrap_or((rest, ""));
     Ok(Command::Check {
@@ -47,7 +47,7 @@ fn check(alloc: Global, word: &str, rest: &str) -> Result<Command, Refusal> {
     })
 }
 
-/// The command of a line.
+/// Returns the command of a line.
 pub(crate) fn command_of(alloc: Global, line: &str) -> Result<Command, Refusal> {
     let (verb, words) = line.split_once(' ').unwrap_or((line, ""));
     let (word, rest) = words.split_once(' ').unwrap_or((words, ""));
@@ -68,7 +68,7 @@ pub(crate) fn command_of(alloc: Global, line: &str) -> Result<Command, Refusal> 
     }
 }
 
-/// A reply as a line.
+/// Returns a reply as a line.
 pub(crate) fn reply_line(alloc: Global, reply: Reply) -> Result<String, AllocError> {
     match reply {
         Reply::Id(id) => format!(in alloc; "id {id}"),
@@ -86,7 +86,7 @@ pub(crate) fn reply_line(alloc: Global, reply: Reply) -> Result<String, AllocErr
     }
 }
 
-/// A reply or a refusal as a line, but for want of memory.
+/// Returns a reply or a refusal as a line. The error is that memory ran out.
 pub(crate) fn answer_line(
     alloc: Global,
     reply: Result<String, Refusal>,
@@ -105,7 +105,7 @@ pub(crate) fn answer_line(
     }
 }
 
-/// The answer of a registry that is asked once more, where memory ran out the first time.
+/// Returns the answer of a registry that is asked once more, where memory ran out the first time.
 pub(crate) fn second_answer(
     alloc: Global,
     answer: Result<String, AllocError>,

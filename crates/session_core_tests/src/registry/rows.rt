@@ -1,4 +1,4 @@
-//! Worked rows: lines of a command, each with the line of its answer behind it.
+//! Worked rows: lines of a command, each followed by the line of its answer.
 
 /// Under BACKWARD: the record T, again, with a field more, and with a default for it; then all questions; and at last T
 /// again, which the subject has, though its level would refuse it beside the latest version.
@@ -296,7 +296,7 @@ level s
 NONE
 ";
 
-/// A level and a version for the subject of a number, and a version more for the first one.
+/// A level and a version for the subject with a number, and one version more for the first one.
 pub(crate) const NUMBERED: &str = r#"set s# NONE
 NONE
 register s# {"type":"fixed","name":"F","size":#}
@@ -323,7 +323,7 @@ register s {"type":"fixed","name":"F","size":#}
 id #
 "#;
 
-/// What is answered once each id has a schema; one that the level refuses is told as that.
+/// What is answered once each id has a schema; one that the level refuses is reported as that.
 pub(crate) const NO_IDS: &str = r#"register s {"type":"fixed","name":"F","size":0}
 refused Full
 register u {"type":"fixed","name":"F","size":0}

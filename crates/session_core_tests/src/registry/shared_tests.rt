@@ -29,8 +29,8 @@ const SHOWN: &str = r#""null"
 {"name":"F","size":2,"type":"fixed"}
 "#;
 
-/// Registers the eight texts, from one of them on and then those before it, and tells whether each has one of the first
-/// eight ids, under which is found what its receipt shows.
+/// Registers the eight texts, from one of them on and then those before it, and returns whether each has one of the
+/// first eight ids, under which is found what its receipt shows.
 fn are_registered<R: Wait>(
     rt: &R,
     alloc: Global,
@@ -47,13 +47,13 @@ fn are_registered<R: Wait>(
     Ok(true)
 }
 
-/// Under how many of the ids from 1 to 8 a text is found.
+/// Returns under how many of the ids from 1 to 8 a text is found.
 fn times_found(shared: &SharedRegistry, text: &str) -> usize {
     (1..=8_u32).filter(|id| found(shared, *id) == text).count()
 }
 
-/// Whether four threads register the eight texts, each from another one on, and each compact text is then found under
-/// one id.
+/// Returns whether four threads register the eight texts, each from another one on, and each compact text is then
+/// found under one id.
 fn have_eight_ids<R: Threads + Wait + Sync>(rt: &R, alloc: Global) -> Result<bool, Refusal> {
     let shared = SharedRegistry::new(alloc)?;
     answer_to(rt, alloc, &shared, "set * NONE")?;

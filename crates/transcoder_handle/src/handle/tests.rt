@@ -25,8 +25,8 @@ const NOTHING: ReportNumbers = ReportNumbers {
     writer_id: 0,
 };
 
-/// Whether a payload is rewritten into a room that holds its output, told how long it is by one that does not, and told
-/// its fault; and whether a closed handle tells that it is closed.
+/// Returns whether a payload is rewritten into a room that holds its output, whether one that does not yields the
+/// length, and whether a fault is reported; and whether a closed handle reports that it is closed.
 fn payloads_are_rewritten(alloc: Global) -> bool {
     let mut handle = Handle::closed();
     let (mut fault, mut room, mut small, mut told) = (0, [0; 16], [0; 5], NOTHING);
@@ -43,7 +43,7 @@ fn payloads_are_rewritten(alloc: Global) -> bool {
     right
 }
 
-/// Whether texts that make no pair are told, and leave the handle closed.
+/// Returns whether texts that make no pair are reported, and leave the handle closed.
 fn bad_texts_are_told(alloc: Global) -> bool {
     let mut handle = Handle::closed();
     let (mut fault, mut room, mut told) = (0, [0; 16], NOTHING);
@@ -56,7 +56,7 @@ fn bad_texts_are_told(alloc: Global) -> bool {
     right
 }
 
-/// Whether messages are rewritten, and those of another writer and what is no message are told.
+/// Returns whether messages are rewritten, and those of another writer and what is no message are reported.
 fn messages_are_rewritten(alloc: Global) -> bool {
     let mut handle = Handle::closed();
     let (mut fault, mut room, mut small, mut told) = (0, [0; 16], [0; 10], NOTHING);
@@ -91,7 +91,7 @@ fn item(payload_offset: usize, payload_length: usize) -> BatchItem {
     }
 }
 
-/// Whether each item of a batch is told as its payload alone would be, whatever stands beside it.
+/// Returns whether each item of a batch gets the report that its payload alone would get, whatever is beside it.
 fn batches_are_rewritten(alloc: Global) -> bool {
     let mut handle = Handle::closed();
     let (mut fault, mut room) = (0, [0; 14]);

@@ -2,7 +2,7 @@
 
 use std::io::{self, ErrorKind, Read};
 
-/// A number of a call that is never reached.
+/// The index of a call that is never reached.
 pub(crate) const NEVER: usize = usize::MAX;
 
 /// What a peer does after its last byte.
@@ -13,7 +13,7 @@ pub(crate) enum After {
     Waits,
 }
 
-/// A connection to a peer: it gives at most `most` bytes at a time, is interrupted at each third call, and fails at
+/// A connection to a peer: it returns at most `most` bytes at a time, is interrupted at each third call, and fails at
 /// call `fails_at`.
 #[derive(Drop)]
 pub(crate) struct Peer<'a> {

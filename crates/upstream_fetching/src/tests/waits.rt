@@ -9,7 +9,7 @@ use std::thread;
 use std::thread::Threads;
 use std::time::{Clock, Duration, Instant};
 
-/// The milliseconds in which a thread comes to wait.
+/// The milliseconds in which a thread begins to wait.
 const PAUSE: u64 = 50;
 
 /// Returns what a thread that waits gets while another ends the queue.

@@ -1,4 +1,4 @@
--- What was taken stands behind what had come.
+-- What was taken follows what had come.
 use Rattle.std.proofs.Common.{rules, arith, ℕ, List, ◌≡◌, ◌+◌, ◌++◌, ◌∙◌, ap, take}
 use Rattle.std.proofs.lemmas.List.{length-drop, length-take-le}
 use Rattle.byte_transfer.proofs.Moved.{kept_front, moved}

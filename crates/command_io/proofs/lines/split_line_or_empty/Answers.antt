@@ -1,4 +1,4 @@
--- No line is left behind the last.
+-- No line is left after the last.
 use Rattle.command_io.proofs.Split.{lines_none}
 use Rattle.command_io.proofs.lines.split_line_or_empty.Goals as goal
 

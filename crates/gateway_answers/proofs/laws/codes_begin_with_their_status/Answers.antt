@@ -15,6 +15,7 @@ begins faults.NoVersion = inr refl
 begins faults.NoSchema = inr refl
 begins faults.Incompatible = inl refl
 begins faults.TooLarge = inr refl
+begins faults.UnknownCoding = inl refl
 begins faults.BadBody = inr refl
 begins (faults.BadSchema error) = inr refl
 begins faults.NotAvro = inr refl

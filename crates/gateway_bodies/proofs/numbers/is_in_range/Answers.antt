@@ -1,4 +1,4 @@
--- The numeral behind the minus, or the whole text.
+-- The numeral after the minus, or the whole text.
 use Rattle.std.proofs.Common.{◌≡◌, drop, get_or, is_some, true, false, ◌==◌, sym, ap, ◌∙◌, arith, take_all, length-drop}
 use Rattle.fast_float.specs.Text.{scan}
 use Rattle.serde_json.specs.Read.{number_of, number_from}

@@ -1,4 +1,4 @@
--- The schemas that the answer stands on.
+-- The schemas that the answer rests on.
 use Rattle.std.proofs.Common.{inl, inr, refl}
 use Rattle.gateway_core.proofs.Found.{at_some}
 use Rattle.gateway_core.proofs.named.tell_message.Goals as goal

@@ -1,4 +1,4 @@
--- Where the text finds no memory, that is told.
+-- Where there is no memory for the text, that is answered.
 use Rattle.std.proofs.Common.{inr, refl, ap, ◌∙◌}
 use Rattle.gateway_answers.specs.Answer.{Refused}
 use Rattle.gateway_answers.specs.Status.{number_of}

@@ -1,4 +1,4 @@
--- The segment behind the slashes that are left.
+-- The segment after the slashes that are left.
 use Rattle.std.proofs.Common.{◌≡◌}
 use Rattle.gateway_requests.specs.Path.{segment}
 use Rattle.gateway_requests.proofs.path.segment.Given as goal

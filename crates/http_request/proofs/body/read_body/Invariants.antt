@@ -1,4 +1,4 @@
--- Behind what was received stands what was taken from the reader.
+-- What was received is followed by what was taken from the reader.
 use Rattle.std.proofs.Common.{◌-◌, ◌≡◌, ◌++◌, List, ℕ, length}
 use Rattle.std.specs.Io.KnownBytes.{Consumes}
 use Rattle.http_request.proofs.body.read_body.Given as goal

@@ -1,4 +1,4 @@
--- The digits to come, behind the bounded number of those that were read, spell the same number up to the bound.
+-- The digits to come, after the bounded number of those that were read, spell the same number up to the bound.
 use Rattle.std.proofs.Common.{◌≡◌, ◌≤◌, drop, min}
 use Rattle.http_request.specs.Digits.{number_after, number}
 use Rattle.http_request.proofs.digits.number_up_to.Given as goal

@@ -1,4 +1,4 @@
--- What was taken stands behind what had been received.
+-- What was taken follows what had been received.
 use Rattle.std.proofs.Common.{rules, arith, take}
 use Rattle.std.proofs.lemmas.List.{length-drop, length-take-le}
 use Rattle.http_request.proofs.Fronts.{take_behind}

@@ -1,4 +1,4 @@
--- What stands under the other names stays.
+-- What is under the other names stays.
 use Rattle.std.proofs.Common.{arith}
 use Rattle.std.proofs.lemmas.Map.Text.{text_keys}
 use Rattle.program_lowering.proofs.named_types.put.Goals as goal

@@ -1,4 +1,4 @@
--- What is kept of the members tells what the object has.
+-- What is kept of the members says what the object has.
 use Rattle.std.proofs.Common.{◌∙◌, sym, subst, string_bytes}
 use Rattle.upstream_answers.specs.Content.{Tells}
 use Rattle.upstream_answers.proofs.Texts.{schema_by_members}

@@ -1,4 +1,4 @@
--- The id is read back from the four bytes, and the payload stands behind the first five.
+-- The id is read back from the four bytes, and the payload is what follows the first five.
 use Rattle.std.specs.Prelude.{ℕ, List, take, drop}
 use Rattle.std.proofs.Common.{ap, sym, ◌∙◌}
 use Rattle.std.specs.Int.{w32, from_be_bytes}

@@ -1,4 +1,4 @@
--- One more stands last, and the others where they stood.
+-- One more is the last, and the others keep their numbers.
 use Rattle.std.proofs.Common.{◌≡◌, ◌++◌, ◌∷◌, [], ◌∙◌, ap, sym, rules, length}
 use Rattle.std.specs.Str.{bytes_eq}
 use Rattle.program_ir.specs.Tables.{found}

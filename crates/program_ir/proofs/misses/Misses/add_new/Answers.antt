@@ -1,4 +1,4 @@
--- One more stands last, and the others where they stood.
+-- One more is the last, and the others keep their numbers.
 use Rattle.std.proofs.Common.{◌≡◌, ◌++◌, ◌∷◌, [], ◌∙◌, ap, sym, rules, length}
 use Rattle.program_definition.specs.Numbering.{same_miss}
 use Rattle.std.specs.Ordering.{is_eq}

@@ -1,4 +1,4 @@
--- One more stands last, and the others where they stood.
+-- One more is the last, and the others keep their numbers.
 use Rattle.std.proofs.Common.{◌≡◌, ◌++◌, ◌∷◌, [], ◌∙◌, ap, sym, refl, rules, length}
 use Rattle.program_definition.specs.Statements.{Main, Write, Skip}
 use Rattle.program_ir.specs.declared.statements.Section.TheVariants as parts

@@ -1,4 +1,4 @@
--- Under the nodes stands where the routine is.
+-- Under the nodes is the index of the routine's section.
 use Rattle.std.proofs.Common.{◌∙◌, ap, sym}
 use Rattle.program_definition.specs.Statements.{Write}
 use Rattle.program_ir.specs.Statements.{section_of}

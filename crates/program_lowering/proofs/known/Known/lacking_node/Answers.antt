@@ -1,4 +1,4 @@
--- What is known is told, and what is found is known from then on.
+-- What is known is returned, and what is found is known from then on.
 use Rattle.std.proofs.Common.{rules}
 use Rattle.program_lowering.proofs.Kept.{lacking_on}
 use Rattle.program_lowering.proofs.known.Known.lacking_node.Goals as goal

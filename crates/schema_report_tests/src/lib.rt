@@ -1,9 +1,0 @@
-//! Tests and bench; run by `rt ci`.
-//!
-//! Tests of `schema_report`: the words of its reports.
-#![tactic(auto)]
-
-#[cfg(test)]
-mod rows;
-#[cfg(test)]
-mod tests;
