@@ -4,4 +4,4 @@
 pub const MOST_IDS: u64 = 16_384;
 
 /// The number of schemas that a thread finds again without a look at the shared table: one for each remainder of an id.
-pub(crate) const MOST_RECENT: usize = 256;
+pub(crate) const MOST_RECENT: usize = 16_384;
