@@ -1,3 +1,4 @@
+pub mod Answering
 pub mod Looking
 pub mod Moving
 pub mod Streams

@@ -1,3 +1,4 @@
+pub mod Answering
 pub mod Closing
 pub mod Persistent
 pub mod Preparing

@@ -5,7 +5,10 @@ use Rattle.http_server.specs.Response.{IsResponse}
 use Rattle.http_server.specs.declared.response.Response.{Response}
 use Rattle.httpdate.specs.Date.{date_text}
 use Rattle.httpdate.specs.declared.date.HttpDate.{HttpDate}
+use Rattle.gateway_answers.specs.Answer.{content_of}
 use Rattle.gateway_answers.specs.ContentType.{type_name}
+use Rattle.gateway_answers.specs.Status.{number_of}
+use Rattle.gateway_answers.specs.declared.answer_bytes.AnswerBytes.{AnswerBytes}
 use Rattle.gateway_answers.specs.declared.content_type.ContentType.{ContentType}
 
 pub record Answer : Type 0 where
@@ -23,3 +26,12 @@ date_fields (Some date) = (codes "date", date_text date) ∷ []
 abbrev pub IsPrepared : Answer → Response → Type 0
 IsPrepared a response =
     IsResponse a.status ((codes "content-type", type_name a.content_type) ∷ date_fields a.date) a.content response
+
+-- an answer of the gateway, made at a time
+abbrev pub answer_of : AnswerBytes → Option HttpDate → Answer
+answer_of bytes date = record {
+  status = number_of bytes.status;
+  content_type = bytes.content_type;
+  date = date;
+  content = content_of bytes;
+}

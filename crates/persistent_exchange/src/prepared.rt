@@ -1,12 +1,11 @@
 //! An answer that is ready before the connection's server asks for it.
 
 ghost use Rattle.std.specs.Prelude.{◌≡◌, ◌++◌, IfOk, OnOk};
-ghost use Rattle.gateway_answers.specs.Answer.{content_of};
 ghost use Rattle.gateway_answers.specs.ContentType.{type_name};
 ghost use Rattle.gateway_answers.specs.Status.{number_of};
 ghost use Rattle.http_header.specs.FieldValue.{plain_value};
 ghost use Rattle.http_server.specs.Response.{fields_of};
-ghost use Rattle.persistent_exchange.specs.Preparing.{IsPrepared, date_fields};
+ghost use Rattle.persistent_exchange.specs.Preparing.{IsPrepared, answer_of, date_fields};
 
 use bytes::Bytes;
 use gateway_answers::{AnswerBytes, ContentType, Status};
@@ -67,12 +66,7 @@ impl Prepared {
         answer: AnswerBytes,
         date: Option<HttpDate>,
     ) -> Result<Prepared, AllocError>
-        ensures { IfOk result (λ p. p ≡ record {
-          status = number_of answer.status;
-          content_type = answer.content_type;
-          date = date;
-          content = content_of answer;
-        }) }
+        ensures { IfOk result (λ p. p ≡ answer_of answer date) }
     {
         let AnswerBytes {
             front,

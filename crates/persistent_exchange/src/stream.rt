@@ -1,8 +1,11 @@
 //! The requests of a connection that stays, one after another, and their answers.
 
-ghost use Rattle.std.specs.Prelude.{◌≡◌, IfOk};
+ghost use Rattle.std.specs.Prelude.{◌≡◌, IfOk, OnOk};
 ghost use Rattle.gateway_exchange.specs.Exchange.{Gains};
+ghost use Rattle.http_server.specs.History.{IsServed};
+ghost use Rattle.persistent_exchange.specs.Answering.{AreAnswered};
 ghost use Rattle.persistent_exchange.specs.Persistent.{Writes, received, sent};
+ghost use Rattle.persistent_exchange.specs.Preparing.{answer_of};
 ghost use Rattle.persistent_exchange.specs.Stream.{asked_of};
 
 use crate::closing::closing_fault;
@@ -314,7 +317,11 @@ impl RequestStream {
 
     /// Passes the answer to the request that has come whole to the server, with a date, where there is a clock. The
     /// error is that memory ran out: the connection is to be closed then.
+    #[tactic(auto, using(crate::proofs::Answering::answered_by))]
     pub fn answer(&mut self, answer: AnswerBytes, date: Option<HttpDate>) -> Result<(), AllocError>
+        ensures answered { OnOk result (AreAnswered (answer_of answer date) self.old.history.calls
+            self.new.history.calls) }
+        ensures served { OnOk result ∥ IsServed self.new.config self.new.history ∥₁ }
         ensures received { received self.new ≡ received self.old }
         ensures sent { sent self.new ≡ sent self.old }
     {
