@@ -13,7 +13,7 @@ mod stream;
 mod whole_request;
 
 pub use exchange::PersistentExchange;
-pub use laws::seen_are_the_requests;
+pub use laws::{calls_are_for_the_seen, seen_are_the_requests};
 pub use prepared::Prepared;
 pub use scout::{Refusal, Scout, Sighting, Step};
 pub use stream::{Course, RequestStream};
