@@ -23,7 +23,7 @@ use Rattle.http1.specs.declared.error.WriteError.{WriteError}
 use Rattle.http1.specs.declared.server.Server.{Server}
 use Rattle.http1.proofs.ServerTraceLemmas.{trace_reads_requests}
 use Rattle.persistent_exchange.specs.Scouting.{Finds, IsAfterAnswer, Scouted, Sees, Turns, adds, answered, begins, closed, ends, no_answer, no_end, paused, responded, upgraded, waits}
-use Rattle.persistent_exchange.specs.Stream.{Asked, Looks, SeenAreTheRequests, asked_in, asked_of, ended, more, new_scouted, none}
+use Rattle.persistent_exchange.specs.Stream.{Asked, Looks, SeenAreTheRequests, asked_in, asked_of, ended, more, new_scouted, none, taken}
 use Rattle.persistent_exchange.specs.declared.scout.Sighting.{Sighting}
 use Rattle.persistent_exchange.specs.declared.scout.Sighting.TheVariants as sightings
 
@@ -262,37 +262,61 @@ answered_trace s t stream seen rest (no_answer e a) x = x
 
 -- ---- a whole stream
 
-comes : {s last : Scouted} {stream rest : List ℕ} {asked : List Asked} → Looks s stream asked last rest
-    → IsBetween last.server.reading → IsQuiet s.server.reading s.server → Comes s stream asked rest
-comes (none s stream) between quiet = record {
+-- nothing more is seen
+comes_to_nothing : (s : Scouted) (stream : List ℕ) → IsBetween s.server.reading → Comes s stream [] stream
+comes_to_nothing s stream between = record {
   seen = record { body = no_body; requests = [] };
   trace = stops s.server stream between;
   asked_is = sym (asked_out s.server.reading s (record { body = no_body; requests = [] }) (between_is_out s.server.reading between));
 }
-comes (more s t u input after rest asked consumed sighting not found later) between quiet =
+
+-- a request ends, and nothing more is seen
+comes_to_an_end : (s t : Scouted) (input after : List ℕ) (consumed : ℕ) → IsQuiet s.server.reading s.server
+    → Finds s input consumed sightings.End t
+    → Comes s (input ++ after) (asked_of t ∷ []) (drop consumed input ++ after)
+comes_to_an_end s t input after consumed quiet found =
+    let end = ends_at found.sees refl in
+    let on = ended_on s input found.spans found.server found.read s.server.reading end.0 refl quiet end.1 found.reads in
+    let nothing : Seen = record { body = no_body; requests = [] } in
+    record {
+      seen = observe input found.spans found.read.event nothing;
+      trace = reads s.server found.server input after found.spans found.read nothing (drop consumed input ++ after) found.reads
+          (subst (λ (n : ℕ). Trace found.server (drop n input ++ after) nothing (drop consumed input ++ after)) found.consumed_is
+          (stops found.server (drop consumed input ++ after) (subst IsBetween (sym on.0) tt)));
+      asked_is =
+          ap (λ (v : Scouted). asked_of v ∷ []) end.2.new_is ∙ sym (on.1 nothing)
+          ∙ ap (λ (e : Event RequestSpans). asked_with s.server.reading s (observe input found.spans e nothing)) (sym end.1);
+    }
+
+-- what the looks came to, and what comes then
+comes_then : {s last : Scouted} {stream middle rest : List ℕ} {asked later : List Asked} → Looks s stream asked last middle
+    → IsQuiet s.server.reading s.server → (IsQuiet last.server.reading last.server → Comes last middle later rest)
+    → Comes s stream (asked ++ later) rest
+comes_then (none s stream) quiet then = then quiet
+comes_then {rest} (more s t u input after middle asked consumed sighting not found looks) quiet then =
     let on = goes_on s input found.spans found.server found.read s.server.reading refl quiet refl found.reads not found.sees in
-    let next = comes later between on.quiet in
+    let next = comes_then looks on.quiet then in
     record {
       seen = observe input found.spans found.read.event next.seen;
       trace = reads s.server found.server input after found.spans found.read next.seen rest found.reads
           (subst₂ (λ (v : Server) (n : ℕ). Trace v (drop n input ++ after) next.seen rest) on.same found.consumed_is next.trace);
       asked_is = next.asked_is ∙ on.asks next.seen;
     }
-comes (ended s t u input after rest asked consumed found later) between quiet =
+comes_then {rest} (ended s t u input after middle asked consumed found looks) quiet then =
     let end = ends_at found.sees refl in
     let on = ended_on s input found.spans found.server found.read s.server.reading end.0 refl quiet end.1 found.reads in
     let turns = end.2 in
     let out = answered_is_out found.server turns.server on.0 turns.after in
     let server_is : turns.server ≡ t.server = sym (ap (λ (v : Scouted). v.server) turns.new_is) in
-    let next = comes later between (subst (λ (v : Server). IsQuiet v.reading v) server_is out.1) in
+    let next = comes_then looks (subst (λ (v : Server). IsQuiet v.reading v) server_is out.1) then in
     record {
       seen = observe input found.spans found.read.event next.seen;
       trace = reads s.server found.server input after found.spans found.read next.seen rest found.reads
           (answered_trace found.server turns.server (drop found.read.consumed input ++ after) next.seen rest turns.after
           (subst₂ (λ (v : Server) (n : ℕ). Trace v (drop n input ++ after) next.seen rest) (sym server_is) found.consumed_is next.trace));
       asked_is =
-          ap (λ (later : List Asked). asked_of t ∷ later)
-          (next.asked_is ∙ asked_out t.server.reading t next.seen (subst (λ (v : Server). NotInBody v.reading) server_is out.0))
+          ap (λ (these : List Asked). asked_of t ∷ these)
+          (next.asked_is ∙ asked_out t.server.reading (taken t) next.seen (subst (λ (v : Server). NotInBody v.reading) server_is out.0))
           ∙ ap (λ (v : Scouted). asked_of v ∷ map asked_in_view next.seen.requests) turns.new_is
           ∙ sym (on.1 next.seen)
           ∙ ap (λ (e : Event RequestSpans). asked_with s.server.reading s (observe input found.spans e next.seen)) (sym end.1);
@@ -302,8 +326,25 @@ view_map : (ms : List Request) → map asked_in ms ≡ map asked_in_view (map re
 view_map [] = refl
 view_map (m ∷ ms) = ap (λ (later : List Asked). asked_in m ∷ later) (view_map ms)
 
-pub seen_are_the_requests : SeenAreTheRequests
-seen_are_the_requests limits most stream rest asked last looks between =
-    let c = comes looks between refl in
+-- what came to requests reads them
+reads_them : (limits : Limits) (most : ℕ) (stream rest : List ℕ) (asked : List Asked)
+    → Comes (new_scouted limits most) stream asked rest
+    → (ms : List Request) × ReadsRequests limits stream ms rest × (map asked_in ms ≡ asked)
+reads_them limits most stream rest asked c =
     let found = trace_reads_requests limits stream c.seen rest c.trace in
     (found.0, found.1, view_map found.0 ∙ ap (map asked_in_view) found.2 ∙ sym c.asked_is)
+
+pub seen_are_the_requests : SeenAreTheRequests
+seen_are_the_requests limits most stream rest asked last looks between =
+    let c = comes_then looks refl (λ quiet. comes_to_nothing last rest between) in
+    let found = reads_them limits most stream rest (asked ++ []) c in
+    (found.0, found.1, found.2 ∙ append-nil asked)
+
+-- The requests that were seen before one, and that one, once its end was seen, are the first ones of the stream.
+pub seen_with_its_end : (limits : Limits) (most : ℕ) (stream input after : List ℕ) (asked : List Asked) (last t : Scouted)
+    (consumed : ℕ) → Looks (new_scouted limits most) stream asked last (input ++ after)
+    → Finds last input consumed sightings.End t → (ms : List Request)
+    × ReadsRequests limits stream ms (drop consumed input ++ after) × (map asked_in ms ≡ asked ++ asked_of t ∷ [])
+seen_with_its_end limits most stream input after asked last t consumed looks found =
+    reads_them limits most stream (drop consumed input ++ after) (asked ++ asked_of t ∷ [])
+    (comes_then looks refl (λ quiet. comes_to_an_end last t input after consumed quiet found))

@@ -26,6 +26,10 @@ asked_of s = record { method = s.method; target = s.target; content = s.content 
 abbrev pub new_scouted : Limits → ℕ → Scouted
 new_scouted limits most = record { server = new_server limits; most = most; method = []; target = []; content = [] }
 
+-- a request that has ended was taken: what is seen next begins without content
+abbrev pub taken : Scouted → Scouted
+taken s = record s { content = [] }
+
 -- Looks at a stream, each at some first part of what follows what was seen before: which requests have ended by them.
 pub data Looks : Scouted → List ℕ → List Asked → Scouted → List ℕ → Type 0 where
   none : (s : Scouted) (stream : List ℕ) → Looks s stream [] s stream
@@ -33,7 +37,7 @@ pub data Looks : Scouted → List ℕ → List Asked → Scouted → List ℕ �
       → sighting ≢ End → Finds s input consumed sighting t → Looks t (drop consumed input ++ after) asked u rest
       → Looks s (input ++ after) asked u rest
   ended : (s t u : Scouted) (input after rest : List ℕ) (asked : List Asked) (consumed : ℕ)
-      → Finds s input consumed End t → Looks t (drop consumed input ++ after) asked u rest
+      → Finds s input consumed End t → Looks (taken t) (drop consumed input ++ after) asked u rest
       → Looks s (input ++ after) (asked_of t ∷ asked) u rest
 
 -- However a stream comes, the requests that were seen up to a point between two of them are its first ones.
