@@ -1,11 +1,10 @@
 -- Each answer is for its own request.
-use Rattle.std.proofs.Common.{◌≡◌, ◌≢◌, ℕ, List, [], ◌∷◌, ◌++◌, map, All, inl, inr, refl, sym, ap, subst, ◌∙◌}
-use Rattle.http.specs.declared.request.Request as Typed
+use Rattle.std.proofs.Common.{◌≡◌, ◌≢◌, ℕ, Bool, true, false, List, [], ◌∷◌, ◌++◌, length, map, refl, sym, ap, subst, subst₂, ◌∙◌, arith, append-nil}
+use Rattle.std.proofs.Math.Logic.{∥∥₁_map}
 use Rattle.http1.specs.Message.{ReadsRequestMessage, ReadsRequests, Request}
 use Rattle.http1.proofs.OneParse.{request_message_unique}
-use Rattle.http_server.specs.Exchange.{Call, Calls, Chain, ReadsCall, Serves}
+use Rattle.http_server.specs.Exchange.{Call, Calls, ReadsCall, Serves}
 use Rattle.http_server.specs.History.{History, IsServed, Justifies, Stands}
-use Rattle.http_server.specs.declared.response.Response.{Response}
 use Rattle.http_server.specs.declared.state.Config.{Config}
 use Rattle.http_server.specs.declared.state.Reason.TheVariants as reasons
 use Rattle.http_server.specs.declared.state.Refusal.{Refusal}
@@ -13,30 +12,25 @@ use Rattle.http_server.specs.declared.state.Refusal.TheVariants as refusals
 use Rattle.http_server.specs.declared.state.State.{State}
 use Rattle.http_server.specs.declared.state.State.TheVariants as states
 use Rattle.http_server.proofs.StreamLemmas.{ReadsRequestMessage-append}
-use Rattle.persistent_exchange.specs.Answering.{AreAnswered, AreFor, CallsAreForTheSeen, IsFor}
-use Rattle.persistent_exchange.specs.Preparing.{Answer, IsPrepared}
+use Rattle.persistent_exchange.specs.Answering.{AnswersNext, AreFor, CallsAreForTheSeen, CallsFor, IsFor, IsNext, called, refused}
+use Rattle.persistent_exchange.specs.Persistent.{Persistent, received}
+use Rattle.persistent_exchange.specs.Preparing.{AnswerOnce, AnswersOnce}
 use Rattle.persistent_exchange.specs.Stream.{Asked, asked_in}
 use Rattle.persistent_exchange.proofs.Streams.{seen_are_the_requests}
 
 -- ---- the answer that is passed on
 
--- what a prepared answer says of a call
-abbrev pub PreparedAnswers : Answer → Typed.Request (List ℕ) → Response → Answer → Type 0
-PreparedAnswers old request response new = IsPrepared old response × (new ≡ old)
-
-all_prepared : (calls : List Call) (a b : Answer) → Chain PreparedAnswers a calls b → All (λ c. IsPrepared a c.1) calls
-all_prepared [] a b chain = tt
-all_prepared (c ∷ calls) a b (next, answers, rest) =
-    (answers.0, subst (λ (s : Answer). All (λ c. IsPrepared s c.1) calls) answers.1 (all_prepared calls next b rest))
-
--- the calls that were made of an answer are answered by it
-pub answered_by : (answer a b : Answer) (old mid new : List Call) → a ≡ answer → mid ≡ old
-    → Calls PreparedAnswers a b mid new → AreAnswered answer old new
-answered_by answer a b old mid new is same (calls, after, chain) = record {
-  calls = calls;
-  calls_are = after ∙ ap (λ (cs : List Call). cs ++ calls) same;
-  answered = subst (λ (s : Answer). All (λ c. IsPrepared s c.1) calls) is (all_prepared calls a b chain);
-}
+-- an answer that was not given yet is given to one call at most, and says whether it was
+pub answers_once : (a b : AnswerOnce) (old new : List Call) → a.is_used ≡ false → Calls AnswersOnce a b old new
+    → (AnswersNext a.answer old new) × (b.is_used ≡ true → (c : Call) × (new ≡ old ++ c ∷ []))
+answers_once a b old new unused ([], after, same) = (
+  refused (after ∙ append-nil old),
+  λ used. absurd (let is = ap (λ (s : AnswerOnce). s.is_used) same in cc),
+)
+answers_once a b old new unused (c ∷ [], after, chain) =
+    (called c after chain.1.is_prepared, λ used. (c, after))
+answers_once a b old new unused (c ∷ d ∷ calls, after, chain) =
+    absurd (let was = chain.2.1.was_unused in let is = ap (λ (s : AnswerOnce). s.is_used) chain.1.new_is in cc)
 
 -- ---- the requests that are answered
 
@@ -103,8 +97,8 @@ module _ (config : Config) (more end : List ℕ) where
     after_refusal (refusals.InvalidPart e) x = no_more x.0
     after_refusal refusals.InvalidHost x = no_more x.0
     after_refusal refusals.UnknownCoding x = no_more x.0
-    after_refusal (refusals.InvalidResponse e) (after, called, why) =
-        one_more called.call called.message after called.request called.calls
+    after_refusal (refusals.InvalidResponse e) (after, last, why) =
+        one_more last.call last.message after last.request last.calls
 
     in_state : (interim : List ℕ) (state : State) → state ≢ states.Aborted
         → Stands state config h answered text interim rest → Is h.calls
@@ -116,9 +110,35 @@ module _ (config : Config) (more end : List ℕ) where
     in_state interim states.Upgraded not x = one_more x.last.call x.last.message h.unread x.last.request x.last.calls
     in_state interim states.Aborted not x = absurd (not refl)
 
+  -- unless its memory ran out, a server that has served the first requests has called for them
+  pub calls_for : (h : History) (ms : List Request) → IsServed config h → h.state ≢ states.Aborted
+      → ReadsRequests config.limits (h.received ++ more) ms end → AreFor (map asked_in ms) h.calls
+  calls_for h ms served not reads =
+      in_state h ms served.answered served.text served.rest served.serves reads served.interim h.state not served.stands
+
 pub calls_are_for_the_seen : CallsAreForTheSeen
 calls_are_for_the_seen config h more rest asked last served not looks between =
     let seen = seen_are_the_requests config.limits config.max_body_len (h.received ++ more) rest asked last looks between in
     subst (λ (these : List Asked). AreFor these h.calls) seen.2
-    (in_state config more rest h seen.0 served.answered served.text served.rest served.serves seen.1 served.interim h.state
-    not served.stands)
+    (calls_for config more rest h seen.0 served not seen.1)
+
+-- ---- the next request
+
+-- what is at a place, of those that were called for
+at_place : (before : List Asked) (a : Asked) (calls : List Call) (c : Call) → length before ≡ length calls
+    → AreFor (before ++ a ∷ []) (calls ++ c ∷ []) → IsFor a c
+at_place [] a [] c same are = are.0
+at_place [] a (d ∷ calls) c same are = absurd (omega arith)
+at_place (b ∷ before) a [] c same are = absurd (omega arith)
+at_place (b ∷ before) a (d ∷ calls) c same are = at_place before a calls c (omega arith) are.1
+
+-- the call that is made next is for what was asked
+pub calls_for_next : (old new : Persistent) → new.config ≡ old.config → received new ≡ received old
+    → ∥ IsServed new.config new.history ∥₁ → (asked : Asked) → IsNext old asked → CallsFor asked old new
+calls_for_next old new config_is received_is served asked next c calls_are not =
+    let reads : ReadsRequests new.config.limits (new.history.received ++ new.held) next.requests next.rest =
+    subst₂ (λ (k : Config) (s : List ℕ). ReadsRequests k.limits s next.requests next.rest) (sym config_is) (sym received_is) next.reads in
+    ∥∥₁_map served (λ (s : IsServed new.config new.history).
+    at_place next.before asked old.history.calls c next.called
+    (subst₂ AreFor next.asked_are calls_are
+    (calls_for new.config new.held next.rest new.history next.requests s not reads)))

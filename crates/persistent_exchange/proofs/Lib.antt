@@ -1,4 +1,5 @@
 pub mod Answering
+pub mod Keeping
 pub mod Looking
 pub mod Moving
 pub mod Streams

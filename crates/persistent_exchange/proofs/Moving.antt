@@ -1,8 +1,8 @@
 -- What is moved of the bytes of a connection.
-use Rattle.std.proofs.Common.{◌≡◌, ◌+◌, ◌-◌, ◌≤◌, ◌↔◌, ℕ, Bool, false, IsTrue, List, [], ◌∷◌, ◌++◌, ◌<◌, length, take, drop, min, refl, sym, ap, ◌∙◌, subst, arith, append_assoc, append-nil, length-append, length-take}
-use Rattle.std.proofs.lemmas.List.{drop-drop, length-drop, take_all, take-append-le, take-take}
+use Rattle.std.proofs.Common.{◌≡◌, ◌+◌, ◌-◌, ◌≤◌, ◌↔◌, ℕ, zero, suc, Bool, false, IsTrue, List, [], ◌∷◌, ◌++◌, ◌<◌, length, take, drop, min, refl, sym, ap, ◌∙◌, subst, arith, append_assoc, append-nil, length-append, length-take}
+use Rattle.std.proofs.lemmas.List.{drop-append-le, drop-drop, length-drop, take_all, take-append-le, take-take}
 use Rattle.std.proofs.Math.Seq.{take-add, take-append_seam}
-use Rattle.http_server.specs.History.{after_read}
+use Rattle.http_server.specs.History.{History, after_read, after_sent}
 use Rattle.http_server.specs.declared.state.Config.{Config}
 use Rattle.persistent_exchange.specs.Persistent.{HandsOn, Persistent, Sends}
 use Rattle.persistent_exchange.specs.Scouting.{Finds, Scouted}
@@ -23,6 +23,34 @@ sends_last old now count same none = subst (λ s. Sends s (record old { last_sen
   received_is = refl;
   calls_are = refl;
 })
+
+-- bytes of the server's were sent, before the last answer
+pub sends_server : (old now : Persistent) (history : History) (config : Config) (count : ℕ) → old ≡ now
+    → history ≡ after_sent old.history count → count ≤ length old.history.pending → old.last_sent ≡ 0
+    → Sends now (record old { history = history; config = config }) count
+sends_server old now history config count same is few none =
+    let none_sent : take old.last_sent old.last ≡ [] = ap (λ (n : ℕ). take n old.last) none in
+    subst (λ s. Sends s (record old { history = history; config = config }) count) same (record {
+      sent_is =
+          ap (λ (h : History). h.sent ++ take old.last_sent old.last) is
+          ∙ ap (λ (t : List ℕ). (old.history.sent ++ take count old.history.pending) ++ t) none_sent
+          ∙ append-nil (old.history.sent ++ take count old.history.pending)
+          ∙ ap (λ (t : List ℕ). old.history.sent ++ t)
+          (sym (take-append-le count old.history.pending (drop old.last_sent old.last) few))
+          ∙ ap (λ (t : List ℕ). t ++ take count (old.history.pending ++ drop old.last_sent old.last))
+          (sym (append-nil old.history.sent) ∙ ap (λ (t : List ℕ). old.history.sent ++ t) (sym none_sent));
+      pending_is =
+          ap (λ (h : History). h.pending ++ drop old.last_sent old.last) is
+          ∙ sym (drop-append-le count old.history.pending (drop old.last_sent old.last) few);
+      received_is = ap (λ (h : History). h.received ++ old.held) is;
+      calls_are = ap (λ (h : History). h.calls) is;
+    })
+
+-- a number that is above none only where a list is empty is none, where that is not
+pub none_yet : (n : ℕ) (xs : List ℕ) → 0 < length xs → (0 < n → xs ≡ []) → n ≡ 0
+none_yet n [] some none = absurd (omega (arith, some))
+none_yet zero (x ∷ xs) some none = refl
+none_yet (suc n) (x ∷ xs) some none = absurd (let is = none (omega arith) in cc)
 
 -- the first bytes that were seen were read by the server
 pub hands_some : (old now : Persistent) (config : Config) (more rest held : List ℕ) (count : ℕ) → old ≡ now → length more ≡ count
@@ -81,6 +109,13 @@ none_of (x ∷ xs) none = absurd (none (omega arith))
 rest_of : (n : ℕ) (xs : List ℕ) → take (length xs - n) (drop n xs) ≡ drop n xs
 rest_of n xs = take_all (length xs - n) (drop n xs) (omega (arith, length-drop n xs))
 
+-- a look at the end of a slice is one at the end of the bytes that it shows
+pub seen_in : (scouted : Scouted) (slice held : List ℕ) (seen consumed : ℕ) (sighting : Sighting) (new : Scouted) → slice ≡ held
+    → Finds scouted (take (length slice - seen) (drop seen slice)) consumed sighting new
+    → Finds scouted (drop seen held) consumed sighting new
+seen_in scouted slice held seen consumed sighting new is found =
+    subst (λ (t : List ℕ). Finds scouted t consumed sighting new) (rest_of seen slice ∙ ap (drop seen) is) found
+
 -- the next bytes were looked at
 pub looks : (old now : Persistent) (slice : List ℕ) (consumed : ℕ) (sighting : Sighting) (new : Scouted) → old ≡ now
     → slice ≡ old.held → Finds old.scouted (take (length slice - old.seen) (drop old.seen slice)) consumed sighting new
@@ -88,7 +123,7 @@ pub looks : (old now : Persistent) (slice : List ℕ) (consumed : ℕ) (sighting
 looks old now slice consumed sighting new same is found = (
   consumed,
   subst (λ (s : Persistent). Finds s.scouted (drop s.seen s.held) consumed sighting new) same
-      (subst (λ (t : List ℕ). Finds old.scouted t consumed sighting new) (rest_of old.seen slice ∙ ap (drop old.seen) is) found),
+      (seen_in old.scouted slice old.held old.seen consumed sighting new is found),
   ap (λ (s : Persistent). s.seen + consumed) same,
 )
 

@@ -1,22 +1,18 @@
 -- Which requests are answered over a connection that stays. This project's own; how a server answers them is the
 -- definition of `http_server`.
-use Rattle.std.specs.Prelude.{◌≡◌, ◌≢◌, ℕ, List, [], ◌∷◌, ◌++◌, All}
+use Rattle.std.specs.Prelude.{◌≡◌, ◌≢◌, ℕ, List, [], ◌∷◌, ◌++◌, length, map}
 use Rattle.http.specs.Request.{body_of, head_of}
 use Rattle.http1.specs.Message as Wire
+use Rattle.http1.specs.Message.{ReadsRequests}
 use Rattle.http1.specs.ServerTrace.{IsBetween}
 use Rattle.http_server.specs.Exchange.{ArePartsOf, Call}
 use Rattle.http_server.specs.History.{History, IsServed}
 use Rattle.http_server.specs.declared.state.Config.{Config}
 use Rattle.http_server.specs.declared.state.State.TheVariants.{Aborted}
+use Rattle.persistent_exchange.specs.Persistent.{Persistent, received}
 use Rattle.persistent_exchange.specs.Preparing.{Answer, IsPrepared}
 use Rattle.persistent_exchange.specs.Scouting.{Scouted}
 use Rattle.persistent_exchange.specs.Stream.{Asked, Looks, asked_in, new_scouted}
-
--- each call that the connection's server has made since is answered by this answer, and by nothing else
-pub record AreAnswered (answer : Answer) (before after : List Call) : Type 0 where
-  pub calls : List Call
-  pub calls_are : after ≡ before ++ calls
-  pub answered : All (λ c. IsPrepared answer c.1) calls
 
 -- the call is for what was asked: its service was given a request with this head and this content
 pub record IsFor (asked : Asked) (call : Call) : Type 0 where
@@ -38,3 +34,22 @@ CallsAreForTheSeen = (config : Config) (h : History) (more rest : List ℕ) (ask
     → IsServed config h → h.state ≢ Aborted
     → Looks (new_scouted config.limits config.max_body_len) (h.received ++ more) asked last rest
     → IsBetween last.server.reading → AreFor asked h.calls
+
+-- what was asked is the first request of those that came for which the server has made no call
+pub record IsNext (p : Persistent) (asked : Asked) : Type 0 where
+  pub requests : List Wire.Request
+  pub rest : List ℕ
+  pub reads : ReadsRequests p.config.limits (received p) requests rest
+  pub before : List Asked
+  pub asked_are : map asked_in requests ≡ before ++ asked ∷ []
+  pub called : length before ≡ length p.history.calls
+
+-- the call that the server has made since, if it has made one, is answered by this answer
+pub data AnswersNext (answer : Answer) (before after : List Call) : Type 0 where
+  called : (c : Call) → after ≡ before ++ c ∷ [] → IsPrepared answer c.1 → AnswersNext answer before after
+  refused : after ≡ before → AnswersNext answer before after
+
+-- the call that the server has made since is for what was asked, unless its memory ran out, and then nothing is sent
+abbrev pub CallsFor : Asked → Persistent → Persistent → Type 0
+CallsFor asked old new =
+    (c : Call) → new.history.calls ≡ old.history.calls ++ c ∷ [] → new.history.state ≢ Aborted → ∥ IsFor asked c ∥₁

@@ -3,4 +3,5 @@ pub mod Closing
 pub mod Persistent
 pub mod Preparing
 pub mod Scouting
+pub mod Standing
 pub mod Stream

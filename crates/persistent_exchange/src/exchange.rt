@@ -1,16 +1,19 @@
 //! The bytes of a connection that stays.
 
-ghost use Rattle.std.specs.Prelude.{◌≡◌, ◌≢◌, ◌≤◌, ◌<◌, ◌+◌, ◌++◌, ◌↔◌, ℕ, [], IfErr, IfOk, IsTrue, OnErr, OnOk, drop, length, take};
+ghost use Rattle.std.specs.Prelude.{◌≡◌, ◌≢◌, ◌≤◌, ◌<◌, ◌+◌, ◌++◌, ◌↔◌, ℕ, [], false, IfErr, IfNone, IfOk, IfSome, IsTrue, OnErr, OnOk, drop, length, take};
 ghost use Rattle.std.specs.Io.KnownBytes.{Appends, Keeps};
 ghost use Rattle.http1.specs.Server.{new_server};
 ghost use Rattle.http_server.specs.Exchange.{Calls};
 ghost use Rattle.http_server.specs.History.{IsDone, IsServed, Rests, new_history};
 ghost use Rattle.byte_transfer.specs.Moving.{Receives};
+ghost use Rattle.persistent_exchange.specs.Answering.{AnswersNext, CallsFor, IsNext};
 ghost use Rattle.persistent_exchange.specs.Persistent.{HandsOn, Sends, pending, received, sent};
 ghost use Rattle.persistent_exchange.specs.Scouting.{Finds, IsWhyNone};
+ghost use Rattle.persistent_exchange.specs.Stream.{Asked, asked_of, taken};
 
-use crate::prepared::NoAnswer;
+use crate::prepared::{NoAnswer, Prepared};
 use crate::scout::{Refusal, Scout, Sighting};
+use crate::standing::Standing;
 use byte_transfer::write_more;
 use bytes::BytesMut;
 use http_server::{Config, Connection, Service};
@@ -39,12 +42,15 @@ pub struct PersistentExchange {
     last_read: usize,
     last: Vec<u8>,
     last_sent: usize,
+    /// How the requests that were seen go with the calls of the server.
+    standing: Standing,
 }
 
 impl Model for PersistentExchange {
     ghost use Rattle.std.specs.Prelude.{◌≡◌, ◌≤◌, ◌<◌, [], length};
     ghost use Rattle.http_server.specs.Connection.{config_of, history};
     ghost use Rattle.persistent_exchange.specs.Persistent.{Persistent};
+    ghost use Rattle.persistent_exchange.specs.Standing.{Holds};
 
     ghost Value = { Persistent };
 
@@ -59,7 +65,16 @@ impl Model for PersistentExchange {
     } };
 
     ghost invariant = { λ e. (e.seen ≤ length e.held.items) × (e.last_sent ≤ length e.last.items)
-        × (0 < e.last_sent → (history e.connection).pending ≡ []) };
+        × (0 < e.last_sent → (history e.connection).pending ≡ [])
+        × Holds e.standing (record {
+          history = history e.connection;
+          config = config_of e.connection;
+          scouted = e.scout;
+          held = e.held.items;
+          seen = e.seen;
+          last = e.last.items;
+          last_sent = e.last_sent;
+        }) };
 }
 
 impl PersistentExchange {
@@ -83,6 +98,7 @@ impl PersistentExchange {
             last_read: 0,
             last: Vec::new(alloc),
             last_sent: 0,
+            standing: Standing::Even,
         }
     }
 
@@ -102,6 +118,7 @@ impl PersistentExchange {
         self.held.reserve(room.max(LEAST_READ))?;
         let count = self.held.read_from(reader)?;
         self.last_read = count;
+        self.standing = self.standing.with_more();
         Ok(count)
     }
 
@@ -115,8 +132,11 @@ impl PersistentExchange {
         ensures same { (self.new.history ≡ self.old.history) × (self.new.held ≡ self.old.held)
             × (self.new.last ≡ self.old.last) }
     {
+        let standing = self.standing;
+        self.standing = Standing::Lost;
         let step = self.scout.look(&self.held.as_slice()[self.seen..])?;
         self.seen += step.consumed;
+        self.standing = standing.with_sighting(step.sighting);
         Ok(step.sighting)
     }
 
@@ -164,10 +184,38 @@ impl PersistentExchange {
         ensures sent { sent self.new ≡ sent self.old }
         ensures rests { self.old.last ≡ [] → Rests self.new.config self.new.history }
         ensures last { self.old.last ≢ [] → self.new ≡ self.old }
+        ensures same { (self.new.config ≡ self.old.config) × (self.new.scouted ≡ self.old.scouted)
+            × (self.new.held ≡ self.old.held) × (self.new.seen ≡ self.old.seen) }
     {
+        self.standing = Standing::Lost;
         if self.last.is_empty() {
             self.connection.advance(service);
         }
+    }
+
+    /// Makes the server answer the request that was taken out, by an answer that was not given yet.
+    pub fn answer(&mut self, prepared: &mut Prepared)
+        requires { prepared.old.is_used ≡ false }
+        ensures answered { AnswersNext prepared.old.answer self.old.history.calls self.new.history.calls }
+        ensures own { (asked : Asked) → IsNext self.old asked → CallsFor asked self.old self.new }
+        ensures served { ∥ IsServed self.new.config self.new.history ∥₁ }
+        ensures received { received self.new ≡ received self.old }
+        ensures sent { sent self.new ≡ sent self.old }
+    {
+        let standing = self.standing;
+        self.advance(prepared);
+        self.standing = standing.with_answer(prepared.is_used());
+    }
+
+    /// Makes the server take what was handed on to it, which is no whole request: it has no answer.
+    fn advance_unanswered(&mut self)
+        ensures received { received self.new ≡ received self.old }
+        ensures sent { sent self.new ≡ sent self.old }
+        ensures calls { self.new.history.calls ≡ self.old.history.calls }
+    {
+        let standing = self.standing;
+        self.advance(&mut NoAnswer);
+        self.standing = standing;
     }
 
     /// Hands the bytes that were seen on to the server. The error is that memory ran out.
@@ -181,7 +229,7 @@ impl PersistentExchange {
     {
         self.hand_on()?;
         if self.scout.awaits_content() {
-            self.advance(&mut NoAnswer);
+            self.advance_unanswered();
         }
         Ok(())
     }
@@ -218,12 +266,19 @@ impl PersistentExchange {
         self.last_read < LEAST_READ
     }
 
-    /// Takes out what has come of the content of the request that was seen last.
-    pub fn take_content(&mut self, alloc: Global) -> Vec<u8>
-        ensures content { result.items ≡ self.old.scouted.content }
-        ensures rest { self.new ≡ record (self.old) { scouted = record (self.old.scouted) { content = [] } } }
+    /// Takes out the content of the request whose end was seen last. `None` where that was taken out before, or more
+    /// was seen since.
+    pub fn take_content(&mut self, alloc: Global) -> Option<Vec<u8>>
+        ensures content { IfSome result (λ content. content.items ≡ self.old.scouted.content) }
+        ensures next { IfSome result (λ content. IsNext self.new (asked_of self.old.scouted)) }
+        ensures rest { IfSome result (λ content. self.new ≡ record (self.old) { scouted = taken self.old.scouted }) }
+        ensures none { IfNone result (self.new ≡ self.old) }
     {
-        self.scout.take_content(alloc)
+        if self.standing != Standing::Whole {
+            return None;
+        }
+        self.standing = Standing::Due;
+        Some(self.scout.take_content(alloc))
     }
 
     /// Returns whether something is left to send.

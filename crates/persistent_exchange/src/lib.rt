@@ -9,6 +9,7 @@ mod exchange;
 mod laws;
 mod prepared;
 mod scout;
+mod standing;
 mod stream;
 mod whole_request;
 

@@ -1,10 +1,10 @@
 //! An answer that is ready before the connection's server asks for it.
 
-ghost use Rattle.std.specs.Prelude.{◌≡◌, ◌++◌, IfOk, OnOk};
+ghost use Rattle.std.specs.Prelude.{◌≡◌, ◌++◌, false, IfOk, OnOk};
 ghost use Rattle.gateway_answers.specs.ContentType.{type_name};
 ghost use Rattle.gateway_answers.specs.Status.{number_of};
 ghost use Rattle.http_header.specs.FieldValue.{plain_value};
-ghost use Rattle.http_server.specs.Response.{fields_of};
+ghost use Rattle.http_server.specs.Response.{IsBlank, fields_of};
 ghost use Rattle.persistent_exchange.specs.Preparing.{IsPrepared, answer_of, date_fields};
 
 use bytes::Bytes;
@@ -33,10 +33,12 @@ fn code_of(status: Status) -> StatusCode
     }
 }
 
-/// The answer to the next request of a connection, whatever that asks.
+/// The answer to the next request of a connection, whatever that asks. It is given once.
 #[derive(Drop)]
 pub struct Prepared {
     alloc: Global,
+    /// Whether it was given.
+    is_used: bool,
     status: StatusCode,
     content_type: ContentType,
     date: Option<HttpDate>,
@@ -46,15 +48,18 @@ pub struct Prepared {
 
 impl Model for Prepared {
     ghost use Rattle.std.specs.Prelude.{◌++◌};
-    ghost use Rattle.persistent_exchange.specs.Preparing.{Answer};
+    ghost use Rattle.persistent_exchange.specs.Preparing.{AnswerOnce};
 
-    ghost Value = { Answer };
+    ghost Value = { AnswerOnce };
 
     ghost view = { λ p. record {
-      status = p.status;
-      content_type = p.content_type;
-      date = p.date;
-      content = p.front ++ p.rest;
+      answer = record {
+        status = p.status;
+        content_type = p.content_type;
+        date = p.date;
+        content = p.front ++ p.rest;
+      };
+      is_used = p.is_used;
     } };
 }
 
@@ -66,7 +71,7 @@ impl Prepared {
         answer: AnswerBytes,
         date: Option<HttpDate>,
     ) -> Result<Prepared, AllocError>
-        ensures { IfOk result (λ p. p ≡ answer_of answer date) }
+        ensures { IfOk result (λ p. p ≡ record { answer = answer_of answer date; is_used = false }) }
     {
         let AnswerBytes {
             front,
@@ -81,12 +86,33 @@ impl Prepared {
         };
         Ok(Prepared {
             alloc,
+            is_used: false,
             status: code_of(status),
             content_type,
             date,
             front,
             rest,
         })
+    }
+
+    /// Fills a response with the answer. The error is that memory ran out.
+    fn fill(&self, response: &mut Response) -> Result<(), AllocError>
+        requires { IsBlank response.old }
+        ensures { OnOk result (IsPrepared self.now.answer response.new) }
+    {
+        response.status = self.status;
+        let value = type_value(self.content_type);
+        response.add_header(HeaderName::from_static("content-type"), value)?;
+        add_date(self.alloc, &self.date, response)?;
+        response.body.push(self.front.slice(..)?)?;
+        response.body.push(self.rest.slice(..)?)
+    }
+
+    /// Returns whether the answer was given.
+    pub fn is_used(&self) -> bool
+        ensures { result ≡ self.now.is_used }
+    {
+        self.is_used
     }
 }
 
@@ -120,19 +146,21 @@ fn add_date(
 }
 
 impl Service for Prepared {
-    ghost answers = { λ old request response new. IsPrepared old response × (new ≡ old) };
+    ghost use Rattle.persistent_exchange.specs.Preparing.{AnswersOnce};
+
+    ghost answers = { AnswersOnce };
 
     fn call(
         &mut self,
         _request: &Request<Bytes>,
         response: &mut Response,
     ) -> Result<(), AllocError> {
-        response.status = self.status;
-        let value = type_value(self.content_type);
-        response.add_header(HeaderName::from_static("content-type"), value)?;
-        add_date(self.alloc, &self.date, response)?;
-        response.body.push(self.front.slice(..)?)?;
-        response.body.push(self.rest.slice(..)?)
+        if self.is_used {
+            return Err(AllocError);
+        }
+        self.fill(response)?;
+        self.is_used = true;
+        Ok(())
     }
 }
 

@@ -3,10 +3,10 @@
 ghost use Rattle.std.specs.Prelude.{◌≡◌, IfOk, OnOk};
 ghost use Rattle.gateway_exchange.specs.Exchange.{Gains};
 ghost use Rattle.http_server.specs.History.{IsServed};
-ghost use Rattle.persistent_exchange.specs.Answering.{AreAnswered};
+ghost use Rattle.persistent_exchange.specs.Answering.{AnswersNext, CallsFor, IsNext};
 ghost use Rattle.persistent_exchange.specs.Persistent.{Writes, received, sent};
 ghost use Rattle.persistent_exchange.specs.Preparing.{answer_of};
-ghost use Rattle.persistent_exchange.specs.Stream.{asked_of};
+ghost use Rattle.persistent_exchange.specs.Stream.{Asked, asked_of};
 
 use crate::closing::closing_fault;
 use crate::exchange::PersistentExchange;
@@ -301,13 +301,17 @@ impl RequestStream {
         Course::Ready
     }
 
-    /// Returns the request that has come whole, to be answered next; or the fault that it has.
+    /// Returns the request that has come whole, to be answered next; or the fault that it has, `BadRequest` where none
+    /// has come whole since the last was taken.
     pub fn take_request(&mut self, routes: &Routes) -> Result<WholeRequest, Fault>
         ensures request { IfOk result (λ request. request ≡ asked_of self.old.scouted) }
+        ensures next { IfOk result (IsNext self.new) }
         ensures received { received self.new ≡ received self.old }
         ensures sent { sent self.new ≡ sent self.old }
     {
-        let content = self.exchange.take_content(self.alloc);
+        let Some(content) = self.exchange.take_content(self.alloc) else {
+            return Err(Fault::BadRequest);
+        };
         self.largest = self.largest.max(content.len());
         self.is_within = false;
         self.sent = 0;
@@ -317,10 +321,10 @@ impl RequestStream {
 
     /// Passes the answer to the request that has come whole to the server, with a date, where there is a clock. The
     /// error is that memory ran out: the connection is to be closed then.
-    #[tactic(auto, using(crate::proofs::Answering::answered_by))]
     pub fn answer(&mut self, answer: AnswerBytes, date: Option<HttpDate>) -> Result<(), AllocError>
-        ensures answered { OnOk result (AreAnswered (answer_of answer date) self.old.history.calls
+        ensures answered { OnOk result (AnswersNext (answer_of answer date) self.old.history.calls
             self.new.history.calls) }
+        ensures own { OnOk result ((asked : Asked) → IsNext self.old asked → CallsFor asked self.old self.new) }
         ensures served { OnOk result ∥ IsServed self.new.config self.new.history ∥₁ }
         ensures received { received self.new ≡ received self.old }
         ensures sent { sent self.new ≡ sent self.old }
@@ -328,7 +332,7 @@ impl RequestStream {
         self.answer = answer.front.len().saturating_add(answer.rest.len());
         let mut prepared = Prepared::of(self.alloc, answer, date)?;
         self.exchange.hand_on()?;
-        self.exchange.advance(&mut prepared);
+        self.exchange.answer(&mut prepared);
         Ok(())
     }
 
