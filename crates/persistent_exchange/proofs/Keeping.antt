@@ -249,20 +249,27 @@ holds_given s Lost old new given even not_whole not_due call config_is scouted_i
 
 -- ---- bytes that are handed on
 
+handed_received : (old new : Persistent) → HandsOn old new → received new ≡ received old
+handed_received old new hands =
+    ap (λ (x : List ℕ). x ++ new.held) hands.history_is
+    ∙ ap (λ (x : List ℕ). (old.history.received ++ take hands.handed old.held) ++ x) hands.held_is
+    ∙ append_assoc old.history.received (take hands.handed old.held) (drop hands.handed old.held)
+    ∙ ap (λ (x : List ℕ). old.history.received ++ x) (take-append-drop hands.handed old.held)
+
 pub handed_alike : (old new : Persistent) → HandsOn old new → new.config ≡ old.config → new.scouted ≡ old.scouted → IsAlike old new
 handed_alike old new hands config_is scouted_is = record {
   config_is = config_is;
   scouted_is = scouted_is;
-  received_is =
-      ap (λ (x : List ℕ). x ++ new.held) hands.history_is
-      ∙ ap (λ (x : List ℕ). (old.history.received ++ take hands.handed old.held) ++ x) hands.held_is
-      ∙ append_assoc old.history.received (take hands.handed old.held) (drop hands.handed old.held)
-      ∙ ap (λ (x : List ℕ). old.history.received ++ x) (take-append-drop hands.handed old.held);
+  received_is = handed_received old new hands;
   unseen_is =
       ap (λ (x : List ℕ). drop new.seen x) hands.held_is ∙ drop-drop new.seen hands.handed old.held
       ∙ ap (λ (n : ℕ). drop n old.held) (omega (arith, hands.seen_is));
   calls_are = hands.calls_are;
 }
+
+pub next_handed : (old new : Persistent) (asked : Asked) → HandsOn old new → new.config ≡ old.config → IsNext old asked
+    → IsNext new asked
+next_handed old new asked hands config_is next = next_alike old new asked config_is (handed_received old new hands) hands.calls_are next
 
 pub handed_holds : (s : Standing) (old new : Persistent) → HandsOn old new → new.config ≡ old.config
     → new.scouted ≡ old.scouted → Holds s old → Holds s new

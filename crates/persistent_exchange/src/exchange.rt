@@ -152,6 +152,7 @@ impl PersistentExchange {
         requires { 0 < self.old.seen }
         ensures hands { HandsOn self.old self.new }
         ensures fewer { OnOk result (self.new.seen < self.old.seen) }
+        ensures config { self.new.config ≡ self.old.config }
     {
         let mut bytes = &self.held.as_slice()[..self.seen];
         match self.connection.read_from(&mut bytes) {
@@ -169,6 +170,7 @@ impl PersistentExchange {
     pub fn hand_on(&mut self) -> Result<(), AllocError>
         ensures hands { HandsOn self.old self.new }
         ensures all { OnOk result (self.new.seen ≡ 0) }
+        ensures config { self.new.config ≡ self.old.config }
     {
         while self.seen > 0 {
             self.hand_some_on()?;
