@@ -10,8 +10,6 @@ mod laws;
 mod prepared;
 mod scout;
 mod stream;
-#[cfg(test)]
-mod tests;
 mod whole_request;
 
 pub use exchange::PersistentExchange;
