@@ -1,6 +1,7 @@
-//! Tests and bench; over `gateway` and `gateway_core`.
+//! Tests and bench; over `gateway`, `gateway_core` and `persistent_exchange`.
 //!
-//! Messages that go through the pool where its slots are taken or a gate says no, and workers that run many sessions.
+//! Messages that go through the pool where its slots are taken or a gate says no, workers that run many sessions, and
+//! requests that come in parts over a connection that stays.
 #![tactic(auto)]
 
 #[cfg(test)]
@@ -21,6 +22,10 @@ mod replying;
 mod schemas;
 #[cfg(test)]
 mod seats;
+#[cfg(test)]
+mod staying;
+#[cfg(test)]
+mod trials;
 #[cfg(test)]
 mod waiting;
 #[cfg(test)]

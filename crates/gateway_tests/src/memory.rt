@@ -1,18 +1,13 @@
 //! Requests that are asked again where memory was refused.
 
-ghost use Rattle.std.specs.Prelude.{◌≡◌};
 ghost use Rattle.session_pool.specs.Seats.{Rests};
 
-use crate::asking::{MESSAGE, REWRITTEN, ask};
-use crate::seats::{Seated, last_client, last_worker, new_pool};
+use crate::asking::{Exchange, MESSAGE_REWRITTEN, ask};
+use crate::trials::{Question, Trial, succeeds};
 use gateway::{App, Gate, Helping, ServeError};
-use program_cache::ProgramCache;
-use schema_registry::SharedRegistry;
 use session_pool::ClientSeat;
-use std::alloc::Global;
-use std::process::Abort;
+use std::alloc::{AllocError, Global};
 use std::sync::Wait;
-use std::test::Fail;
 
 /// Registers a record of a long and a string.
 const REGISTER: &[u8] = b"POST /subjects/s/versions HTTP/1.1\r\ncontent-length: 134\r\n\r\n\
@@ -31,6 +26,18 @@ content-type: application/vnd.schemaregistry.v1+json\r\ncontent-length: 8\r\ncon
 const SECOND: &[u8] = b"HTTP/1.1 200 OK\r\n\
 content-type: application/vnd.schemaregistry.v1+json\r\ncontent-length: 8\r\nconnection: close\r\n\r\n\
 {\"id\":2}";
+
+/// The first, and its answer.
+const REGISTERED: Exchange<'static> = Exchange {
+    request: REGISTER,
+    answer: FIRST,
+};
+
+/// The second, and its answer.
+const SWAPPED_REGISTERED: Exchange<'static> = Exchange {
+    request: REGISTER_SWAPPED,
+    answer: SECOND,
+};
 
 /// The answer where memory ran out.
 const NO_MEMORY: &[u8] = b"HTTP/1.1 503 Service Unavailable\r\n\
@@ -56,37 +63,43 @@ fn asked_again<'p, R: Wait, G: Gate>(
     }
 }
 
-/// Asks the three requests, one after another, each once more where memory ran out.
-fn answered<'p, R: Wait + Abort>(
+/// Returns whether a request gets the answer that is wanted, asked once more where memory was refused.
+fn is_answered_again<'p, R: Wait, G: Gate>(
     rt: &R,
     alloc: Global,
     app: &App<'_, 'p>,
     seat: &mut ClientSeat<'p>,
+    gate: &mut G,
+    exchange: Exchange<'_>,
+) -> bool
+    requires seat { Rests app.now.pool.now seat.old }
+    ensures { Rests app.now.pool.now seat.new }
+{
+    match asked_again(rt, alloc, app, seat, gate, exchange.request) {
+        Ok(answer) => answer.as_slice() == exchange.answer,
+        Err(_) => false,
+    }
+}
+
+/// Asks three requests, one after another, each once more where memory was refused. Returns whether each gets its
+/// answer.
+pub(crate) fn are_answered_again<'p, R: Wait + AllocGlobal>(
+    rt: &R,
+    app: &App<'_, 'p>,
+    seat: &mut ClientSeat<'p>,
     gate: &mut Helping<'_, 'p>,
-) -> Result<(), Fail>
+) -> bool
     requires seat { Rests app.now.pool.now seat.old }
 {
-    let first = asked_again(rt, alloc, app, seat, gate, REGISTER)?;
-    assert!(rt; first.as_slice() == FIRST);
-    let second = asked_again(rt, alloc, app, seat, gate, REGISTER_SWAPPED)?;
-    assert!(rt; second.as_slice() == SECOND);
-    let message = asked_again(rt, alloc, app, seat, gate, MESSAGE)?;
-    assert!(rt; message.as_slice() == REWRITTEN);
-    Ok(())
+    let alloc = rt.alloc();
+    let mut right = is_answered_again(rt, alloc, app, seat, gate, REGISTERED);
+    right &= is_answered_again(rt, alloc, app, seat, gate, SWAPPED_REGISTERED);
+    right &= is_answered_again(rt, alloc, app, seat, gate, MESSAGE_REWRITTEN);
+    right
 }
 
 #[test]
-fn answers_are_the_same_after_a_refused_growth(rt: HostRuntime) -> Result<(), Fail> {
-    let alloc = rt.alloc();
-    let registry = SharedRegistry::new(alloc)?;
-    let cache = ProgramCache::new(alloc, &registry)?;
-    let Seated {
-        pool,
-        mut clients,
-        mut workers,
-    } = new_pool(alloc, &cache, 1, 1)?;
-    let mut seat = last_client(&rt, &pool, &mut clients);
-    let mut gate = Helping::new(&pool, last_worker(&rt, &pool, &mut workers));
-    let app = App::new(alloc, &registry, &cache, &pool)?;
-    answered(&rt, alloc, &app, &mut seat, &mut gate)
+fn answers_are_the_same_after_a_refused_growth(rt: HostRuntime) -> Result<(), AllocError> {
+    assert!(rt; succeeds(&rt, 1, 1, Trial::Asked(Question::Again))?);
+    Ok(())
 }

@@ -4,6 +4,7 @@ ghost use Rattle.std.specs.Prelude.{IfOk};
 ghost use Rattle.schema_registry.specs.Receipt.{IsReceiptOf};
 
 use schema_registry::{Receipt, Refusal, SharedRegistry};
+use session_pool::SessionPool;
 use std::alloc::Global;
 use std::sync::Wait;
 
@@ -35,5 +36,28 @@ pub(crate) fn registered<R: Wait>(
     let subject = String::from_str(alloc, subject)?;
     let text = String::from_str(alloc, text)?;
     let (_id, receipt) = registry.register(rt, subject, text)?;
+    Ok(receipt)
+}
+
+/// Registers the record, and that record with its fields the other way round. Returns whether both are registered.
+pub(crate) fn are_both_registered<R: Wait>(
+    rt: &R,
+    alloc: Global,
+    registry: &SharedRegistry,
+) -> bool {
+    let mut right = registered(rt, alloc, registry, "s", RECORD).is_ok();
+    right &= registered(rt, alloc, registry, "t", SWAPPED).is_ok();
+    right
+}
+
+/// Registers the schema of lists in the registry of a pool.
+pub(crate) fn list_registered<R: Wait>(
+    rt: &R,
+    alloc: Global,
+    pool: &SessionPool<'_>,
+) -> Result<Receipt, Refusal>
+    ensures { IfOk result (IsReceiptOf pool.now.cache.now) }
+{
+    let receipt = registered(rt, alloc, pool.cache().registry(), "s", LONG_LIST)?;
     Ok(receipt)
 }

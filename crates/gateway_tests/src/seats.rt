@@ -1,6 +1,6 @@
 //! Pools with their seats.
 
-ghost use Rattle.std.specs.Prelude.{◌≡◌, ◌≤◌, All, IfOk};
+ghost use Rattle.std.specs.Prelude.{◌≤◌, All};
 ghost use Rattle.session_pool.specs.declared.limits.TheConstants.{MOST_CLIENTS};
 ghost use Rattle.session_pool_jobs.specs.declared.limits.TheConstants.{MOST_WORKERS};
 ghost use Rattle.session_pool.specs.Seats.{IsNewClient, IsNewWorker, Rests, RestsWorker};
@@ -30,7 +30,6 @@ pub(crate) fn new_pool<'p>(
 ) -> Result<Seated<'p>, AllocError>
     requires clients { (1 ≤ clients) × (clients ≤ MOST_CLIENTS) }
     requires workers { (1 ≤ workers) × (workers ≤ MOST_WORKERS) }
-    ensures { IfOk result (λ seated. seated.pool.cache.now ≡ cache.now) }
 {
     let (pool, clients, workers) = SessionPool::new(alloc, cache, clients, workers)?;
     Ok(Seated {

@@ -5,18 +5,16 @@ ghost use Rattle.schema_registry.specs.Receipt.{IsReceiptOf};
 ghost use Rattle.session_pool.specs.Seats.{IsNewClient, IsNewWorker, Rests, RestsWorker};
 
 use crate::gates::UntilSet;
-use crate::schemas::{LIST_BYTES, LONG_LIST, registered};
-use crate::seats::{Seated, new_pool};
-use crate::waiting::{end_when_free, finished_in_time, send_when_free};
+use crate::schemas::{LIST_BYTES, list_registered};
+use crate::trials::{Trial, succeeds};
+use crate::waiting::{finished_in_time, list_sent};
 use gateway::{pop_client, pop_worker, work};
 use outcome::Outcome;
-use program_cache::ProgramCache;
-use schema_registry::{Receipt, SharedRegistry};
+use schema_registry::Receipt;
 use session_pool::{ClientSeat, Finished, SessionEnd, SessionPool, WorkerSeat};
 use std::alloc::{AllocError, Global};
 use std::sync::Wait;
 use std::sync::atomic::{AtomicBool, Ordering};
-use std::test::Fail;
 use std::thread;
 use std::thread::Threads;
 
@@ -74,12 +72,7 @@ fn finished<'p>(
     requires receipt { IsReceiptOf pool.now.cache.now receipt.old }
     ensures { Rests pool.now seat.new }
 {
-    let mut again = receipt.again();
-    let payload = LIST_BYTES.to_vec(alloc).ok()?;
-    let pass = pool.open(seat, receipt, &mut again).ok()?;
-    if !send_when_free(pool, seat, &pass, payload) || !end_when_free(pool, seat, &pass) {
-        return None;
-    }
+    let pass = list_sent(alloc, pool, seat, receipt)?;
     finished_in_time(pool, seat, pass)
 }
 
@@ -186,21 +179,45 @@ fn run_all<R: Threads + Wait + Sync>(
     answers
 }
 
-#[test]
-fn four_workers_run_64_sessions_row_by_row(rt: HostRuntime) -> Result<(), Fail> {
-    let alloc = rt.alloc();
-    let registry = SharedRegistry::new(alloc)?;
-    let cache = ProgramCache::new(alloc, &registry)?;
-    let Seated {
-        pool,
-        mut clients,
-        mut workers,
-    } = new_pool(alloc, &cache, SESSIONS, WORKERS)?;
-    let mut receipt = registered(&rt, alloc, &registry, "s", LONG_LIST)?;
+/// Returns whether each client's session comes to the list, by a thread for each client and each worker. The error is
+/// that there was no memory for them.
+fn are_answered<'p, R: Threads + Wait + Sync + AllocGlobal>(
+    rt: &R,
+    pool: &SessionPool<'p>,
+    clients: &mut Vec<ClientSeat<'p>>,
+    workers: &mut Vec<WorkerSeat<'p>>,
+    receipt: &mut Receipt,
+) -> Result<bool, AllocError>
+    requires clients { All (IsNewClient pool.now) clients.old.items }
+    requires workers { All (IsNewWorker pool.now) workers.old.items }
+    requires receipt { IsReceiptOf pool.now.cache.now receipt.old }
+{
     let is_over = AtomicBool::new(false);
-    let workers = all_working(alloc, &pool, &is_over, &mut workers)?;
-    let clients = all_asking(alloc, &pool, &mut clients, &mut receipt)?;
-    let answers = run_all(&rt, &is_over, workers, clients)?;
-    assert_eq!(rt; answers.as_slice(), [true; SESSIONS].as_slice());
+    let working = all_working(rt.alloc(), pool, &is_over, workers)?;
+    let asking = all_asking(rt.alloc(), pool, clients, receipt)?;
+    let answers = run_all(rt, &is_over, working, asking)?;
+    Ok(answers.as_slice() == [true; SESSIONS].as_slice())
+}
+
+/// Registers the schema of lists. Returns whether the session of each of `SESSIONS` clients comes to the list. The
+/// error is that there was no memory for the threads.
+pub(crate) fn are_all_answered<'p, R: Threads + Wait + Sync + AllocGlobal>(
+    rt: &R,
+    pool: &SessionPool<'p>,
+    clients: &mut Vec<ClientSeat<'p>>,
+    workers: &mut Vec<WorkerSeat<'p>>,
+) -> Result<bool, AllocError>
+    requires clients { All (IsNewClient pool.now) clients.old.items }
+    requires workers { All (IsNewWorker pool.now) workers.old.items }
+{
+    match list_registered(rt, rt.alloc(), pool) {
+        Ok(mut receipt) => are_answered(rt, pool, clients, workers, &mut receipt),
+        Err(_) => Ok(false),
+    }
+}
+
+#[test]
+fn four_workers_run_64_sessions_row_by_row(rt: HostRuntime) -> Result<(), AllocError> {
+    assert!(rt; succeeds(&rt, SESSIONS, WORKERS, Trial::Working)?);
     Ok(())
 }
