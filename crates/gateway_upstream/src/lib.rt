@@ -7,8 +7,6 @@
 mod looked;
 mod looking;
 mod replying;
-#[cfg(test)]
-mod tests;
 
 pub use looked::Looked;
 pub use looking::{Needed, needed_by};

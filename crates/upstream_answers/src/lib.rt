@@ -15,8 +15,6 @@ mod question;
 mod read_once;
 mod receiving;
 mod stage;
-#[cfg(test)]
-mod tests;
 
 pub use answer::{UpstreamAnswer, parse_answer};
 pub use content::{is_unknown, schema_in};

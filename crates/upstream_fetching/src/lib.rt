@@ -12,8 +12,6 @@ mod kept_upstream;
 mod limits;
 mod network;
 mod queue;
-#[cfg(test)]
-mod tests;
 mod timed;
 
 pub use dial::{Dial, MOST_ADDRESSES};

@@ -9,8 +9,6 @@ mod held;
 mod limits;
 mod recent;
 mod schemas;
-#[cfg(test)]
-mod tests;
 mod upstream;
 
 pub use held::{Held, Named};

@@ -6,8 +6,6 @@
 
 mod credentials;
 mod target;
-#[cfg(test)]
-mod tests;
 
 pub use credentials::{CredentialsFault, LONGEST_CREDENTIALS, credentials_of};
 pub use target::{Target, UrlFault, target_of};

@@ -1,13 +1,13 @@
 //! Threads that wait for an id.
 
-use super::devices::{ListedUpstream, moment_at};
-use crate::{Asked, FetchQueue};
-use std::process::Abort;
+use crate::listed_upstream::ListedUpstream;
+use std::alloc::Global;
 use std::sync::Wait;
 use std::test::Fail;
 use std::thread;
 use std::thread::Threads;
 use std::time::{Clock, Duration, Instant};
+use upstream_fetching::{Asked, FetchQueue};
 
 /// The milliseconds in which a thread begins to wait.
 const PAUSE: u64 = 50;
@@ -45,11 +45,15 @@ fn next_when_asked<R: Threads + Wait + Clock + Sync>(
     )
 }
 
+/// Returns whether a thread that waits is woken by an id that is asked for, and by the end of the queue.
+fn is_woken<R: Threads + Wait + Clock + Sync>(rt: &R, alloc: Global, now: Instant) -> bool {
+    let queue = FetchQueue::new(alloc);
+    let (next, asked) = next_when_asked(rt, &queue, 7, now);
+    next == Some(7) && asked == Asked::Waits && next_at_the_end(rt, &queue).is_none()
+}
+
 #[test]
 fn a_thread_that_waits_is_woken(rt: HostRuntime) -> Result<(), Fail> {
-    let queue: FetchQueue<ListedUpstream> = FetchQueue::new(rt.alloc());
-    let (next, asked) = next_when_asked(&rt, &queue, 7, moment_at(0)?);
-    assert!(rt; next == Some(7) && asked == Asked::Waits);
-    assert_eq!(rt; next_at_the_end(&rt, &queue), None);
+    assert!(rt; is_woken(&rt, rt.alloc(), Instant::now(&rt)?));
     Ok(())
 }
