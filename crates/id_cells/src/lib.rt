@@ -10,6 +10,8 @@ mod limits;
 mod note;
 mod row;
 mod table;
+#[cfg(test)]
+mod tests;
 
 pub use held_value::HeldValue;
 pub use note::IdNote;
