@@ -220,15 +220,15 @@ fn a_schema_that_is_not_kept_is_not_held(rt: HostRuntime) -> Result<(), AllocErr
 
 /// Two ids of one remainder by the number of schemas that a thread finds again.
 const REMAINDERS: &str = r#"7 HTTP/1.1 200 OK||{"schema":"\"int\""}
-263 HTTP/1.1 200 OK||{"schema":"\"long\""}
+16391 HTTP/1.1 200 OK||{"schema":"\"long\""}
 
 ask 7 -> 7 as 1, "int"
 recent 7 -> 7 as 1, "int"
-recent 263 -> none
-ask 263 -> 263 as 2, "long"
-recent 263 -> 263 as 2, "long"
+recent 16391 -> none
+ask 16391 -> 16391 as 2, "long"
+recent 16391 -> 16391 as 2, "long"
 recent 7 -> 7 as 1, "int"
-recent 263 -> 263 as 2, "long"
+recent 16391 -> 16391 as 2, "long"
 recent 7 -> 7 as 1, "int"
 "#;
 
