@@ -19,8 +19,6 @@ mod host;
 mod locking;
 mod opening;
 mod record;
-#[cfg(test)]
-mod tests;
 
 pub use error::FileError;
 pub use host::Host;

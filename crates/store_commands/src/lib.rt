@@ -11,8 +11,6 @@ mod listing;
 mod opening;
 mod progress;
 mod refusal;
-#[cfg(test)]
-mod tests;
 
 pub use exporting::{ExportFault, export};
 pub use importing::{ImportFault, import};

@@ -8,8 +8,6 @@ mod crashing;
 mod fault;
 mod kept_schema;
 mod opening;
-#[cfg(test)]
-mod tests;
 
 pub use crashing::Restart;
 pub use fault::UpstreamStoreFault;
