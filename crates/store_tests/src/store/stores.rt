@@ -1,78 +1,69 @@
-//! Stores at a path, for tests.
+//! Stores over any disk, for tests.
 
 use journal_file::{JournalFile, Unknown, make, open};
-use registry_store::{CommandStore, OpenFault, StoredCommand};
+use registry_store::{CommandStore, StoredCommand};
 use sqlite_disk::Disk;
 use std::alloc::{AllocError, Global};
-use std::test::Fail;
 
-/// Makes a store at a path, of one registration.
-pub(crate) fn make_store(rt: &HostRuntime, path: &str) -> Result<CommandStore<JournalFile>, Fail> {
-    let Ok(file) = make(rt, path, Unknown) else {
-        return Err(Fail::from("not made"));
-    };
-    if !file.may_be_used() {
-        return Err(Fail::from("a new disk may be used"));
+/// Makes a store on a disk, of one registration. None where it is not made.
+fn made_on<D: Disk + Drop>(alloc: Global, disk: D) -> Option<CommandStore<D>> {
+    if !disk.may_be_used() {
+        return None;
     }
-    let Ok(mut store) = CommandStore::create(rt.alloc(), file) else {
-        return Err(Fail::from("not created"));
-    };
-    if store.keep_registration(1, "orders", "\"int\"").is_err() {
-        return Err(Fail::from("not kept"));
-    }
-    Ok(store)
-}
-
-/// Opens the store at a path; an `Err` within says why it is none.
-pub(crate) fn open_store(
-    rt: &HostRuntime,
-    path: &str,
-) -> Result<Result<(CommandStore<JournalFile>, Vec<StoredCommand>), OpenFault>, Fail> {
-    let Ok(file) = open(rt, path, Unknown) else {
-        return Err(Fail::from("no file"));
-    };
-    if !file.may_be_used() {
-        return Err(Fail::from("a new disk may be used"));
-    }
-    match CommandStore::open(rt.alloc(), file) {
-        Ok(opened) => Ok(Ok(opened)),
-        Err((fault, _disk)) => Ok(Err(fault)),
+    let mut store = CommandStore::create(alloc, disk).ok()?;
+    match store.keep_registration(1, "orders", "\"int\"") {
+        Ok(()) => Some(store),
+        Err(_) => None,
     }
 }
 
-/// Returns the commands of the store at a path as text, each with a `;`, or why it is none.
-pub(crate) fn commands_at(rt: &HostRuntime, path: &str) -> Result<String, Fail> {
-    match open_store(rt, path)? {
-        Ok((_store, commands)) => Ok(text_of(rt.alloc(), &commands)?),
-        Err(fault) => Ok(format!(in rt.alloc(); "{fault}")?),
+/// Makes a store at a path, of one registration. None where it is not made.
+pub(crate) fn made_at(rt: &HostRuntime, path: &str) -> Option<CommandStore<JournalFile>> {
+    match make(rt, path, Unknown) {
+        Ok(file) => made_on(rt.alloc(), file),
+        Err(_) => None,
     }
-}
-
-/// Returns commands as text, each with a `;` after it.
-pub(crate) fn text_of(alloc: Global, commands: &[StoredCommand]) -> Result<String, AllocError> {
-    let mut text = String::new(alloc);
-    for command in commands {
-        push_command(alloc, &mut text, command)?;
-    }
-    Ok(text)
 }
 
 /// Appends a command and a `;` to a text.
-fn push_command(
-    alloc: Global,
-    text: &mut String,
-    command: &StoredCommand,
-) -> Result<(), AllocError> {
-    let shown = match command {
+fn push_command(text: &mut String, command: &StoredCommand) -> Result<(), AllocError> {
+    match command {
         StoredCommand::Registration {
             id,
             subject,
             text: schema,
-        } => format!(in alloc; "{id} {subject} {schema};")?,
+        } => write!(text, "{id} {subject} {schema};"),
         StoredCommand::Level { subject, level } => match subject {
-            Some(subject) => format!(in alloc; "{subject} {level};")?,
-            None => format!(in alloc; "global {level};")?,
+            Some(subject) => write!(text, "{subject} {level};"),
+            None => write!(text, "global {level};"),
         },
-    };
-    text.push_str(shown.as_str())
+    }
+}
+
+/// Returns commands as text, each with a `;` after it.
+fn text_of(alloc: Global, commands: &[StoredCommand]) -> Result<String, AllocError> {
+    let mut text = String::new(alloc);
+    for command in commands {
+        push_command(&mut text, command)?;
+    }
+    Ok(text)
+}
+
+/// Returns the commands of the store on a disk as text, each with a `;`, or why it is none.
+fn commands_on<D: Disk + Drop>(alloc: Global, disk: D) -> Result<String, AllocError> {
+    if !disk.may_be_used() {
+        return String::from_str(alloc, "no disk");
+    }
+    match CommandStore::open(alloc, disk) {
+        Ok((_store, commands)) => text_of(alloc, &commands),
+        Err((fault, _disk)) => format!(in alloc; "{fault}"),
+    }
+}
+
+/// Returns the commands of the store at a path as text, each with a `;`, or why it is none.
+pub(crate) fn commands_at(rt: &HostRuntime, path: &str) -> Result<String, AllocError> {
+    match open(rt, path, Unknown) {
+        Ok(file) => commands_on(rt.alloc(), file),
+        Err(_) => String::from_str(rt.alloc(), "no file"),
+    }
 }
