@@ -47,14 +47,15 @@ fn rows_limited(alloc: Global) -> Result<usize, AllocError> {
 /// The number of records of a long message, as it is encoded.
 const MANY: &[u8] = &[0xc0, 0xb8, 0x02];
 
-/// Appends `item`, 20,000 times, as an array's one block.
-fn push_many(array: &mut Vec<u8>, item: &[u8]) -> Result<(), AllocError> {
-    array.extend_from_slice(MANY)?;
+/// Returns an array of 20,000 items in one block, each of two parts.
+fn many_of(alloc: Global, first: &[u8], second: &[u8]) -> Result<Vec<u8>, AllocError> {
+    let mut array = Vec::from_slice(alloc, MANY)?;
     for _ in 0..20_000 {
-        array.extend_from_slice(item)?;
+        array.extend_from_slice(first)?;
+        array.extend_from_slice(second)?;
     }
     array.push(0)?;
-    Ok(())
+    Ok(array)
 }
 
 /// Returns the program, with its plan, from arrays of `RECORD` to arrays of `EVOLVED`.
@@ -64,27 +65,36 @@ fn program_of_arrays(alloc: Global) -> Result<PlannedProgram, AllocError> {
     planned_program(alloc, writer.as_str(), reader.as_str())
 }
 
-/// Returns whether one slice of just its rows takes a message of 2 MB whole, by its program's plan: the arena is then
-/// the output, whose fields are in the reader's order. One row at a time, they would be there in the writer's.
-fn is_taken_whole(alloc: Global) -> Result<bool, AllocError> {
-    let Some(text) = letters(alloc, 100)? else {
-        return Ok(false);
-    };
-    let (mut item, mut read) = (Vec::new(alloc), Vec::new(alloc));
-    item.push(0x36)?;
-    item.extend_from_slice(&text)?;
-    read.extend_from_slice(&text)?;
-    read.extend_from_slice(&[0x0e, 0x36])?;
-    let (mut payload, mut wanted) = (Vec::new(alloc), Vec::new(alloc));
-    push_many(&mut payload, &item)?;
-    push_many(&mut wanted, &read)?;
-    let program = program_of_arrays(alloc)?;
-    let rows = rows_alone(alloc, &program, &payload)?;
-    let mut run = Run::new(alloc, &program);
-    pushed(&mut run, &payload)?;
+/// Returns whether one slice of just its rows takes a message whole, by its program's plan: the arena is then the
+/// output, whose fields are in the reader's order. One row at a time, they would be there in the writer's.
+fn takes_whole(
+    alloc: Global,
+    program: &PlannedProgram,
+    payload: &[u8],
+    wanted: &[u8],
+) -> Result<bool, AllocError> {
+    let rows = rows_alone(alloc, program, payload)?;
+    let mut run = Run::new(alloc, program);
+    let is_pushed = pushed(&mut run, payload).is_ok();
     run.close();
-    let taken = run.slice(&[], rows).rows == rows;
-    Ok(taken && payload.len() > 2_000_000 && run.machine().arena() == wanted.as_slice())
+    let is_taken = run.slice(&[], rows).rows == rows;
+    Ok(is_pushed && is_taken && run.machine().arena() == wanted)
+}
+
+/// Returns whether a message of 2 MB, of records with this text, is taken whole.
+fn is_taken_whole(alloc: Global, text: &[u8]) -> Result<bool, AllocError> {
+    let payload = many_of(alloc, &[0x36], text)?;
+    let wanted = many_of(alloc, text, &[0x0e, 0x36])?;
+    let program = program_of_arrays(alloc)?;
+    Ok(payload.len() > 2_000_000 && takes_whole(alloc, &program, &payload, &wanted)?)
+}
+
+/// Returns whether such a message of texts of 100 letters is taken whole.
+fn letters_are_taken_whole(alloc: Global) -> Result<bool, AllocError> {
+    match letters(alloc, 100)? {
+        Some(text) => is_taken_whole(alloc, &text),
+        None => Ok(false),
+    }
 }
 
 #[test]
@@ -96,7 +106,6 @@ fn plans_put_no_byte_past_a_limit(rt: HostRuntime) -> Result<(), Fail> {
 
 #[test]
 fn runs_take_a_message_of_2_mb_by_their_plan(rt: HostRuntime) -> Result<(), Fail> {
-    let whole = is_taken_whole(rt.alloc())?;
-    assert!(rt; whole);
+    assert!(rt; letters_are_taken_whole(rt.alloc())?);
     Ok(())
 }

@@ -4,6 +4,7 @@ use avro_schema::{Schema, SchemaError};
 use machine::PlannedProgram;
 use session_core::{PairRow, Programs, PublishError};
 use std::alloc::{AllocError, Global};
+use std::test::Fail;
 
 /// Returns a schema, parsed again where memory ran out the first time.
 pub(crate) fn parsed(alloc: Global, text: &str) -> Result<Schema, SchemaError> {
@@ -31,4 +32,16 @@ pub(crate) fn published<'r>(
         Err(PublishError::NoMemory) => row.publish(writer, reader),
         answer => answer,
     }
+}
+
+/// Returns the program of a pair of texts, as `parsed` and `published` return it.
+pub(crate) fn published_of<'r>(
+    alloc: Global,
+    row: &'r PairRow,
+    writer: &str,
+    reader: &str,
+) -> Result<&'r PlannedProgram, Fail> {
+    let writer = parsed(alloc, writer)?;
+    let reader = parsed(alloc, reader)?;
+    Ok(published(row, &writer, &reader)?)
 }

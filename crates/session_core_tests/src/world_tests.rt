@@ -18,22 +18,29 @@ fn registration(alloc: Global, subject: &str, text: &str) -> Result<Event, Alloc
 /// Returns the events that register two schemas, publish the pair of the first with itself and a second pair, and
 /// begin a session of the first on a payload of one byte.
 fn events(alloc: Global) -> Result<Vec<Event>, AllocError> {
-    let mut events = Vec::new(alloc);
-    events.push(registration(alloc, "s", "\"int\"")?)?;
-    events.push(registration(alloc, "u", "\"long\"")?)?;
-    for reader in [1, 2] {
-        events.push(Event::Publish { writer: 1, reader })?;
-    }
     let bytes = Vec::from_slice(alloc, &[2])?;
-    let (session, worker, rows) = (0, 0, 9);
-    events.push(Event::Begin {
-        writer: 1,
-        reader: 1,
-    })?;
-    for act in vec![in alloc; Act::Piece(bytes), Act::Finish, Act::Slice { worker, rows }]? {
-        events.push(Event::On { session, act })?;
-    }
-    Ok(events)
+    let first = registration(alloc, "s", "\"int\"")?;
+    let second = registration(alloc, "u", "\"long\"")?;
+    let (writer, session, worker, rows) = (1, 0, 0, 9);
+    Ok(vec![in alloc;
+        first,
+        second,
+        Event::Publish { writer, reader: 1 },
+        Event::Publish { writer, reader: 2 },
+        Event::Begin { writer, reader: 1 },
+        Event::On {
+            session,
+            act: Act::Piece(bytes)
+        },
+        Event::On {
+            session,
+            act: Act::Finish
+        },
+        Event::On {
+            session,
+            act: Act::Slice { worker, rows }
+        },
+    ]?)
 }
 
 /// What is replied to them where one cell holds one pair.

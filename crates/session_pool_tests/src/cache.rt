@@ -10,6 +10,7 @@ use program_cache::{ProgramCache, Programs, PublishError};
 use program_compiler::{CompileError, compile};
 use schema_registry::{Receipt, Refusal, SharedRegistry};
 use std::alloc::{AllocError, Global};
+use std::process::Abort;
 use std::sync::Wait;
 use std::test::Fail;
 use std::thread;
@@ -146,29 +147,49 @@ pub(crate) fn published_listing(
     Ok(disassemble(alloc, cache.publish(writer, reader)?.program())?)
 }
 
+/// Returns the listing of the program that is published for a text with itself.
+fn listing_of_text(alloc: Global, cache: &ProgramCache<'_>, text: &str) -> Result<String, Fail> {
+    let schema = Schema::parse(alloc, text)?;
+    Ok(published_listing(alloc, cache, &schema, &schema)?)
+}
+
+/// Returns how many instructions the program has that is published for two texts; `None` where they clash with others.
+fn len_of_texts(
+    alloc: Global,
+    cache: &ProgramCache<'_>,
+    writer: &str,
+    reader: &str,
+) -> Result<Option<usize>, Fail> {
+    let writer = Schema::parse(alloc, writer)?;
+    let reader = Schema::parse(alloc, reader)?;
+    match published_len(cache, &writer, &reader) {
+        Ok(len) => Ok(Some(len)),
+        Err(PublishError::Clash) => Ok(None),
+        Err(error) => Err(error.into()),
+    }
+}
+
+/// Asserts that the programs of schemas that are registered are published for their texts, and those of others are not.
+fn assert_published(rt: &impl Abort, alloc: Global, cache: &ProgramCache<'_>) -> Result<(), Fail> {
+    const INT: &str = " \"int\" ";
+    const LONG: &str = "\"long\"";
+    let listing = listing_of_text(alloc, cache, RECORD)?;
+    let of_int = len_of_texts(alloc, cache, INT, INT)?;
+    let from_int = len_of_texts(alloc, cache, INT, LONG)?;
+    let to_int = len_of_texts(alloc, cache, LONG, INT)?;
+    same(rt, listing.as_str(), RECORD_LISTING);
+    same(rt, of_int, Some(2));
+    same(rt, (from_int, to_int), (None, None));
+    Ok(())
+}
+
 #[test]
 fn schemas_are_published_by_their_texts(rt: HostRuntime) -> Result<(), Fail> {
     let alloc = rt.alloc();
     let registry = SharedRegistry::new(alloc)?;
     register_lines(&rt, alloc, &registry, TEXTS)?;
     let cache = ProgramCache::new(alloc, &registry)?;
-    let int = Schema::parse(alloc, " \"int\" ")?;
-    let long = Schema::parse(alloc, "\"long\"")?;
-    let record = Schema::parse(alloc, RECORD)?;
-    let listing = published_listing(alloc, &cache, &record, &record)?;
-    same(&rt, listing.as_str(), RECORD_LISTING);
-    same(&rt, published_len(&cache, &int, &int), Ok(2));
-    same(
-        &rt,
-        published_len(&cache, &int, &long),
-        Err(PublishError::Clash),
-    );
-    same(
-        &rt,
-        published_len(&cache, &long, &int),
-        Err(PublishError::Clash),
-    );
-    Ok(())
+    assert_published(&rt, alloc, &cache)
 }
 
 /// Returns the texts of a union of 648 records R without fields, and of a record R of 200 fields, all by default.

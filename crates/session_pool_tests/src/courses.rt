@@ -8,7 +8,7 @@ use crate::same::same;
 use outcome::Outcome;
 use schema_registry::Receipt;
 use session_pool::{
-    ClientSeat, Finished, NotYet, Pass, PieceError, ReturnedPass, SessionEnd, SessionPool,
+    ClientSeat, Finished, NotYet, Pass, PieceError, ReturnedPass, SessionEnd, SessionPool, Turn,
     WorkerSeat,
 };
 use std::alloc::Global;
@@ -42,6 +42,26 @@ pub(crate) fn send<'p>(
     match pool.piece(seat, pass, piece) {
         Ok(()) => Ok(()),
         Err(refused) => Err(refused.why),
+    }
+}
+
+/// Sends a last piece to a session, and ends its payload.
+pub(crate) fn send_last<'p>(
+    alloc: Global,
+    pool: &SessionPool<'p>,
+    seat: &mut ClientSeat<'p>,
+    pass: &Pass,
+    bytes: &[u8],
+) -> Result<(), PieceError>
+    requires seat { Rests pool.now seat.old }
+    requires pass { IsPassOf seat.old pass.now }
+    ensures seat { Rests pool.now seat.new }
+    ensures pass { IsPassOf seat.new pass.now }
+{
+    let sent = send(alloc, pool, seat, pass, bytes);
+    match pool.end(seat, pass) {
+        Ok(()) => sent,
+        Err(_) => Err(PieceError::Busy),
     }
 }
 
@@ -108,9 +128,59 @@ pub(crate) fn fed<'p>(
     ensures pass { IfOk result (IsPassOf seat.new) }
 {
     let pass = pool.open(seat, writer, reader)?;
-    send(alloc, pool, seat, &pass, payload)?;
-    pool.end(seat, &pass)?;
+    send_last(alloc, pool, seat, &pass, payload)?;
     Ok(pass)
+}
+
+/// Returns what a session came to that has ended.
+pub(crate) fn course_of<'p>(
+    pool: &SessionPool<'p>,
+    seat: &mut ClientSeat<'p>,
+    pass: Pass,
+) -> Result<Course, Fail>
+    requires seat { Rests pool.now seat.old }
+    requires pass { IsPassOf seat.old pass }
+    ensures seat { Rests pool.now seat.new }
+{
+    let slot = pass.slot();
+    let finished = finished(pool, seat, pass)?;
+    Ok(Course {
+        slot,
+        output: output_of(finished.end)?,
+        rows: finished.rows,
+    })
+}
+
+/// The last turn of a worker in a session, and what it came to.
+#[derive(Drop)]
+pub(crate) struct Ending {
+    pub(crate) turn: Turn,
+    pub(crate) course: Course,
+}
+
+/// Takes a turn of the worker that is the last one in a session.
+pub(crate) fn turn_to_end<'p>(
+    pool: &SessionPool<'p>,
+    client: &mut ClientSeat<'p>,
+    worker: &mut WorkerSeat<'p>,
+    pass: Pass,
+) -> Result<Ending, Fail>
+    requires client { Rests pool.now client.old }
+    requires worker { RestsWorker pool.now worker.old }
+    requires pass { IsPassOf client.old pass }
+    ensures client { Rests pool.now client.new }
+    ensures worker { RestsWorker pool.now worker.new }
+{
+    let turn = pool.turn(worker, 100);
+    let course = course_of(pool, client, pass)?;
+    Ok(Ending { turn, course })
+}
+
+/// Asserts that the session came to this output after this number of rows, in the first slot.
+pub(crate) fn assert_course(rt: &impl Abort, course: &Course, output: &[u8], rows: u64) {
+    same(rt, course.slot, 0);
+    same(rt, course.output.as_slice(), output);
+    same(rt, course.rows, rows);
 }
 
 /// Runs a session on a whole payload, to its end in one turn.
@@ -132,12 +202,6 @@ pub(crate) fn run_through<'p>(
     ensures receipts { (writer.new ≡ writer.old) × (reader.new ≡ reader.old) }
 {
     let pass = fed(alloc, pool, client, writer, reader, payload)?;
-    let slot = pass.slot();
     let _turn = pool.turn(worker, 1_000_000);
-    let finished = finished(pool, client, pass)?;
-    Ok(Course {
-        slot,
-        output: output_of(finished.end)?,
-        rows: finished.rows,
-    })
+    course_of(pool, client, pass)
 }

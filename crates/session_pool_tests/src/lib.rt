@@ -35,4 +35,6 @@ mod stops;
 #[cfg(test)]
 mod threads;
 #[cfg(test)]
+mod trials;
+#[cfg(test)]
 mod waiting;

@@ -7,9 +7,7 @@ use crate::same::same;
 use crate::schemas::{
     LIST_BYTES, LONG_LIST, RECORD, RECORD_BYTES, SWAPPED, SWAPPED_BYTES, registered,
 };
-use crate::seats::{Seated, last_client, last_worker, new_pool};
-use program_cache::ProgramCache;
-use schema_registry::SharedRegistry;
+use crate::trials::{Trial, try_in_new_pool};
 use session_pool::{ClientSeat, SessionPool, WorkerSeat};
 use std::alloc::{AllocError, Global};
 use std::process::Abort;
@@ -63,7 +61,7 @@ fn run_three<'p, R: Wait>(
 }
 
 /// Asserts that three sessions come to their outputs in one slot, of which the first had a large payload.
-fn assert_used_again<'p, R: Wait + Abort>(
+pub(crate) fn assert_used_again<'p, R: Wait + Abort>(
     rt: &R,
     alloc: Global,
     pool: &SessionPool<'p>,
@@ -90,15 +88,5 @@ fn assert_used_again<'p, R: Wait + Abort>(
 
 #[test]
 fn a_slot_is_used_again(rt: HostRuntime) -> Result<(), Fail> {
-    let alloc = rt.alloc();
-    let registry = SharedRegistry::new(alloc)?;
-    let cache = ProgramCache::new(alloc, &registry)?;
-    let Seated {
-        pool,
-        mut clients,
-        mut workers,
-    } = new_pool(alloc, &cache, 1, 1)?;
-    let mut client = last_client(&rt, &pool, &mut clients);
-    let mut worker = last_worker(&rt, &pool, &mut workers);
-    assert_used_again(&rt, alloc, &pool, &mut client, &mut worker)
+    try_in_new_pool(&rt, Trial::UsingAgain)
 }

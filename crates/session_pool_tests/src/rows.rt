@@ -4,29 +4,22 @@ ghost use Rattle.std.specs.Prelude.{◌≡◌, IfOk};
 ghost use Rattle.schema_registry.specs.Receipt.{IsReceiptOf};
 ghost use Rattle.session_pool.specs.Seats.{IsPassOf, Rests, RestsWorker};
 
-use crate::courses::{Course, fed, finished, output_of, pending, run_through, send};
+use crate::courses::{
+    Ending, assert_course, fed, pending, run_through, send, send_last, turn_to_end,
+};
 use crate::replies::answers;
 use crate::same::same;
 use crate::schemas::{RECORD, RECORD_BYTES, SWAPPED, SWAPPED_BYTES, longs, registered};
-use crate::seats::{Seated, last_client, last_worker, new_pool};
+use crate::trials::{Trial, try_in_new_pool};
 use outcome::MOST_PAYLOAD;
-use program_cache::ProgramCache;
-use schema_registry::{Receipt, SharedRegistry};
+use schema_registry::Receipt;
 use session_pool::{
-    ClientSeat, DebugCommand, DebugError, DebugReply, Pass, PieceError, SessionPool, Turn,
-    WorkerSeat,
+    ClientSeat, DebugCommand, DebugError, Pass, PieceError, SessionPool, Turn, WorkerSeat,
 };
 use std::alloc::Global;
 use std::process::Abort;
 use std::sync::Wait;
 use std::test::Fail;
-
-/// A session that is fed piece by piece: each turn of the worker, and what it came to.
-#[derive(Drop)]
-struct Feeding {
-    turns: Vec<Turn>,
-    course: Course,
-}
 
 /// The turns: before the first piece, once more, after it, and after the end.
 const TURNS: [Turn; 4] = [
@@ -36,53 +29,46 @@ const TURNS: [Turn; 4] = [
     Turn::Ran { slot: 0, rows: 5 },
 ];
 
-/// Feeds a session piece by piece, with a turn of the worker after each.
-fn feed_by_pieces<'p>(
+/// Returns the first error of two pieces that were sent one after another.
+fn both(first: Result<(), PieceError>, second: Result<(), PieceError>) -> Result<(), PieceError> {
+    match first {
+        Ok(()) => second,
+        Err(error) => Err(error),
+    }
+}
+
+/// Feeds a session piece by piece, with a turn of the worker after each. Asserts what these turns are, and what the
+/// session comes to.
+fn feed<'p>(
     rt: &impl Abort,
     alloc: Global,
     pool: &SessionPool<'p>,
     client: &mut ClientSeat<'p>,
     worker: &mut WorkerSeat<'p>,
-    receipt: &mut Receipt,
-) -> Result<Feeding, Fail>
+    pass: Pass,
+) -> Result<(), Fail>
     requires client { Rests pool.now client.old }
     requires worker { RestsWorker pool.now worker.old }
-    requires receipt { IsReceiptOf pool.now.cache.now receipt.old }
+    requires pass { IsPassOf client.old pass }
     ensures client { Rests pool.now client.new }
     ensures worker { RestsWorker pool.now worker.new }
-    ensures receipt { receipt.new ≡ receipt.old }
 {
-    let mut again = receipt.again();
-    let mut turns = Vec::new(alloc);
-    let pass = pool.open(client, receipt, &mut again)?;
-    turns.push(pool.turn(worker, 100))?;
-    turns.push(pool.turn(worker, 100))?;
-    send(alloc, pool, client, &pass, &[0x36])?;
-    turns.push(pool.turn(worker, 100))?;
-    send(alloc, pool, client, &pass, &[0x06, 0x66, 0x6f, 0x6f])?;
-    pool.end(client, &pass)?;
+    let before = pool.turn(worker, 100);
+    let idle = pool.turn(worker, 100);
+    let begun = send(alloc, pool, client, &pass, &[0x36]);
+    let after = pool.turn(worker, 100);
+    let sent = send_last(alloc, pool, client, &pass, &[0x06, 0x66, 0x6f, 0x6f]);
+    both(begun, sent)?;
     let pass = pending(rt, pool, client, pass)?;
-    turns.push(pool.turn(worker, 100))?;
-    let slot = pass.slot();
-    let finished = finished(pool, client, pass)?;
-    let course = Course {
-        slot,
-        output: output_of(finished.end)?,
-        rows: finished.rows,
-    };
-    Ok(Feeding { turns, course })
+    let ending = turn_to_end(pool, client, worker, pass)?;
+    let turns = [before, idle, after, ending.turn];
+    same(rt, turns.as_slice(), TURNS.as_slice());
+    assert_course(rt, &ending.course, RECORD_BYTES, 10);
+    Ok(())
 }
 
-/// Asserts that the session came to this output after this number of rows, in the first slot.
-fn assert_course(rt: &impl Abort, course: &Course, output: &[u8], rows: u64) {
-    same(rt, course.slot, 0);
-    same(rt, course.output.as_slice(), output);
-    same(rt, course.rows, rows);
-}
-
-/// Asserts that a session in the first slot, which was used before, answers a debugger while more of its payload may
-/// come, and then comes to its output.
-fn assert_debugged<'p>(
+/// Opens a session of a schema with itself, and feeds it.
+fn open_and_feed<'p>(
     rt: &impl Abort,
     alloc: Global,
     pool: &SessionPool<'p>,
@@ -99,22 +85,61 @@ fn assert_debugged<'p>(
 {
     let mut again = receipt.again();
     let pass = pool.open(client, receipt, &mut again)?;
-    let slot = pass.slot();
-    send(alloc, pool, client, &pass, RECORD_BYTES)?;
-    let answers = answers(alloc, pool, client, &pass, COMMANDS)?;
-    pool.end(client, &pass)?;
-    let turn = pool.turn(worker, 100);
-    let finished = finished(pool, client, pass)?;
-    let output = output_of(finished.end)?;
-    same(rt, slot, 0);
-    same(rt, answers.as_str(), ANSWERS);
-    same(rt, turn, Turn::Ran { slot: 0, rows: 4 });
-    same(rt, output.as_slice(), RECORD_BYTES);
+    feed(rt, alloc, pool, client, worker, pass)
+}
+
+/// Asserts what a debugger was answered to `COMMANDS`, and what the session came to after that.
+fn assert_answers(rt: &impl Abort, answers: &str, ending: &Ending) {
+    same(rt, answers, ANSWERS);
+    same(rt, ending.turn, Turn::Ran { slot: 0, rows: 4 });
+    assert_course(rt, &ending.course, RECORD_BYTES, 10);
+}
+
+/// Sends a whole payload, asks `COMMANDS`, and ends the payload. Returns the answers.
+fn answered_before_end<'p>(
+    alloc: Global,
+    pool: &SessionPool<'p>,
+    client: &mut ClientSeat<'p>,
+    pass: &Pass,
+) -> Result<String, Fail>
+    requires client { Rests pool.now client.old }
+    requires pass { IsPassOf client.old pass.now }
+    ensures client { Rests pool.now client.new }
+    ensures pass { IsPassOf client.new pass.now }
+{
+    send(alloc, pool, client, pass, RECORD_BYTES)?;
+    let answers = answers(alloc, pool, client, pass, COMMANDS);
+    pool.end(client, pass)?;
+    Ok(answers?)
+}
+
+/// Asserts that a session in the first slot, which was used before, answers a debugger while more of its payload may
+/// come, and then comes to its output.
+fn debug_before_end<'p>(
+    rt: &impl Abort,
+    alloc: Global,
+    pool: &SessionPool<'p>,
+    client: &mut ClientSeat<'p>,
+    worker: &mut WorkerSeat<'p>,
+    receipt: &mut Receipt,
+) -> Result<(), Fail>
+    requires client { Rests pool.now client.old }
+    requires worker { RestsWorker pool.now worker.old }
+    requires receipt { IsReceiptOf pool.now.cache.now receipt.old }
+    ensures client { Rests pool.now client.new }
+    ensures worker { RestsWorker pool.now worker.new }
+    ensures receipt { receipt.new ≡ receipt.old }
+{
+    let mut again = receipt.again();
+    let pass = pool.open(client, receipt, &mut again)?;
+    let answers = answered_before_end(alloc, pool, client, &pass)?;
+    let ending = turn_to_end(pool, client, worker, pass)?;
+    assert_answers(rt, answers.as_str(), &ending);
     Ok(())
 }
 
 /// Asserts that a session that is fed piece by piece comes to its output, and so do the next two in its slot.
-fn assert_fed<'p, R: Wait + Abort>(
+pub(crate) fn assert_fed<'p, R: Wait + Abort>(
     rt: &R,
     alloc: Global,
     pool: &SessionPool<'p>,
@@ -126,29 +151,17 @@ fn assert_fed<'p, R: Wait + Abort>(
 {
     let mut receipt = registered(rt, alloc, pool, "s", RECORD)?;
     let mut swapped = registered(rt, alloc, pool, "t", SWAPPED)?;
-    let found = feed_by_pieces(rt, alloc, pool, client, worker, &mut receipt)?;
-    assert_debugged(rt, alloc, pool, client, worker, &mut receipt)?;
+    open_and_feed(rt, alloc, pool, client, worker, &mut receipt)?;
+    debug_before_end(rt, alloc, pool, client, worker, &mut receipt)?;
     let (writer, reader) = (&mut receipt, &mut swapped);
     let next = run_through(alloc, pool, client, worker, writer, reader, RECORD_BYTES)?;
-    same(rt, found.turns.as_slice(), TURNS.as_slice());
-    assert_course(rt, &found.course, RECORD_BYTES, 10);
     assert_course(rt, &next, SWAPPED_BYTES, 10);
     Ok(())
 }
 
 #[test]
 fn a_session_is_fed_piece_by_piece(rt: HostRuntime) -> Result<(), Fail> {
-    let alloc = rt.alloc();
-    let registry = SharedRegistry::new(alloc)?;
-    let cache = ProgramCache::new(alloc, &registry)?;
-    let Seated {
-        pool,
-        mut clients,
-        mut workers,
-    } = new_pool(alloc, &cache, 1, 1)?;
-    let mut client = last_client(&rt, &pool, &mut clients);
-    let mut worker = last_worker(&rt, &pool, &mut workers);
-    assert_fed(&rt, alloc, &pool, &mut client, &mut worker)
+    try_in_new_pool(&rt, Trial::Feeding)
 }
 
 /// What a debugger asks.
@@ -193,7 +206,7 @@ avro program 1
 ";
 
 /// Asserts what a debugger is answered while a session runs on a whole payload, which then comes to its output.
-fn debugging<'p, R: Wait + Abort>(
+pub(crate) fn assert_debugged<'p, R: Wait + Abort>(
     rt: &R,
     alloc: Global,
     pool: &SessionPool<'p>,
@@ -207,28 +220,14 @@ fn debugging<'p, R: Wait + Abort>(
     let mut again = receipt.again();
     let pass = fed(alloc, pool, client, &mut receipt, &mut again, RECORD_BYTES)?;
     let answers = answers(alloc, pool, client, &pass, COMMANDS)?;
-    let turn = pool.turn(worker, 100);
-    let finished = finished(pool, client, pass)?;
-    let output = output_of(finished.end)?;
-    same(rt, answers.as_str(), ANSWERS);
-    same(rt, turn, Turn::Ran { slot: 0, rows: 4 });
-    same(rt, output.as_slice(), RECORD_BYTES);
+    let ending = turn_to_end(pool, client, worker, pass)?;
+    assert_answers(rt, answers.as_str(), &ending);
     Ok(())
 }
 
 #[test]
 fn a_debugger_is_answered(rt: HostRuntime) -> Result<(), Fail> {
-    let alloc = rt.alloc();
-    let registry = SharedRegistry::new(alloc)?;
-    let cache = ProgramCache::new(alloc, &registry)?;
-    let Seated {
-        pool,
-        mut clients,
-        mut workers,
-    } = new_pool(alloc, &cache, 1, 1)?;
-    let mut client = last_client(&rt, &pool, &mut clients);
-    let mut worker = last_worker(&rt, &pool, &mut workers);
-    debugging(&rt, alloc, &pool, &mut client, &mut worker)
+    try_in_new_pool(&rt, Trial::Debugging)
 }
 
 /// How many addresses from 0 on are set as breakpoints before one is refused, and why.
@@ -264,9 +263,42 @@ fn set_breaks<'p>(
     }
 }
 
+/// What is set then: the last one again, and, once it is cleared, one at a further address. A run stops at the first.
+const FURTHER_BREAKS: &[DebugCommand] = &[
+    DebugCommand::Set(63),
+    DebugCommand::Clear(63),
+    DebugCommand::Set(64),
+    DebugCommand::Go(9),
+];
+
+/// What is answered to that.
+const FURTHER_ANSWERS: &str = "\
+done
+done
+done
+rows 1
+";
+
+/// Registers a schema, and opens a session of it with itself.
+fn opened<'p, R: Wait>(
+    rt: &R,
+    alloc: Global,
+    pool: &SessionPool<'p>,
+    seat: &mut ClientSeat<'p>,
+    text: &str,
+) -> Result<Pass, Fail>
+    requires { Rests pool.now seat.old }
+    ensures seat { Rests pool.now seat.new }
+    ensures pass { IfOk result (IsPassOf seat.new) }
+{
+    let mut receipt = registered(rt, alloc, pool, "s", text)?;
+    let mut again = receipt.again();
+    Ok(pool.open(seat, &mut receipt, &mut again)?)
+}
+
 /// Asserts that one breakpoint too many is refused, and the others stay: one of them is set again, and one is cleared
 /// for the new one.
-fn assert_breaks<'p, R: Wait + Abort>(
+pub(crate) fn assert_breaks<'p, R: Wait + Abort>(
     rt: &R,
     alloc: Global,
     pool: &SessionPool<'p>,
@@ -275,37 +307,21 @@ fn assert_breaks<'p, R: Wait + Abort>(
     requires { Rests pool.now seat.old }
 {
     let text = longs(alloc, 40)?;
-    let mut receipt = registered(rt, alloc, pool, "s", &text)?;
-    let mut again = receipt.again();
-    let pass = pool.open(seat, &mut receipt, &mut again)?;
+    let pass = opened(rt, alloc, pool, seat, &text)?;
     let found = set_breaks(pool, seat, &pass, 65);
-    if found.refusal == Some(DebugError::NoMemory) {
-        return Err(Fail::from(DebugError::NoMemory));
-    }
+    let further = answers(alloc, pool, seat, &pass, FURTHER_BREAKS)?;
     let wanted = BreaksSet {
         set: 64,
         refusal: Some(DebugError::TooManyBreaks),
     };
     same(rt, found, wanted);
-    assert!(rt; pool.debug(seat, &pass, DebugCommand::Set(63)) == Ok(DebugReply::Done));
-    assert!(rt; pool.debug(seat, &pass, DebugCommand::Clear(63)) == Ok(DebugReply::Done));
-    assert!(rt; pool.debug(seat, &pass, DebugCommand::Set(64))? == DebugReply::Done);
-    assert!(rt; pool.debug(seat, &pass, DebugCommand::Go(9)) == Ok(DebugReply::Rows(1)));
+    same(rt, further.as_str(), FURTHER_ANSWERS);
     Ok(())
 }
 
 #[test]
 fn a_breakpoint_too_many_is_refused(rt: HostRuntime) -> Result<(), Fail> {
-    let alloc = rt.alloc();
-    let registry = SharedRegistry::new(alloc)?;
-    let cache = ProgramCache::new(alloc, &registry)?;
-    let Seated {
-        pool,
-        mut clients,
-        ..
-    } = new_pool(alloc, &cache, 1, 1)?;
-    let mut client = last_client(&rt, &pool, &mut clients);
-    assert_breaks(&rt, alloc, &pool, &mut client)
+    try_in_new_pool(&rt, Trial::Breaks)
 }
 
 /// Asserts that a piece is refused so, and as many bytes are handed back.
@@ -332,8 +348,30 @@ fn assert_refused<'p>(
     }
 }
 
+/// Sends a payload and ends it, where a piece is refused that is too large, and one that comes after the end.
+fn send_beside_refused<'p>(
+    rt: &impl Abort,
+    alloc: Global,
+    pool: &SessionPool<'p>,
+    client: &mut ClientSeat<'p>,
+    pass: &Pass,
+) -> Result<(), Fail>
+    requires client { Rests pool.now client.old }
+    requires pass { IsPassOf client.old pass.now }
+    ensures client { Rests pool.now client.new }
+    ensures pass { IsPassOf client.new pass.now }
+{
+    let large = vec![in alloc; 0_u8; MOST_PAYLOAD - 4]?;
+    let late = Vec::from_slice(alloc, &[0])?;
+    send(alloc, pool, client, pass, RECORD_BYTES)?;
+    assert_refused(rt, pool, client, pass, large, PieceError::TooLarge);
+    let ended = pool.end(client, pass);
+    assert_refused(rt, pool, client, pass, late, PieceError::Ended);
+    Ok(ended?)
+}
+
 /// Asserts that pieces that are too large or come after the end are refused and change nothing of the session.
-fn assert_pieces<'p, R: Wait + Abort>(
+pub(crate) fn assert_pieces<'p, R: Wait + Abort>(
     rt: &R,
     alloc: Global,
     pool: &SessionPool<'p>,
@@ -343,33 +381,14 @@ fn assert_pieces<'p, R: Wait + Abort>(
     requires client { Rests pool.now client.old }
     requires worker { RestsWorker pool.now worker.old }
 {
-    let mut receipt = registered(rt, alloc, pool, "s", RECORD)?;
-    let mut again = receipt.again();
-    let pass = pool.open(client, &mut receipt, &mut again)?;
-    send(alloc, pool, client, &pass, RECORD_BYTES)?;
-    let large = vec![in alloc; 0_u8; MOST_PAYLOAD - 4]?;
-    assert_refused(rt, pool, client, &pass, large, PieceError::TooLarge);
-    pool.end(client, &pass)?;
-    let late = Vec::from_slice(alloc, &[0])?;
-    assert_refused(rt, pool, client, &pass, late, PieceError::Ended);
-    let _turn = pool.turn(worker, 100);
-    let finished = finished(pool, client, pass)?;
-    let output = output_of(finished.end)?;
-    same(rt, output.as_slice(), RECORD_BYTES);
+    let pass = opened(rt, alloc, pool, client, RECORD)?;
+    send_beside_refused(rt, alloc, pool, client, &pass)?;
+    let ending = turn_to_end(pool, client, worker, pass)?;
+    assert_course(rt, &ending.course, RECORD_BYTES, 10);
     Ok(())
 }
 
 #[test]
 fn pieces_that_are_refused_are_handed_back(rt: HostRuntime) -> Result<(), Fail> {
-    let alloc = rt.alloc();
-    let registry = SharedRegistry::new(alloc)?;
-    let cache = ProgramCache::new(alloc, &registry)?;
-    let Seated {
-        pool,
-        mut clients,
-        mut workers,
-    } = new_pool(alloc, &cache, 1, 1)?;
-    let mut client = last_client(&rt, &pool, &mut clients);
-    let mut worker = last_worker(&rt, &pool, &mut workers);
-    assert_pieces(&rt, alloc, &pool, &mut client, &mut worker)
+    try_in_new_pool(&rt, Trial::Pieces)
 }

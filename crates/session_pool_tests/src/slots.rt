@@ -8,6 +8,7 @@ use crate::courses::{fed, run_through};
 use crate::same::same;
 use crate::schemas::{LIST_BYTES, LONG_LIST, RECORD, RECORD_BYTES, registered};
 use crate::seats::{Seated, last_client, last_worker, new_pool};
+use crate::trials::{Trial, try_in_new_pool};
 use program_cache::ProgramCache;
 use schema_registry::{Receipt, SharedRegistry};
 use session_pool::{ClientSeat, OpenError, SLOTS, SessionPool, Turn, WorkerSeat};
@@ -39,7 +40,7 @@ fn open_three<'p>(
 }
 
 /// Asserts that a worker comes to each of three sessions in turn.
-fn assert_in_turn<'p, R: Wait + Abort>(
+pub(crate) fn assert_in_turn<'p, R: Wait + Abort>(
     rt: &R,
     alloc: Global,
     pool: &SessionPool<'p>,
@@ -60,17 +61,7 @@ fn assert_in_turn<'p, R: Wait + Abort>(
 
 #[test]
 fn a_worker_comes_to_each_session_in_turn(rt: HostRuntime) -> Result<(), Fail> {
-    let alloc = rt.alloc();
-    let registry = SharedRegistry::new(alloc)?;
-    let cache = ProgramCache::new(alloc, &registry)?;
-    let Seated {
-        pool,
-        mut clients,
-        mut workers,
-    } = new_pool(alloc, &cache, 1, 1)?;
-    let mut client = last_client(&rt, &pool, &mut clients);
-    let mut worker = last_worker(&rt, &pool, &mut workers);
-    assert_in_turn(&rt, alloc, &pool, &mut client, &mut worker)
+    try_in_new_pool(&rt, Trial::Turns)
 }
 
 /// Asserts that a worker runs the first of three sessions, and another steals the second.
