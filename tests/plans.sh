@@ -63,7 +63,7 @@ def entries(writer, reader, payloads, folder):
 
 
 def is_nest(name):
-    return bool(re.search(r"machine_plan::(reader|reading|skimming)::", name or ""))
+    return bool(re.search(r"machine_plan::(?:\w+::)?(reader|reading|skimming)::", name or ""))
 
 
 with tempfile.TemporaryDirectory() as folder:
