@@ -1,8 +1,7 @@
 #!/usr/bin/env bash
 # How long a thread takes to find the schema that an id of an upstream registry names, whose text has 100, 1,000 and 10,000
-# bytes: one that it has found lately, and one in the table that all threads share, where the find compares texts. A
-# message has two such finds. The program runs some times, and of each figure the least is printed. It builds nothing. Not
-# part of the gate.
+# bytes. A message has two such finds. The program runs some times, and of each figure the least is printed. It builds
+# nothing. Not part of the gate.
 # Usage: bench/lookup.sh LOOKUP_BENCH [RUNS [FINDS]]   (crates/lookup_bench/out/lookup_bench after `rt run`; 5 and 10000000)
 set -euo pipefail
 exec python3 - "$(realpath "$1")" "${2:-5}" "${3:-10000000}" <<'PYTHON'

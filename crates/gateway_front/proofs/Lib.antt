@@ -1,0 +1,2 @@
+pub mod Questions
+mod Passed

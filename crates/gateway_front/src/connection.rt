@@ -1,22 +1,21 @@
 //! One connection: what has come of its request, what is left of its answer, and until when.
 
-ghost use Rattle.std.specs.Prelude.{◌≡◌, ◌<◌, Err, None, IfErr, IfOk, IfSome, length, true};
-ghost use Rattle.gateway_exchange.specs.Reception.{TellsEach, TellsWhole};
-ghost use Rattle.gateway_requests.specs.Asking.{asked_at};
-ghost use Rattle.gateway_requests.specs.Request.{request_of};
-ghost use Rattle.gateway_requests.specs.Sizes.{IsWithin};
-ghost use Rattle.gateway_requests.specs.Steps.{Tells};
-ghost use Rattle.gateway_requests.specs.declared.limits.TheConstants.{MOST_BODY};
+ghost use Rattle.std.specs.Prelude.{IfOk};
+ghost use Rattle.gateway_front.specs.Answered.{IsAnswered};
 
-use gateway_answers::Fault;
+use crate::question::{Answered, pass_on};
+use boxcar::tag::Tag;
+use gateway_answers::AnswerBytes;
 use gateway_exchange::{Reception, Sending};
-use gateway_requests::Request;
 use mio::Interest;
 use mio::net::TcpStream;
-use persistent_exchange::{RequestStream, WholeRequest};
-use std::time::Instant;
+use persistent_exchange::RequestStream;
+use std::alloc::AllocError;
+use std::marker::Model;
+use std::time::{Clock, Instant};
 
-/// The stream of a connection, and its times.
+/// The stream of a connection, and its times. Callers see it as its requests and answers, where it stays, and what was
+/// received of its one request, where it does not.
 #[derive(Drop)]
 pub struct Connection {
     pub(crate) stream: TcpStream,
@@ -36,41 +35,48 @@ pub struct Connection {
     pub(crate) line: Option<String>,
     /// The requests of a connection that stays. `None` where the connection is closed after its first answer.
     pub(crate) stays: Option<Box<RequestStream>>,
+    /// The bytes of the request that was handed out, of a connection that does not stay. It takes no memory.
+    pub(crate) asked_by: Tag,
     /// The number of the last reports of the system before its request was handed out.
     pub(crate) asked_at: u64,
 }
 
-/// A request that is to be answered, and its connection.
-#[derive(Drop)]
-pub struct Asked {
-    pub(crate) connection: Connection,
-    /// What was received. `None` where memory ran out for it, and of a connection that stays.
-    pub(crate) reception: Option<Reception>,
-    /// The request of a connection that stays, or its first fault.
-    pub(crate) request: Option<Result<WholeRequest, Fault>>,
+impl Model for Connection {
+    ghost use Rattle.std.specs.Prelude.{option_map};
+    ghost use Rattle.gateway_front.specs.Handing.{Handed};
+
+    ghost Value = { Handed };
+
+    ghost view = { λ c. record {
+      stream = option_map (λ stays. stays.value) c.stays;
+      received = c.asked_by.numbers;
+    } };
 }
 
-impl Asked {
-    /// Returns what is asked, or the first fault of the request, and the connection that waits for the answer.
-    pub fn into_parts(self) -> (Result<Request, Fault>, Connection)
-        ensures whole { IfSome self.reception (λ r. r.is_whole ≡ true → TellsEach r.bytes result.0) }
-        ensures ended { IfSome self.reception (λ r. 0 < length r.bytes → TellsWhole r.bytes result.0) }
-        ensures seen { self.reception ≡ None → IfSome self.request (λ r. IfOk r (λ seen.
-            Tells request_of result.0 (asked_at seen.method seen.target seen.content))) }
-        ensures refused { self.reception ≡ None → IfSome self.request (λ r. IfErr r (λ fault. result.0 ≡ Err fault)) }
-        ensures size { IfOk result.0 (λ request. IsWithin MOST_BODY (request_of request)) }
+impl Connection {
+    /// Takes the answer to the request that was handed out. Returns the connection with what is to be sent over it. The
+    /// error is that memory ran out: the connection is closed then.
+    pub fn answer<R: Clock>(
+        self,
+        rt: &R,
+        bytes: AnswerBytes,
+        status: u16,
+    ) -> Result<Answered, AllocError>
+        ensures { IfOk result (IsAnswered self bytes) }
     {
-        let Asked {
+        let mut connection = self;
+        connection.status = status;
+        let sending = match &mut connection.stays {
+            Some(stays) => {
+                pass_on(rt, stays, bytes)?;
+                None
+            }
+            None => Some(Sending::new(bytes)),
+        };
+        Ok(Answered {
             connection,
-            reception,
-            request,
-        } = self;
-        match (reception, request) {
-            (Some(reception), _) => (reception.into_request(), connection),
-            (None, Some(Ok(request))) => (request.into_request(), connection),
-            (None, Some(Err(fault))) => (Err(fault), connection),
-            (None, None) => (Err(Fault::NoMemory), connection),
-        }
+            sending,
+        })
     }
 }
 
@@ -86,7 +92,7 @@ pub(crate) enum Stage {
     /// The next request of a connection that stays, or the rest of one.
     Reading,
     /// That a whole request of a connection that stays is served.
-    Asking(Result<WholeRequest, Fault>),
+    Asking,
     /// That what is to be sent on a connection that stays is taken.
     Writing,
     /// The client's end.
@@ -101,7 +107,7 @@ impl Stage {
             Stage::Receiving(_)
             | Stage::Whole(_)
             | Stage::Reading
-            | Stage::Asking(_)
+            | Stage::Asking
             | Stage::Draining => Interest::READABLE,
         }
     }
@@ -117,7 +123,7 @@ pub(crate) struct Waiting {
 impl Waiting {
     /// Returns whether a whole request waits to be served.
     pub(crate) fn is_whole(&self) -> bool {
-        matches!(self.stage, Stage::Whole(_) | Stage::Asking(_))
+        matches!(self.stage, Stage::Whole(_) | Stage::Asking)
     }
 
     /// Returns whether nothing of a request has come since the last answer.
@@ -136,7 +142,7 @@ impl Waiting {
             Stage::Draining => 0,
             Stage::Reading if self.is_idle() => 1,
             Stage::Receiving(_) | Stage::Reading => 2,
-            Stage::Whole(_) | Stage::Asking(_) => 3,
+            Stage::Whole(_) | Stage::Asking => 3,
             Stage::Sending(_) | Stage::Writing => 4,
         }
     }
@@ -146,8 +152,7 @@ impl Waiting {
         let staged = match &self.stage {
             Stage::Receiving(reception) | Stage::Whole(reception) => reception.held(),
             Stage::Sending(sending) => sending.len(),
-            Stage::Asking(Ok(request)) => request.content().len().saturating_mul(2),
-            Stage::Asking(Err(_)) | Stage::Reading | Stage::Writing | Stage::Draining => 0,
+            Stage::Asking | Stage::Reading | Stage::Writing | Stage::Draining => 0,
         };
         match &self.connection.stays {
             Some(stays) => staged.saturating_add(stays.weight()),

@@ -3,11 +3,12 @@
 ghost use Rattle.std.specs.Prelude.{◌≡◌};
 
 use crate::bounds::Bounds;
-use crate::connection::{Asked, Connection, Stage, Waiting};
+use crate::connection::{Connection, Stage, Waiting};
 use crate::listening::{NEW, WAKE, leave, watch};
 use crate::log::{Entry, Fetch, Log, LogLock, request_line};
 use crate::open::OpenConnections;
-use gateway_answers::AnswerBytes;
+use crate::question::{Answered, Asked, Question};
+use boxcar::tag::Tag;
 use gateway_exchange::{Progress, Reception, Sending, drain, receive, send};
 use gateway_requests::Routes;
 use mio::net::TcpListener;
@@ -41,7 +42,7 @@ const LOG_PAUSE: u64 = 100;
 #[derive(Drop)]
 pub enum Event {
     /// A request is to be answered.
-    Request(Asked),
+    Request(Question),
     /// Another thread has woken this one, or a moment has come.
     Woken,
     /// No more connections are accepted, and all are closed.
@@ -142,10 +143,10 @@ impl Connections {
 
     /// Returns the next request to be served, for which it waits. `None` once no more connections are accepted and all
     /// are closed.
-    pub fn next<R: Wait + Clock>(&mut self, rt: &R, routes: &Routes) -> Option<Asked> {
+    pub fn next<R: Wait + Clock>(&mut self, rt: &R, routes: &Routes) -> Option<Question> {
         for _ in rt.forever() {
             match self.next_event(rt, routes, None) {
-                Event::Request(asked) => return Some(asked),
+                Event::Request(question) => return Some(question),
                 Event::Over => return None,
                 Event::Woken => {}
             }
@@ -163,7 +164,7 @@ impl Connections {
     ) -> Event {
         for _ in rt.forever() {
             if let Some(asked) = self.next_whole() {
-                return Event::Request(asked);
+                return Event::Request(asked.into_question(routes));
             }
             if self.is_woken || is_past(rt, moment) {
                 self.is_woken = false;
@@ -173,7 +174,7 @@ impl Connections {
                 return Event::Over;
             }
             if let Some(asked) = self.see_to_next(rt, routes, moment) {
-                return Event::Request(asked);
+                return Event::Request(asked.into_question(routes));
             }
         }
         Event::Over
@@ -214,22 +215,18 @@ impl Connections {
         self.round = self.ready.len();
     }
 
-    /// Sends the answer to a request, with its status, now or as the client takes it.
-    pub fn answer<R: Clock>(
-        &mut self,
-        rt: &R,
-        connection: Connection,
-        bytes: AnswerBytes,
-        status: u16,
-    ) {
+    /// Sends the answer to a request, now or as the client takes it.
+    pub fn send<R: Clock>(&mut self, rt: &R, answered: Answered) {
+        let Answered {
+            connection,
+            sending,
+        } = answered;
         let mut connection = connection;
-        connection.status = status;
         if let Some(deadline) = deadline_after(rt, self.bounds.answer) {
             connection.deadline = deadline;
-            if connection.stays.is_some() {
-                self.answer_on(rt, connection, bytes);
-            } else {
-                self.send(rt, connection, Sending::new(bytes));
+            match sending {
+                Some(sending) => self.write(rt, connection, sending),
+                None => self.write_on(rt, connection),
             }
         }
     }
@@ -258,12 +255,11 @@ impl Connections {
         let Asked {
             connection,
             reception,
-            request,
         } = asked;
-        let stage = match (reception, request) {
-            (Some(reception), _) => Stage::Whole(reception),
-            (None, Some(request)) => Stage::Asking(request),
-            (None, None) => return,
+        let stage = match reception {
+            Some(reception) => Stage::Whole(reception),
+            None if connection.stays.is_some() => Stage::Asking,
+            None => return,
         };
         let key = self.keep(connection, stage);
         let _ = self.whole.push_back(key);
@@ -299,6 +295,7 @@ impl Connections {
             status: 0,
             line: None,
             stays: self.stream()?,
+            asked_by: Tag::empty(),
             asked_at: 0,
         };
         if connection.stays.is_some() {
@@ -316,10 +313,10 @@ impl Connections {
                 let key = self.keep(connection, Stage::Whole(reception));
                 let _ = self.whole.push_back(key);
             }
-            Stage::Sending(sending) => self.send(rt, connection, sending),
+            Stage::Sending(sending) => self.write(rt, connection, sending),
             Stage::Reading => return self.read_on(rt, routes, connection),
-            Stage::Asking(request) => {
-                let key = self.keep(connection, Stage::Asking(request));
+            Stage::Asking => {
+                let key = self.keep(connection, Stage::Asking);
                 let _ = self.whole.push_back(key);
             }
             Stage::Writing => self.write_on(rt, connection),
@@ -352,14 +349,12 @@ impl Connections {
                 return Some(Asked {
                     connection,
                     reception: Some(reception),
-                    request: None,
                 });
             }
             Progress::NoMemory => {
                 return Some(Asked {
                     connection,
                     reception: None,
-                    request: None,
                 });
             }
             Progress::Blocked => {
@@ -372,7 +367,7 @@ impl Connections {
     }
 
     /// Sends what is left of an answer.
-    fn send<R: Clock>(&mut self, rt: &R, connection: Connection, sending: Sending) {
+    fn write<R: Clock>(&mut self, rt: &R, connection: Connection, sending: Sending) {
         let (mut connection, mut sending) = (connection, sending);
         match send(&mut sending, &mut connection.stream) {
             Progress::Whole => self.finish(rt, connection, sending.len()),
@@ -542,12 +537,10 @@ fn whole_in(connection: Connection, stage: Stage) -> Option<Asked> {
         Stage::Whole(reception) => Some(Asked {
             connection,
             reception: Some(reception),
-            request: None,
         }),
-        Stage::Asking(request) => Some(Asked {
+        Stage::Asking => Some(Asked {
             connection,
             reception: None,
-            request: Some(request),
         }),
         _ => None,
     }

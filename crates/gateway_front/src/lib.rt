@@ -10,9 +10,11 @@ mod connections;
 mod listening;
 mod log;
 mod open;
+mod question;
 mod staying;
 
 pub use bounds::{Bounds, Persistence};
-pub use connection::{Asked, Connection};
+pub use connection::Connection;
 pub use connections::{Connections, Event};
 pub use log::{Fetch, LogLock};
+pub use question::{Answered, Question};

@@ -1,9 +1,10 @@
 //! Connections that stay for more than one request (RFC 9112, section 9.3).
 
-use crate::connection::{Asked, Connection, Stage};
+use crate::connection::{Connection, Stage};
 use crate::connections::{Connections, deadline_after};
 use crate::log::target_line;
-use gateway_answers::{AnswerBytes, Status};
+use crate::question::Asked;
+use gateway_answers::Status;
 use gateway_exchange::Progress;
 use gateway_requests::Routes;
 use httpdate::HttpDate;
@@ -11,14 +12,14 @@ use persistent_exchange::{Course, RequestStream};
 use std::time::{Clock, Duration, Instant};
 
 /// Returns the date. `None` where there is no clock.
-fn date<R: Clock>(rt: &R) -> Option<HttpDate> {
+pub(crate) fn date<R: Clock>(rt: &R) -> Option<HttpDate> {
     let time = rt.since_1970().ok()?;
     HttpDate::from_unix_secs(time.as_secs()).ok()
 }
 
 /// What has come of the requests of a connection that stays.
 #[derive(Clone, Copy)]
-struct Standing {
+struct StreamState {
     /// Whether nothing more is to be sent or read.
     is_done: bool,
     /// Whether a head was seen whose request has not ended.
@@ -30,8 +31,8 @@ struct Standing {
 }
 
 /// Returns what has come of some requests.
-fn standing_of(stays: &RequestStream) -> Standing {
-    Standing {
+fn state_of(stays: &RequestStream) -> StreamState {
+    StreamState {
         is_done: stays.is_done(),
         is_within: stays.is_within(),
         is_idle: stays.is_idle(),
@@ -58,16 +59,16 @@ impl Connections {
         let Some(stays) = &connection.stays else {
             return;
         };
-        let standing = standing_of(stays);
+        let state = state_of(stays);
         if was_idle
-            && !standing.is_idle
+            && !state.is_idle
             && let Ok(now) = Instant::now(rt)
         {
             connection.begun = now;
         }
-        let time = if standing.is_within {
+        let time = if state.is_within {
             self.bounds.request
-        } else if was_idle && !standing.is_idle {
+        } else if was_idle && !state.is_idle {
             self.bounds.head
         } else {
             return;
@@ -92,7 +93,7 @@ impl Connections {
         let course = stays.receive(routes, &mut connection.stream, date(rt));
         self.set_deadline(rt, &mut connection, was_idle);
         match course {
-            Course::Asked => return self.hand_out(routes, connection),
+            Course::Asked => return Some(self.hand_out(connection)),
             Course::Pending => self.write_on(rt, connection),
             Course::Blocked => {
                 self.keep(connection, Stage::Reading);
@@ -103,20 +104,15 @@ impl Connections {
         None
     }
 
-    /// Returns the request of a connection that stays, which has come whole.
-    fn hand_out(&mut self, routes: &Routes, connection: Connection) -> Option<Asked> {
+    /// Returns a connection that stays, whose request has come whole.
+    fn hand_out(&mut self, connection: Connection) -> Asked {
         let mut connection = connection;
         self.set_line(&mut connection);
         connection.asked_at = self.reports;
-        let Some(stays) = &mut connection.stays else {
-            return None;
-        };
-        let request = stays.take_request(routes);
-        Some(Asked {
+        Asked {
             connection,
             reception: None,
-            request: Some(request),
-        })
+        }
     }
 
     /// Keeps what a line shows of the request that was seen last, where answers are logged.
@@ -128,22 +124,6 @@ impl Connections {
         if self.log.is_some() {
             let (method, target) = stays.head();
             connection.line = target_line(self.alloc, method, target).ok();
-        }
-    }
-
-    /// Sends the answer to the request that came last over a connection that stays. Where memory runs out the
-    /// connection is closed.
-    pub(crate) fn answer_on<R: Clock>(
-        &mut self,
-        rt: &R,
-        connection: Connection,
-        bytes: AnswerBytes,
-    ) {
-        let mut connection = connection;
-        if let Some(stays) = &mut connection.stays
-            && stays.answer(bytes, date(rt)).is_ok()
-        {
-            self.write_on(rt, connection);
         }
     }
 
@@ -172,14 +152,14 @@ impl Connections {
         let Some(stays) = &connection.stays else {
             return;
         };
-        let standing = standing_of(stays);
-        if standing.is_done {
-            self.end(rt, connection, standing);
-        } else if standing.is_within {
+        let state = state_of(stays);
+        if state.is_done {
+            self.end(rt, connection, state);
+        } else if state.is_within {
             self.postpone(connection, Stage::Reading);
         } else {
             self.answered = self.answered.saturating_add(1);
-            self.note(rt, &connection, standing.sent);
+            self.note(rt, &connection, state.sent);
             self.wait_for_next(rt, connection);
         }
     }
@@ -222,7 +202,7 @@ impl Connections {
 
     /// Ends a connection that stayed, whose last answer was sent: to its last request, or for the fault of what came
     /// after it.
-    fn end<R: Clock>(&mut self, rt: &R, connection: Connection, standing: Standing) {
+    fn end<R: Clock>(&mut self, rt: &R, connection: Connection, state: StreamState) {
         let mut connection = connection;
         let fault = match &connection.stays {
             Some(stays) => stays.fault(),
@@ -231,11 +211,11 @@ impl Connections {
         if let Some(fault) = fault {
             connection.status = fault.status().number();
             self.set_line(&mut connection);
-        } else if standing.is_within {
+        } else if state.is_within {
             connection.status = Status::BadRequest.number();
             self.set_line(&mut connection);
         }
-        connection.is_even = standing.is_idle;
-        self.finish(rt, connection, standing.sent);
+        connection.is_even = state.is_idle;
+        self.finish(rt, connection, state.sent);
     }
 }

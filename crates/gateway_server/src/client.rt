@@ -7,9 +7,10 @@ ghost use Rattle.session_pool.specs.Seats.{Rests, RestsWorker};
 use crate::beside::Beside;
 use crate::desk::Desk;
 use crate::gate::ClientGate;
+use crate::replying::reply_over;
 use crate::shared::Shared;
 use crate::upstream_client::serve_upstream;
-use gateway::{App, reply_to};
+use gateway::App;
 use gateway_front::Connections;
 use session_pool::{ClientSeat, WorkerSeat};
 use std::alloc::AllocError;
@@ -43,12 +44,11 @@ fn serve_requests<'p, R: Wait + Clock>(
     ensures { Rests app.now.pool.now seat.new }
 {
     for _ in rt.forever() {
-        let Some(asked) = gate.next() else {
+        let Some(question) = gate.next() else {
             return;
         };
-        let (request, connection) = asked.into_parts();
-        if let Ok(reply) = reply_to(rt, app, seat, gate, request) {
-            gate.answer(connection, reply.bytes, reply.status);
+        if let Ok(answered) = reply_over(rt, app, seat, gate, question) {
+            gate.send(answered);
         }
     }
 }
@@ -70,7 +70,7 @@ pub(crate) fn run_client<R: Wait + Clock, U: Upstream>(
     let mut gate = ClientGate::new(rt, shared, helper, connections)?;
     match beside {
         Some(beside) => {
-            let mut desk = Desk::new(shared.alloc, beside)?;
+            let mut desk = Desk::new(shared.alloc, beside);
             serve_upstream(rt, &app, &mut seat, &mut gate, &mut desk);
         }
         None => serve_requests(rt, &app, &mut seat, &mut gate),

@@ -1,19 +1,19 @@
 //! The requests of a client's thread that wait for schemas of an upstream registry.
 
-ghost use Rattle.std.specs.Prelude.{◌≡◌, IfOk, IfSome};
+ghost use Rattle.std.specs.Prelude.{◌≡◌, IfSome};
 
 use crate::beside::Beside;
 use gateway_answers::{Fault, UpstreamFault};
-use gateway_front::{Connection, Fetch};
+use gateway_front::{Fetch, Question};
 use gateway_requests::Request;
 use gateway_upstream::{Looked, needed_by};
-use std::alloc::{AllocError, Global};
+use std::alloc::Global;
 use std::collections::VecDeque;
 use std::marker::Model;
 use std::sync::Wait;
 use std::time::{Clock, Duration, Instant};
 use upstream_fetching::Asked as Answer;
-use upstream_schemas::{RecentSchemas, Upstream};
+use upstream_schemas::Upstream;
 
 /// The greatest number of requests of a thread that wait for the upstream registry.
 pub const MOST_WAITING: usize = 256;
@@ -21,38 +21,17 @@ pub const MOST_WAITING: usize = 256;
 /// The greatest number of bytes of messages of a thread that wait for the upstream registry.
 pub const MOST_WAITING_BYTES: usize = 67_108_864;
 
-/// A request that was received, within its limit, and the connection that waits for its answer. Callers see nothing of
-/// it.
-#[derive(Drop)]
-pub(crate) struct Received {
-    pub(crate) request: Result<Request, Fault>,
-    pub(crate) connection: Connection,
-}
-
-impl Model for Received {
-    ghost use Rattle.std.specs.Prelude.{ℕ, IfOk};
-    ghost use Rattle.gateway_requests.specs.Request.{request_of};
-    ghost use Rattle.gateway_requests.specs.Sizes.{IsWithin};
-    ghost use Rattle.gateway_requests.specs.declared.limits.TheConstants.{MOST_BODY};
-
-    ghost Value = { ℕ };
-
-    ghost view = { λ r. 0 };
-
-    ghost invariant = { λ r. IfOk r.request (λ request. IsWithin MOST_BODY (request_of request)) };
-}
-
 /// A request whose schemas were looked up.
 #[derive(Drop)]
 pub(crate) struct Ready<'a, 'r, U: Upstream> {
-    pub(crate) received: Received,
+    pub(crate) question: Question,
     pub(crate) looked: Looked<'a, 'r, U>,
 }
 
 /// A request that waits, and until when.
 #[derive(Drop)]
 struct Waiting {
-    received: Received,
+    question: Question,
     deadline: Instant,
 }
 
@@ -68,7 +47,6 @@ struct Times {
 #[derive(Drop)]
 pub(crate) struct Desk<'a, 'r, U: Upstream> {
     beside: &'a Beside<'a, 'r, U>,
-    recent: RecentSchemas<'a, 'r, U>,
     /// In the order in which they began to wait.
     waiting: VecDeque<Waiting>,
     /// The number of those that are still to be looked up again since the thread was woken.
@@ -90,24 +68,18 @@ impl<'a, 'r, U: Upstream> Model for Desk<'a, 'r, U> {
     ghost Value = { Names };
 
     ghost view = { λ d. d.beside.now.schemas.now };
-
-    ghost invariant = { λ d. d.recent.names ≡ d.beside.now.schemas.now };
 }
 
 impl<'a, 'r, U: Upstream> Desk<'a, 'r, U> {
-    /// Returns a desk at which no request waits. The error is that memory ran out.
-    pub(crate) fn new(
-        alloc: Global,
-        beside: &'a Beside<'a, 'r, U>,
-    ) -> Result<Desk<'a, 'r, U>, AllocError>
-        ensures { IfOk result (λ desk. desk ≡ beside.now.schemas.now) }
+    /// Returns a desk at which no request waits.
+    pub(crate) fn new(alloc: Global, beside: &'a Beside<'a, 'r, U>) -> Desk<'a, 'r, U>
+        ensures { result ≡ beside.now.schemas.now }
     {
-        Ok(Desk {
+        Desk {
             beside,
-            recent: RecentSchemas::new(alloc, beside.schemas)?,
             waiting: VecDeque::new(alloc),
             round: 0,
-        })
+        }
     }
 
     /// Returns when the first of the requests that wait is late; `None` where none waits.
@@ -135,7 +107,7 @@ impl<'a, 'r, U: Upstream> Desk<'a, 'r, U> {
         ensures desk { self.new ≡ self.old }
         ensures looked { looked.new.names ≡ looked.old.names }
     {
-        if let Some(found) = self.recent.find(id) {
+        if let Some(found) = self.beside.schemas.find(id) {
             looked.add(id, Ok(found));
             return false;
         }
@@ -185,24 +157,24 @@ impl<'a, 'r, U: Upstream> Desk<'a, 'r, U> {
     fn waiting_bytes(&self) -> usize {
         let mut bytes: usize = 0;
         for waiting in &self.waiting {
-            bytes = bytes.saturating_add(message_size(&waiting.received.request));
+            bytes = bytes.saturating_add(message_size(waiting.question.request()));
         }
         bytes
     }
 
     /// Puts a request aside until a deadline. Returns it where as many wait as may, or memory runs out.
-    fn put_aside(&mut self, received: Received, deadline: Instant) -> Option<Received>
+    fn put_aside(&mut self, question: Question, deadline: Instant) -> Option<Question>
         ensures { self.new ≡ self.old }
     {
         let bytes = self
             .waiting_bytes()
-            .saturating_add(message_size(&received.request));
+            .saturating_add(message_size(question.request()));
         if self.waiting.len() >= MOST_WAITING || bytes > MOST_WAITING_BYTES {
-            return Some(received);
+            return Some(question);
         }
-        match self.waiting.push_back(Waiting { received, deadline }) {
+        match self.waiting.push_back(Waiting { question, deadline }) {
             Ok(()) => None,
-            Err(refused) => Some(refused.value.received),
+            Err(refused) => Some(refused.value.question),
         }
     }
 
@@ -211,7 +183,7 @@ impl<'a, 'r, U: Upstream> Desk<'a, 'r, U> {
     pub(crate) fn take_in<R: Wait + Clock>(
         &mut self,
         rt: &R,
-        received: Received,
+        question: Question,
     ) -> Option<Ready<'a, 'r, U>>
         ensures desk { self.new ≡ self.old }
         ensures looked { IfSome result (λ ready. ready.looked.names ≡ self.old) }
@@ -219,12 +191,12 @@ impl<'a, 'r, U: Upstream> Desk<'a, 'r, U> {
         let now = Instant::now(rt).ok()?;
         let deadline = now.checked_add(self.beside.options.patience)?;
         let times = Times { now, deadline };
-        if let Some(looked) = self.look_at(rt, &received.request, times) {
-            return Some(Ready { received, looked });
+        if let Some(looked) = self.look_at(rt, question.request(), times) {
+            return Some(Ready { question, looked });
         }
-        let received = self.put_aside(received, deadline)?;
+        let question = self.put_aside(question, deadline)?;
         let looked = Looked::new(self.beside.schemas);
-        Some(Ready { received, looked })
+        Some(Ready { question, looked })
     }
 
     /// Takes out the questions that are to be logged.
@@ -247,15 +219,15 @@ impl<'a, 'r, U: Upstream> Desk<'a, 'r, U> {
     {
         let now = Instant::now(rt).ok()?;
         for _ in 0..self.round {
-            let Some(Waiting { received, deadline }) = self.waiting.pop_front() else {
+            let Some(Waiting { question, deadline }) = self.waiting.pop_front() else {
                 break;
             };
             self.round = self.round.saturating_sub(1);
             let times = Times { now, deadline };
-            if let Some(looked) = self.look_at(rt, &received.request, times) {
-                return Some(Ready { received, looked });
+            if let Some(looked) = self.look_at(rt, question.request(), times) {
+                return Some(Ready { question, looked });
             }
-            let _ = self.waiting.push_back(Waiting { received, deadline });
+            let _ = self.waiting.push_back(Waiting { question, deadline });
         }
         None
     }

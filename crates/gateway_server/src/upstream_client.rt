@@ -3,11 +3,11 @@
 ghost use Rattle.std.specs.Prelude.{◌≡◌, IfSome};
 ghost use Rattle.session_pool.specs.Seats.{Rests};
 
-use crate::desk::{Desk, Ready, Received};
+use crate::desk::{Desk, Ready};
 use crate::gate::ClientGate;
+use crate::replying::reply_by_ids;
 use gateway::App;
 use gateway_front::Event;
-use gateway_upstream::reply_upstream;
 use session_pool::ClientSeat;
 use std::sync::Wait;
 use std::time::Clock;
@@ -35,13 +35,8 @@ fn next_ready<'a, 'r, R: Wait + Clock, U: Upstream>(
                     gate.note_fetch(fetch);
                 }
             }
-            Event::Request(asked) => {
-                let (request, connection) = asked.into_parts();
-                let received = Received {
-                    request,
-                    connection,
-                };
-                if let Some(ready) = desk.take_in(rt, received) {
+            Event::Request(question) => {
+                if let Some(ready) = desk.take_in(rt, question) {
                     return Some(ready);
                 }
             }
@@ -68,15 +63,11 @@ pub(crate) fn serve_upstream<'p, R: Wait + Clock, U: Upstream>(
             return;
         };
         let Ready {
-            received,
+            question,
             mut looked,
         } = ready;
-        let Received {
-            request,
-            connection,
-        } = received;
-        if let Ok(reply) = reply_upstream(rt, app, &mut looked, seat, gate, request) {
-            gate.answer(connection, reply.bytes, reply.status);
+        if let Ok(answered) = reply_by_ids(rt, app, &mut looked, seat, gate, question) {
+            gate.send(answered);
         }
     }
 }

@@ -4,6 +4,8 @@ use denote.RattleType.{RattleType}
 use Rattle.std.proofs.Crossing.{crosses}
 use Rattle.once_cell.proofs.race.note.Note.TheSendSync as note
 use Rattle.once_cell.proofs.race.once_box.OnceBox.TheSendSync as cell
+use Rattle.kept_notes.proofs.kept_note.KeptNote.TheSendSync as kept
+use Rattle.id_cells.specs.contracts.kept_note.KeptIdNote as kept_note
 use Rattle.id_cells.specs.contracts.note.IdNote as id_note
 use Rattle.id_cells.specs.contracts.row.Row as row
 use Rattle.id_cells.specs.contracts.table.IdTable as table
@@ -22,3 +24,9 @@ table-sync T goes shared = search (row-send, row-sync, crosses, sendable) depth 
 
 pub note-send : (T : RattleType) → IsSend (id_note.the_row T)
 note-send T = search (note.the_send, crosses, sendable) depth 60 fits 20000
+
+pub kept-send : (T : RattleType) → IsSend (kept_note.the_row T)
+kept-send T = search (kept.the_send, crosses, sendable) depth 60 fits 20000
+
+pub kept-sync : (T : RattleType) → IsSync (kept_note.the_row T)
+kept-sync T = search (kept.the_sync, crosses, sendable) depth 60 fits 20000

@@ -6,6 +6,7 @@
 
 mod bytes;
 mod held_value;
+mod kept_note;
 mod limits;
 mod note;
 mod row;
@@ -14,5 +15,6 @@ mod table;
 mod tests;
 
 pub use held_value::HeldValue;
+pub use kept_note::KeptIdNote;
 pub use note::IdNote;
 pub use table::IdTable;

@@ -3,7 +3,7 @@
 use crate::error::BenchError;
 use crate::steady_upstream::SteadyUpstream;
 use std::time::{Clock, Duration, Instant};
-use upstream_schemas::{RecentSchemas, UpstreamSchemas};
+use upstream_schemas::UpstreamSchemas;
 
 /// Returns the id of a find: the ids of a reader and of a writer come in turn.
 fn id_of(number: u64) -> u32 {
@@ -30,23 +30,8 @@ fn moment(clock: &impl Clock) -> Result<Instant, BenchError> {
     }
 }
 
-/// Returns how long a number of finds take of schemas that the thread has found lately.
-pub(crate) fn recent_time(
-    clock: &impl Clock,
-    recent: &mut RecentSchemas<'_, '_, SteadyUpstream>,
-    finds: u64,
-) -> Result<Duration, BenchError> {
-    let begun = moment(clock)?;
-    for number in 0..finds {
-        if recent.find(id_of(number)).is_none() {
-            return Err(BenchError::NotFound);
-        }
-    }
-    time_since(clock, begun)
-}
-
-/// Returns how long a number of finds take in the table that all threads share.
-pub(crate) fn shared_time(
+/// Returns how long a number of finds take of ids that are held.
+pub(crate) fn time_of(
     clock: &impl Clock,
     schemas: &UpstreamSchemas<'_, SteadyUpstream>,
     finds: u64,
@@ -60,17 +45,16 @@ pub(crate) fn shared_time(
     time_since(clock, begun)
 }
 
-/// Prints the time of one find of a kind among schemas of a length, in tenths of a nanosecond.
+/// Prints the time of one find among schemas of a length, in tenths of a nanosecond.
 pub(crate) fn print(
     rt: &impl Eprint,
-    kind: &str,
     length: usize,
     finds: u64,
     time: Duration,
 ) -> Result<(), BenchError> {
     let tenths = time.as_nanos().saturating_mul(10) / u128::from(finds.max(1));
     let (whole, rest) = (tenths / 10, tenths % 10);
-    match eprintln!(rt; "{kind}, texts of {length} bytes: {whole}.{rest} nanoseconds a find") {
+    match eprintln!(rt; "texts of {length} bytes: {whole}.{rest} nanoseconds a find") {
         Ok(()) => Ok(()),
         Err(_) => Err(BenchError::NotPrinted),
     }

@@ -1,8 +1,8 @@
 //! Tests and bench; a program.
 //!
-//! Measures how long a thread takes to find the schema that an id of an upstream registry names (`bench/lookup.sh`): one
-//! that it has found lately, and one in the table that all threads share. Its argument is the number of finds of each,
-//! 1,000,000 where there is none. It prints the times on standard error, and ends with status 1 where a schema is not found.
+//! Measures how long a thread takes to find the schema that an id of an upstream registry names (`bench/lookup.sh`). Its
+//! argument is the number of finds among schemas of each length, 1,000,000 where there is none. It prints the times on
+//! standard error, and ends with status 1 where a schema is not found.
 #![tactic(auto)]
 
 mod error;
@@ -10,7 +10,7 @@ mod finds;
 mod steady_upstream;
 
 use error::BenchError;
-use finds::{print, recent_time, shared_time};
+use finds::{print, time_of};
 use schema_registry::SharedRegistry;
 use std::alloc::Global;
 use std::process::ExitCode;
@@ -19,7 +19,7 @@ use std::sync::Wait;
 use std::time::Clock;
 use steady_upstream::SteadyUpstream;
 use upstream_answers::Place;
-use upstream_schemas::{RecentSchemas, UpstreamSchemas};
+use upstream_schemas::UpstreamSchemas;
 
 /// The numbers of bytes of the schemas' texts.
 const LENGTHS: [usize; 3] = [100, 1_000, 10_000];
@@ -61,21 +61,7 @@ fn measure<R: Wait + Clock + Eprint>(
             return Err(BenchError::NotFound);
         }
     }
-    let mut recent = RecentSchemas::new(alloc, &schemas)?;
-    print(
-        rt,
-        "found lately",
-        length,
-        finds,
-        recent_time(rt, &mut recent, finds)?,
-    )?;
-    print(
-        rt,
-        "shared table",
-        length,
-        finds,
-        shared_time(rt, &schemas, finds)?,
-    )
+    print(rt, length, finds, time_of(rt, &schemas, finds)?)
 }
 
 /// Measures finds among schemas of each length.

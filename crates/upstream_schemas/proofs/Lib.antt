@@ -1,2 +1,2 @@
-pub mod Found
+mod Tags
 pub mod Crossing

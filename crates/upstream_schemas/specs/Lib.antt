@@ -1,3 +1,3 @@
 pub mod Naming
 pub mod Asking
-pub mod Recent
+pub mod Known

@@ -4,15 +4,17 @@
 //! under an id of this process's own registry, by which programs and sessions go.
 #![tactic(auto)]
 
+mod cells;
+mod found;
 mod hearing;
 mod held;
+mod known;
 mod limits;
-mod recent;
 mod schemas;
 mod upstream;
 
+pub use found::FoundSchema;
 pub use held::{Held, Named};
 pub use limits::MOST_IDS;
-pub use recent::{FoundSchema, RecentSchemas};
 pub use schemas::UpstreamSchemas;
 pub use upstream::{ExchangeFault, Upstream};

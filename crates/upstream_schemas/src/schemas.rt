@@ -7,10 +7,12 @@ ghost use Rattle.schema_registry.specs.Receipt.{IsReceiptOf};
 ghost use Rattle.upstream_schemas.specs.Asking.{IsWhyUnheld};
 ghost use Rattle.upstream_schemas.specs.Naming.{IsNamed, IsNamingOf, IsSchemaFor, IsTextOf};
 
+use crate::cells::SharedCells;
+use crate::found::FoundSchema;
 use crate::hearing::hear;
 use crate::held::{Held, Named};
+use crate::known::KnownNamings;
 use crate::limits::MOST_IDS;
-use crate::recent::FoundSchema;
 use crate::upstream::Upstream;
 use avro_schema::{Schema, SchemaError};
 use gateway_answers::Fault;
@@ -37,19 +39,22 @@ struct LocalSchema {
 #[derive(Drop)]
 pub struct UpstreamSchemas<'r, U: Upstream> {
     alloc: Global,
-    registry: &'r SharedRegistry,
     place: Place,
-    table: IdTable<Held<U>>,
+    cells: SharedCells<'r, U>,
+    known: KnownNamings<U>,
     /// The number of ids whose schemas are held.
     count: AtomicU64,
 }
 
 impl<'r, U: Upstream> Model for UpstreamSchemas<'r, U> {
+    ghost use Rattle.upstream_schemas.specs.Known.{IsTableOf};
     ghost use Rattle.upstream_schemas.specs.Naming.{Names};
 
     ghost Value = { Names };
 
-    ghost view = { λ s. record { registry = s.registry.now; table = s.table } };
+    ghost view = { λ s. s.cells };
+
+    ghost invariant = { λ s. IsTableOf s.cells s.known };
 }
 
 /// Returns the fault that a refusal of this process's registry comes to. That a text is no schema was found before.
@@ -120,6 +125,8 @@ impl<'r, U: Upstream> UpstreamSchemas<'r, U> {
         ensures { IfOk result (λ schemas. schemas.registry ≡ registry.now) }
     {
         let table = IdTable::new(alloc)?;
+        let cells = SharedCells { registry, table };
+        let known = KnownNamings::new(alloc, &cells)?;
         let never = Command::SetLevel {
             subject: None,
             level: Level::None,
@@ -129,9 +136,9 @@ impl<'r, U: Upstream> UpstreamSchemas<'r, U> {
         }
         Ok(UpstreamSchemas {
             alloc,
-            registry,
             place,
-            table,
+            cells,
+            known,
             count: AtomicU64::new(0),
         })
     }
@@ -145,22 +152,31 @@ impl<'r, U: Upstream> UpstreamSchemas<'r, U> {
     pub fn registry(&self) -> &'r SharedRegistry
         ensures { result.now ≡ self.now.registry }
     {
-        self.registry
+        self.cells.registry
     }
 
     /// Returns the receipt of what is held for an id, with the note of the naming. None where the registry shows no
-    /// schema of this text.
+    /// schema of this text. The texts are compared where the receipt is not known to be that of the naming; from then
+    /// on it is.
     fn receipt_of(&self, id: u32, held: &Held<U>, named: Named<U>) -> Option<FoundSchema<U>>
         requires named { IsNamed self.now named × (named.id ≡ id) × (named.last.1 ≡ Some held.now) }
         ensures { IfSome result (λ found. IsReceiptOf self.now.registry found.receipt
             × IsNamingOf U.heard U.kept self.now id found.receipt found.named) }
     {
-        let (schema, receipt) = self.registry.find(held.local)?;
-        if held.id != id || schema.text() != held.schema.text() {
+        let (schema, receipt) = self.cells.registry.find(held.local)?;
+        let mut found = FoundSchema { receipt, named };
+        if held.id != id {
+            return None;
+        }
+        if self.known.knows(&self.cells, &mut found) {
+            return Some(found);
+        }
+        if schema.text() != held.schema.text() {
             return None;
         }
         schema.same_text_has_same_nodes(&held.schema); // law
-        Some(FoundSchema { receipt, named })
+        self.known.keep(&self.cells, &mut found);
+        Some(found)
     }
 
     /// Returns the schema that an id names, by its receipt and the note of the naming. None where this thread sees none
@@ -169,7 +185,7 @@ impl<'r, U: Upstream> UpstreamSchemas<'r, U> {
         ensures { IfSome result (λ found. IsReceiptOf self.now.registry found.receipt
             × IsNamingOf U.heard U.kept self.now id found.receipt found.named) }
     {
-        let (held, named) = self.table.find(id)?;
+        let (held, named) = self.cells.table.find(id)?;
         self.receipt_of(id, held, named)
     }
 
@@ -188,7 +204,7 @@ impl<'r, U: Upstream> UpstreamSchemas<'r, U> {
         }
         let subject = String::from_str(self.alloc, SUBJECT)?;
         let copy = String::from_str(self.alloc, text.as_str())?;
-        match self.registry.register(rt, subject, copy) {
+        match self.cells.registry.register(rt, subject, copy) {
             Ok((local, _receipt)) => Ok(LocalSchema { local, schema }),
             Err(refusal) => Err(fault_of::<U>(refusal)),
         }
@@ -202,7 +218,7 @@ impl<'r, U: Upstream> UpstreamSchemas<'r, U> {
         ensures why { IfErr result (IsWhyUnheld U.heard U.kept id) }
     {
         let held = Box::new(self.alloc, held_of(id, own.local, own.schema))?;
-        let (held, named, which) = self.table.hold(id, held)?;
+        let (held, named, which) = self.cells.table.hold(id, held)?;
         if which == HeldValue::Given {
             self.count.fetch_add(1, Ordering::SeqCst);
         }
@@ -253,6 +269,6 @@ impl<'r, U: Upstream> UpstreamSchemas<'r, U> {
         ensures same { (one.new ≡ one.old) × (two.new ≡ two.old) }
         ensures agree { one.old.last.1 ≡ two.old.last.1 }
     {
-        self.table.agree(one, two);
+        self.cells.table.agree(one, two);
     }
 }

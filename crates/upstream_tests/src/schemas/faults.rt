@@ -6,7 +6,7 @@ use crate::texts::same;
 use schema_registry::SharedRegistry;
 use std::alloc::{AllocError, Global};
 use std::sync::Wait;
-use upstream_schemas::{RecentSchemas, UpstreamSchemas};
+use upstream_schemas::UpstreamSchemas;
 
 /// What comes of a first exchange and of a second one, as `ListedUpstream` has them; the fault, and the number of
 /// exchanges. The rows are of no such id, of another answer that is no schema, of a text that is no schema of Avro or
@@ -112,26 +112,21 @@ Upstream(BadAnswer), 1
 NoMemory, 1"#;
 
 /// Returns whether anything is held of the id 7, or registered in this process.
-fn is_any_held(
-    schemas: &UpstreamSchemas<'_, ListedUpstream>,
-    recent: &mut RecentSchemas<'_, '_, ListedUpstream>,
-) -> bool {
-    let is_found = schemas.find(7).is_some() || recent.find(7).is_some();
-    is_found || schemas.registry().find(1).is_some()
+fn is_any_held(schemas: &UpstreamSchemas<'_, ListedUpstream>) -> bool {
+    schemas.find(7).is_some() || schemas.registry().find(1).is_some()
 }
 
 /// Appends two exchanges, and what comes of them where the id 7 is asked for.
 fn push_row<R: Wait>(
     rt: &R,
     schemas: &UpstreamSchemas<'_, ListedUpstream>,
-    recent: &mut RecentSchemas<'_, '_, ListedUpstream>,
     text: &mut String,
     exchanges: &'static str,
 ) -> Result<(), AllocError> {
     let upstream = ListedUpstream::new(schemas.alloc(), exchanges);
     write!(text, "{exchanges}\n")?;
     push_asked(text, schemas.registry(), schemas.ask(rt, &upstream, 7))?;
-    let held = if is_any_held(schemas, recent) {
+    let held = if is_any_held(schemas) {
         ", held"
     } else {
         ""
@@ -144,13 +139,12 @@ fn rows_in_turn<R: Wait>(
     rt: &R,
     schemas: &UpstreamSchemas<'_, ListedUpstream>,
 ) -> Result<String, AllocError> {
-    let mut recent = RecentSchemas::new(schemas.alloc(), schemas)?;
     let mut text = String::new(schemas.alloc());
     for row in FAULTS.split("\n\n") {
         let (exchanges, _wanted) = row.rsplit_once('\n').unwrap_or((row, ""));
         let parting = if text.is_empty() { "" } else { "\n\n" };
         text.push_str(parting)?;
-        push_row(rt, schemas, &mut recent, &mut text, exchanges)?;
+        push_row(rt, schemas, &mut text, exchanges)?;
     }
     Ok(text)
 }

@@ -7,7 +7,7 @@ use crate::texts::{number, same};
 use schema_registry::{KeepFault, SharedRegistry};
 use std::alloc::{AllocError, Global};
 use std::sync::Wait;
-use upstream_schemas::{RecentSchemas, UpstreamSchemas};
+use upstream_schemas::UpstreamSchemas;
 
 /// Holds a text for an id, as one that an earlier process kept for it, and appends what comes of that.
 fn push_held<R: Wait>(
@@ -31,7 +31,6 @@ fn push_kept(text: &mut String, upstream: &ListedUpstream) -> Result<(), AllocEr
 fn push_answer<R: Wait>(
     rt: &R,
     schemas: &UpstreamSchemas<'_, ListedUpstream>,
-    recent: &mut RecentSchemas<'_, '_, ListedUpstream>,
     upstream: &ListedUpstream,
     text: &mut String,
     step: &str,
@@ -42,7 +41,6 @@ fn push_answer<R: Wait>(
     match verb {
         "ask" => push_asked(text, schemas.registry(), schemas.ask(rt, upstream, id)),
         "find" => push_seen(text, schemas.registry(), schemas.find(id)),
-        "recent" => push_seen(text, schemas.registry(), recent.find(id)),
         "hold" => push_held(rt, schemas, text, id, held),
         "kept" => push_kept(text, upstream),
         _ => write!(text, "{}", upstream.count()),
@@ -57,12 +55,11 @@ fn answered_by<R: Wait>(
     steps: &str,
 ) -> Result<String, AllocError> {
     let alloc = schemas.alloc();
-    let mut recent = RecentSchemas::new(alloc, schemas)?;
     let mut text = format!(in alloc; "{}\n\n", upstream.exchanges)?;
     for row in steps.lines() {
         let (step, _wanted) = row.split_once(" -> ").unwrap_or((row, ""));
         write!(text, "{step} -> ")?;
-        push_answer(rt, schemas, &mut recent, upstream, &mut text, step)?;
+        push_answer(rt, schemas, upstream, &mut text, step)?;
         text.push_str("\n")?;
     }
     Ok(text)
@@ -88,17 +85,11 @@ const ASKED_FOR: &str = r#"7 HTTP/1.1 200 OK||{"schema":"\"int\""}
 4294967295 HTTP/1.1 200 OK||{"schema":"\"long\""}
 
 find 7 -> none
-recent 7 -> none
 ask 7 -> 7 as 1, "int"
 find 7 -> 7 as 1, "int"
-recent 7 -> 7 as 1, "int"
-recent 7 -> 7 as 1, "int"
 find 4294967295 -> none
-recent 4294967295 -> none
 ask 4294967295 -> 4294967295 as 2, "long"
 find 4294967295 -> 4294967295 as 2, "long"
-recent 4294967295 -> 4294967295 as 2, "long"
-recent 4294967295 -> 4294967295 as 2, "long"
 exchanges -> 2
 "#;
 
@@ -121,7 +112,6 @@ ask 7 -> 7 as 1, "int"
 exchanges -> 1
 hold 7 "long" -> 7 as 1, "int"
 find 7 -> 7 as 1, "int"
-recent 7 -> 7 as 1, "int"
 "#;
 
 /// An id whose schema is later another one, which does not.
@@ -133,7 +123,6 @@ ask 7 -> 7 as 1, "int"
 exchanges -> 1
 hold 7 "string" -> 7 as 1, "int"
 find 7 -> 7 as 1, "int"
-recent 7 -> 7 as 1, "int"
 "#;
 
 #[test]
@@ -192,7 +181,6 @@ const NOT_STORED: &str = r#"7 HTTP/1.1 200 OK||{"schema":"\"int\""}
 
 ask 7 -> NotStored
 find 7 -> none
-recent 7 -> none
 "#;
 
 /// A text for which memory runs out.
@@ -200,7 +188,6 @@ const NO_MEMORY: &str = r#"7 HTTP/1.1 200 OK||{"schema":"\"int\""}
 
 ask 7 -> NoMemory
 find 7 -> none
-recent 7 -> none
 "#;
 
 #[test]
@@ -218,27 +205,25 @@ fn a_schema_that_is_not_kept_is_not_held(rt: HostRuntime) -> Result<(), AllocErr
     Ok(())
 }
 
-/// Two ids of one remainder by the number of schemas that a thread finds again.
-const REMAINDERS: &str = r#"7 HTTP/1.1 200 OK||{"schema":"\"int\""}
-16391 HTTP/1.1 200 OK||{"schema":"\"long\""}
+/// Three ids of one home, the first slot in which a naming is looked for.
+const ONE_HOME: &str = r#"7 HTTP/1.1 200 OK||{"schema":"\"int\""}
+10953 HTTP/1.1 200 OK||{"schema":"\"long\""}
+50556 HTTP/1.1 200 OK||{"schema":"\"string\""}
 
 ask 7 -> 7 as 1, "int"
-recent 7 -> 7 as 1, "int"
-recent 16391 -> none
-ask 16391 -> 16391 as 2, "long"
-recent 16391 -> 16391 as 2, "long"
-recent 7 -> 7 as 1, "int"
-recent 16391 -> 16391 as 2, "long"
-recent 7 -> 7 as 1, "int"
+find 10953 -> none
+ask 10953 -> 10953 as 2, "long"
+find 7 -> 7 as 1, "int"
+find 50556 -> none
+ask 50556 -> 50556 as 3, "string"
+find 10953 -> 10953 as 2, "long"
+find 50556 -> 50556 as 3, "string"
+find 7 -> 7 as 1, "int"
 "#;
 
 #[test]
-fn ids_of_one_remainder_are_kept_apart(rt: HostRuntime) -> Result<(), AllocError> {
-    same(
-        &rt,
-        &answered(&rt, rt.alloc(), REMAINDERS, Ok(()))?,
-        REMAINDERS,
-    );
+fn ids_of_one_home_are_kept_apart(rt: HostRuntime) -> Result<(), AllocError> {
+    same(&rt, &answered(&rt, rt.alloc(), ONE_HOME, Ok(()))?, ONE_HOME);
     Ok(())
 }
 

@@ -1,0 +1,42 @@
+-- What is asked over a connection, by what was read of its request.
+use Rattle.std.proofs.Common.{◌≡◌, ℕ, ◌<◌, List, [], ◌∷◌, length, None, Some, Result, Ok, Err, refl, arith}
+use Rattle.gateway_answers.specs.declared.fault.Fault.{Fault}
+use Rattle.gateway_exchange.specs.Reception.{TellsWhole}
+use Rattle.gateway_requests.specs.Asking.{asked_at}
+use Rattle.gateway_requests.specs.Request.{Request, request_of}
+use Rattle.gateway_requests.specs.Steps.{Tells}
+use Rattle.gateway_requests.specs.declared.request.Request as rust
+use Rattle.persistent_exchange.specs.Answering.{IsNext}
+use Rattle.persistent_exchange.specs.Persistent.{Persistent}
+use Rattle.persistent_exchange.specs.Stream as streams
+use Rattle.gateway_front.specs.Handing.{IsQuestion, next, nothing, received, refused}
+
+-- what is asked by a request itself
+abbrev itself : Result rust.Request Fault → Result Request Fault
+itself (Ok request) = Ok (request_of request)
+itself (Err fault) = Err fault
+
+tells_itself : (request : Result rust.Request Fault) → Tells request_of request (itself request)
+tells_itself (Ok request) = refl
+tells_itself (Err fault) = λ _. refl
+
+-- what the bytes ask is asked, and nothing is said where there are none
+pub asked_by_bytes : (bytes : List ℕ) (request : Result rust.Request Fault)
+    → (0 < length bytes → TellsWhole bytes request) → IsQuestion (record { stream = None; received = bytes }) request
+asked_by_bytes [] request ended =
+    record { asked = itself request; is_asked = nothing (itself request); tells = tells_itself request }
+asked_by_bytes (byte ∷ bytes) request ended =
+    let told = ended (omega arith) in
+    record { asked = told.0; is_asked = received (byte ∷ bytes) told.0 told.2; tells = told.1 }
+
+-- what the next request of a stream asks is asked
+pub asked_next : (p : Persistent) (bytes : List ℕ) (a : streams.Asked) (request : Result rust.Request Fault) → IsNext p a
+    → Tells request_of request (asked_at a.method a.target a.content)
+    → IsQuestion (record { stream = Some p; received = bytes }) request
+asked_next p bytes a request is tells =
+    record { asked = asked_at a.method a.target a.content; is_asked = next p bytes a is; tells = tells }
+
+-- a request of a stream is refused
+pub refused_over : (p : Persistent) (bytes : List ℕ) (fault : Fault)
+    → IsQuestion (record { stream = Some p; received = bytes }) (Err fault)
+refused_over p bytes fault = record { asked = Err fault; is_asked = refused p bytes fault; tells = λ _. refl }

@@ -1,0 +1,157 @@
+//! A request that is handed out, and what is answered to it.
+
+ghost use Rattle.std.specs.Prelude.{◌≡◌, ℕ, IfOk, List, None, OnOk, Some};
+ghost use Rattle.gateway_front.specs.Handing.{IsQuestion};
+ghost use Rattle.gateway_front.specs.Passing.{AnswersTheNext};
+ghost use Rattle.gateway_requests.specs.Request.{request_of};
+ghost use Rattle.gateway_requests.specs.Sizes.{IsWithin};
+ghost use Rattle.gateway_requests.specs.declared.limits.TheConstants.{MOST_BODY};
+
+use crate::connection::Connection;
+use crate::staying::date;
+use boxcar::tag::{Names, Tag};
+use gateway_answers::{AnswerBytes, Fault};
+use gateway_exchange::{Reception, Sending};
+use gateway_requests::{Request, Routes};
+use persistent_exchange::RequestStream;
+use std::alloc::AllocError;
+use std::marker::Model;
+use std::time::Clock;
+
+/// A connection whose request is whole, or of which nothing more will come.
+#[derive(Drop)]
+pub(crate) struct Asked {
+    pub(crate) connection: Connection,
+    /// What was received. `None` where memory ran out for it, and of a connection that stays.
+    pub(crate) reception: Option<Reception>,
+}
+
+/// A request that is handed out, or its first fault, and the connection that waits for the answer. Callers see it as
+/// its connection.
+#[derive(Drop)]
+pub struct Question {
+    request: Result<Request, Fault>,
+    connection: Connection,
+}
+
+impl Model for Question {
+    ghost use Rattle.std.specs.Prelude.{IfOk};
+    ghost use Rattle.gateway_front.specs.Handing.{Handed, IsQuestion};
+    ghost use Rattle.gateway_requests.specs.Request.{request_of};
+    ghost use Rattle.gateway_requests.specs.Sizes.{IsWithin};
+    ghost use Rattle.gateway_requests.specs.declared.limits.TheConstants.{MOST_BODY};
+
+    ghost Value = { Handed };
+
+    ghost view = { λ q. q.connection };
+
+    ghost invariant = { λ q. IsQuestion q.connection q.request
+        × IfOk q.request (λ request. IsWithin MOST_BODY (request_of request)) };
+}
+
+/// A connection, and the answer that is to be sent over it.
+#[derive(Drop)]
+pub struct Answered {
+    pub(crate) connection: Connection,
+    /// What is to be sent. `None` of a connection that stays, whose requests and answers have it.
+    pub(crate) sending: Option<Sending>,
+}
+
+/// A tag of the bytes that were received.
+struct ItsBytes;
+
+impl Names<Reception> for ItsBytes {
+    ghost numbers = { λ received. received.bytes };
+}
+
+/// Returns the request of a connection that does not stay, by what was received of it: `NoMemory` where there is none.
+/// Notes by what it was asked.
+fn read_once(asked_by: &mut Tag, reception: Option<Reception>) -> Result<Request, Fault>
+    ensures asks { IsQuestion (record { stream = None; received = asked_by.new.numbers }) result }
+    ensures size { IfOk result (λ request. IsWithin MOST_BODY (request_of request)) }
+{
+    let Some(reception) = reception else {
+        *asked_by = Tag::empty();
+        return Err(Fault::NoMemory);
+    };
+    *asked_by = Tag::of::<Reception, ItsBytes>(&reception);
+    reception.into_request()
+}
+
+/// Returns the next request of the requests of a connection that stays.
+#[tactic(auto, using(crate::proofs::Questions::asked_next, crate::proofs::Questions::refused_over))]
+fn read_next(stays: &mut RequestStream, routes: &Routes) -> Result<Request, Fault>
+    ensures asks { (received : List ℕ) → IsQuestion (record { stream = Some stays.new; received = received }) result }
+    ensures size { IfOk result (λ request. IsWithin MOST_BODY (request_of request)) }
+{
+    match stays.take_request(routes) {
+        Ok(request) => request.into_request(),
+        Err(fault) => Err(fault),
+    }
+}
+
+/// Passes the answer to the next request of the requests of a connection that stays on. The error is that memory ran
+/// out: the connection is to be closed then.
+pub(crate) fn pass_on<R: Clock>(
+    rt: &R,
+    stays: &mut RequestStream,
+    bytes: AnswerBytes,
+) -> Result<(), AllocError>
+    ensures { OnOk result (AnswersTheNext bytes stays.old stays.new) }
+{
+    stays.answer(bytes, date(rt))
+}
+
+/// Returns the request of a connection, or its first fault.
+fn read(
+    connection: &mut Connection,
+    reception: Option<Reception>,
+    routes: &Routes,
+) -> Result<Request, Fault>
+    ensures asks { IsQuestion connection.new result }
+    ensures size { IfOk result (λ request. IsWithin MOST_BODY (request_of request)) }
+{
+    if let Some(stays) = &mut connection.stays {
+        drop(reception); // of a connection that stays there is none
+        return read_next(stays, routes);
+    }
+    read_once(&mut connection.asked_by, reception)
+}
+
+impl Asked {
+    /// Returns the request to be handed out, or its first fault, with the connection.
+    pub(crate) fn into_question(self, routes: &Routes) -> Question {
+        let Asked {
+            connection,
+            reception,
+        } = self;
+        let mut connection = connection;
+        let request = read(&mut connection, reception, routes);
+        Question {
+            request,
+            connection,
+        }
+    }
+}
+
+impl Question {
+    /// Returns what is asked, or the first fault of the request.
+    pub fn request(&self) -> &Result<Request, Fault>
+        ensures { IfOk result.now (λ request. IsWithin MOST_BODY (request_of request)) }
+    {
+        &self.request
+    }
+
+    /// Returns what is asked, or the first fault of the request, and the connection that waits for the answer.
+    pub fn into_parts(self) -> (Result<Request, Fault>, Connection)
+        ensures connection { result.1 ≡ self }
+        ensures asks { IsQuestion self result.0 }
+        ensures size { IfOk result.0 (λ request. IsWithin MOST_BODY (request_of request)) }
+    {
+        let Question {
+            request,
+            connection,
+        } = self;
+        (request, connection)
+    }
+}
