@@ -126,11 +126,7 @@ fn push_row<R: Wait>(
     let upstream = ListedUpstream::new(schemas.alloc(), exchanges);
     write!(text, "{exchanges}\n")?;
     push_asked(text, schemas.registry(), schemas.ask(rt, &upstream, 7))?;
-    let held = if is_any_held(schemas) {
-        ", held"
-    } else {
-        ""
-    };
+    let held = if is_any_held(schemas) { ", held" } else { "" };
     write!(text, ", {}{held}", upstream.count())
 }
 
