@@ -4,7 +4,8 @@
 # gate runs it.
 # The program, on inputs to each of its words but `replay`: status 4 and nothing written, or the whole answer where a
 # buffer could stay as it was, or, of `debug`, an answer that tells want of memory. `serve` does not begin, or answers
-# each request, asked once more where it told want of memory. The tests that ask again for what was refused: they pass, or
+# each request, asked once more where it told want of memory: with a store, beside a registry, and over connections that
+# stay too. The tests that ask again for what was refused: they pass, or
 # end because what they build themselves was refused (an output that is a vector refuses a write then), or because a call
 # that they compare tells want of memory; an answer that changed fails its assertion.
 # Usage, after `rt ci`, or `rt run` in crates/avrogate and `rt test` in each crate of tests: tests/allocations.sh [PROGRAM]
@@ -99,8 +100,8 @@ each "$folder/pair" check --level FULL
 each "$folder/pair" explain
 each "$folder/pair" explain --json
 each "$folder/pair" explain --node 2 2
-for store in '' store; do
-  if PYTHONDONTWRITEBYTECODE=1 python3 tests/allocations/serve.py "$program" "$folder/refuse.so" "$folder" $store; then count ok; else count bad "avrogate serve${store:+ --store}: see above"; fi
+for mode in '' store upstream http11; do
+  if PYTHONDONTWRITEBYTECODE=1 python3 tests/allocations/serve.py "$program" "$folder/refuse.so" "$folder" $mode; then count ok; else count bad "avrogate serve${mode:+ --$mode}: see above"; fi
 done
 
 # ask_again CRATE TEST ..: tests that ask again for what was refused, in the test program of their crate

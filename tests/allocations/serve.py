@@ -1,12 +1,15 @@
 """`avrogate serve` with each of its allocations refused in turn, one a run: it ends before it serves, with status 4; or each
 request is answered as it should be, or 50301, or closed where its connection or that answer finds no memory, and asked
 once more it is answered.
-With a store the service begins with a schema in its file, and after each run one starts again from the file, with no
-allocation refused, and finds what was answered, also where the service ended for want of memory in the middle.
-Usage: serve.py PROGRAM REFUSE.so FOLDER [store]   (with SHORT=1 in the environment at distances that grow)"""
-import hashlib, json, os, socket, subprocess, sys
+With `store` the service begins with a schema in its file, and after each run one starts again from the file, with no
+allocation refused, and finds what was answered, also where the service ended for want of memory in the middle. With
+`upstream` it asks a registry of the test's own, and a request is asked once more until a failure is forgotten, which takes
+a second. With `http11` its connections stay, each for two requests.
+Usage: serve.py PROGRAM REFUSE.so FOLDER [store|upstream|http11]   (with SHORT=1 in the environment at distances that grow)"""
+import hashlib, http.server, json, os, socket, subprocess, sys, threading, time
 
-PROGRAM, LIBRARY, FOLDER, *STORE = sys.argv[1:]
+PROGRAM, LIBRARY, FOLDER, *MODE = sys.argv[1:]
+STORE, UPSTREAM, HTTP11 = (MODE == [mode] for mode in ("store", "upstream", "http11"))
 PATIENCE = 300
 WANTS = (b'"error_code":50301', b'"error_code":50304') if STORE else (b'"error_code":50301',)  # the level of all is "not stored"
 WRITER = json.dumps({"type": "record", "name": "T", "fields": [{"name": "a", "type": "long"}, {"name": "b", "type": "string"}]})
@@ -35,22 +38,47 @@ def stored(body):
 
 # a request, and the body of its answer
 def requests():
+    if not UPSTREAM:
+        yield from registrations()
+    for size in 3, 100_000, 1_000_000:
+        yield "POST", "/transcode/2", *message(size)
+
+
+def registrations():
     yield "POST", "/subjects/t/versions", json.dumps({"schema": WRITER}).encode(), b'{"id":1}'
     if STORE:
         yield "PUT", "/config", b'{"compatibility":"FORWARD"}', b'{"compatibility":"FORWARD"}'
         yield "PUT", "/config/t", b'{"compatibility":"NONE"}', b'{"compatibility":"NONE"}'
     yield "POST", "/subjects/t/versions", json.dumps({"schema": READER}).encode(), b'{"id":2}'
     yield "GET", "/subjects/t/versions", b"", b"[1,2]"
-    for size in 3, 100_000, 1_000_000:
-        yield "POST", "/transcode/2", *message(size)
+
+
+class Registry(http.server.BaseHTTPRequestHandler):
+    """Answers the writer's schema for the id 1, and the reader's for the id 2."""
+
+    def do_GET(self):
+        body = json.dumps({"schema": WRITER if self.path == "/schemas/ids/1" else READER}).encode()
+        self.send_response(200)
+        self.send_header("Content-Length", str(len(body)))
+        self.end_headers()
+        self.wfile.write(body)
+
+    def log_message(self, *_):
+        pass
 
 
 def exchange(port, method, path, body):
-    """The body of the answer, or None where the connection is closed without one, maybe before all was sent."""
+    """The body of the answer, or None where the connection is closed without one, maybe before all was sent. Over a
+    connection that stays two requests are sent, and the body is that of the second."""
     got = b""
+    request = b"%s %s HTTP/1.1\r\nhost: t\r\ncontent-length: %d\r\n" % (method.encode(), path.encode(), len(body))
     try:
         with socket.create_connection(("127.0.0.1", port), timeout=PATIENCE) as connection:
-            connection.sendall(b"%s %s HTTP/1.1\r\ncontent-length: %d\r\n\r\n" % (method.encode(), path.encode(), len(body)) + body)
+            if HTTP11:
+                connection.sendall(request + b"\r\n" + body)
+                if not whole_answer(connection):
+                    return None
+            connection.sendall(request + b"connection: close\r\n\r\n" + body)
             while piece := connection.recv(1 << 20):
                 got += piece
     except (ConnectionResetError, BrokenPipeError):
@@ -58,16 +86,34 @@ def exchange(port, method, path, body):
     return got.split(b"\r\n\r\n", 1)[1] if got else None
 
 
+def whole_answer(connection):
+    """Reads one answer with a length, and returns whether it came whole."""
+    got = b""
+    while b"\r\n\r\n" not in got or len(got.split(b"\r\n\r\n", 1)[1]) < length_of(got):
+        piece = connection.recv(1 << 20)
+        if not piece:
+            return False
+        got += piece
+    return True
+
+
+def length_of(got):
+    """The length that the head of an answer says."""
+    fields = (line.partition(b":") for line in got.split(b"\r\n\r\n", 1)[0].split(b"\r\n"))
+    return next(int(value) for name, _, value in fields if name.lower() == b"content-length")
+
+
 def served(port, answered):
     """What is wrong with the answers, or None; each one that is as it should be is put into `answered`."""
     for method, path, body, want in requests():
-        for attempt in range(2):
+        for attempt in range(ATTEMPTS):
             got = exchange(port, method, path, body)
             if got == want:
                 answered.add((method, path, want))
                 break
-            if attempt == 1 or got is not None and not any(code in got for code in WANTS):
+            if attempt == ATTEMPTS - 1 or got is not None and not any(code in got for code in WANTS):
                 return "%s %s: %.100r" % (method, path, got)
+            time.sleep(0.1 if UPSTREAM else 0)
     return None
 
 
@@ -131,7 +177,16 @@ def found_again(answered):
     return None
 
 
-COMMAND = [PROGRAM, "serve", "--port", "0", "--clients", "1", "--workers", "1"] + (["--store", FOLDER + "/registry"] if STORE else [])
+ATTEMPTS = 30 if UPSTREAM else 2
+COMMAND = [PROGRAM, "serve", "--port", "0", "--clients", "1", "--workers", "1"]
+if STORE:
+    COMMAND += ["--store", FOLDER + "/registry"]
+if HTTP11:
+    COMMAND += ["--http11"]
+if UPSTREAM:
+    registry = http.server.ThreadingHTTPServer(("127.0.0.1", 0), Registry)
+    threading.Thread(target=registry.serve_forever, daemon=True).start()
+    COMMAND += ["--upstream", "http://127.0.0.1:%d" % registry.server_port]
 at, runs, failed = 1, 0, []
 while True:
     was_refused, wrong = run(at)
@@ -143,5 +198,5 @@ while True:
     at += 1 + (at // 5 if os.environ.get("SHORT") else 0)
 for line in failed:
     print(line)
-print("avrogate serve%s: %d allocations refused in turn" % (" --store" if STORE else "", runs))
+print("avrogate serve%s: %d allocations refused in turn" % ("".join(" --" + mode for mode in MODE), runs))
 sys.exit(1 if failed or runs == 0 else 0)

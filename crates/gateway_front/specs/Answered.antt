@@ -4,7 +4,7 @@ use Rattle.gateway_answers.specs.declared.answer_bytes.AnswerBytes.{AnswerBytes}
 use Rattle.persistent_exchange.specs.Persistent.{Persistent}
 use Rattle.gateway_front.specs.Handing.{Handed}
 use Rattle.gateway_front.specs.Passing.{AnswersTheNext}
-use Rattle.gateway_front.specs.declared.question.Answered.{Answered}
+use Rattle.gateway_front.specs.declared.pending.Answered.{Answered}
 
 -- over a connection that does not stay the answer is sent, of which nothing was sent yet
 abbrev pub IsAnsweredOver : Option Persistent → AnswerBytes → Answered → Type 0

@@ -27,7 +27,7 @@ pub data IsAskedOver : Handed → Result Request Fault → Type 0 where
   nothing : (asked : Result Request Fault) → IsAskedOver (record { stream = None; received = [] }) asked
 
 -- the request is what is asked over the connection, unless memory ran out
-pub record IsQuestion (handed : Handed) (request : Result rust.Request Fault) : Type 0 where
+pub record AsksOver (handed : Handed) (request : Result rust.Request Fault) : Type 0 where
   pub asked : Result Request Fault
   pub is_asked : IsAskedOver handed asked
   pub tells : Tells request_of request asked

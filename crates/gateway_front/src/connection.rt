@@ -3,7 +3,7 @@
 ghost use Rattle.std.specs.Prelude.{IfOk};
 ghost use Rattle.gateway_front.specs.Answered.{IsAnswered};
 
-use crate::question::{Answered, pass_on};
+use crate::pending::{Answered, pass_on};
 use boxcar::tag::Tag;
 use gateway_answers::AnswerBytes;
 use gateway_exchange::{Reception, Sending};

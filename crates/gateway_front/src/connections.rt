@@ -7,7 +7,7 @@ use crate::connection::{Connection, Stage, Waiting};
 use crate::listening::{NEW, WAKE, leave, watch};
 use crate::log::{Entry, Fetch, Log, LogLock, request_line};
 use crate::open::OpenConnections;
-use crate::question::{Answered, Asked, Question};
+use crate::pending::{Answered, Asked, PendingRequest};
 use boxcar::tag::Tag;
 use gateway_exchange::{Progress, Reception, Sending, drain, receive, send};
 use gateway_requests::Routes;
@@ -42,7 +42,7 @@ const LOG_PAUSE: u64 = 100;
 #[derive(Drop)]
 pub enum Event {
     /// A request is to be answered.
-    Request(Question),
+    Request(PendingRequest),
     /// Another thread has woken this one, or a moment has come.
     Woken,
     /// No more connections are accepted, and all are closed.
@@ -143,10 +143,10 @@ impl Connections {
 
     /// Returns the next request to be served, for which it waits. `None` once no more connections are accepted and all
     /// are closed.
-    pub fn next<R: Wait + Clock>(&mut self, rt: &R, routes: &Routes) -> Option<Question> {
+    pub fn next<R: Wait + Clock>(&mut self, rt: &R, routes: &Routes) -> Option<PendingRequest> {
         for _ in rt.forever() {
             match self.next_event(rt, routes, None) {
-                Event::Request(question) => return Some(question),
+                Event::Request(pending) => return Some(pending),
                 Event::Over => return None,
                 Event::Woken => {}
             }
@@ -164,7 +164,7 @@ impl Connections {
     ) -> Event {
         for _ in rt.forever() {
             if let Some(asked) = self.next_whole() {
-                return Event::Request(asked.into_question(routes));
+                return Event::Request(asked.into_pending(routes));
             }
             if self.is_woken || is_past(rt, moment) {
                 self.is_woken = false;
@@ -174,7 +174,7 @@ impl Connections {
                 return Event::Over;
             }
             if let Some(asked) = self.see_to_next(rt, routes, moment) {
-                return Event::Request(asked.into_question(routes));
+                return Event::Request(asked.into_pending(routes));
             }
         }
         Event::Over

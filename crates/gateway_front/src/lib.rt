@@ -10,11 +10,11 @@ mod connections;
 mod listening;
 mod log;
 mod open;
-mod question;
+mod pending;
 mod staying;
 
 pub use bounds::{Bounds, Persistence};
 pub use connection::Connection;
 pub use connections::{Connections, Event};
 pub use log::{Fetch, LogLock};
-pub use question::{Answered, Question};
+pub use pending::{Answered, PendingRequest};

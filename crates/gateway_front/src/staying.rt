@@ -3,7 +3,7 @@
 use crate::connection::{Connection, Stage};
 use crate::connections::{Connections, deadline_after};
 use crate::log::target_line;
-use crate::question::Asked;
+use crate::pending::Asked;
 use gateway_answers::Status;
 use gateway_exchange::Progress;
 use gateway_requests::Routes;

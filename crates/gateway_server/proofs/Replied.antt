@@ -7,21 +7,21 @@ use Rattle.gateway_requests.specs.Request.{Request, request_of}
 use Rattle.gateway_requests.specs.Steps.{Tells}
 use Rattle.gateway_requests.specs.declared.request.Request as rust
 use Rattle.gateway_front.specs.Answered.{IsAnswered}
-use Rattle.gateway_front.specs.Handing.{Handed, IsQuestion}
-use Rattle.gateway_front.specs.declared.question.Answered.{Answered}
+use Rattle.gateway_front.specs.Handing.{Handed, AsksOver}
+use Rattle.gateway_front.specs.declared.pending.Answered.{Answered}
 use Rattle.gateway_server.specs.Replying.{IsRepliedOver}
 
 pub replied_over : (replies : Result Request Fault → List ℕ → ℕ → Type 0) (asking connection : Handed)
     (request : Result rust.Request Fault) (bytes : AnswerBytes) (status : ℕ) (result : Result Answered AllocError)
-    → connection ≡ asking → IsQuestion asking request
+    → connection ≡ asking → AsksOver asking request
     → ((asked : Result Request Fault) → Tells request_of request asked → replies asked (bytes.front.items ++ bytes.rest.items) status)
     → IfOk result (IsAnswered connection bytes) → IfOk result (IsRepliedOver replies asking)
-replied_over replies asking connection request bytes status (Ok answered) same question told is = record {
-  asked = question.asked;
-  is_asked = question.is_asked;
+replied_over replies asking connection request bytes status (Ok answered) same asks told is = record {
+  asked = asks.asked;
+  is_asked = asks.is_asked;
   bytes = bytes;
   status = status;
-  replies_to = told question.asked question.tells;
+  replies_to = told asks.asked asks.tells;
   answers = subst (λ (h : Handed). IsAnswered h bytes answered) same is;
 }
-replied_over replies asking connection request bytes status (Err _) same question told is = tt
+replied_over replies asking connection request bytes status (Err _) same asks told is = tt

@@ -11,7 +11,7 @@ use Rattle.gateway_core.specs.declared.named.Sight.{Sight}
 use Rattle.gateway_core.specs.declared.transcode.TranscodeFault.{TranscodeFault}
 use Rattle.gateway_front.specs.Answered.{IsAnswered}
 use Rattle.gateway_front.specs.Handing.{Handed, IsAskedOver}
-use Rattle.gateway_front.specs.declared.question.Answered.{Answered}
+use Rattle.gateway_front.specs.declared.pending.Answered.{Answered}
 
 -- The answer is a reply, as `replies` says, to what is asked over the connection, and it is to be sent over it.
 pub record IsRepliedOver (replies : Result Request Fault → List ℕ → ℕ → Type 0) (asking : Handed) (answered : Answered)

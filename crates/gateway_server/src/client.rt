@@ -44,10 +44,10 @@ fn serve_requests<'p, R: Wait + Clock>(
     ensures { Rests app.now.pool.now seat.new }
 {
     for _ in rt.forever() {
-        let Some(question) = gate.next() else {
+        let Some(pending) = gate.next() else {
             return;
         };
-        if let Ok(answered) = reply_over(rt, app, seat, gate, question) {
+        if let Ok(answered) = reply_over(rt, app, seat, gate, pending) {
             gate.send(answered);
         }
     }

@@ -4,7 +4,7 @@ ghost use Rattle.std.specs.Prelude.{◌≡◌, IfSome};
 
 use crate::beside::Beside;
 use gateway_answers::{Fault, UpstreamFault};
-use gateway_front::{Fetch, Question};
+use gateway_front::{Fetch, PendingRequest};
 use gateway_requests::Request;
 use gateway_upstream::{Looked, needed_by};
 use std::alloc::Global;
@@ -24,14 +24,14 @@ pub const MOST_WAITING_BYTES: usize = 67_108_864;
 /// A request whose schemas were looked up.
 #[derive(Drop)]
 pub(crate) struct Ready<'a, 'r, U: Upstream> {
-    pub(crate) question: Question,
+    pub(crate) pending: PendingRequest,
     pub(crate) looked: Looked<'a, 'r, U>,
 }
 
 /// A request that waits, and until when.
 #[derive(Drop)]
 struct Waiting {
-    question: Question,
+    pending: PendingRequest,
     deadline: Instant,
 }
 
@@ -157,24 +157,24 @@ impl<'a, 'r, U: Upstream> Desk<'a, 'r, U> {
     fn waiting_bytes(&self) -> usize {
         let mut bytes: usize = 0;
         for waiting in &self.waiting {
-            bytes = bytes.saturating_add(message_size(waiting.question.request()));
+            bytes = bytes.saturating_add(message_size(waiting.pending.request()));
         }
         bytes
     }
 
     /// Puts a request aside until a deadline. Returns it where as many wait as may, or memory runs out.
-    fn put_aside(&mut self, question: Question, deadline: Instant) -> Option<Question>
+    fn put_aside(&mut self, pending: PendingRequest, deadline: Instant) -> Option<PendingRequest>
         ensures { self.new ≡ self.old }
     {
         let bytes = self
             .waiting_bytes()
-            .saturating_add(message_size(question.request()));
+            .saturating_add(message_size(pending.request()));
         if self.waiting.len() >= MOST_WAITING || bytes > MOST_WAITING_BYTES {
-            return Some(question);
+            return Some(pending);
         }
-        match self.waiting.push_back(Waiting { question, deadline }) {
+        match self.waiting.push_back(Waiting { pending, deadline }) {
             Ok(()) => None,
-            Err(refused) => Some(refused.value.question),
+            Err(refused) => Some(refused.value.pending),
         }
     }
 
@@ -183,7 +183,7 @@ impl<'a, 'r, U: Upstream> Desk<'a, 'r, U> {
     pub(crate) fn take_in<R: Wait + Clock>(
         &mut self,
         rt: &R,
-        question: Question,
+        pending: PendingRequest,
     ) -> Option<Ready<'a, 'r, U>>
         ensures desk { self.new ≡ self.old }
         ensures looked { IfSome result (λ ready. ready.looked.names ≡ self.old) }
@@ -191,12 +191,12 @@ impl<'a, 'r, U: Upstream> Desk<'a, 'r, U> {
         let now = Instant::now(rt).ok()?;
         let deadline = now.checked_add(self.beside.options.patience)?;
         let times = Times { now, deadline };
-        if let Some(looked) = self.look_at(rt, question.request(), times) {
-            return Some(Ready { question, looked });
+        if let Some(looked) = self.look_at(rt, pending.request(), times) {
+            return Some(Ready { pending, looked });
         }
-        let question = self.put_aside(question, deadline)?;
+        let pending = self.put_aside(pending, deadline)?;
         let looked = Looked::new(self.beside.schemas);
-        Some(Ready { question, looked })
+        Some(Ready { pending, looked })
     }
 
     /// Takes out the questions that are to be logged.
@@ -219,15 +219,15 @@ impl<'a, 'r, U: Upstream> Desk<'a, 'r, U> {
     {
         let now = Instant::now(rt).ok()?;
         for _ in 0..self.round {
-            let Some(Waiting { question, deadline }) = self.waiting.pop_front() else {
+            let Some(Waiting { pending, deadline }) = self.waiting.pop_front() else {
                 break;
             };
             self.round = self.round.saturating_sub(1);
             let times = Times { now, deadline };
-            if let Some(looked) = self.look_at(rt, question.request(), times) {
-                return Some(Ready { question, looked });
+            if let Some(looked) = self.look_at(rt, pending.request(), times) {
+                return Some(Ready { pending, looked });
             }
-            let _ = self.waiting.push_back(Waiting { question, deadline });
+            let _ = self.waiting.push_back(Waiting { pending, deadline });
         }
         None
     }

@@ -10,7 +10,7 @@ ghost use Rattle.upstream_schemas.specs.Naming.{IsNamingOf};
 ghost use Rattle.gateway_server.specs.Replying.{IsRepliedByIds, IsRepliedTo};
 
 use gateway::{App, Gate, reply_to};
-use gateway_front::{Answered, Question};
+use gateway_front::{Answered, PendingRequest};
 use gateway_upstream::{Looked, reply_upstream};
 use session_pool::ClientSeat;
 use std::alloc::AllocError;
@@ -25,14 +25,14 @@ pub fn reply_over<'p, R: Wait + Clock, G: Gate>(
     app: &App<'_, 'p>,
     seat: &mut ClientSeat<'p>,
     gate: &mut G,
-    question: Question,
+    pending: PendingRequest,
 ) -> Result<Answered, AllocError>
     requires { Rests app.now.pool.now seat.old }
     ensures seat { Rests app.now.pool.now seat.new }
     ensures replied { IfOk result (IsRepliedTo (IsWhyNone (Refuses seat.old seat.new) (SaidNo G.says gate.old gate.new))
-        app.now.registry.now question) }
+        app.now.registry.now pending) }
 {
-    let (request, connection) = question.into_parts();
+    let (request, connection) = pending.into_parts();
     let reply = reply_to(rt, app, seat, gate, request)?;
     connection.answer(rt, reply.bytes, reply.status)
 }
@@ -45,16 +45,16 @@ pub fn reply_by_ids<'p, R: Wait + Clock, U: Upstream, G: Gate>(
     looked: &mut Looked<'_, '_, U>,
     seat: &mut ClientSeat<'p>,
     gate: &mut G,
-    question: Question,
+    pending: PendingRequest,
 ) -> Result<Answered, AllocError>
     requires schemas { looked.old.names.registry ≡ app.now.registry.now }
     requires seat { Rests app.now.pool.now seat.old }
     ensures seat { Rests app.now.pool.now seat.new }
     ensures replied { IfOk result (IsRepliedByIds
         (IsWhyNone (Refuses seat.old seat.new) (SaidNo G.says gate.old gate.new)) looked.old.names.registry
-        (IsNamingOf U.heard U.kept looked.old.names) (IsWhyNotShown U.heard U.kept looked.old.looks) question) }
+        (IsNamingOf U.heard U.kept looked.old.names) (IsWhyNotShown U.heard U.kept looked.old.looks) pending) }
 {
-    let (request, connection) = question.into_parts();
+    let (request, connection) = pending.into_parts();
     let reply = reply_upstream(rt, app, looked, seat, gate, request)?;
     connection.answer(rt, reply.bytes, reply.status)
 }

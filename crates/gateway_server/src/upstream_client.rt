@@ -35,8 +35,8 @@ fn next_ready<'a, 'r, R: Wait + Clock, U: Upstream>(
                     gate.note_fetch(fetch);
                 }
             }
-            Event::Request(question) => {
-                if let Some(ready) = desk.take_in(rt, question) {
+            Event::Request(pending) => {
+                if let Some(ready) = desk.take_in(rt, pending) {
                     return Some(ready);
                 }
             }
@@ -63,10 +63,10 @@ pub(crate) fn serve_upstream<'p, R: Wait + Clock, U: Upstream>(
             return;
         };
         let Ready {
-            question,
+            pending,
             mut looked,
         } = ready;
-        if let Ok(answered) = reply_by_ids(rt, app, &mut looked, seat, gate, question) {
+        if let Ok(answered) = reply_by_ids(rt, app, &mut looked, seat, gate, pending) {
             gate.send(answered);
         }
     }

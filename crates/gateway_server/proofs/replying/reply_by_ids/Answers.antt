@@ -6,5 +6,5 @@ pub returns-clause-replied : goal.returns-clause-replied
 returns-clause-replied g c =
     let parts = c.into_parts-request in
     let reply = c.in_ok-reply.reply in
-    replied_over _ c.args.question parts.result.1 parts.result.0 reply.bytes reply.status c.answer.result parts.ensures.connection
+    replied_over _ c.args.pending parts.result.1 parts.result.0 reply.bytes reply.status c.answer.result parts.ensures.connection
     parts.ensures.asks (λ asked tells. (reply.sight, c.in_ok-reply.ensures.told asked tells)) c.answer.ensures

@@ -1,16 +1,16 @@
 -- The tag has the bytes that were received.
 use Rattle.std.proofs.Common.{ℕ, List, [], None, Err, subst, sym, arith}
 use Rattle.gateway_answers.specs.declared.fault.Fault.TheVariants.{NoMemory}
-use Rattle.gateway_front.specs.Handing.{IsQuestion}
-use Rattle.gateway_front.proofs.Questions.{asked_by_bytes}
-use Rattle.gateway_front.proofs.question.read_once.Goals as goal
+use Rattle.gateway_front.specs.Handing.{AsksOver}
+use Rattle.gateway_front.proofs.Asking.{asked_by_bytes}
+use Rattle.gateway_front.proofs.pending.read_once.Goals as goal
 
 pub returns-clause-asks : goal.returns-clause-asks
 returns-clause-asks c =
-    let P : List ℕ → Type 0 = λ bytes. IsQuestion (record { stream = None; received = bytes }) c.into_request.result in
+    let P : List ℕ → Type 0 = λ bytes. AsksOver (record { stream = None; received = bytes }) c.into_request.result in
     subst P (sym c.of.ensures) (asked_by_bytes c.in-Some.reception.bytes c.into_request.result c.into_request.ensures.ended)
 
 pub returns-in_default-clause-asks : goal.returns-in_default-clause-asks
 returns-in_default-clause-asks c =
-    let P : List ℕ → Type 0 = λ bytes. IsQuestion (record { stream = None; received = bytes }) (Err NoMemory) in
+    let P : List ℕ → Type 0 = λ bytes. AsksOver (record { stream = None; received = bytes }) (Err NoMemory) in
     subst P (sym c.empty.ensures) (asked_by_bytes [] (Err NoMemory) (λ some. absurd (omega (arith, some))))

@@ -1,6 +1,6 @@
 -- The answer was passed on with the date.
 use Rattle.gateway_front.proofs.Passed.{passed}
-use Rattle.gateway_front.proofs.question.pass_on.Goals as goal
+use Rattle.gateway_front.proofs.pending.pass_on.Goals as goal
 
 pub returns : goal.returns
 returns g c =

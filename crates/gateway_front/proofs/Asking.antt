@@ -9,7 +9,7 @@ use Rattle.gateway_requests.specs.declared.request.Request as rust
 use Rattle.persistent_exchange.specs.Answering.{IsNext}
 use Rattle.persistent_exchange.specs.Persistent.{Persistent}
 use Rattle.persistent_exchange.specs.Stream as streams
-use Rattle.gateway_front.specs.Handing.{IsQuestion, next, nothing, received, refused}
+use Rattle.gateway_front.specs.Handing.{AsksOver, next, nothing, received, refused}
 
 -- what is asked by a request itself
 abbrev itself : Result rust.Request Fault → Result Request Fault
@@ -22,7 +22,7 @@ tells_itself (Err fault) = λ _. refl
 
 -- what the bytes ask is asked, and nothing is said where there are none
 pub asked_by_bytes : (bytes : List ℕ) (request : Result rust.Request Fault)
-    → (0 < length bytes → TellsWhole bytes request) → IsQuestion (record { stream = None; received = bytes }) request
+    → (0 < length bytes → TellsWhole bytes request) → AsksOver (record { stream = None; received = bytes }) request
 asked_by_bytes [] request ended =
     record { asked = itself request; is_asked = nothing (itself request); tells = tells_itself request }
 asked_by_bytes (byte ∷ bytes) request ended =
@@ -32,11 +32,11 @@ asked_by_bytes (byte ∷ bytes) request ended =
 -- what the next request of a stream asks is asked
 pub asked_next : (p : Persistent) (bytes : List ℕ) (a : streams.Asked) (request : Result rust.Request Fault) → IsNext p a
     → Tells request_of request (asked_at a.method a.target a.content)
-    → IsQuestion (record { stream = Some p; received = bytes }) request
+    → AsksOver (record { stream = Some p; received = bytes }) request
 asked_next p bytes a request is tells =
     record { asked = asked_at a.method a.target a.content; is_asked = next p bytes a is; tells = tells }
 
 -- a request of a stream is refused
 pub refused_over : (p : Persistent) (bytes : List ℕ) (fault : Fault)
-    → IsQuestion (record { stream = Some p; received = bytes }) (Err fault)
+    → AsksOver (record { stream = Some p; received = bytes }) (Err fault)
 refused_over p bytes fault = record { asked = Err fault; is_asked = refused p bytes fault; tells = λ _. refl }

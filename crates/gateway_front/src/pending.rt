@@ -1,7 +1,7 @@
 //! A request that is handed out, and what is answered to it.
 
 ghost use Rattle.std.specs.Prelude.{◌≡◌, ℕ, IfOk, List, None, OnOk, Some};
-ghost use Rattle.gateway_front.specs.Handing.{IsQuestion};
+ghost use Rattle.gateway_front.specs.Handing.{AsksOver};
 ghost use Rattle.gateway_front.specs.Passing.{AnswersTheNext};
 ghost use Rattle.gateway_requests.specs.Request.{request_of};
 ghost use Rattle.gateway_requests.specs.Sizes.{IsWithin};
@@ -29,14 +29,14 @@ pub(crate) struct Asked {
 /// A request that is handed out, or its first fault, and the connection that waits for the answer. Callers see it as
 /// its connection.
 #[derive(Drop)]
-pub struct Question {
+pub struct PendingRequest {
     request: Result<Request, Fault>,
     connection: Connection,
 }
 
-impl Model for Question {
+impl Model for PendingRequest {
     ghost use Rattle.std.specs.Prelude.{IfOk};
-    ghost use Rattle.gateway_front.specs.Handing.{Handed, IsQuestion};
+    ghost use Rattle.gateway_front.specs.Handing.{Handed, AsksOver};
     ghost use Rattle.gateway_requests.specs.Request.{request_of};
     ghost use Rattle.gateway_requests.specs.Sizes.{IsWithin};
     ghost use Rattle.gateway_requests.specs.declared.limits.TheConstants.{MOST_BODY};
@@ -45,7 +45,7 @@ impl Model for Question {
 
     ghost view = { λ q. q.connection };
 
-    ghost invariant = { λ q. IsQuestion q.connection q.request
+    ghost invariant = { λ q. AsksOver q.connection q.request
         × IfOk q.request (λ request. IsWithin MOST_BODY (request_of request)) };
 }
 
@@ -67,7 +67,7 @@ impl Names<Reception> for ItsBytes {
 /// Returns the request of a connection that does not stay, by what was received of it: `NoMemory` where there is none.
 /// Notes by what it was asked.
 fn read_once(asked_by: &mut Tag, reception: Option<Reception>) -> Result<Request, Fault>
-    ensures asks { IsQuestion (record { stream = None; received = asked_by.new.numbers }) result }
+    ensures asks { AsksOver (record { stream = None; received = asked_by.new.numbers }) result }
     ensures size { IfOk result (λ request. IsWithin MOST_BODY (request_of request)) }
 {
     let Some(reception) = reception else {
@@ -79,9 +79,9 @@ fn read_once(asked_by: &mut Tag, reception: Option<Reception>) -> Result<Request
 }
 
 /// Returns the next request of the requests of a connection that stays.
-#[tactic(auto, using(crate::proofs::Questions::asked_next, crate::proofs::Questions::refused_over))]
+#[tactic(auto, using(crate::proofs::Asking::asked_next, crate::proofs::Asking::refused_over))]
 fn read_next(stays: &mut RequestStream, routes: &Routes) -> Result<Request, Fault>
-    ensures asks { (received : List ℕ) → IsQuestion (record { stream = Some stays.new; received = received }) result }
+    ensures asks { (received : List ℕ) → AsksOver (record { stream = Some stays.new; received = received }) result }
     ensures size { IfOk result (λ request. IsWithin MOST_BODY (request_of request)) }
 {
     match stays.take_request(routes) {
@@ -108,7 +108,7 @@ fn read(
     reception: Option<Reception>,
     routes: &Routes,
 ) -> Result<Request, Fault>
-    ensures asks { IsQuestion connection.new result }
+    ensures asks { AsksOver connection.new result }
     ensures size { IfOk result (λ request. IsWithin MOST_BODY (request_of request)) }
 {
     if let Some(stays) = &mut connection.stays {
@@ -120,21 +120,21 @@ fn read(
 
 impl Asked {
     /// Returns the request to be handed out, or its first fault, with the connection.
-    pub(crate) fn into_question(self, routes: &Routes) -> Question {
+    pub(crate) fn into_pending(self, routes: &Routes) -> PendingRequest {
         let Asked {
             connection,
             reception,
         } = self;
         let mut connection = connection;
         let request = read(&mut connection, reception, routes);
-        Question {
+        PendingRequest {
             request,
             connection,
         }
     }
 }
 
-impl Question {
+impl PendingRequest {
     /// Returns what is asked, or the first fault of the request.
     pub fn request(&self) -> &Result<Request, Fault>
         ensures { IfOk result.now (λ request. IsWithin MOST_BODY (request_of request)) }
@@ -145,10 +145,10 @@ impl Question {
     /// Returns what is asked, or the first fault of the request, and the connection that waits for the answer.
     pub fn into_parts(self) -> (Result<Request, Fault>, Connection)
         ensures connection { result.1 ≡ self }
-        ensures asks { IsQuestion self result.0 }
+        ensures asks { AsksOver self result.0 }
         ensures size { IfOk result.0 (λ request. IsWithin MOST_BODY (request_of request)) }
     {
-        let Question {
+        let PendingRequest {
             request,
             connection,
         } = self;
