@@ -5,9 +5,9 @@
 # The program, on inputs to each of its words but `replay`: status 4 and nothing written, or the whole answer where a
 # buffer could stay as it was, or, of `debug`, an answer that tells want of memory. `serve` does not begin, or answers
 # each request, asked once more where it told want of memory: with a store, beside a registry, and over connections that
-# stay too. The tests that ask again for what was refused: they pass, or
-# end because what they build themselves was refused (an output that is a vector refuses a write then), or because a call
-# that they compare tells want of memory; an answer that changed fails its assertion.
+# stay too. The tests that ask again for what was refused: they pass, or end because what they build themselves was
+# refused (an output that is a vector refuses a write then), or because a call that they compare tells want of memory; an
+# answer that changed fails its assertion.
 # Usage, after `rt ci`, or `rt run` in crates/avrogate and `rt test` in each crate of tests: tests/allocations.sh [PROGRAM]
 # (crates/avrogate/out/avrogate if it is left out)
 set -uo pipefail
