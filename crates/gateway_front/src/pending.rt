@@ -43,10 +43,10 @@ impl Model for PendingRequest {
 
     ghost Value = { Handed };
 
-    ghost view = { λ q. q.connection };
+    ghost view = { λ p. p.connection };
 
-    ghost invariant = { λ q. AsksOver q.connection q.request
-        × IfOk q.request (λ request. IsWithin MOST_BODY (request_of request)) };
+    ghost invariant = { λ p. AsksOver p.connection p.request
+        × IfOk p.request (λ request. IsWithin MOST_BODY (request_of request)) };
 }
 
 /// A connection, and the answer that is to be sent over it.
@@ -64,8 +64,8 @@ impl Names<Reception> for ItsBytes {
     ghost numbers = { λ received. received.bytes };
 }
 
-/// Returns the request of a connection that does not stay, by what was received of it: `NoMemory` where there is none.
-/// Notes by what it was asked.
+/// Returns the request of a connection that does not stay, or its first fault, which is `NoMemory` where memory ran out
+/// for what was received. Puts a tag of the bytes that were received into `asked_by`.
 fn read_once(asked_by: &mut Tag, reception: Option<Reception>) -> Result<Request, Fault>
     ensures asks { AsksOver (record { stream = None; received = asked_by.new.numbers }) result }
     ensures size { IfOk result (λ request. IsWithin MOST_BODY (request_of request)) }
@@ -78,7 +78,7 @@ fn read_once(asked_by: &mut Tag, reception: Option<Reception>) -> Result<Request
     reception.into_request()
 }
 
-/// Returns the next request of the requests of a connection that stays.
+/// Returns the next request of a connection that stays, or its first fault.
 #[tactic(auto, using(crate::proofs::Asking::asked_next, crate::proofs::Asking::refused_over))]
 fn read_next(stays: &mut RequestStream, routes: &Routes) -> Result<Request, Fault>
     ensures asks { (received : List ℕ) → AsksOver (record { stream = Some stays.new; received = received }) result }
@@ -90,8 +90,8 @@ fn read_next(stays: &mut RequestStream, routes: &Routes) -> Result<Request, Faul
     }
 }
 
-/// Passes the answer to the next request of the requests of a connection that stays on. The error is that memory ran
-/// out: the connection is to be closed then.
+/// Passes the answer to the next request on to the server of a connection that stays. The error is that memory ran out:
+/// the connection is to be closed then.
 pub(crate) fn pass_on<R: Clock>(
     rt: &R,
     stays: &mut RequestStream,
