@@ -67,6 +67,11 @@ class Registry(http.server.BaseHTTPRequestHandler):
         pass
 
 
+class Server(http.server.ThreadingHTTPServer):
+    def handle_error(self, *_):
+        """Says nothing of a question whose service has ended."""
+
+
 def exchange(port, method, path, body):
     """The body of the answer, or None where the connection is closed without one, maybe before all was sent. Over a
     connection that stays two requests are sent, and the body is that of the second."""
@@ -184,7 +189,7 @@ if STORE:
 if HTTP11:
     COMMAND += ["--http11"]
 if UPSTREAM:
-    registry = http.server.ThreadingHTTPServer(("127.0.0.1", 0), Registry)
+    registry = Server(("127.0.0.1", 0), Registry)
     threading.Thread(target=registry.serve_forever, daemon=True).start()
     COMMAND += ["--upstream", "http://127.0.0.1:%d" % registry.server_port]
 at, runs, failed = 1, 0, []
