@@ -8,6 +8,7 @@ use Rattle.gateway_requests.specs.Steps.{Tells}
 use Rattle.gateway_requests.specs.declared.request.Request as rust
 use Rattle.persistent_exchange.specs.Answering.{IsNext}
 use Rattle.persistent_exchange.specs.Persistent.{Persistent}
+use Rattle.persistent_exchange.specs.Refused.{IsRefused}
 use Rattle.persistent_exchange.specs.Stream as streams
 use Rattle.gateway_front.specs.Handing.{AsksOver, next, nothing, received, refused}
 
@@ -36,7 +37,8 @@ pub asked_next : (p : Persistent) (bytes : List ℕ) (a : streams.Asked) (reques
 asked_next p bytes a request is tells =
     record { asked = asked_at a.method a.target a.content; is_asked = next p bytes a is; tells = tells }
 
--- a request of a stream is refused
-pub refused_over : (p : Persistent) (bytes : List ℕ) (fault : Fault)
-    → AsksOver (record { stream = Some p; received = bytes }) (Err fault)
-refused_over p bytes fault = record { asked = Err fault; is_asked = refused p bytes fault; tells = λ _. refl }
+-- the next request of a stream is refused
+pub refused_over : (p : Persistent) (bytes : List ℕ) (a : streams.Asked) (fault : Fault) → IsNext p a
+    → IsRefused a fault → AsksOver (record { stream = Some p; received = bytes }) (Err fault)
+refused_over p bytes a fault is why =
+    record { asked = Err fault; is_asked = refused p bytes a fault is why; tells = λ _. refl }

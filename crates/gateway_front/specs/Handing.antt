@@ -7,6 +7,7 @@ use Rattle.gateway_requests.specs.Steps.{Tells}
 use Rattle.gateway_requests.specs.declared.request.Request as rust
 use Rattle.persistent_exchange.specs.Answering.{IsNext}
 use Rattle.persistent_exchange.specs.Persistent.{Persistent}
+use Rattle.persistent_exchange.specs.Refused.{IsRefused}
 use Rattle.persistent_exchange.specs.Stream as streams
 
 -- the connection of a request that is handed out: its requests and answers, where it stays, and the bytes that were
@@ -15,12 +16,12 @@ pub record Handed : Type 0 where
   pub stream : Option Persistent
   pub received : List ℕ
 
--- what is asked over the connection: what the next request of its stream asks, that a request is refused, or what the
--- bytes ask that were received. Nothing is said where there are none
+-- what is asked over the connection: what the next request of its stream asks, or the fault for which that is refused;
+-- or what the bytes ask that were received. Nothing is said where there are none
 pub data IsAskedOver : Handed → Result Request Fault → Type 0 where
   next : (p : Persistent) (received : List ℕ) (a : streams.Asked) → IsNext p a
       → IsAskedOver (record { stream = Some p; received = received }) (asked_at a.method a.target a.content)
-  refused : (p : Persistent) (received : List ℕ) (fault : Fault)
+  refused : (p : Persistent) (received : List ℕ) (a : streams.Asked) (fault : Fault) → IsNext p a → IsRefused a fault
       → IsAskedOver (record { stream = Some p; received = received }) (Err fault)
   received : (bytes : List ℕ) (asked : Result Request Fault) → IsAsked bytes asked
       → IsAskedOver (record { stream = None; received = bytes }) asked

@@ -163,8 +163,10 @@ impl Connections {
         moment: Option<Instant>,
     ) -> Event {
         for _ in rt.forever() {
-            if let Some(asked) = self.next_whole() {
-                return Event::Request(asked.into_pending(routes));
+            if let Some(asked) = self.next_whole()
+                && let Some(pending) = asked.into_pending(routes)
+            {
+                return Event::Request(pending);
             }
             if self.is_woken || is_past(rt, moment) {
                 self.is_woken = false;
@@ -173,8 +175,10 @@ impl Connections {
             if moment.is_none() && !self.is_accepting && self.open.is_empty() {
                 return Event::Over;
             }
-            if let Some(asked) = self.see_to_next(rt, routes, moment) {
-                return Event::Request(asked.into_pending(routes));
+            if let Some(asked) = self.see_to_next(rt, routes, moment)
+                && let Some(pending) = asked.into_pending(routes)
+            {
+                return Event::Request(pending);
             }
         }
         Event::Over

@@ -1,6 +1,6 @@
 //! A request that is handed out, and what is answered to it.
 
-ghost use Rattle.std.specs.Prelude.{◌≡◌, ℕ, IfOk, List, None, OnOk, Some};
+ghost use Rattle.std.specs.Prelude.{◌≡◌, ℕ, IfOk, IfSome, List, None, OnOk, Some};
 ghost use Rattle.gateway_front.specs.Handing.{AsksOver};
 ghost use Rattle.gateway_front.specs.Passing.{AnswersTheNext};
 ghost use Rattle.gateway_requests.specs.Request.{request_of};
@@ -78,15 +78,16 @@ fn read_once(asked_by: &mut Tag, reception: Option<Reception>) -> Result<Request
     reception.into_request()
 }
 
-/// Returns the next request of a connection that stays, or its first fault.
+/// Returns the next request of a connection that stays, or its first fault. `None` where none has come whole.
 #[tactic(auto, using(crate::proofs::Asking::asked_next, crate::proofs::Asking::refused_over))]
-fn read_next(stays: &mut RequestStream, routes: &Routes) -> Result<Request, Fault>
-    ensures asks { (received : List ℕ) → AsksOver (record { stream = Some stays.new; received = received }) result }
-    ensures size { IfOk result (λ request. IsWithin MOST_BODY (request_of request)) }
+fn read_next(stays: &mut RequestStream, routes: &Routes) -> Option<Result<Request, Fault>>
+    ensures asks { IfSome result (λ r. (received : List ℕ)
+        → AsksOver (record { stream = Some stays.new; received = received }) r) }
+    ensures size { IfSome result (λ r. IfOk r (λ request. IsWithin MOST_BODY (request_of request))) }
 {
-    match stays.take_request(routes) {
-        Ok(request) => request.into_request(),
-        Err(fault) => Err(fault),
+    match stays.take_request(routes)? {
+        Ok(request) => Some(request.into_request()),
+        Err(fault) => Some(Err(fault)),
     }
 }
 
@@ -102,35 +103,36 @@ pub(crate) fn pass_on<R: Clock>(
     stays.answer(bytes, date(rt))
 }
 
-/// Returns the request of a connection, or its first fault.
+/// Returns the request of a connection, or its first fault. `None` where it stays and no request has come whole.
 fn read(
     connection: &mut Connection,
     reception: Option<Reception>,
     routes: &Routes,
-) -> Result<Request, Fault>
-    ensures asks { AsksOver connection.new result }
-    ensures size { IfOk result (λ request. IsWithin MOST_BODY (request_of request)) }
+) -> Option<Result<Request, Fault>>
+    ensures asks { IfSome result (AsksOver connection.new) }
+    ensures size { IfSome result (λ r. IfOk r (λ request. IsWithin MOST_BODY (request_of request))) }
 {
     if let Some(stays) = &mut connection.stays {
         drop(reception); // of a connection that stays there is none
         return read_next(stays, routes);
     }
-    read_once(&mut connection.asked_by, reception)
+    Some(read_once(&mut connection.asked_by, reception))
 }
 
 impl Asked {
-    /// Returns the request to be handed out, or its first fault, with the connection.
-    pub(crate) fn into_pending(self, routes: &Routes) -> PendingRequest {
+    /// Returns the request to be handed out, or its first fault, with the connection. `None` where there is none: then
+    /// the connection is closed.
+    pub(crate) fn into_pending(self, routes: &Routes) -> Option<PendingRequest> {
         let Asked {
             connection,
             reception,
         } = self;
         let mut connection = connection;
-        let request = read(&mut connection, reception, routes);
-        PendingRequest {
+        let request = read(&mut connection, reception, routes)?;
+        Some(PendingRequest {
             request,
             connection,
-        }
+        })
     }
 }
 

@@ -1,11 +1,12 @@
 //! The requests of a connection that stays, one after another, and their answers.
 
-ghost use Rattle.std.specs.Prelude.{◌≡◌, IfOk, OnOk};
+ghost use Rattle.std.specs.Prelude.{◌≡◌, IfErr, IfOk, IfSome, OnOk};
 ghost use Rattle.gateway_exchange.specs.Exchange.{Gains};
 ghost use Rattle.http_server.specs.History.{IsServed};
 ghost use Rattle.persistent_exchange.specs.Answering.{AnswersNext, CallsFor, IsNext};
 ghost use Rattle.persistent_exchange.specs.Persistent.{Writes, received, sent};
 ghost use Rattle.persistent_exchange.specs.Preparing.{answer_of};
+ghost use Rattle.persistent_exchange.specs.Refused.{IsRefused};
 ghost use Rattle.persistent_exchange.specs.Stream.{Asked, asked_of};
 
 use crate::closing::closing_fault;
@@ -301,22 +302,28 @@ impl RequestStream {
         Course::Ready
     }
 
-    /// Returns the request that has come whole, to be answered next; or the fault that it has, `BadRequest` where none
-    /// has come whole since the last was taken.
-    pub fn take_request(&mut self, routes: &Routes) -> Result<WholeRequest, Fault>
-        ensures request { IfOk result (λ request. request ≡ asked_of self.old.scouted) }
-        ensures next { IfOk result (IsNext self.new) }
+    /// Returns the request that has come whole, to be answered next, or the fault for which it is refused. `None` where
+    /// none has come whole since the last was taken.
+    pub fn take_request(&mut self, routes: &Routes) -> Option<Result<WholeRequest, Fault>>
+        ensures request { IfSome result (λ r. IfOk r (λ request. request ≡ asked_of self.old.scouted)) }
+        ensures refused { IfSome result (λ r. IfErr r (IsRefused (asked_of self.old.scouted))) }
+        ensures next { IfSome result (λ _. IsNext self.new (asked_of self.old.scouted)) }
         ensures received { received self.new ≡ received self.old }
         ensures sent { sent self.new ≡ sent self.old }
     {
-        let Some(content) = self.exchange.take_content(self.alloc) else {
-            return Err(Fault::BadRequest);
-        };
+        let content = self.exchange.take_content(self.alloc)?;
         self.largest = self.largest.max(content.len());
         self.is_within = false;
         self.sent = 0;
         let scout = self.exchange.scout();
-        WholeRequest::new(self.alloc, routes, scout.method(), scout.target(), content)
+        let request = WholeRequest::new(
+            self.alloc,
+            routes,
+            scout.method(),
+            scout.target(),
+            content,
+        );
+        Some(request)
     }
 
     /// Passes the answer to the request that has come whole to the server, with a date, where there is a clock. The

@@ -1,11 +1,12 @@
 //! A request of a connection that stays, which has come whole.
 
-ghost use Rattle.std.specs.Prelude.{◌≡◌, IfOk};
+ghost use Rattle.std.specs.Prelude.{◌≡◌, IfErr, IfOk};
 ghost use Rattle.gateway_requests.specs.Asking.{asked_at};
 ghost use Rattle.gateway_requests.specs.Request.{request_of};
 ghost use Rattle.gateway_requests.specs.Sizes.{IsWithin};
 ghost use Rattle.gateway_requests.specs.Steps.{Tells};
 ghost use Rattle.gateway_requests.specs.declared.limits.TheConstants.{MOST_BODY};
+ghost use Rattle.persistent_exchange.specs.Refused.{IsRefused};
 
 use gateway_answers::Fault;
 use gateway_requests::{Action, MOST_BODY, Request, Routes, action_at, path_of, request_of};
@@ -52,8 +53,10 @@ impl WholeRequest {
         target: &[u8],
         content: Vec<u8>,
     ) -> Result<WholeRequest, Fault>
-        ensures { IfOk result (λ request. request
+        ensures request { IfOk result (λ request. request
             ≡ record { method = method.now; target = target.now; content = content.items }) }
+        ensures refused { IfErr result (IsRefused
+            (record { method = method.now; target = target.now; content = content.items })) }
     {
         if content.len() > MOST_BODY {
             return Err(Fault::TooLarge);

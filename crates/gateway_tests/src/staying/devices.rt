@@ -137,7 +137,7 @@ fn answer(
     stream: &mut RequestStream,
     seen: &mut Seen,
 ) -> Result<(), AllocError> {
-    if let Ok(request) = stream.take_request(routes) {
+    if let Some(Ok(request)) = stream.take_request(routes) {
         stream.answer(noted(alloc, &request, seen)?, None)?;
         write(stream, &mut seen.receiver);
         stream.turn();
