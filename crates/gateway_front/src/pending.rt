@@ -68,6 +68,7 @@ impl Names<Reception> for ItsBytes {
 /// for what was received. Puts a tag of the bytes that were received into `asked_by`.
 fn read_once(asked_by: &mut Tag, reception: Option<Reception>) -> Result<Request, Fault>
     ensures asks { AsksOver (record { stream = None; received = asked_by.new.numbers }) result }
+    ensures tagged { IfSome reception (λ r. asked_by.new.numbers ≡ r.bytes) }
     ensures size { IfOk result (λ request. IsWithin MOST_BODY (request_of request)) }
 {
     let Some(reception) = reception else {
@@ -110,6 +111,8 @@ fn read(
     routes: &Routes,
 ) -> Option<Result<Request, Fault>>
     ensures asks { IfSome result (AsksOver connection.new) }
+    ensures received { connection.old.stream ≡ None → IfSome reception (λ r. connection.new.received ≡ r.bytes) }
+    ensures closes { connection.old.stream ≡ None → connection.new.stream ≡ None }
     ensures size { IfSome result (λ r. IfOk r (λ request. IsWithin MOST_BODY (request_of request))) }
 {
     if let Some(stays) = &mut connection.stays {
@@ -122,7 +125,10 @@ fn read(
 impl Asked {
     /// Returns the request to be handed out, or its first fault, with the connection. `None` where there is none: then
     /// the connection is closed.
-    pub(crate) fn into_pending(self, routes: &Routes) -> Option<PendingRequest> {
+    pub(crate) fn into_pending(self, routes: &Routes) -> Option<PendingRequest>
+        ensures { self.connection.stream ≡ None → IfSome result (λ pending. (pending.stream ≡ None)
+            × IfSome self.reception (λ r. pending.received ≡ r.bytes)) }
+    {
         let Asked {
             connection,
             reception,

@@ -56,7 +56,8 @@ impl<U: Upstream> KnownNaming<U> {
         requires receipt { IsReceiptOf cells.now.registry found.old.receipt }
         requires named { IsNamed cells.now found.old.named }
         ensures same { found.new ≡ found.old }
-        ensures ids { result ≡ true ↔ ((self.now.named.id ≡ found.old.named.id) × (self.now.receipt.id ≡ found.old.receipt.id)) }
+        ensures ids { result ≡ true ↔ ((self.now.named.id ≡ found.old.named.id)
+            × (self.now.receipt.id ≡ found.old.receipt.id)) }
         ensures one { result ≡ true → IsOfOne found.old.named found.old.receipt }
     {
         if self.named.id() != found.named.id() || self.receipt.id() != found.receipt.id() {
