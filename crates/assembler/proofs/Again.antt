@@ -5,8 +5,8 @@ use Rattle.std.specs.Fmt.{decimal}
 use Rattle.std.specs.List.{AllByRecursion, flat_map}
 use Rattle.std.proofs.lemmas.List.{append-nil, length-append}
 use Rattle.hex.specs.Hex.{IsBytes, encode_lower}
-use Rattle.outcome.specs.MismatchKind as kinds
-use Rattle.outcome.specs.declared.mismatch.Mismatch.{Mismatch}
+use Rattle.avro_bytes.specs.MismatchKind as kinds
+use Rattle.avro_bytes.specs.declared.mismatch.Mismatch.{Mismatch}
 use Rattle.isa.specs.declared.entry.Entry.{Entry}
 use Rattle.isa.specs.declared.instr.Instr.{Instr}
 use Rattle.isa.specs.declared.limits.TheConstants.{MOST_CONSTANT_BYTES, MOST_ENTRIES, MOST_INSTRS, MOST_TABLES}
@@ -24,10 +24,10 @@ use Rattle.assembler.specs.declared.fault.AsmFault.{AsmFault}
 use Rattle.assembler.specs.Assembling.{◌>>=◌, Gives, assembled, fits_constant, fits_list, in_range, is_before_code, is_before_jumps, is_before_maps, is_before_misses, nothing, placed, with_constant, with_header, with_instr, with_jumps, with_lines, with_map, with_miss, with_words}
 use Rattle.assembler.specs.Listing.{constant_line, entry, instr_line, jumps_line, lines_from, listing_of, map_line, miss_line, number, operand}
 use Rattle.assembler.specs.Things.{constant_in, each_in, entry_in, instr_in, miss_in}
-use Rattle.assembler_lexer.specs.Words.{number_in, parts}
+use Rattle.assembler.specs.Words.{number_in, parts}
 use Rattle.assembler.proofs.Fit.{EntryFits, InstrFits, IsLow, MissFits, program_fits}
 use Rattle.assembler.proofs.Joined.{after}
-use Rattle.assembler_lexer.proofs.Numbers.{are_digits, model, number_again, tells}
+use Rattle.assembler.proofs.Numbers.{are_digits, model, number_again, tells}
 use Rattle.assembler.proofs.Taken.{ok_is}
 use Rattle.std.proofs.lemmas.Fmt.{digits_decimal}
 use Rattle.std.specs.Str.{bytes_eq}

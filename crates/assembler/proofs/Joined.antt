@@ -1,8 +1,8 @@
 -- The parts of a text, put together again.
 use Rattle.std.proofs.Common.{◌≡◌, ℕ, ◌<◌, nat_eq, cond, Bool, true, false, List, [], ◌∷◌, ◌++◌, length, refl, sym, ap, ◌∙◌, arith}
 use Rattle.std.proofs.lemmas.Bool.{eqb-true}
-use Rattle.assembler_lexer.specs.Words.{in_front, parts}
-use Rattle.assembler_lexer.proofs.Parts.{some}
+use Rattle.assembler.specs.Words.{in_front, parts}
+use Rattle.assembler.proofs.Parts.{some}
 
 module _ (s : ℕ) where
   -- parts, each after a separator

@@ -11,3 +11,5 @@ pub mod Whole
 pub mod Parted
 pub mod Spelled
 pub mod Again
+pub mod Numbers
+pub mod Parts

@@ -2,9 +2,9 @@
 use Rattle.std.proofs.Common.{◌≡◌, ℕ, ◌<◌, ◌≤◌, nat_eq, nat_lt, true, false, List, [], ◌∷◌, ◌++◌, refl, ap, ◌∙◌, arith}
 use Rattle.std.specs.List.{AllByRecursion, list_all}
 use Rattle.std.proofs.lemmas.List.{append-nil}
-use Rattle.assembler_lexer.specs.Words.{in_front, parts, words}
+use Rattle.assembler.specs.Words.{in_front, parts, words}
 use Rattle.assembler.proofs.Joined.{after}
-use Rattle.assembler_lexer.proofs.Numbers.{both}
+use Rattle.assembler.proofs.Numbers.{both}
 
 -- each byte is above a number
 abbrev pub Above : ℕ → List ℕ → Type 0

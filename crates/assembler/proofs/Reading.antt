@@ -8,8 +8,8 @@ use Rattle.assembler.specs.declared.fault.AsmFault.{AsmFault}
 use Rattle.std.specs.Prelude.{codes}
 use Rattle.std.specs.Str.{bytes_eq}
 use Rattle.assembler.specs.Assembling.{◌>>=◌, Fails, after_header, fault, nothing, with_header, with_lines, with_words}
-use Rattle.assembler_lexer.specs.Words.{parts, words}
-use Rattle.assembler_lexer.proofs.Parts.{parts_some}
+use Rattle.assembler.specs.Words.{parts, words}
+use Rattle.assembler.proofs.Parts.{parts_some}
 
 pub one_line : (at : ℕ) (P : Program) (line rest : List ℕ)
     → with_lines at P (line ∷ parts 10 rest) ≡ (with_words at P (words line) >>= λ Q. with_lines (at + 1) Q (parts 10 rest))

@@ -9,9 +9,9 @@ use Rattle.std.proofs.lemmas.List.Concat.{flat_map-cons}
 use Rattle.std.proofs.lemmas.Slice.Eq.{bytes_eq-Decides}
 use Rattle.hex.specs.declared.error.FromHexError.{FromHexError}
 use Rattle.hex.specs.Hex.{decode_of, encode_lower}
-use Rattle.outcome.specs.MismatchKind as kinds
-use Rattle.outcome.specs.declared.mismatch.Mismatch.{Mismatch}
-use Rattle.outcome.specs.declared.mismatch.MismatchKind.{MismatchKind}
+use Rattle.avro_bytes.specs.MismatchKind as kinds
+use Rattle.avro_bytes.specs.declared.mismatch.Mismatch.{Mismatch}
+use Rattle.avro_bytes.specs.declared.mismatch.MismatchKind.{MismatchKind}
 use Rattle.isa.specs.declared.entry.Entry.{Entry}
 use Rattle.isa.specs.declared.entry.Entry.TheVariants as entries
 use Rattle.isa.specs.declared.instr.Instr.{Instr}
@@ -21,13 +21,13 @@ use Rattle.isa.specs.declared.operation.Shape.{Shape}
 use Rattle.isa.specs.declared.operation.Shape.TheVariants as shapes
 use Rattle.isa.specs.Operation.{instr_of, name_of, operand_of, operation_of, shape_of}
 use Rattle.isa.specs.declared.operation.TheConstants.{OPERATIONS}
-use Rattle.assembler_lexer.specs.declared.words.TheConstants.{KINDS}
+use Rattle.assembler.specs.declared.words.TheConstants.{KINDS}
 use Rattle.assembler.specs.Listing.{entry, number, operand}
 use Rattle.assembler.specs.Things.{◌>>=◌, at_end, bytes_in, constant_in, each_in, entry_in, first_number, instr_in, miss_in, numbered, operand_in, spelled_so}
-use Rattle.assembler_lexer.specs.Words.{kind_named, number_in, operation_named}
+use Rattle.assembler.specs.Words.{kind_named, number_in, operation_named}
 use Rattle.assembler.proofs.Fit.{EntryFits, InstrFits, IsLow, MissFits, OperandFits}
 use Rattle.assembler.proofs.Joined.{after}
-use Rattle.assembler_lexer.proofs.Numbers.{both, number_taken}
+use Rattle.assembler.proofs.Numbers.{both, number_taken}
 
 pub bind_some : {A B : Type 0} (o : Option A) (f : A → Option B) (y : B) → (o >>= f) ≡ Some y → (x : A) × (o ≡ Some x) × (f x ≡ Some y)
 bind_some (Some x) f y e = (x, refl, e)

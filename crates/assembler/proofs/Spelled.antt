@@ -12,10 +12,10 @@ use Rattle.std.proofs.lemmas.Slice.Eq.{bytes_eq-Decides}
 use Rattle.hex.specs.declared.error.FromHexError.{FromHexError}
 use Rattle.hex.specs.Hex.{IsBytes, encode_lower, is_hex_digit}
 use Rattle.hex.proofs.HexLemmas.{decode_of-encode_lower, decode_of-ok}
-use Rattle.outcome.specs.MismatchKind as kinds
-use Rattle.outcome.specs.declared.mismatch.Mismatch.{Mismatch}
-use Rattle.outcome.specs.declared.mismatch.MismatchKind.{MismatchKind}
-use Rattle.outcome.specs.declared.mismatch.MismatchKind.TheVariants as kind
+use Rattle.avro_bytes.specs.MismatchKind as kinds
+use Rattle.avro_bytes.specs.declared.mismatch.Mismatch.{Mismatch}
+use Rattle.avro_bytes.specs.declared.mismatch.MismatchKind.{MismatchKind}
+use Rattle.avro_bytes.specs.declared.mismatch.MismatchKind.TheVariants as kind
 use Rattle.isa.specs.declared.entry.Entry.{Entry}
 use Rattle.isa.specs.declared.entry.Entry.TheVariants as entries
 use Rattle.isa.specs.declared.instr.Instr.{Instr}
@@ -28,10 +28,10 @@ use Rattle.isa.specs.Operation.{instr_of, name_of, operand_of, operation_of, sha
 use Rattle.isa.proofs.Operations as operations
 use Rattle.assembler.specs.Listing.{entry}
 use Rattle.assembler.specs.Things.{◌>>=◌, at_end, bytes_in, constant_in, each_in, entry_in, first_number, instr_in, miss_in, numbered, operand_in, spelled_so}
-use Rattle.assembler_lexer.specs.Words.{kind_named, number_in, operation_named}
+use Rattle.assembler.specs.Words.{kind_named, number_in, operation_named}
 use Rattle.assembler.proofs.Fit.{EntryFits, InstrFits, IsLow, MissFits, OperandFits}
 use Rattle.assembler.proofs.Joined.{after}
-use Rattle.assembler_lexer.proofs.Numbers.{are_digits, both, model, number_again, tells}
+use Rattle.assembler.proofs.Numbers.{are_digits, both, model, number_again, tells}
 use Rattle.assembler.proofs.Parted.{Above, AreWords, above_from_test}
 
 -- ---- numbers

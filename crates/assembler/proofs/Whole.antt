@@ -11,7 +11,7 @@ use Rattle.assembler.specs.declared.fault.AsmError.{AsmError}
 use Rattle.assembler.specs.declared.fault.AsmErrorKind.TheVariants.{BadHeader}
 use Rattle.assembler.specs.Assembling.{Gives, after_header, assembled, fault, in_range, nothing, with_header}
 use Rattle.assembler.specs.Listing.{listing_of}
-use Rattle.assembler_lexer.specs.Words.{parts}
+use Rattle.assembler.specs.Words.{parts}
 use Rattle.assembler.proofs.Fit.{Fits, program_fits}
 use Rattle.assembler.proofs.Joined.{joined, joined_parts}
 use Rattle.assembler.proofs.Said.{same_bytes}

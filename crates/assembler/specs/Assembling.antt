@@ -13,7 +13,7 @@ use Rattle.assembler.specs.declared.fault.AsmErrorKind.{AsmErrorKind}
 use Rattle.assembler.specs.declared.fault.AsmErrorKind.TheVariants.{BadHeader, BadLine, BadIndex, TooLarge, NoCode, OutOfRange}
 use Rattle.assembler.specs.declared.fault.AsmFault.{AsmFault}
 use Rattle.assembler.specs.Things.{Numbered, constant_in, each_in, entry_in, instr_in, miss_in, numbered}
-use Rattle.assembler_lexer.specs.Words.{number_in, parts, words}
+use Rattle.assembler.specs.Words.{number_in, parts, words}
 
 infixl 10 ◌>>=◌
 abbrev pub ◌>>=◌ : {A B : Type 0} → Result A AsmFault → (A → Result B AsmFault) → Result B AsmFault

@@ -5,11 +5,11 @@ ghost use Rattle.isa.specs.Program.{Program as Parted};
 ghost use Rattle.isa.specs.Range.{IsProgram};
 ghost use Rattle.assembler.specs.Assembling.{Gives, assembled, nothing, with_header, with_lines};
 ghost use Rattle.assembler.specs.Listing.{HasBytes, listing_of};
-ghost use Rattle.assembler_lexer.specs.Words.{parts};
+ghost use Rattle.assembler.specs.Words.{parts};
 
 use crate::draft::{Draft, fault};
 use crate::fault::{AsmError, AsmErrorKind};
-use assembler_lexer::{is_text, split_line};
+use crate::{is_text, split_line};
 use isa::Program;
 use std::alloc::Global;
 

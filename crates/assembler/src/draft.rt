@@ -5,12 +5,12 @@ ghost use Rattle.isa.specs.Judging.{judged};
 ghost use Rattle.isa.specs.Program.{Program as Parted};
 ghost use Rattle.assembler.specs.Assembling.{Gives, checked, fault, fault_of, in_range, index_of, is_before_code, is_before_jumps, is_before_maps, is_before_misses, nothing, with_constant, pushed_constant, with_instr, with_jumps, with_list, with_map, with_miss, with_words};
 ghost use Rattle.assembler.specs.Draft.{AreFirst};
-ghost use Rattle.assembler_lexer.specs.Words.{later, words};
+ghost use Rattle.assembler.specs.Words.{later, words};
 ghost use Rattle.assembler.specs.declared.fault.AsmError.TheVariants as errors;
 
 use crate::fault::{AsmError, AsmErrorKind, AsmFault};
 use crate::things::{first_number, instr_of, miss_of, numbered_constant, numbered_list};
-use assembler_lexer::{is_text, number_of, split_word};
+use crate::{is_text, number_of, split_word};
 use isa::{
     Lists, MOST_CONSTANT_BYTES, MOST_ENTRIES, MOST_INSTRS, MOST_TABLES, Parts, Program,
     ProgramError,

@@ -1,6 +1,6 @@
-//! Programs; used by `debugger`, `command_parser`, `commands`.
+//! Programs.
 //!
-//! The listings of programs: their text.
+//! The listings of programs: their text, and the words of its lines.
 #![tactic(auto)]
 
 mod assembling;
@@ -9,9 +9,13 @@ mod fault;
 mod laws;
 mod listing;
 mod things;
+mod words;
 
 pub use assembling::assemble;
 pub use fault::{AsmError, AsmErrorKind, AsmFault};
 pub use laws::listing_is_of_one_program;
 pub use listing::disassemble;
 pub use things::bytes_of;
+pub use words::{
+    is_numeral, is_text, kind_named, next_word, number_of, operation_named, split_line, split_word,
+};

@@ -4,8 +4,8 @@ ghost use Rattle.std.specs.Prelude.{◌≡◌, ◌++◌, string_bytes, OnOk, IfO
 ghost use Rattle.std.specs.List.{flat_map};
 ghost use Rattle.assembler.specs.Listing.{constant_line, entry, instr_line, jumps_line, lines, listing_of, map_line, miss_line, number, operand};
 
+use avro_bytes::Mismatch;
 use isa::{Entry, Instr, Lists, Program, Shape};
-use outcome::Mismatch;
 use std::alloc::{AllocError, Global};
 use std::fmt::Write;
 

@@ -2,12 +2,12 @@
 
 ghost use Rattle.std.specs.Prelude.{◌≡◌, ℕ, List, Option, IfOk, option_map};
 ghost use Rattle.assembler.specs.Things.{at_end, bytes_in, constant_in, each_in, entry_in, first_number, instr_in, miss_in, numbered, operand_in};
-ghost use Rattle.assembler_lexer.specs.Words.{later, number_in};
+ghost use Rattle.assembler.specs.Words.{later, number_in};
 
-use assembler_lexer::{kind_named, next_word, number_of, operation_named};
+use crate::{kind_named, next_word, number_of, operation_named};
+use avro_bytes::Mismatch;
 use hex::FromHexError;
 use isa::{Entry, Instr, Shape};
-use outcome::Mismatch;
 use std::alloc::{AllocError, Global};
 
 /// Returns the first number after a space, and what follows it; `None` where the next word is no number.

@@ -18,3 +18,5 @@ pub mod Text
 pub mod Walk
 pub mod Walking
 pub mod Written
+pub mod MismatchKind
+pub mod Outcome

@@ -17,7 +17,8 @@ ghost use Rattle.avro_bytes.specs.declared.fault.MalformedKind.TheVariants.{BadB
 ghost use Rattle.avro_bytes.specs.declared.meter.Meter.{Meter};
 
 use crate::limits::{
-    INT_BYTES, INT_LAST, LONG_BYTES, LONG_LAST, MOST_CONTENT, MOST_DEPTH, MOST_UNITS,
+    INT_BYTES, INT_LAST, LONG_BYTES, LONG_LAST, MOST_CONTENT, MOST_DEPTH, MOST_OUTPUT,
+    MOST_PAYLOAD, MOST_UNITS,
 };
 
 /// The law of what each limit is.
@@ -29,6 +30,8 @@ pub fn limits_are_these()
     ensures long_last { LONG_LAST ≡ 1 }
     ensures int_bytes { INT_BYTES ≡ 5 }
     ensures int_last { INT_LAST ≡ 15 }
+    ensures payload { MOST_PAYLOAD ≡ 16777216 }
+    ensures output { MOST_OUTPUT ≡ 67108864 }
 {}
 
 /// The law that the shortest encoding is an encoding, of the width that holds the number, and that no other is

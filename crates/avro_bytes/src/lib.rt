@@ -1,7 +1,7 @@
-//! Bytes and data; used by `outcome`, `avro_datum`, `program_compiler` and others.
+//! Bytes and data.
 //!
 //! The parts of Avro's binary encoding, each read, skipped and written on its own (Avro 1.11 Specification,
-//! "Binary Encoding").
+//! "Binary Encoding"), and what becomes of a payload: the types that every way of transcoding returns, and their limits.
 #![tactic(auto)]
 
 mod blob;
@@ -13,7 +13,9 @@ mod laws;
 mod length;
 mod limits;
 mod meter;
+mod mismatch;
 mod number;
+mod payload;
 mod position;
 mod put;
 mod text;
@@ -30,10 +32,13 @@ pub use laws::{
 };
 pub use length::read_length;
 pub use limits::{
-    INT_BYTES, INT_LAST, LONG_BYTES, LONG_LAST, MOST_CONTENT, MOST_DEPTH, MOST_UNITS,
+    INT_BYTES, INT_LAST, LONG_BYTES, LONG_LAST, MOST_CONTENT, MOST_DEPTH, MOST_OUTPUT,
+    MOST_PAYLOAD, MOST_UNITS,
 };
 pub use meter::Meter;
+pub use mismatch::{Mismatch, MismatchKind};
 pub use number::{Int, Long, read_int, read_long};
+pub use payload::Outcome;
 pub use position::{Position, read_position};
 pub use put::{long_len, put_long};
 pub use text::Text;

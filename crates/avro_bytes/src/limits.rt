@@ -21,3 +21,9 @@ pub const INT_BYTES: usize = 5;
 
 /// How great the last byte of an int of `INT_BYTES` may be: the last four bits of 32.
 pub const INT_LAST: u8 = 15;
+
+/// How many bytes a payload may have.
+pub const MOST_PAYLOAD: usize = 16_777_216;
+
+/// How many bytes an output may have.
+pub const MOST_OUTPUT: usize = 67_108_864;

@@ -5,7 +5,7 @@ use Rattle.avro_bytes.specs.Boolean.{boolean_byte}
 use Rattle.avro_bytes.specs.Shortest.{shortest}
 use Rattle.avro_bytes.specs.Written.{after_length, in_block}
 use Rattle.avro_types.specs.Datum.{Datum, Data, Pairs, NullDatum, BooleanDatum, IntDatum, LongDatum, BytesDatum, TextDatum, FixedDatum, EnumDatum, ArrayDatum, MapDatum, UnionDatum, RecordDatum, no_more, more, no_pairs, pair, how_many, how_many_pairs}
-use Rattle.outcome.specs.declared.limits.TheConstants.{MOST_OUTPUT}
+use Rattle.avro_bytes.specs.declared.limits.TheConstants.{MOST_OUTPUT}
 use Rattle.avro_datum.specs.declared.writing.WriteError.{WriteError}
 use Rattle.avro_datum.specs.declared.writing.WriteError.TheVariants.{TooLarge, NoMemory}
 

@@ -1,4 +1,4 @@
-//! Bytes and data; used by `resolver`, `program_lowering`, `program_compiler`.
+//! Bytes and data.
 //!
 //! Data by a schema: reading, skipping and writing them (Avro 1.11 Specification, "Binary Encoding").
 #![tactic(auto)]

@@ -6,9 +6,8 @@ ghost use Rattle.avro_types.specs.Datum.{data_of, datum_of, pairs_of};
 ghost use Rattle.avro_bytes.specs.Written.{after_length, block_count, in_block};
 ghost use Rattle.avro_datum.specs.Writing.{LeavesRoom, Writes, written, written_data, written_pairs};
 
-use avro_bytes::{long_len, put_long};
+use avro_bytes::{MOST_OUTPUT, long_len, put_long};
 use avro_types::Datum;
-use outcome::MOST_OUTPUT;
 use std::alloc::AllocError;
 use thiserror::Error;
 

@@ -3,7 +3,7 @@ use Rattle.std.proofs.Common.{◌≡◌, ℕ, ◌^◌, ◌<◌, ◌≤◌, false
 use Rattle.std.proofs.lemmas.List.{append-nil}
 use Rattle.std.specs.Prelude.{IfOk, IsOk, codes}
 use Rattle.std.specs.List.{flat_map, AllByRecursion}
-use Rattle.outcome.specs.declared.mismatch.Mismatch.{Mismatch}
+use Rattle.avro_bytes.specs.declared.mismatch.Mismatch.{Mismatch}
 use Rattle.isa.specs.declared.entry.Entry.{Entry}
 use Rattle.isa.specs.declared.entry.Entry.TheVariants as entries
 use Rattle.isa.specs.declared.instr.Instr.{Instr}
@@ -16,17 +16,17 @@ use Rattle.isa.specs.Lists.{total_length}
 use Rattle.isa.specs.Program.{Program}
 use Rattle.isa.specs.Range.{EntryIsInRange, InstrIsInRange, IsAddress, IsProgram, MissIsInRange, sizes_of}
 use Rattle.isa.proofs.Judged.{complete}
-use Rattle.avro_loader_format.specs.Reading.{◌>>=◌, Read, address_at, ended, most_instrs, opened, place}
-use Rattle.avro_loader_format.specs.Spelling.{long, address, version_byte}
-use Rattle.avro_loader_format.specs.declared.fault.ImageFault.{ImageFault}
-use Rattle.avro_loader_format.specs.declared.fault.ImageFault.TheVariants.{NoCode, OutOfRange}
-use Rattle.avro_loader_format.specs.declared.version.Format.{Format}
-use Rattle.avro_loader_format.specs.declared.version.Version.{Version}
-use Rattle.avro_loader_format.specs.declared.version.Version.TheVariants.{One, Two}
-use Rattle.avro_loader_format.proofs.Opened.{ended_ok, opened_again, opened_taken}
-use Rattle.avro_loader_format.proofs.Spelled.{address_limit, addresses}
-use Rattle.avro_loader_format.proofs.Steps.{bind_ok, ok_is, unless}
-use Rattle.avro_loader_format.proofs.Taking.{IsBytes, Takes, Takes-then, Reads}
+use Rattle.avro_loader.specs.ImageReading.{◌>>=◌, Read, address_at, ended, most_instrs, opened, place}
+use Rattle.avro_loader.specs.Spelling.{long, address, version_byte}
+use Rattle.avro_loader.specs.declared.image_fault.ImageFault.{ImageFault}
+use Rattle.avro_loader.specs.declared.image_fault.ImageFault.TheVariants.{NoCode, OutOfRange}
+use Rattle.avro_loader.specs.declared.version.Format.{Format}
+use Rattle.avro_loader.specs.declared.version.Version.{Version}
+use Rattle.avro_loader.specs.declared.version.Version.TheVariants.{One, Two}
+use Rattle.avro_loader.proofs.Opened.{ended_ok, opened_again, opened_taken}
+use Rattle.avro_loader.proofs.Spelled.{address_limit, addresses}
+use Rattle.avro_loader.proofs.Steps.{bind_ok, ok_is, unless}
+use Rattle.avro_loader.proofs.Taking.{IsBytes, Takes, Takes-then, Reads}
 use Rattle.avro_loader.specs.Image.{section, First, IsImage, Second, constant, entry, image, instr, miss, sections}
 use Rattle.avro_loader.specs.Reading.{count_at, section_at, things_at, Gives, code_at, constants_at, constants_section_at, entry_at, instr_at, miss_at}
 use Rattle.avro_loader.specs.declared.fault.LoadError.{LoadError}

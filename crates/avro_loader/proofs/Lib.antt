@@ -3,3 +3,7 @@ pub mod Fields
 pub mod Saved
 pub mod Things
 pub mod Images
+pub mod Steps
+pub mod Taking
+pub mod Spelled
+pub mod Opened

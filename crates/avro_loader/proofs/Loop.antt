@@ -1,8 +1,8 @@
 -- Reading one thing after the other, as a loop does.
 use Rattle.std.proofs.Common.{◌≡◌, ℕ, suc, ◌+◌, ◌<◌, ◌≤◌, List, [], ◌∷◌, ◌++◌, length, Ok, Err, refl, sym, ap, ◌∙◌, append_assoc, arith, ◌-◌}
 use Rattle.std.proofs.lemmas.List.{append-nil}
-use Rattle.avro_loader_format.specs.Reading.{◌>>=◌, Read}
-use Rattle.avro_loader_format.specs.declared.version.Format.{Format}
+use Rattle.avro_loader.specs.ImageReading.{◌>>=◌, Read}
+use Rattle.avro_loader.specs.declared.version.Format.{Format}
 use Rattle.avro_loader.specs.Reading.{things_at, constants_at, Fails, constant_at}
 use Rattle.avro_loader.specs.declared.fault.LoadError.{LoadError}
 use Rattle.avro_loader.specs.declared.fault.LoadError.TheVariants as errors

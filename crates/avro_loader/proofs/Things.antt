@@ -5,10 +5,10 @@ use Rattle.std.proofs.lemmas.List.{take_at, drop_at, take-append-drop, length-ap
 use Rattle.std.proofs.lemmas.List.Concat.{flat_map-cons}
 use Rattle.std.specs.List.{flat_map, AllByRecursion}
 use Rattle.std.specs.Int.{w16, w32}
-use Rattle.outcome.specs.MismatchKind.{code_of as code_of_kind}
-use Rattle.outcome.specs.declared.mismatch.Mismatch.{Mismatch}
-use Rattle.outcome.specs.declared.mismatch.MismatchKind.{MismatchKind}
-use Rattle.outcome.specs.declared.mismatch.MismatchKind.TheVariants as kinds
+use Rattle.avro_bytes.specs.MismatchKind.{code_of as code_of_kind}
+use Rattle.avro_bytes.specs.declared.mismatch.Mismatch.{Mismatch}
+use Rattle.avro_bytes.specs.declared.mismatch.MismatchKind.{MismatchKind}
+use Rattle.avro_bytes.specs.declared.mismatch.MismatchKind.TheVariants as kinds
 use Rattle.isa.specs.declared.entry.Entry.{Entry}
 use Rattle.isa.specs.declared.entry.Entry.TheVariants as entries
 use Rattle.isa.specs.declared.instr.Instr.{Instr}
@@ -17,15 +17,15 @@ use Rattle.isa.specs.declared.operation.Operation.{Operation}
 use Rattle.isa.specs.declared.operation.Operation.TheVariants as op
 use Rattle.isa.specs.Operation.{at_code, code_of, instr_of, operand_of, operation_of, shape_of}
 use Rattle.isa.proofs.Operations.{coded, found, same}
-use Rattle.avro_loader_format.specs.Reading.{◌>>=◌, Read, place, number_at, operand_at}
-use Rattle.avro_loader_format.specs.Spelling.{short, long, operand}
-use Rattle.avro_loader_format.specs.declared.fault.ImageFault.{ImageFault}
-use Rattle.avro_loader_format.specs.declared.fault.ImageFault.TheVariants.{Truncated, BadByte, TooLarge}
-use Rattle.avro_loader_format.specs.declared.version.Format.{Format}
-use Rattle.avro_loader_format.specs.declared.version.Version.{Version}
-use Rattle.avro_loader_format.proofs.Spelled.{shorts, longs, OperandFits, operand_takes, operand_again}
-use Rattle.avro_loader_format.proofs.Steps.{bind_ok, unless, ok_is}
-use Rattle.avro_loader_format.proofs.Taking.{IsBytes, IsBytes-drop, IsBytes-rest, Takes, Takes-then, Takes-byte, Reads}
+use Rattle.avro_loader.specs.ImageReading.{◌>>=◌, Read, place, number_at, operand_at}
+use Rattle.avro_loader.specs.Spelling.{short, long, operand}
+use Rattle.avro_loader.specs.declared.image_fault.ImageFault.{ImageFault}
+use Rattle.avro_loader.specs.declared.image_fault.ImageFault.TheVariants.{Truncated, BadByte, TooLarge}
+use Rattle.avro_loader.specs.declared.version.Format.{Format}
+use Rattle.avro_loader.specs.declared.version.Version.{Version}
+use Rattle.avro_loader.proofs.Spelled.{shorts, longs, OperandFits, operand_takes, operand_again}
+use Rattle.avro_loader.proofs.Steps.{bind_ok, unless, ok_is}
+use Rattle.avro_loader.proofs.Taking.{IsBytes, IsBytes-drop, IsBytes-rest, Takes, Takes-then, Takes-byte, Reads}
 use Rattle.avro_loader.specs.Image.{constant, entry, instr, miss}
 use Rattle.avro_loader.specs.Reading.{constants_at, entry_at, instr_at, miss_at, constant_at, kind_at, known}
 

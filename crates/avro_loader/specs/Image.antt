@@ -1,17 +1,17 @@
 -- The images of a program: its bytes in a file, in version 1 and version 2. All of this is this project's own.
 use Rattle.std.specs.Prelude.{ℕ, ◌≤◌, List, ◌∷◌, ◌++◌, length, codes}
 use Rattle.std.specs.List.{flat_map}
-use Rattle.outcome.specs.declared.mismatch.Mismatch.{Mismatch}
-use Rattle.outcome.specs.MismatchKind.{code_of as code_of_kind}
+use Rattle.avro_bytes.specs.declared.mismatch.Mismatch.{Mismatch}
+use Rattle.avro_bytes.specs.MismatchKind.{code_of as code_of_kind}
 use Rattle.isa.specs.declared.entry.Entry.{Entry}
 use Rattle.isa.specs.declared.entry.Entry.TheVariants as entries
 use Rattle.isa.specs.declared.instr.Instr.{Instr}
 use Rattle.isa.specs.Program.{Program}
 use Rattle.isa.specs.Operation.{code_of, operand_of, operation_of, shape_of}
-use Rattle.avro_loader_format.specs.Spelling.{short, long, address, operand, version_byte}
-use Rattle.avro_loader_format.specs.declared.limits.TheConstants.{MOST_INSTRS_OF_ONE}
-use Rattle.avro_loader_format.specs.declared.version.Version.{Version}
-use Rattle.avro_loader_format.specs.declared.version.Version.TheVariants.{One, Two}
+use Rattle.avro_loader.specs.Spelling.{short, long, address, operand, version_byte}
+use Rattle.avro_loader.specs.declared.limits.TheConstants.{MOST_INSTRS_OF_ONE}
+use Rattle.avro_loader.specs.declared.version.Version.{Version}
+use Rattle.avro_loader.specs.declared.version.Version.TheVariants.{One, Two}
 
 -- ---- things
 

@@ -1,3 +1,5 @@
 pub mod Image
 pub mod Reading
 pub mod Loading
+pub mod Spelling
+pub mod ImageReading

@@ -1,7 +1,7 @@
 -- What loading an image answers: a program, or the first fault. All of this is this project's own.
 use Rattle.std.specs.Prelude.{ℕ, List, [], length, Result, Ok, Err}
 use Rattle.std.specs.Int.{w32}
-use Rattle.outcome.specs.declared.mismatch.Mismatch.{Mismatch}
+use Rattle.avro_bytes.specs.declared.mismatch.Mismatch.{Mismatch}
 use Rattle.isa.specs.declared.entry.Entry.{Entry}
 use Rattle.isa.specs.declared.instr.Instr.{Instr}
 use Rattle.isa.specs.declared.limits.TheConstants.{MOST_ENTRIES, MOST_TABLES}
@@ -9,10 +9,10 @@ use Rattle.isa.specs.declared.program.ProgramError.{ProgramError}
 use Rattle.isa.specs.declared.program.ProgramError.TheVariants as wrong
 use Rattle.isa.specs.Judging.{judged}
 use Rattle.isa.specs.Program.{Program}
-use Rattle.avro_loader_format.specs.Reading.{◌>>=◌, Read, place, number_at, address_at, opened, ended}
-use Rattle.avro_loader_format.specs.declared.fault.ImageFault.{ImageFault}
-use Rattle.avro_loader_format.specs.declared.fault.ImageFault.TheVariants.{OutOfRange}
-use Rattle.avro_loader_format.specs.declared.version.Format.{Format}
+use Rattle.avro_loader.specs.ImageReading.{◌>>=◌, Read, place, number_at, address_at, opened, ended}
+use Rattle.avro_loader.specs.declared.image_fault.ImageFault.{ImageFault}
+use Rattle.avro_loader.specs.declared.image_fault.ImageFault.TheVariants.{OutOfRange}
+use Rattle.avro_loader.specs.declared.version.Format.{Format}
 use Rattle.avro_loader.specs.Image.{image_of}
 use Rattle.avro_loader.specs.Reading.{section_at, things_at, code_at, constants_section_at, entry_at, instr_at, miss_at}
 use Rattle.avro_loader.specs.declared.places.Sections.{Sections}

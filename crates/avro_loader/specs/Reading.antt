@@ -1,18 +1,18 @@
 -- Reading an image from its first byte on, with the first fault that is met. All of this is this project's own.
 use Rattle.std.specs.Prelude.{◌≡◌, ℕ, zero, suc, List, [], ◌∷◌, length, take, drop, Result, Ok, Err, Some, None, Option, ◌-◌, ◌==◌, if◌then◌else◌, nat_lt}
 use Rattle.std.specs.Int.{w16, w32}
-use Rattle.outcome.specs.declared.mismatch.Mismatch.{Mismatch}
-use Rattle.outcome.specs.declared.mismatch.MismatchKind.{MismatchKind}
-use Rattle.outcome.specs.declared.mismatch.MismatchKind.TheVariants as kinds
+use Rattle.avro_bytes.specs.declared.mismatch.Mismatch.{Mismatch}
+use Rattle.avro_bytes.specs.declared.mismatch.MismatchKind.{MismatchKind}
+use Rattle.avro_bytes.specs.declared.mismatch.MismatchKind.TheVariants as kinds
 use Rattle.isa.specs.declared.entry.Entry.{Entry}
 use Rattle.isa.specs.declared.entry.Entry.TheVariants as entries
 use Rattle.isa.specs.declared.instr.Instr.{Instr}
 use Rattle.isa.specs.declared.limits.TheConstants.{MOST_CONSTANT_BYTES, MOST_TABLES}
 use Rattle.isa.specs.Operation.{at_code, instr_of, shape_of}
-use Rattle.avro_loader_format.specs.Reading.{◌>>=◌, Read, place, number_at, operand_at, most_instrs}
-use Rattle.avro_loader_format.specs.declared.fault.ImageFault.{ImageFault}
-use Rattle.avro_loader_format.specs.declared.fault.ImageFault.TheVariants.{Truncated, BadByte, TooLarge, NoCode}
-use Rattle.avro_loader_format.specs.declared.version.Format.{Format}
+use Rattle.avro_loader.specs.ImageReading.{◌>>=◌, Read, place, number_at, operand_at, most_instrs}
+use Rattle.avro_loader.specs.declared.image_fault.ImageFault.{ImageFault}
+use Rattle.avro_loader.specs.declared.image_fault.ImageFault.TheVariants.{Truncated, BadByte, TooLarge, NoCode}
+use Rattle.avro_loader.specs.declared.version.Format.{Format}
 use Rattle.avro_loader.specs.declared.fault.LoadError.{LoadError}
 use Rattle.avro_loader.specs.declared.fault.LoadError.TheVariants as errors
 

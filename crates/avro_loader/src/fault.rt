@@ -3,7 +3,7 @@
 ghost use Rattle.std.specs.Prelude.{◌≡◌};
 ghost use Rattle.avro_loader.specs.declared.fault.LoadError.TheVariants.{Fault, NoMemory};
 
-use avro_loader_format::ImageFault;
+use crate::ImageFault;
 use std::alloc::{AllocError, AllocFailed};
 use thiserror::Error;
 

@@ -3,7 +3,7 @@
 ghost use Rattle.std.specs.Prelude.{◌≡◌, IfOk, IsErrOf, IsOk, Ok};
 ghost use Rattle.isa.specs.Program.{Program as Parted, program_of};
 ghost use Rattle.isa.specs.Range.{IsProgram};
-ghost use Rattle.avro_loader_format.specs.Reading.{opened};
+ghost use Rattle.avro_loader.specs.ImageReading.{opened};
 ghost use Rattle.avro_loader.specs.declared.fault.LoadError.TheVariants.{NoMemory};
 ghost use Rattle.avro_loader.specs.Image.{IsImage, image_of};
 ghost use Rattle.avro_loader.specs.Loading.{in_range, loaded, loaded_as, migrated, nothing, sections_at, starts_of};
@@ -16,7 +16,7 @@ use crate::reading::{
     push_section, push_section_of_code, push_section_of_constants, push_section_of_tables,
 };
 use crate::saving::save;
-use avro_loader_format::{Format, ImageFault, ended, open};
+use crate::{Format, ImageFault, ended, open};
 use isa::{Lists, MOST_TABLES, Parts, Program};
 use std::alloc::Global;
 

@@ -7,9 +7,9 @@ ghost use Rattle.avro_loader.specs.Reading.{Gives, section_at};
 use crate::fault::LoadError;
 use crate::reading::{push_tables, push_things};
 use crate::thing::Thing;
-use avro_loader_format::{Format, u32_at};
+use crate::{Format, u32_at};
+use avro_bytes::Mismatch;
 use isa::{Entry, Instr, Lists, ProgramError};
-use outcome::Mismatch;
 use std::alloc::Global;
 
 /// The bytes of an image from each of its sections on.

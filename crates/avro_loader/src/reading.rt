@@ -1,12 +1,12 @@
 //! Reading the sections of an image.
 
 ghost use Rattle.std.specs.Prelude.{◌≡◌, [], Ok};
-ghost use Rattle.avro_loader_format.specs.Reading.{Tells};
+ghost use Rattle.avro_loader.specs.ImageReading.{Tells};
 ghost use Rattle.avro_loader.specs.Reading.{Gives, count_at, things_at, section_at, constant_at, constants_at, constants_section_at, code_at};
 
 use crate::fault::LoadError;
 use crate::thing::Thing;
-use avro_loader_format::{Format, ImageFault, u32_at};
+use crate::{Format, ImageFault, u32_at};
 use isa::{Instr, Lists, MOST_CONSTANT_BYTES, MOST_ENTRIES, MOST_TABLES};
 use std::alloc::Global;
 

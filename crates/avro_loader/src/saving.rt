@@ -3,8 +3,8 @@
 ghost use Rattle.std.specs.Prelude.{◌≡◌, ◌++◌, OnOk, IfOk};
 ghost use Rattle.avro_loader.specs.Image.{constant, image_of, section};
 
+use crate::put_long;
 use crate::thing::Thing;
-use avro_loader_format::put_long;
 use isa::{Lists, Program};
 use std::alloc::{AllocError, Global};
 

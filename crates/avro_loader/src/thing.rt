@@ -1,16 +1,16 @@
 //! What a section of an image holds: constants, entries, addresses, misses, instructions.
 
 ghost use Rattle.std.specs.Prelude.{◌≡◌, ◌++◌, ℕ, List, OnOk, Some, None};
-ghost use Rattle.avro_loader_format.specs.declared.version.Format.{Format};
-ghost use Rattle.avro_loader_format.specs.declared.version.Version.TheVariants.{Two};
-ghost use Rattle.avro_loader_format.specs.Spelling.{address};
-ghost use Rattle.avro_loader_format.specs.Reading.{Read, Tells, address_at};
+ghost use Rattle.avro_loader.specs.declared.version.Format.{Format};
+ghost use Rattle.avro_loader.specs.declared.version.Version.TheVariants.{Two};
+ghost use Rattle.avro_loader.specs.Spelling.{address};
+ghost use Rattle.avro_loader.specs.ImageReading.{Read, Tells, address_at};
 ghost use Rattle.avro_loader.specs.Image.{entry, miss, instr};
 ghost use Rattle.avro_loader.specs.Reading.{entry_at, miss_at, instr_at, kind_at};
 
-use avro_loader_format::{Format, ImageFault, address_of, operand_of, put_long, put_short, u16_at};
+use crate::{Format, ImageFault, address_of, operand_of, put_long, put_short, u16_at};
+use avro_bytes::{Mismatch, MismatchKind};
 use isa::{Entry, Instr, Operation, Shape};
-use outcome::{Mismatch, MismatchKind};
 use std::alloc::AllocError;
 
 /// What a section holds a number of.

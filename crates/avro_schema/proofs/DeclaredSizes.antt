@@ -3,21 +3,21 @@ use Rattle.std.proofs.Common.{◌≡◌, ℕ, zero, suc, ◌+◌, List, [], ◌�
 use Rattle.std.specs.List.{AllByRecursion}
 use Rattle.serde_json.specs.Data as json
 use Rattle.avro_types.specs.Datum.{Datum}
-use Rattle.avro_schema_defaults.specs.Defaults.{all_defaults, default_of, field_default, field_defaults, fields_with, node_defaults, node_with, nodes_with}
-use Rattle.avro_schema_drafts.specs.Draft.{Draft, Whole, RecordDraft, DraftField}
-use Rattle.avro_schema_drafts.specs.Head.{heads_of}
+use Rattle.avro_schema.specs.Defaults.{all_defaults, default_of, field_default, field_defaults, fields_with, node_defaults, node_with, nodes_with}
+use Rattle.avro_schema_names.specs.Draft.{Draft, Whole, RecordDraft, DraftField}
+use Rattle.avro_schema_names.specs.Head.{heads_of}
 use Rattle.avro_types.specs.Node.{Node, FieldNode, Names, RecordNode}
 use Rattle.avro_schema.specs.Schema.{declared}
 use Rattle.avro_types.specs.Sizes.{HasSizesWithin, DefaultsHaveSizesWithin}
 use Rattle.avro_schema_names.specs.Names.{null_namespace}
-use Rattle.avro_schema_walk.specs.Walk.{walk}
+use Rattle.avro_schema.specs.Walk.{walk}
 use Rattle.avro_schema.proofs.DefaultSizes.{default-within}
-use Rattle.avro_schema_defaults.proofs.DefaultsRead.{map-inv}
-use Rattle.avro_schema_defaults.proofs.FinishedNodes.{in-row, node-finished}
+use Rattle.avro_schema.proofs.DefaultsRead.{map-inv}
+use Rattle.avro_schema.proofs.FinishedNodes.{in-row, node-finished}
 use Rattle.avro_schema.proofs.Fits.{DraftFits, AllFrom}
 use Rattle.avro_schema.proofs.ReadSizes.{HasDataWithin}
 use Rattle.avro_schema.proofs.WalkSizes.{DefaultWithin, DraftWithin, within}
-use Rattle.avro_schema_walk.proofs.DeclaringBothWays.{declares}
+use Rattle.avro_schema.proofs.DeclaringBothWays.{declares}
 use Rattle.avro_schema.proofs.WholeNodes.{declared_at, each_from, finished-with, walk_fits}
 
 -- what holds of each holds of the one at a place

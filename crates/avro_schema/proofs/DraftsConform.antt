@@ -2,21 +2,21 @@
 use Rattle.std.proofs.Common.{◌≡◌, ◌∙◌, ℕ, zero, suc, ◌+◌, List, [], ◌∷◌, map, Option, Some, None, Ok, IfSome, slice_get, sym, subst}
 use Rattle.std.specs.List.{AllByRecursion}
 use Rattle.serde_json.specs.Data as json
-use Rattle.avro_schema_drafts.specs.declared.draft.Draft as rust
-use Rattle.avro_schema_drafts.specs.declared.draft.Draft.TheVariants as drafts
-use Rattle.avro_schema_drafts.specs.declared.draft.DraftField as rust_field
+use Rattle.avro_schema_names.specs.declared.draft.Draft as rust
+use Rattle.avro_schema_names.specs.declared.draft.Draft.TheVariants as drafts
+use Rattle.avro_schema_names.specs.declared.draft.DraftField as rust_field
 use Rattle.avro_types.specs.Conforming.{Conforms, DefaultsConform}
-use Rattle.avro_schema_walk.specs.Contract.{run}
+use Rattle.avro_schema.specs.Contract.{run}
 use Rattle.avro_types.specs.Datum.{Datum}
-use Rattle.avro_schema_defaults.specs.Defaults.{all_defaults, default_of, field_default, field_defaults, fields_with, node_defaults, node_with, nodes_with}
-use Rattle.avro_schema_drafts.specs.Draft.{Draft, Whole, RecordDraft, DraftField, data_at, draft_field_of, draft_of, drafts_of}
-use Rattle.avro_schema_drafts.specs.Head.{heads_of}
+use Rattle.avro_schema.specs.Defaults.{all_defaults, default_of, field_default, field_defaults, fields_with, node_defaults, node_with, nodes_with}
+use Rattle.avro_schema_names.specs.Draft.{Draft, Whole, RecordDraft, DraftField, data_at, draft_field_of, draft_of, drafts_of}
+use Rattle.avro_schema_names.specs.Head.{heads_of}
 use Rattle.avro_types.specs.Node.{FieldNode, Names, RecordNode}
 use Rattle.avro_schema_names.specs.Names.{null_namespace}
-use Rattle.avro_schema_walk.specs.Walk.{walk}
+use Rattle.avro_schema.specs.Walk.{walk}
 use Rattle.avro_schema.proofs.DefaultsConform.{default-conforms}
-use Rattle.avro_schema_defaults.proofs.DefaultsRead.{map-inv}
-use Rattle.avro_schema_defaults.proofs.FinishedNodes.{in-row, node-finished}
+use Rattle.avro_schema.proofs.DefaultsRead.{map-inv}
+use Rattle.avro_schema.proofs.FinishedNodes.{in-row, node-finished}
 use Rattle.avro_schema.proofs.Fits.{DraftFits, AllFrom}
 use Rattle.avro_schema.proofs.ValueTexts.{HasUtf8, view-has-utf8}
 use Rattle.avro_schema.proofs.WholeNodes.{each_from, walk_fits, from_nothing}

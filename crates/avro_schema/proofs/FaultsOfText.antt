@@ -24,10 +24,10 @@ use Rattle.avro_schema_names.specs.Attributes.{default_symbol, size_of, symbols_
 use Rattle.avro_schema_names.specs.Fault.{◌>>=◌, require}
 use Rattle.avro_schema_names.specs.Names.{field_name, given_namespace, if_new, new_name, null_namespace, own_namespace, text_of}
 use Rattle.avro_schema_names.specs.Word.{form_of, is_left_out, is_primitive, leaf_of, word_of}
-use Rattle.avro_schema_drafts.specs.Draft.{Draft, Whole, RecordDraft, DraftField, draft_field}
-use Rattle.avro_schema_drafts.specs.Head.{Head, ArrayHead, MapHead, UnionHead, Named, are_apart, defined_at, head_at, heads_of}
-use Rattle.avro_schema_walk.specs.Walk.{Walk, added, apart_union, around, declared_by, done, enum_of, fault, field, field_of, fields, fields_after, fixed_of, followed_by, found, if_few, if_room, leaf_or_reference, members, named, one_node, or_unknown, record_of, reference, union_of, walk, walk_fields, walk_member}
-use Rattle.avro_schema_defaults.specs.Defaults.{finished}
+use Rattle.avro_schema_names.specs.Draft.{Draft, Whole, RecordDraft, DraftField, draft_field}
+use Rattle.avro_schema_names.specs.Head.{Head, ArrayHead, MapHead, UnionHead, Named, are_apart, defined_at, head_at, heads_of}
+use Rattle.avro_schema.specs.Walk.{Walk, added, apart_union, around, declared_by, done, enum_of, fault, field, field_of, fields, fields_after, fixed_of, followed_by, found, if_few, if_room, leaf_or_reference, members, named, one_node, or_unknown, record_of, reference, union_of, walk, walk_fields, walk_member}
+use Rattle.avro_schema.specs.Defaults.{finished}
 use Rattle.avro_schema.specs.Schema.{declared, nodes_in, nodes_in_read, schema_of}
 
 -- it is no want of memory

@@ -3,8 +3,8 @@ use Rattle.std.proofs.Common.{◌≡◌, ℕ, suc, ◌+◌, ◌<◌, ◌≤◌, 
 use Rattle.std.specs.List.{AllByRecursion, IsDistinct}
 use Rattle.std.specs.Str.{bytes_eq}
 use Rattle.avro_types.specs.declared.limits.TheConstants.{MOST_FIELDS, MOST_FIXED, MOST_NODES, MOST_SYMBOLS}
-use Rattle.avro_schema_drafts.specs.Draft.{Draft, Whole, RecordDraft}
-use Rattle.avro_schema_drafts.specs.Head.{Head, UnionHead, Named, head_at, is_same_type}
+use Rattle.avro_schema_names.specs.Draft.{Draft, Whole, RecordDraft}
+use Rattle.avro_schema_names.specs.Head.{Head, UnionHead, Named, head_at, is_same_type}
 use Rattle.avro_types.specs.Node.{FixedNode, EnumNode, ArrayNode, MapNode, UnionNode, RecordNode}
 
 abbrev pub is_union_there : Option Head → Bool

@@ -10,7 +10,7 @@ use Rattle.json.specs.Json as json
 use Rattle.json.specs.Json.{Json, Parse, parse_map, after_end_array, read_key, items_step, members_step, items, members, value_with, value, if_last}
 use Rattle.serde_json.specs.Data.{Data, null, boolean, number, string, array, object, Items, no_items, item, Members, no_members, member, put}
 use Rattle.serde_json.specs.Read.{number_of, of_json, of_items, of_members, max_depth, read}
-use Rattle.avro_schema_defaults.proofs.DefaultsRead.{map-inv, then-inv}
+use Rattle.avro_schema.proofs.DefaultsRead.{map-inv, then-inv}
 use Rattle.avro_schema.proofs.JsonSizes.{TokensWithin, tokens-within}
 
 abbrev pub items_in : Items → ℕ

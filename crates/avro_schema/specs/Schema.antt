@@ -6,11 +6,11 @@ use Rattle.serde_json.specs.Written.{has_float, compact_text}
 use Rattle.avro_types.specs.declared.limits.TheConstants.{MOST_TEXT}
 use Rattle.avro_schema_names.specs.declared.error.SchemaError.{SchemaError}
 use Rattle.avro_schema_names.specs.declared.error.SchemaError.TheVariants.{TooLarge, NotJson, BadNumber, NoMemory}
-use Rattle.avro_schema_defaults.specs.Defaults.{finished}
+use Rattle.avro_schema.specs.Defaults.{finished}
 use Rattle.avro_schema_names.specs.Fault.{◌>>=◌}
 use Rattle.avro_types.specs.Node.{Node}
 use Rattle.avro_schema_names.specs.Names.{null_namespace}
-use Rattle.avro_schema_walk.specs.Walk.{walk}
+use Rattle.avro_schema.specs.Walk.{walk}
 
 -- a schema as callers see it: its compact text, and its nodes
 pub record Declaration : Type 0 where

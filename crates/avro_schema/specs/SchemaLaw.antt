@@ -6,9 +6,9 @@ use Rattle.serde_json.specs.Written.{has_float}
 use Rattle.avro_types.specs.declared.limits.TheConstants.{MOST_TEXT}
 use Rattle.avro_types.specs.Node.{Node}
 use Rattle.avro_schema_names.specs.declared.error.SchemaError.{SchemaError}
-use Rattle.avro_schema_walk.specs.Declaring.{Declares}
-use Rattle.avro_schema_defaults.specs.DefaultData.{AreNodesOf}
-use Rattle.avro_schema_drafts.specs.Draft.{Draft}
+use Rattle.avro_schema.specs.Declaring.{Declares}
+use Rattle.avro_schema.specs.DefaultData.{AreNodesOf}
+use Rattle.avro_schema_names.specs.Draft.{Draft}
 use Rattle.avro_schema_names.specs.Names.{null_namespace}
 use Rattle.avro_schema.specs.Schema.{schema_of}
 

@@ -14,10 +14,8 @@ ghost use Rattle.avro_schema.specs.Schema.{IsCompact, Parses, TextGives, declare
 ghost use Rattle.avro_schema.specs.SchemaLaw.{ReadsAsSchema};
 
 use crate::numbers::has_float;
-use avro_schema_defaults::{all_defaults, nodes_with};
-use avro_schema_drafts::{Drafts, Namespace};
-use avro_schema_names::SchemaError;
-use avro_schema_walk::walk;
+use crate::{all_defaults, nodes_with, walk};
+use avro_schema_names::{Drafts, Namespace, SchemaError};
 use avro_types::{Kind, MOST_TEXT, Nodes};
 use serde_json::Value;
 use std::alloc::{AllocError, Global};

@@ -2,11 +2,11 @@
 use Rattle.std.proofs.Common.{◌≡◌, ℕ, List, ◌++◌, Result, Ok, Err, refl, ap, ◌∙◌}
 use Rattle.avro_schema_names.specs.declared.error.SchemaError.{SchemaError}
 use Rattle.avro_schema_names.specs.Fault.{◌>>=◌}
-use Rattle.avro_schema_drafts.specs.Draft.{Draft}
-use Rattle.avro_schema_drafts.specs.Head.{Head, heads_of}
-use Rattle.avro_schema_drafts.proofs.DraftLists.{heads_of-append}
-use Rattle.avro_schema_walk.specs.Contract.{run}
-use Rattle.avro_schema_walk.specs.Walk.{Walk, added, followed_by}
+use Rattle.avro_schema_names.specs.Draft.{Draft}
+use Rattle.avro_schema_names.specs.Head.{Head, heads_of}
+use Rattle.avro_schema_names.proofs.DraftLists.{heads_of-append}
+use Rattle.avro_schema.specs.Contract.{run}
+use Rattle.avro_schema.specs.Walk.{Walk, added, followed_by}
 
 -- it fails after nodes, and so after their heads
 pub fails-after : {A : Type 0} (w : Walk A) (enclosing : List ℕ) (ns : List Draft) (e : SchemaError) → run w enclosing ns ≡ Err e → w enclosing (heads_of ns) ≡ Err e

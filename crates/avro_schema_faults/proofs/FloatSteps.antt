@@ -6,7 +6,7 @@ use Rattle.serde_json.specs.Find.{as_array, as_object, get_item}
 use Rattle.serde_json.specs.View.{view, items_view}
 use Rattle.serde_json.specs.Written.{has_float}
 use Rattle.serde_json.specs.declared.value.Value.{Value}
-use Rattle.avro_schema_drafts.proofs.Depths.{found-depth}
+use Rattle.avro_schema_names.proofs.Depths.{found-depth}
 use Rattle.avro_schema_paths.specs.Following.{step_in}
 use Rattle.avro_schema_paths.specs.Places.{Path}
 use Rattle.avro_schema_paths.specs.declared.step.Step.{Step}

@@ -9,10 +9,10 @@ use Rattle.serde_json.specs.declared.value.Value.{the_lemmas}
 use Rattle.avro_types.specs.FullNames.{namespace_of}
 use Rattle.avro_types.specs.Node.{ArrayNode, MapNode, Names, UnionNode, names_of}
 use Rattle.avro_types.specs.declared.limits.TheConstants.{MOST_NODES}
-use Rattle.avro_schema_drafts.specs.Draft.{Draft, DraftField, RecordDraft, Whole, field_names}
-use Rattle.avro_schema_drafts.specs.Head.{ArrayHead, Head, MapHead, Named, UnionHead, heads_of}
-use Rattle.avro_schema_drafts.proofs.Depths.{found-depth}
-use Rattle.avro_schema_drafts.proofs.DraftLists.{heads_of-append, length-heads_of}
+use Rattle.avro_schema_names.specs.Draft.{Draft, DraftField, RecordDraft, Whole, field_names}
+use Rattle.avro_schema_names.specs.Head.{ArrayHead, Head, MapHead, Named, UnionHead, heads_of}
+use Rattle.avro_schema_names.proofs.Depths.{found-depth}
+use Rattle.avro_schema_names.proofs.DraftLists.{heads_of-append, length-heads_of}
 use Rattle.avro_schema_names.specs.Aliases.{new_names}
 use Rattle.avro_schema_names.specs.declared.error.SchemaError.{SchemaError}
 use Rattle.avro_schema_names.specs.declared.error.SchemaError.TheVariants.{Unknown}
@@ -21,10 +21,10 @@ use Rattle.avro_schema_names.specs.declared.word.Form.TheVariants as forms
 use Rattle.avro_schema_paths.specs.Places.{Path}
 use Rattle.avro_schema_paths.specs.declared.step.Step.{Step}
 use Rattle.avro_schema_paths.specs.declared.step.Step.TheVariants as steps
-use Rattle.avro_schema_walk.specs.Contract.{Walks, object_as, run}
-use Rattle.avro_schema_walk.specs.Walk.{around, fault, fields, if_room, members, or_unknown, record_of, union_of, walk}
-use Rattle.avro_schema_walk.proofs.Records.{record-done, record-failed}
-use Rattle.avro_schema_walk.proofs.Runs.{closed, run-fault, run-if_room, unclosed}
+use Rattle.avro_schema.specs.Contract.{Walks, object_as, run}
+use Rattle.avro_schema.specs.Walk.{around, fault, fields, if_room, members, or_unknown, record_of, union_of, walk}
+use Rattle.avro_schema.proofs.Records.{record-done, record-failed}
+use Rattle.avro_schema.proofs.Runs.{closed, run-fault, run-if_room, unclosed}
 use Rattle.avro_schema_faults.specs.Faults.{ComesTo, HasSoundParts, IsOfForm, Visit, listing, schema, to_field, to_fields, to_items, to_member, to_values}
 use Rattle.avro_schema_faults.specs.Trail.{Ends, EndsInField, EndsInMember, Leaves, LeavesFrom}
 use Rattle.avro_schema_faults.proofs.Bounds.{fails-after, gives-after}

@@ -6,8 +6,8 @@ use Rattle.serde_json.specs.Data.{Data, array, string, Items}
 use Rattle.avro_types.specs.FullNames.{full_name}
 use Rattle.avro_types.specs.Node.{Node, UnionNode}
 use Rattle.avro_types.specs.declared.limits.TheConstants.{MOST_NODES}
-use Rattle.avro_schema_drafts.specs.Draft.{Draft, Whole}
-use Rattle.avro_schema_drafts.specs.Head.{Head, UnionHead, are_apart, defined_at, head_at, heads_of}
+use Rattle.avro_schema_names.specs.Draft.{Draft, Whole}
+use Rattle.avro_schema_names.specs.Head.{Head, UnionHead, are_apart, defined_at, head_at, heads_of}
 use Rattle.avro_schema_names.specs.Fault.{◌>>=◌}
 use Rattle.avro_schema_names.specs.Word.{is_left_out, leaf_of, word_of}
 use Rattle.avro_schema_names.specs.declared.error.SchemaError.{SchemaError}
@@ -16,7 +16,7 @@ use Rattle.avro_schema_names.specs.declared.word.Form.TheVariants as forms
 use Rattle.avro_schema_paths.specs.Places.{Path}
 use Rattle.avro_schema_paths.specs.declared.step.Step.{Step}
 use Rattle.avro_schema_paths.specs.declared.step.Step.TheVariants as steps
-use Rattle.avro_schema_walk.specs.Walk.{Walk, added as added_to, around, done, fault, followed_by, found, if_room, leaf_or_reference, members, named, one_node, reference, union_of, walk}
+use Rattle.avro_schema.specs.Walk.{Walk, added as added_to, around, done, fault, followed_by, found, if_room, leaf_or_reference, members, named, one_node, reference, union_of, walk}
 use Rattle.avro_schema_faults.specs.Faults.{ComesTo, IsOfForm, Visit, further, itself, schema, to_member}
 use Rattle.avro_schema_faults.specs.Searching.{Adds, IsDeclaredAt, SoughtIn, SoughtInMembers, is_record}
 

@@ -6,8 +6,8 @@ use Rattle.serde_json.specs.Find.{as_array, as_object, get}
 use Rattle.avro_types.specs.FullNames.{namespace_of}
 use Rattle.avro_types.specs.Node.{ArrayNode, EnumNode, FixedNode, MapNode, Names, Node}
 use Rattle.avro_types.specs.declared.limits.TheConstants.{MOST_FIELDS, MOST_NODES}
-use Rattle.avro_schema_drafts.specs.Draft.{Draft, DraftField, RecordDraft, Whole}
-use Rattle.avro_schema_drafts.specs.Head.{ArrayHead, Head, MapHead, Named}
+use Rattle.avro_schema_names.specs.Draft.{Draft, DraftField, RecordDraft, Whole}
+use Rattle.avro_schema_names.specs.Head.{ArrayHead, Head, MapHead, Named}
 use Rattle.avro_schema_names.specs.Aliases.{field_aliases, new_names}
 use Rattle.avro_schema_names.specs.Attributes.{default_symbol, size_of, symbols_of}
 use Rattle.avro_schema_names.specs.Names.{field_name}
@@ -17,9 +17,9 @@ use Rattle.avro_schema_names.specs.declared.word.Form.TheVariants as forms
 use Rattle.avro_schema_paths.specs.Places.{Path}
 use Rattle.avro_schema_paths.specs.declared.step.Step.{Step}
 use Rattle.avro_schema_paths.specs.declared.step.Step.TheVariants as steps
-use Rattle.avro_schema_walk.specs.Contract.{field_walk, object_as}
-use Rattle.avro_schema_walk.specs.Walk.{Walk, around, enum_of, field_of, fields, fixed_of, if_few, if_room, or_unknown, record_of, walk}
-use Rattle.avro_schema_walk.proofs.Members.{field-object, field-other, fields-none}
+use Rattle.avro_schema.specs.Contract.{field_walk, object_as}
+use Rattle.avro_schema.specs.Walk.{Walk, around, enum_of, field_of, fields, fixed_of, if_few, if_room, or_unknown, record_of, walk}
+use Rattle.avro_schema.proofs.Members.{field-object, field-other, fields-none}
 use Rattle.avro_schema_faults.specs.Faults.{ComesTo, IsOfForm, field_after, listing, schema, to_field, to_fields, to_items, to_type, to_values, to_wrapped}
 use Rattle.avro_schema_faults.specs.Searching.{Adds, Behind, IsDeclaredAt, IsInField, SoughtIn, SoughtInField, SoughtInFields, SoughtInList}
 use Rattle.avro_schema_faults.proofs.Searching.{AddsOne, Never, around-ok, bind-ok, cond-ok, moved, new_of, no-record, one-more, own, room-ok, within}

@@ -3,9 +3,9 @@ use Rattle.std.specs.Prelude.{◌≡◌, ◌<◌, ◌≤◌, ◌+◌, ◌⊎◌,
 use Rattle.std.specs.List.{position_from}
 use Rattle.serde_json.specs.Data.{Data}
 use Rattle.avro_types.specs.Node.{Names}
-use Rattle.avro_schema_defaults.specs.Defaults.{field_default}
-use Rattle.avro_schema_drafts.specs.Draft.{Draft, DraftField, RecordDraft, Whole}
-use Rattle.avro_schema_drafts.specs.Head.{Head}
+use Rattle.avro_schema.specs.Defaults.{field_default}
+use Rattle.avro_schema_names.specs.Draft.{Draft, DraftField, RecordDraft, Whole}
+use Rattle.avro_schema_names.specs.Head.{Head}
 use Rattle.avro_schema_names.specs.Names.{null_namespace}
 use Rattle.avro_schema_names.specs.declared.word.Form.TheVariants as forms
 use Rattle.avro_schema_paths.specs.Places.{Path}

@@ -6,8 +6,8 @@ use Rattle.serde_json.specs.Find.{as_object, get}
 use Rattle.avro_types.specs.FullNames.{namespace_of}
 use Rattle.avro_types.specs.Node.{Names}
 use Rattle.avro_types.specs.declared.limits.TheConstants.{MOST_FIELDS, MOST_NODES}
-use Rattle.avro_schema_drafts.specs.Draft.{Draft, DraftField}
-use Rattle.avro_schema_drafts.specs.Head.{Head, ArrayHead, MapHead, Named, UnionHead, heads_of}
+use Rattle.avro_schema_names.specs.Draft.{Draft, DraftField}
+use Rattle.avro_schema_names.specs.Head.{Head, ArrayHead, MapHead, Named, UnionHead, heads_of}
 use Rattle.avro_schema_names.specs.Aliases.{field_aliases, new_names}
 use Rattle.avro_schema_names.specs.Names.{field_name}
 use Rattle.avro_schema_names.specs.Word.{form_of}
@@ -17,7 +17,7 @@ use Rattle.avro_schema_names.specs.declared.word.Form.TheVariants as forms
 use Rattle.avro_schema_paths.specs.Places.{Path}
 use Rattle.avro_schema_paths.specs.declared.step.Step.{Step}
 use Rattle.avro_schema_paths.specs.declared.step.Step.TheVariants as steps
-use Rattle.avro_schema_walk.specs.Walk.{field, fields, walk}
+use Rattle.avro_schema.specs.Walk.{field, fields, walk}
 
 -- A value as the walk comes to it, in a namespace and after nodes of which these heads are seen: a schema, the list of
 -- a record's fields, or a field after those with the given names.

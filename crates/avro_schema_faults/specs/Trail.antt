@@ -1,7 +1,7 @@
 -- What the walk leaves of the trail: the steps that it had, and, if it ends with a fault, after them those to it.
 use Rattle.std.specs.Prelude.{◌≡◌, ◌≢◌, ℕ, List, [], ◌∷◌, ◌++◌, Result, Ok, Err}
 use Rattle.serde_json.specs.Data.{Data, Items}
-use Rattle.avro_schema_drafts.specs.Head.{Head}
+use Rattle.avro_schema_names.specs.Head.{Head}
 use Rattle.avro_schema_names.specs.declared.error.SchemaError.{SchemaError}
 use Rattle.avro_schema_names.specs.declared.error.SchemaError.TheVariants.{NoMemory}
 use Rattle.avro_schema_paths.specs.Places.{Path}

@@ -2,12 +2,11 @@
 
 ghost use Rattle.std.specs.Prelude.{◌≡◌, IfOk, map};
 ghost use Rattle.std.specs.List.{position_from};
-ghost use Rattle.avro_schema_drafts.specs.Draft.{HaveFewSymbols, draft_field_of, draft_of, drafts_of};
+ghost use Rattle.avro_schema_names.specs.Draft.{HaveFewSymbols, draft_field_of, draft_of, drafts_of};
 ghost use Rattle.avro_schema_faults.specs.DefaultPlaces.{bad_field, first_bad, is_bad};
 
-use avro_schema_defaults::field_default;
-use avro_schema_drafts::{Draft, DraftField};
-use avro_schema_names::SchemaError;
+use avro_schema::field_default;
+use avro_schema_names::{Draft, DraftField, SchemaError};
 use std::alloc::{AllocError, Global};
 
 /// A field, by its record's number and its position there.

@@ -1,4 +1,4 @@
-//! Schemas; used by `schema_report`.
+//! Schemas.
 //!
 //! Where in its JSON value a text that is no schema has its first fault.
 #![tactic(auto)]

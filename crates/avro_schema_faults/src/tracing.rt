@@ -5,17 +5,19 @@ ghost use Rattle.serde_json.specs.Data.{array};
 ghost use Rattle.serde_json.specs.Find.{as_object};
 ghost use Rattle.serde_json.specs.View.{view, items_view};
 ghost use Rattle.avro_schema_names.specs.declared.word.Form.{Form};
-ghost use Rattle.avro_schema_drafts.specs.Draft.{draft_field_of, field_names};
-ghost use Rattle.avro_schema_drafts.specs.Head.{UnionHead, heads_of};
-ghost use Rattle.avro_schema_drafts.specs.Index.{IsNamespaceOf, text_of_namespace};
-ghost use Rattle.avro_schema_walk.specs.Contract.{Walks, object_as, object_walk};
-ghost use Rattle.avro_schema_walk.specs.Walk.{field, fields, fields_after, if_room, members, union_of, walk};
+ghost use Rattle.avro_schema_names.specs.Draft.{draft_field_of, field_names};
+ghost use Rattle.avro_schema_names.specs.Head.{UnionHead, heads_of};
+ghost use Rattle.avro_schema_names.specs.Index.{IsNamespaceOf, text_of_namespace};
+ghost use Rattle.avro_schema.specs.Contract.{Walks, object_as, object_walk};
+ghost use Rattle.avro_schema.specs.Walk.{field, fields, fields_after, if_room, members, union_of, walk};
 ghost use Rattle.avro_schema_faults.specs.Faults.{IsObject, IsOfForm, field_after, listing, schema};
 ghost use Rattle.avro_schema_faults.specs.Trail.{Leaves, LeavesFrom, LeavesField, LeavesMember};
 
 use crate::types::{next_node, walk_enum, walk_fixed, walk_text};
-use avro_schema_drafts::{Draft, DraftField, Drafts, FieldList, Namespace};
-use avro_schema_names::{Form, SchemaError, are_apart, field_aliases, field_name, new_names};
+use avro_schema_names::{
+    Draft, DraftField, Drafts, FieldList, Form, Namespace, SchemaError, are_apart, field_aliases,
+    field_name, new_names,
+};
 use avro_schema_paths::Step;
 use avro_types::{Aliases, Kind, MOST_FIELDS};
 use serde_json::Value;

@@ -2,7 +2,7 @@
 
 ghost use Rattle.std.specs.Prelude.{◌≡◌, option_map};
 ghost use Rattle.serde_json.specs.View.{view};
-ghost use Rattle.avro_schema_drafts.specs.Draft.{data_at};
+ghost use Rattle.avro_schema_names.specs.Draft.{data_at};
 ghost use Rattle.avro_schema_paths.specs.Following.{follow, step_in};
 ghost use Rattle.avro_schema_faults.specs.Words.{word_at, word_in};
 

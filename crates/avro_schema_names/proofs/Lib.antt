@@ -6,3 +6,9 @@ pub mod NamedMembers
 pub mod SymbolPlaces
 pub mod Texts
 pub mod TypeAliases
+pub mod Depths
+pub mod DraftLists
+pub mod Index
+pub mod IndexSteps
+pub mod Namespaces
+pub mod NewIndex

@@ -9,7 +9,7 @@ use Rattle.avro_schema_names.specs.declared.error.SchemaError.{SchemaError}
 use Rattle.avro_schema_names.specs.declared.error.SchemaError.TheVariants.{BadName}
 use Rattle.avro_schema_names.specs.Attributes.{texts_of}
 use Rattle.avro_schema_names.specs.Fault.{◌>>=◌, require}
-use Rattle.avro_schema_drafts.specs.Head.{Head}
+use Rattle.avro_schema_names.specs.Head.{Head}
 use Rattle.avro_schema_names.specs.Names.{new_name}
 
 -- "Named types and fields may have aliases": the texts that the attribute lists, where it is there

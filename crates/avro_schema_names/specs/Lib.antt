@@ -5,3 +5,7 @@ pub mod Names
 pub mod SchemaError
 pub mod Unnamed
 pub mod Word
+pub mod Draft
+pub mod Head
+pub mod Index
+pub mod JsonCode

@@ -3,18 +3,18 @@
 ghost use Rattle.std.specs.Prelude.{◌≡◌, ◌≢◌, ◌&&◌, Err, IfOk, None, false, not, option_map, option_and_then, string_bytes};
 ghost use Rattle.std.specs.List.{list_all};
 ghost use Rattle.serde_json.specs.Find.{as_str};
-ghost use Rattle.avro_schema_drafts.specs.Draft.{data_at, field_names};
+ghost use Rattle.avro_schema_names.specs.Draft.{data_at, field_names};
 ghost use Rattle.avro_schema_names.specs.Fault.{Tells};
 ghost use Rattle.avro_schema_names.specs.declared.error.SchemaError.TheVariants.{NoMemory};
 ghost use Rattle.avro_types.specs.FullNames.{full_name, has_dot, inside, is_full_name, is_letter, is_letter_or_digit, is_name, is_namespace};
-ghost use Rattle.avro_schema_drafts.specs.Head.{defined_at, heads_of};
-ghost use Rattle.avro_schema_drafts.specs.Index.{IsNamespaceOf, IsNumbered, text_of_namespace};
+ghost use Rattle.avro_schema_names.specs.Head.{defined_at, heads_of};
+ghost use Rattle.avro_schema_names.specs.Index.{IsNamespaceOf, IsNumbered, text_of_namespace};
 ghost use Rattle.avro_schema_names.specs.Names.{field_name, if_new, new_name, text_of};
 ghost use Rattle.avro_schema_names.specs.Word.{is_primitive, word_of};
 
 use crate::error::SchemaError;
 use crate::word::Word;
-use avro_schema_drafts::{Drafts, FieldList, Namespace};
+use crate::{Drafts, FieldList, Namespace};
 use avro_types::Name;
 use serde_json::Value;
 use std::alloc::Global;

@@ -4,7 +4,7 @@ ghost use Rattle.std.specs.Prelude.{◌≡◌, ◌≢◌, ◌≤◌, ◌&&◌, i
 ghost use Rattle.std.specs.List.{list_all};
 ghost use Rattle.serde_json.specs.View.{items_view};
 ghost use Rattle.avro_schema_names.specs.Attributes.{default_symbol, size_of, symbols_of, texts_in, texts_of};
-ghost use Rattle.avro_schema_drafts.specs.Draft.{data_at};
+ghost use Rattle.avro_schema_names.specs.Draft.{data_at};
 ghost use Rattle.avro_schema_names.specs.Fault.{Tells};
 ghost use Rattle.avro_schema_names.specs.declared.error.SchemaError.TheVariants.{NoMemory};
 ghost use Rattle.avro_types.specs.FullNames.{is_name};

@@ -1,7 +1,7 @@
 //! Words that name types.
 
 ghost use Rattle.std.specs.Prelude.{◌≡◌, option_map};
-ghost use Rattle.avro_schema_drafts.specs.Draft.{data_at};
+ghost use Rattle.avro_schema_names.specs.Draft.{data_at};
 ghost use Rattle.avro_types.specs.Node.{node_of};
 ghost use Rattle.avro_schema_names.specs.Word.{word_of, leaf_of, is_left_out, is_primitive, form_of, form_of_word};
 

@@ -9,10 +9,10 @@ use Rattle.avro_schema_names.specs.declared.word.Word.{Word}
 use Rattle.avro_schema_names.specs.declared.word.Word.TheVariants as words
 use Rattle.avro_schema_names.specs.declared.word.Form.{Form}
 use Rattle.avro_schema_names.specs.declared.word.Form.TheVariants as forms
-use Rattle.avro_schema_drafts.specs.Draft.{Draft, Whole, RecordDraft, DraftField}
-use Rattle.avro_schema_walk.specs.Declaring.{DeclareFields, DeclareMembers, Declares, a_field, a_fixed, a_map, a_member, a_primitive, a_record, a_reference, a_union, an_array, an_enum, another, no_more_fields, no_more_members}
-use Rattle.avro_schema_walk.proofs.WordCases.{no_primitive_is, other_is}
-use Rattle.avro_schema_defaults.specs.DefaultData.{AreNodesOf}
+use Rattle.avro_schema_names.specs.Draft.{Draft, Whole, RecordDraft, DraftField}
+use Rattle.avro_schema.specs.Declaring.{DeclareFields, DeclareMembers, Declares, a_field, a_fixed, a_map, a_member, a_primitive, a_record, a_reference, a_union, an_array, an_enum, another, no_more_fields, no_more_members}
+use Rattle.avro_schema.proofs.WordCases.{no_primitive_is, other_is}
+use Rattle.avro_schema.specs.DefaultData.{AreNodesOf}
 use Rattle.avro_schema_paths.specs.Adds.{IsThis}
 use Rattle.avro_schema_paths.specs.Laws.{EachNodeHasOnePath, OnlyNodesHavePaths}
 use Rattle.avro_schema_paths.specs.Parts.{InFields, InForm, InHeld, InWrapper, field_steps, member_steps, type_in}

@@ -1,4 +1,4 @@
-//! Schemas; used by `avro_schema_faults`, `schema_report`.
+//! Schemas.
 //!
 //! Where each node of a schema is declared in its JSON value, as a path, and the path's text as a JSON Pointer
 //! (RFC 6901).

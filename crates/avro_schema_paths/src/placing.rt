@@ -7,7 +7,7 @@ ghost use Rattle.serde_json.specs.View.{view, items_view};
 ghost use Rattle.avro_types.specs.Node.{fields_of as nodes_fields};
 ghost use Rattle.avro_types.specs.WellFormed.{FieldsBelow};
 ghost use Rattle.avro_schema_names.specs.Word.{leaf_of, word_of};
-ghost use Rattle.avro_schema_drafts.specs.Draft.{data_at};
+ghost use Rattle.avro_schema_names.specs.Draft.{data_at};
 ghost use Rattle.avro_schema_paths.specs.Parts.{InField, InFields, InHeld, InMember, InObject, InWrapper};
 ghost use Rattle.avro_schema_paths.specs.Places.{Places, types_at, item_at, value_at};
 ghost use Rattle.avro_schema_paths.specs.Adds.{Adds, IsThis};

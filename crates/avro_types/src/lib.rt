@@ -1,4 +1,4 @@
-//! Bytes and data; used by `avro_datum`, `avro_schema_drafts`, `avro_schema_names` and others.
+//! Bytes and data.
 //!
 //! The types of Avro: what the nodes of a schema are, and data by their kinds (Avro 1.11 Specification, "Schema
 //! Declaration").

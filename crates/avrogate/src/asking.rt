@@ -2,15 +2,14 @@
 
 use crate::ending::status_of;
 use command_line::Explanation;
-use commands::Status;
-use schema_commands::{Form, Level, Question, Verdict, run};
+use commands::{Form, Level, Question, Status, Verdict, answer};
 
 /// Prints the answer to a question about the schemas on standard input. Where the answer is no, that is a status of
 /// its own.
 fn ask(rt: &(impl Input + Print + AllocGlobal), question: Question) -> Status {
     let mut reader = rt.reader();
     let mut writer = std::io::writer(rt);
-    match run(rt.alloc(), question, &mut reader, &mut writer) {
+    match answer(rt.alloc(), question, &mut reader, &mut writer) {
         Ok(Verdict::Yes) => Status::Answered,
         Ok(Verdict::No) => Status::Refused,
         Err(error) => status_of(Err(error)),

@@ -17,9 +17,8 @@ use std::thread::Threads;
 use std::time::Duration;
 use store_commands::{StoreRefusal, open_registry};
 use upstream_answers::Place;
-use upstream_fetching::{Beginning, Dial, KeptUpstream, Network};
+use upstream_fetching::{Beginning, Dial, KeptUpstream, Network, Target};
 use upstream_schemas::{Upstream, UpstreamSchemas};
-use upstream_url::Target;
 
 /// How many times as long as the upstream registry may take a request waits for it, which may have to wait for its
 /// turn.

@@ -5,17 +5,18 @@ ghost use Rattle.std.specs.Prelude.{ℕ, List};
 use crate::ending::told;
 use command_line::ServeWords;
 use commands::Status;
-use gateway_answers::Fault;
+use gateway_requests::Fault;
+use registry_store::KeptSchema;
 use schema_registry::{Keeper, Progress};
 use std::net::{Net, SocketAddr, TcpStream};
 use std::sync::Wait;
 use std::time::Duration;
 use std::{fs, io};
 use store_commands::{FileSchemas, FileStore, StoreRefusal, TimedProgress, open_schemas};
-use upstream_fetching::{Beginning, Dial, MOST_ADDRESSES};
+use upstream_fetching::{
+    Beginning, Dial, MOST_ADDRESSES, Target, UrlFault, credentials_of, target_of,
+};
 use upstream_schemas::{Upstream, UpstreamSchemas};
-use upstream_store::KeptSchema;
-use upstream_url::{Target, UrlFault, credentials_of, target_of};
 
 /// What connects by the program's runtime.
 #[derive(Drop)]

@@ -3,11 +3,11 @@
 //! printed how many were answered by bytes, and how many bytes; or once, and the container of the answers is printed.
 
 use crate::messages::{Messages, put_number};
+use avro_bytes::Outcome;
 use avro_schema::Schema;
 use avro_types::Nodes;
 use machine::Transcoder;
 use memchr::memchr;
-use outcome::Outcome;
 use std::alloc::Global;
 
 /// What to do with the messages.

@@ -1,3 +1,5 @@
 pub mod Digits
 pub mod Split
 pub mod Traffic
+mod Parts
+mod Numerals

@@ -3,9 +3,9 @@ use Rattle.std.specs.Prelude.{◌≡◌, List, [], ◌∷◌, ◌++◌, ℕ, len
 use Rattle.avro_types.specs.Node.{Node}
 use Rattle.command_io.specs.OutcomeLine.{line_of}
 use Rattle.command_io.specs.Payload.{payload_of}
-use Rattle.outcome.specs.Outcome.{Outcome}
+use Rattle.avro_bytes.specs.Outcome.{Outcome}
 use Rattle.resolver.specs.Outcome.{IsOutcome}
-use Rattle.outcome.specs.declared.limits.TheConstants.{MOST_PAYLOAD}
+use Rattle.avro_bytes.specs.declared.limits.TheConstants.{MOST_PAYLOAD}
 
 -- the answer to a payload, between a writer's nodes and a reader's: by its size, then by its outcome
 abbrev pub IsPayloadAnswer : List Node → List Node → List ℕ → List ℕ → Type 0

@@ -4,3 +4,6 @@ pub mod OutcomeLine
 pub mod Payload
 pub mod RunLine
 pub mod Traffic
+pub mod Request
+pub mod Words
+pub mod Reading

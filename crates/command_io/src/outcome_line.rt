@@ -2,10 +2,10 @@
 
 ghost use Rattle.std.specs.Prelude.{◌≡◌, ◌++◌, string_bytes, OnOk};
 ghost use Rattle.hex.specs.Hex.{encode_lower};
-ghost use Rattle.outcome.specs.Outcome.{Done, outcome_of};
+ghost use Rattle.avro_bytes.specs.Outcome.{Done, outcome_of};
 ghost use Rattle.command_io.specs.OutcomeLine.{hex_of, line_of};
 
-use outcome::Outcome;
+use avro_bytes::Outcome;
 use std::alloc::{AllocError, Global};
 use std::fmt::Write;
 

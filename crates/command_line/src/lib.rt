@@ -1,4 +1,4 @@
-//! Edge: lines and commands; used by `commands`, `avrogate`.
+//! Edge: lines and commands.
 //!
 //! The words of the program's command line, and what they ask for.
 #![tactic(auto)]

@@ -4,3 +4,4 @@ pub mod PiecesLeft
 pub mod SchemaLines
 pub mod Stopping
 pub mod UpToEnd
+pub mod Folding

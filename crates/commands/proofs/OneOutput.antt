@@ -6,8 +6,8 @@ use Rattle.avro_types.specs.Node.{Node}
 use Rattle.assembler.specs.Assembling.{assembled}
 use Rattle.isa.specs.Program.{Program}
 use Rattle.program_definition.specs.Code.{code_of}
-use Rattle.outcome.specs.Outcome.{Outcome}
-use Rattle.outcome.specs.declared.limits.TheConstants.{MOST_PAYLOAD}
+use Rattle.avro_bytes.specs.Outcome.{Outcome}
+use Rattle.avro_bytes.specs.declared.limits.TheConstants.{MOST_PAYLOAD}
 use Rattle.resolver.specs.Outcome.{IsOutcome}
 use Rattle.program_correctness.specs.Alone.{EndsAreLast, RowsAreCounted, RunsGoOn}
 use Rattle.command_io.specs.OutcomeLine.{line_of}

@@ -5,9 +5,9 @@ use Rattle.std.specs.Result.{is_ok}
 use Rattle.std.specs.List.{concat}
 use Rattle.std.proofs.lemmas.Bool.{leb-false, leb-true, lt-leb, lt-ltb}
 use Rattle.isa.specs.Lists.{total_length}
-use Rattle.outcome.specs.declared.limits.TheConstants.{MOST_PAYLOAD}
+use Rattle.avro_bytes.specs.declared.limits.TheConstants.{MOST_PAYLOAD}
 use Rattle.assembler.specs.Things.{each_in}
-use Rattle.assembler_lexer.specs.Words.{parts}
+use Rattle.assembler.specs.Words.{parts}
 use Rattle.assembler.proofs.Each.{with_front, word_fails, word_read, words_read}
 use Rattle.isa.specs.Program.{Program}
 use Rattle.isa.specs.State.{State}

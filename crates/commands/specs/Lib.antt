@@ -6,3 +6,8 @@ pub mod Running
 pub mod Schemas
 pub mod Status
 pub mod Traffic
+pub mod Debugging
+pub mod Folding
+pub mod Replaying
+pub mod Telling
+pub mod Questions

@@ -10,10 +10,10 @@ use Rattle.program_definition.specs.Code.{code_of}
 use Rattle.command_io.specs.Answer.{AreAnswers, IsAnswers}
 use Rattle.command_io.specs.Lines.{line_at, lines}
 use Rattle.commands.specs.Listed.{listed}
-use Rattle.command_sessions.specs.Debugging.{IsDebugged, debugged}
-use Rattle.command_sessions.specs.Replaying.{IsReplayed}
-use Rattle.command_sessions.specs.declared.debugging.DebugError.{DebugError}
-use Rattle.command_sessions.specs.declared.debugging.DebugError.TheVariants as errors
+use Rattle.commands.specs.Debugging.{IsDebugged, debugged}
+use Rattle.commands.specs.Replaying.{IsReplayed}
+use Rattle.commands.specs.declared.session_debugging.DebugError.{DebugError}
+use Rattle.commands.specs.declared.session_debugging.DebugError.TheVariants as errors
 use Rattle.commands.specs.Refusal.{IsRefused}
 use Rattle.commands.specs.Running.{IsRunLine}
 use Rattle.commands.specs.Schemas.{schemas_of}

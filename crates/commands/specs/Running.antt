@@ -2,10 +2,10 @@
 use Rattle.std.specs.Prelude.{◌≡◌, ◌≤◌, ◌<◌, ℕ, true, List, length, codes, nat_lt, Option, Some, is_some, MatchBool, MatchOption}
 use Rattle.std.specs.List.{concat}
 use Rattle.assembler.specs.Things.{each_in}
-use Rattle.assembler_lexer.specs.Words.{parts}
+use Rattle.assembler.specs.Words.{parts}
 use Rattle.isa.specs.Program.{Program}
 use Rattle.isa.specs.State.{State}
-use Rattle.outcome.specs.declared.limits.TheConstants.{MOST_PAYLOAD}
+use Rattle.avro_bytes.specs.declared.limits.TheConstants.{MOST_PAYLOAD}
 use Rattle.program_correctness.specs.Alone.{run_alone}
 use Rattle.command_io.specs.Payload.{payload_of}
 use Rattle.command_io.specs.RunLine.{line_of_run}

@@ -10,13 +10,13 @@ ghost use Rattle.commands.specs.declared.status.Status.TheVariants.{Answered, Re
 use crate::compile::compile;
 use crate::debugging::debug;
 use crate::refusal::Refusal;
+use crate::replay;
 use crate::running::run_listed;
 use crate::schemas::schemas_of;
 use crate::status::Status;
 use crate::transcode::transcode;
 use command_io::{RunError, read_all, write_whole};
 use command_line::Verb;
-use command_sessions::replay;
 use std::alloc::{AllocError, Global};
 use std::io::{Read, Write};
 

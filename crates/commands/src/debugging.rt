@@ -6,9 +6,9 @@ ghost use Rattle.commands.specs.Output.{IsDebug};
 ghost use Rattle.commands.specs.Refusal.{text_of};
 ghost use Rattle.commands.specs.declared.status.Status.TheVariants.{Answered, Refused};
 
+use crate::DebugError;
 use crate::refusal::Refusal;
 use avro_types::Nodes;
-use command_sessions::DebugError;
 use std::alloc::Global;
 
 /// Returns the answers to the commands of a debugger, which follow the line of a payload.
@@ -23,7 +23,7 @@ pub(crate) fn debug(
     ensures err { IfErr result (λ e. e ≢ Refusal.NoMemory →
         IsDebug writer.now reader.now (lines later.now) (text_of e ++ 10 ∷ []) Refused) }
 {
-    match command_sessions::debug(alloc, writer, reader, later) {
+    match crate::debug(alloc, writer, reader, later) {
         Ok(output) => Ok(output),
         Err(DebugError::ProgramTooLarge) => Err(Refusal::ProgramTooLarge),
         Err(DebugError::BadHex) => Err(Refusal::BadHex),

@@ -1,7 +1,7 @@
 //! The pieces of a payload that a line spells.
 
 ghost use Rattle.std.specs.Prelude.{◌≡◌, ◌<◌, ◌∷◌, [], IfOk, MatchOption, length};
-ghost use Rattle.assembler_lexer.specs.Words.{parts};
+ghost use Rattle.assembler.specs.Words.{parts};
 ghost use Rattle.commands.specs.Running.{pieces_of};
 
 use command_io::payload_of;

@@ -5,7 +5,7 @@ ghost use Rattle.std.specs.List.{concat};
 ghost use Rattle.assembler.specs.Assembling.{assembled};
 ghost use Rattle.assembler.specs.declared.fault.AsmFault.{AsmFault};
 ghost use Rattle.isa.specs.Program.{Program as Parted};
-ghost use Rattle.outcome.specs.declared.limits.TheConstants.{MOST_PAYLOAD};
+ghost use Rattle.avro_bytes.specs.declared.limits.TheConstants.{MOST_PAYLOAD};
 ghost use Rattle.command_io.specs.Lines.{lines};
 ghost use Rattle.command_io.specs.Answer.{AreAnswers};
 ghost use Rattle.commands.specs.Listed.{listed};
@@ -15,10 +15,10 @@ use crate::listed::split_listing;
 use crate::pieces::pieces_of;
 use crate::refusal::Refusal;
 use assembler::{AsmError, assemble};
+use avro_bytes::MOST_PAYLOAD;
 use command_io::{push_run, split_line};
 use isa::{Lists, row_or_end_is_there};
 use machine::{PlannedProgram, Run, Why};
-use outcome::MOST_PAYLOAD;
 use std::alloc::{AllocError, Global};
 
 /// Takes rows until `steps` were taken in all, or no more are there.

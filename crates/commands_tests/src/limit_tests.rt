@@ -4,9 +4,9 @@ use crate::again::pushed;
 use crate::plan_rows::{Planned, ROWS};
 use crate::plan_schemas::{EVOLVED, RECORD};
 use crate::plan_tests::{letters, planned_program, rows_alone};
+use avro_bytes::MOST_OUTPUT;
 use machine::Run;
 use machine_plan::{PlannedProgram, Scratch};
-use outcome::MOST_OUTPUT;
 use std::alloc::{AllocError, Global};
 use std::test::Fail;
 

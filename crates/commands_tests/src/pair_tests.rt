@@ -2,8 +2,8 @@
 
 use crate::again::{Pair, compiled, outcome, pair_of, transcoder};
 use crate::words::pair_words;
+use avro_bytes::MOST_PAYLOAD;
 use machine::{Outcome, TranscodeError, Transcoder};
-use outcome::MOST_PAYLOAD;
 use program_compiler::CompileError;
 use std::alloc::{AllocError, Global};
 use std::test::Fail;

@@ -7,10 +7,9 @@ use crate::plan_schemas::{
     VALUE,
 };
 use crate::run_tests::NOWHERE;
-use avro_bytes::put_long;
+use avro_bytes::{MOST_OUTPUT, put_long};
 use machine::Run;
 use machine_plan::{PlannedProgram, Scratch};
-use outcome::MOST_OUTPUT;
 use std::alloc::{AllocError, Global};
 use std::mem;
 use std::test::Fail;

@@ -1,6 +1,6 @@
 //! What `replay` answers where memory runs out.
 
-use command_sessions::replay;
+use commands::replay;
 use std::alloc::{AllocError, Global};
 use std::test::Fail;
 

@@ -2,7 +2,7 @@
 use Rattle.std.specs.Prelude.{◌≡◌, ℕ, List, Some}
 use Rattle.assembler.specs.Listing.{listing_of}
 use Rattle.isa.specs.State.{State}
-use Rattle.session_state.specs.Session.{Session, state_of}
+use Rattle.session_core.specs.Session.{Session, state_of}
 use Rattle.debugger.specs.Show.{shown}
 
 -- the text of the state that its machine is in, and that memory ran out where that ended it

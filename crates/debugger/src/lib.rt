@@ -1,4 +1,4 @@
-//! Sessions; used by `command_sessions`, `session_pool`.
+//! Sessions.
 //!
 //! What a debugger shows: the state of a session or a machine, and the listing of its program, as text.
 #![tactic(auto)]

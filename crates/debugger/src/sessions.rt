@@ -4,7 +4,7 @@ ghost use Rattle.std.specs.Prelude.{string_bytes, IfOk};
 ghost use Rattle.debugger.specs.Sessions.{Lists, Shows};
 
 use crate::showing::{list_program, show_machine};
-use session_state::Session;
+use session_core::Session;
 use std::alloc::{AllocError, Global};
 
 /// Returns the text of a session's state.

@@ -2,7 +2,7 @@
 use Rattle.std.specs.Prelude.{ℕ}
 use Rattle.avro_bytes.specs.declared.fault.MalformedKind.{MalformedKind}
 use Rattle.avro_bytes.specs.declared.fault.MalformedKind.TheVariants as malformed
-use Rattle.outcome.specs.MismatchKind as mismatch
+use Rattle.avro_bytes.specs.MismatchKind as mismatch
 use Rattle.wire_frames.specs.declared.envelope.EnvelopeError.{EnvelopeError}
 use Rattle.wire_frames.specs.declared.envelope.EnvelopeError.TheVariants as envelopes
 use Rattle.embedding.specs.declared.numbers.ReportNumbers.{ReportNumbers}

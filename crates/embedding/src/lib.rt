@@ -1,4 +1,4 @@
-//! Edge: C; used by `transcoder_handle`, `avrogate_c`.
+//! Edge: C.
 //!
 //! A transcoder that owns its pair of schemas, and what is reported to a program that embeds it: of texts, payloads,
 //! messages and batches, and by which numbers.

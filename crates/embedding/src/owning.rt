@@ -2,15 +2,14 @@
 
 ghost use Rattle.std.specs.Prelude.{◌≡◌, ◌≤◌, ◌+◌, ◌++◌, ℕ, List, None, IfErr, IfOk, length, take};
 ghost use Rattle.program_definition.specs.Code.{code_of};
-ghost use Rattle.program_lowering.specs.declared.error.CompileError.TheVariants.{ProgramTooLarge};
+ghost use Rattle.program_compiler.specs.declared.error.CompileError.TheVariants.{ProgramTooLarge};
 ghost use Rattle.wire_frames.specs.Envelope.{prefix};
 ghost use Rattle.embedding.specs.Report.{IsMessageReport, IsPayloadReport, TellsOutcome, TellsRefusal};
 
 use crate::report::{Ids, PayloadReport, Report};
+use avro_bytes::Outcome;
 use avro_schema::Schema;
-use machine::TranscodingRoom;
-use outcome::Outcome;
-use pair_program::PairProgram;
+use machine::{PairProgram, TranscodingRoom};
 use program_compiler::CompileError;
 use resolver::TranscodeError;
 use std::alloc::Global;

@@ -1,7 +1,6 @@
 //! What is reported of a payload, of a message and of an item of a batch.
 
-use avro_bytes::MalformedKind;
-use outcome::Mismatch;
+use avro_bytes::{MalformedKind, Mismatch};
 use wire_frames::EnvelopeError;
 
 /// What is reported of a payload and the room that was given for its output.

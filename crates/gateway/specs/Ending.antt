@@ -1,7 +1,7 @@
 -- What a session of a pool comes to. All of this is this project's own.
 use Rattle.std.specs.Prelude.{ℕ, List}
-use Rattle.outcome.specs.Outcome.{outcome_of}
-use Rattle.outcome.specs.declared.payload.Outcome as rust
+use Rattle.avro_bytes.specs.Outcome.{outcome_of}
+use Rattle.avro_bytes.specs.declared.payload.Outcome as rust
 use Rattle.resolver.specs.Outcome.{IsOutcome}
 use Rattle.session_pool.specs.Pass.{Pass}
 

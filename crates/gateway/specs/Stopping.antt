@@ -5,7 +5,7 @@ use Rattle.gateway_core.specs.declared.transcode.TranscodeFault.TheVariants.{Pro
 use Rattle.session_pool.specs.declared.pool.ClientSeat.{ClientSeat}
 use Rattle.session_pool.specs.Pass.{Pass}
 use Rattle.session_pool.specs.Seats.{Finds, IsGone, KeepsAll, KeepsOthers}
-use Rattle.session_pool_rule.specs.Words.{with_worker}
+use Rattle.session_pool_slots.specs.Words.{with_worker}
 use Rattle.gateway.specs.declared.ending.TheConstants.{MOST_ABANDONS}
 
 -- the gate said no, or memory ran out

@@ -6,8 +6,8 @@ ghost use Rattle.gateway_core.specs.Gates.{Asked, SaidNo};
 ghost use Rattle.gateway.specs.Ending.{IsOutcomeOf};
 ghost use Rattle.gateway.specs.Stopping.{IsGivenUp, IsWhyStopped};
 
+use avro_bytes::Outcome;
 use gateway_core::{Gate, Place, TranscodeFault};
-use outcome::Outcome;
 use session_pool::{ClientSeat, Finished, Pass, SessionEnd, SessionPool};
 use std::sync::Wait;
 

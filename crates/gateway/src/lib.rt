@@ -1,4 +1,4 @@
-//! Edge: HTTP; used by `gateway_server`.
+//! Edge: HTTP.
 //!
 //! How messages are transcoded for requests: by sessions of a pool, which its workers run, and clients while they wait.
 #![tactic(auto)]

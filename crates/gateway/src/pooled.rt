@@ -1,7 +1,7 @@
 //! Transcoding by sessions of a pool.
 
 ghost use Rattle.std.specs.Prelude.{◌≡◌, ◌≤◌, IfErr, IfOk, OnErr, vec_len};
-ghost use Rattle.outcome.specs.declared.limits.TheConstants.{MOST_PAYLOAD};
+ghost use Rattle.avro_bytes.specs.declared.limits.TheConstants.{MOST_PAYLOAD};
 ghost use Rattle.session_pool_slots.specs.Account.{new_account};
 ghost use Rattle.session_pool.specs.Seats.{IsPassOf, Rests, told};
 ghost use Rattle.gateway_core.specs.Gates.{SaidNo};
@@ -11,8 +11,8 @@ ghost use Rattle.gateway.specs.Stopping.{IsGivenUp, IsWhyStopped};
 
 use crate::ending::{abandon, finish};
 use crate::sending::feed;
+use avro_bytes::Outcome;
 use gateway_core::{Gate, Transcode, TranscodeFault};
-use outcome::Outcome;
 use schema_registry::Receipt;
 use session_pool::{ClientSeat, OpenError, Pass, SessionPool};
 use std::sync::Wait;

@@ -14,9 +14,8 @@ ghost use Rattle.gateway.specs.Refusing.{Refuses};
 
 use crate::app::App;
 use crate::pooled::Pooled;
-use gateway_answers::Fault;
 use gateway_core::{Evidence, Gate, NamedReply, Reply, Schemas, ServeError, TellError};
-use gateway_requests::Request;
+use gateway_requests::{Fault, Request};
 use session_pool::ClientSeat;
 use std::alloc::AllocError;
 use std::io::{Read, Write};

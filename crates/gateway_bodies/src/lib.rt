@@ -1,4 +1,4 @@
-//! Edge: HTTP; used by `gateway_requests`.
+//! Edge: HTTP.
 //!
 //! Reading the JSON body of a request: of an object the members that count are kept, and nothing of any other value, so
 //! that a body takes no more memory than a few times its length.

@@ -1,8 +1,8 @@
 -- What is answered and written, from what is asked and returned.
 use Rattle.std.proofs.Common.{◌≡◌, ◌≢◌, ◌⊎◌, ℕ, List, Option, Result, Err, sym, subst, inl, inr, ◌∙◌, ap}
-use Rattle.gateway_answers.specs.Answer.{Answer, Refused}
-use Rattle.gateway_answers.specs.declared.fault.Fault.{Fault}
-use Rattle.gateway_answers.specs.declared.fault.Fault.TheVariants as faults
+use Rattle.gateway_requests.specs.Answer.{Answer, Refused}
+use Rattle.gateway_requests.specs.declared.fault.Fault.{Fault}
+use Rattle.gateway_requests.specs.declared.fault.Fault.TheVariants as faults
 use Rattle.gateway_core.specs.declared.evidence.Evidence.{Evidence}
 use Rattle.gateway_core.specs.declared.transcode.TranscodeFault.{TranscodeFault}
 use Rattle.schema_registry.specs.Shared.{Shown}

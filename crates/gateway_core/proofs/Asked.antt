@@ -7,10 +7,10 @@ use Rattle.httparse.specs.Spans.{IsRequestAt}
 use Rattle.httparse.specs.declared.spans.HeaderSpan.{HeaderSpan}
 use Rattle.httparse.specs.declared.spans.RequestSpans.{RequestSpans}
 use Rattle.httparse.proofs.GrammarLemmas.{ReadsRequest-append}
-use Rattle.http_request.specs.Front.{HasNoHead, IsAllowed}
-use Rattle.http_request.specs.Body.{IsBodyOf}
-use Rattle.gateway_answers.specs.declared.fault.Fault.{Fault}
-use Rattle.gateway_answers.specs.declared.fault.Fault.TheVariants.{BadRequest}
+use Rattle.gateway_requests.specs.Front.{HasNoHead, IsAllowed}
+use Rattle.gateway_requests.specs.RequestBody.{IsBodyOf}
+use Rattle.gateway_requests.specs.declared.fault.Fault.{Fault}
+use Rattle.gateway_requests.specs.declared.fault.Fault.TheVariants.{BadRequest}
 use Rattle.gateway_requests.specs.declared.request.Request as rust
 use Rattle.gateway_requests.specs.Steps.{Tells}
 use Rattle.gateway_requests.specs.Request.{Request, request_of}

@@ -1,8 +1,8 @@
 -- The bytes and the status of an answer that rests on the schemas of another registry.
 use Rattle.std.proofs.Common.{◌≡◌, ◌⊎◌, ℕ, List, Option, Result, sym, subst, inl, inr}
-use Rattle.gateway_answers.specs.Answer.{Answer, Refused}
-use Rattle.gateway_answers.specs.declared.fault.Fault.{Fault}
-use Rattle.gateway_answers.specs.declared.fault.Fault.TheVariants as faults
+use Rattle.gateway_requests.specs.Answer.{Answer, Refused}
+use Rattle.gateway_requests.specs.declared.fault.Fault.{Fault}
+use Rattle.gateway_requests.specs.declared.fault.Fault.TheVariants as faults
 use Rattle.gateway_core.specs.declared.named.Sight.{Sight}
 use Rattle.gateway_core.specs.declared.transcode.TranscodeFault.{TranscodeFault}
 use Rattle.schema_registry.specs.Shared.{Shown}

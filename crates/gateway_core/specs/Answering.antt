@@ -6,10 +6,10 @@ use Rattle.schema_registry.specs.Command.{Command}
 use Rattle.schema_registry.specs.Reply.{Reply, EntryReply, IdReply, CompatibleReply, NumbersReply, NamesReply, TextReply, LevelReply}
 use Rattle.schema_registry.specs.Shared.{Shown, IsReceiptOf, IsSomeAnswer, IsSomeId, ShowsText}
 use Rattle.schema_registry.specs.declared.refusal.Refusal.{Refusal}
-use Rattle.gateway_answers.specs.Answer.{Answer, Replied, Refused}
-use Rattle.gateway_answers.specs.Replies.{id_data, schema_data}
-use Rattle.gateway_answers.specs.declared.fault.Fault.{Fault}
-use Rattle.gateway_answers.specs.declared.fault.Fault.TheVariants as faults
+use Rattle.gateway_requests.specs.Answer.{Answer, Replied, Refused}
+use Rattle.gateway_requests.specs.Replies.{id_data, schema_data}
+use Rattle.gateway_requests.specs.declared.fault.Fault.{Fault}
+use Rattle.gateway_requests.specs.declared.fault.Fault.TheVariants as faults
 use Rattle.gateway_requests.specs.Request as requests
 use Rattle.gateway_core.specs.declared.evidence.Evidence.{Evidence}
 use Rattle.gateway_core.specs.declared.evidence.Evidence.TheVariants as evidences

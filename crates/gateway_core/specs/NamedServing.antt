@@ -3,11 +3,11 @@
 use Rattle.std.specs.Prelude.{◌≡◌, ◌⊎◌, ℕ, List, Option, None, Some, IfSome, Result, Ok, Err}
 use Rattle.serde_json.specs.Written.{compact_text}
 use Rattle.schema_registry.specs.Shared.{Shown, IsReceiptOf}
-use Rattle.gateway_answers.specs.Answer.{Answer, Replied, Refused, answer_text, status_of_answer}
-use Rattle.gateway_answers.specs.Replies.{schema_data}
-use Rattle.gateway_answers.specs.Status.{number_of}
-use Rattle.gateway_answers.specs.declared.fault.Fault.{Fault}
-use Rattle.gateway_answers.specs.declared.fault.Fault.TheVariants as faults
+use Rattle.gateway_requests.specs.Answer.{Answer, Replied, Refused, answer_text, status_of_answer}
+use Rattle.gateway_requests.specs.Replies.{schema_data}
+use Rattle.gateway_requests.specs.Status.{number_of}
+use Rattle.gateway_requests.specs.declared.fault.Fault.{Fault}
+use Rattle.gateway_requests.specs.declared.fault.Fault.TheVariants as faults
 use Rattle.gateway_requests.specs.Asking.{IsAsked}
 use Rattle.gateway_requests.specs.Request as requests
 use Rattle.gateway_core.specs.declared.named.Sight.{Sight}

@@ -3,9 +3,9 @@ use Rattle.std.specs.Prelude.{◌≡◌, ◌⊎◌, ℕ, List}
 use Rattle.schema_registry.specs.Shared.{Shown, IsReceiptOf}
 use Rattle.wire_frames.specs.Envelope.{envelope, IsNoMessage}
 use Rattle.wire_frames.specs.declared.envelope.EnvelopeError.{EnvelopeError}
-use Rattle.gateway_answers.specs.Answer.{Answer}
-use Rattle.gateway_answers.specs.declared.fault.Fault.{Fault}
-use Rattle.gateway_answers.specs.declared.fault.Fault.TheVariants as faults
+use Rattle.gateway_requests.specs.Answer.{Answer}
+use Rattle.gateway_requests.specs.declared.fault.Fault.{Fault}
+use Rattle.gateway_requests.specs.declared.fault.Fault.TheVariants as faults
 use Rattle.gateway_core.specs.declared.schemas.NamedSchema.{NamedSchema}
 use Rattle.gateway_core.specs.declared.transcode.TranscodeFault.{TranscodeFault}
 use Rattle.gateway_core.specs.Outcomes.{TellsOutcome}

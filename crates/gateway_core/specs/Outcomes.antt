@@ -1,12 +1,12 @@
 -- What is answered of a payload between two schemas.
 use Rattle.std.specs.Prelude.{◌≡◌, ◌⊎◌, ℕ, List, IfSome}
-use Rattle.outcome.specs.Outcome.{Outcome, Done, Mismatched, Malformed, OutputTooLarge}
+use Rattle.avro_bytes.specs.Outcome.{Outcome, Done, Mismatched, Malformed, OutputTooLarge}
 use Rattle.resolver.specs.Outcome.{IsOutcome}
 use Rattle.schema_registry.specs.Shared.{Shown}
 use Rattle.wire_frames.specs.Envelope.{envelope}
-use Rattle.gateway_answers.specs.Answer.{Answer, Rewritten, Refused}
-use Rattle.gateway_answers.specs.declared.fault.Fault.{Fault}
-use Rattle.gateway_answers.specs.declared.fault.Fault.TheVariants as faults
+use Rattle.gateway_requests.specs.Answer.{Answer, Rewritten, Refused}
+use Rattle.gateway_requests.specs.declared.fault.Fault.{Fault}
+use Rattle.gateway_requests.specs.declared.fault.Fault.TheVariants as faults
 use Rattle.gateway_core.specs.declared.transcode.TranscodeFault.{TranscodeFault}
 use Rattle.gateway_core.specs.declared.transcode.TranscodeFault.TheVariants as transcoding
 

@@ -9,10 +9,10 @@ use Rattle.schema_registry.specs.Level.{level_name}
 use Rattle.schema_registry.specs.Reply.{Reply, IdReply, EntryReply, CompatibleReply, NumbersReply, NamesReply, TextReply, LevelReply}
 use Rattle.schema_registry.specs.declared.refusal.Refusal.{Refusal}
 use Rattle.schema_registry.specs.declared.refusal.Refusal.TheVariants as refusals
-use Rattle.gateway_answers.specs.Answer.{Answer, Replied, Refused}
-use Rattle.gateway_answers.specs.Replies.{compatibility_data, entry_data, id_data, level_data, names_data, new_level_data, numbers_data, schema_data}
-use Rattle.gateway_answers.specs.declared.fault.Fault.{Fault}
-use Rattle.gateway_answers.specs.declared.fault.Fault.TheVariants as faults
+use Rattle.gateway_requests.specs.Answer.{Answer, Replied, Refused}
+use Rattle.gateway_requests.specs.Replies.{compatibility_data, entry_data, id_data, level_data, names_data, new_level_data, numbers_data, schema_data}
+use Rattle.gateway_requests.specs.declared.fault.Fault.{Fault}
+use Rattle.gateway_requests.specs.declared.fault.Fault.TheVariants as faults
 
 -- what is wrong with a schema's text; want of memory is no fault of the text
 abbrev pub fault_of_schema : SchemaError → Fault

@@ -1,13 +1,13 @@
 -- What is read of a request and written for it.
 use Rattle.std.specs.Prelude.{◌≡◌, ◌≤◌, ◌⊎◌, ℕ, List, [], length, take, Option, IfSome, Result, Ok, Err}
 use Rattle.std.specs.Io.KnownBytes.{Appends, Keeps}
-use Rattle.http_request.specs.declared.read_error.ReadError.{ReadError}
-use Rattle.http_request.specs.declared.read_error.ReadError.TheVariants as reading
+use Rattle.gateway_requests.specs.declared.read_error.ReadError.{ReadError}
+use Rattle.gateway_requests.specs.declared.read_error.ReadError.TheVariants as reading
 use Rattle.schema_registry.specs.Shared.{Shown}
-use Rattle.gateway_answers.specs.Answer.{Answer, Refused, answer_text, status_of_answer}
-use Rattle.gateway_answers.specs.Status.{number_of}
-use Rattle.gateway_answers.specs.declared.fault.Fault.{Fault}
-use Rattle.gateway_answers.specs.declared.fault.Fault.TheVariants as faults
+use Rattle.gateway_requests.specs.Answer.{Answer, Refused, answer_text, status_of_answer}
+use Rattle.gateway_requests.specs.Status.{number_of}
+use Rattle.gateway_requests.specs.declared.fault.Fault.{Fault}
+use Rattle.gateway_requests.specs.declared.fault.Fault.TheVariants as faults
 use Rattle.gateway_requests.specs.Asking.{IsAsked}
 use Rattle.gateway_requests.specs.Steps.{Tells}
 use Rattle.gateway_requests.specs.Request.{Request, request_of}

@@ -1,7 +1,7 @@
 -- The outcome of a payload between the schemas of two receipts, or why there is none. This project's own.
 use Rattle.std.specs.Prelude.{List, ℕ, IfSome}
-use Rattle.outcome.specs.Outcome.{outcome_of}
-use Rattle.outcome.specs.declared.payload.Outcome as rust
+use Rattle.avro_bytes.specs.Outcome.{outcome_of}
+use Rattle.avro_bytes.specs.declared.payload.Outcome as rust
 use Rattle.resolver.specs.Outcome.{IsOutcome}
 use Rattle.schema_registry.specs.Shared.{Shown}
 use Rattle.gateway_core.specs.declared.transcode.TranscodeFault.{TranscodeFault}

@@ -4,7 +4,7 @@ ghost use Rattle.std.specs.Prelude.{◌≡◌, ◌⊎◌, IfNone, IfOk, IfSome, 
 ghost use Rattle.schema_registry.specs.Command.{Command as AnyCommand, command_of};
 ghost use Rattle.schema_registry.specs.Reply.{reply_of};
 ghost use Rattle.schema_registry.specs.Shared.{IsReceiptOf};
-ghost use Rattle.gateway_answers.specs.Answer.{Refused, answer_of};
+ghost use Rattle.gateway_requests.specs.Answer.{Refused, answer_of};
 ghost use Rattle.gateway_requests.specs.Request.{request_of};
 ghost use Rattle.gateway_requests.specs.Sizes.{IsWithin};
 ghost use Rattle.gateway_requests.specs.declared.limits.TheConstants.{MOST_BODY};
@@ -20,8 +20,7 @@ use crate::gate::Gate;
 use crate::messages::tell_message;
 use crate::replies::{fault_of, reply_text};
 use crate::transcode::Transcode;
-use gateway_answers::{Answer, Fault, id_text, schema_text};
-use gateway_requests::Request;
+use gateway_requests::{Answer, Fault, Request, id_text, schema_text};
 use schema_registry::{Command, Receipt, Reply, SharedRegistry};
 use std::alloc::{AllocError, Global};
 use std::sync::Wait;

@@ -1,4 +1,4 @@
-//! Edge: HTTP; used by `gateway`, `gateway_server`.
+//! Edge: HTTP.
 //!
 //! One request, one answer, over any reader and any writer.
 #![tactic(auto)]
@@ -20,7 +20,7 @@ mod writing;
 pub use app::App;
 pub use evidence::Evidence;
 pub use gate::{Gate, Place};
-pub use gateway_answers::AnswerBytes;
+pub use gateway_requests::AnswerBytes;
 pub use messages::{NamedPair, Rewritten, Unpaired};
 pub use named::{NamedReply, Sight, reply_named};
 pub use replying::{Reply, reply_to};

@@ -1,10 +1,10 @@
 //! A message of one schema, rewritten for another.
 
 ghost use Rattle.std.specs.Prelude.{◌≡◌, ◌≤◌, ◌⊎◌, IfErr, IfNone, IfOk, IfSome, length, vec_len};
-ghost use Rattle.outcome.specs.Outcome.{outcome_of};
-ghost use Rattle.outcome.specs.declared.limits.TheConstants.{MOST_PAYLOAD};
+ghost use Rattle.avro_bytes.specs.Outcome.{outcome_of};
+ghost use Rattle.avro_bytes.specs.declared.limits.TheConstants.{MOST_PAYLOAD};
 ghost use Rattle.schema_registry.specs.Shared.{IsReceiptOf};
-ghost use Rattle.gateway_answers.specs.Answer.{answer_of};
+ghost use Rattle.gateway_requests.specs.Answer.{answer_of};
 ghost use Rattle.gateway_requests.specs.declared.limits.TheConstants.{MOST_BODY};
 ghost use Rattle.gateway_core.specs.Answering.{TellsMessage, TellsNoReader, TellsNoWriter};
 ghost use Rattle.gateway_core.specs.Gates.{SaidNo};
@@ -18,8 +18,8 @@ use crate::evidence::Evidence;
 use crate::gate::Gate;
 use crate::schemas::{NamedSchema, OwnSchemas, Schemas};
 use crate::transcode::{Transcode, TranscodeFault};
-use gateway_answers::{Answer, Fault};
-use outcome::Outcome;
+use avro_bytes::Outcome;
+use gateway_requests::{Answer, Fault};
 use schema_registry::Receipt;
 use std::sync::Wait;
 use wire_frames::Message;

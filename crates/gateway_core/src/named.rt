@@ -1,7 +1,7 @@
 //! Answers where another registry names the schemas.
 
 ghost use Rattle.std.specs.Prelude.{◌≡◌, ◌++◌, ◌≤◌, ◌⊎◌, ℕ, IfOk, List, None, Option, Result, length};
-ghost use Rattle.gateway_answers.specs.Answer.{Refused, answer_of};
+ghost use Rattle.gateway_requests.specs.Answer.{Refused, answer_of};
 ghost use Rattle.gateway_requests.specs.Request.{Request as Asked, Transcodes, request_of};
 ghost use Rattle.gateway_requests.specs.Sizes.{IsWithin};
 ghost use Rattle.gateway_requests.specs.Steps.{Tells};
@@ -18,8 +18,7 @@ use crate::messages::{NamedPair, Rewritten, Unpaired, rewrite};
 use crate::replying::bytes_of;
 use crate::schemas::{NamedSchema, Schemas};
 use crate::transcode::Transcode;
-use gateway_answers::{Answer, AnswerBytes, Fault, schema_text};
-use gateway_requests::Request;
+use gateway_requests::{Answer, AnswerBytes, Fault, Request, schema_text};
 use schema_registry::SharedRegistry;
 use std::alloc::{AllocError, Global};
 use std::sync::Wait;

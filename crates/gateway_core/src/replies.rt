@@ -7,7 +7,7 @@ ghost use Rattle.schema_registry.specs.Reply.{reply_of};
 ghost use Rattle.gateway_core.specs.Replies.{SetsLevel, fault_of, reply_data};
 
 use avro_schema_names::SchemaError;
-use gateway_answers::{
+use gateway_requests::{
     Fault, compatibility_text, entry_text, id_text, level_text, names_text, new_level_text,
     numbers_text, schema_text,
 };

@@ -1,7 +1,7 @@
 //! The answer to a request that was received, before it is written.
 
 ghost use Rattle.std.specs.Prelude.{◌≡◌, ◌++◌, ℕ, IfOk, List, Option, Result};
-ghost use Rattle.gateway_answers.specs.Answer.{answer_of};
+ghost use Rattle.gateway_requests.specs.Answer.{answer_of};
 ghost use Rattle.gateway_requests.specs.Request.{Request as Asked, request_of};
 ghost use Rattle.gateway_requests.specs.Sizes.{IsWithin};
 ghost use Rattle.gateway_requests.specs.Steps.{Tells};
@@ -15,8 +15,7 @@ use crate::app::App;
 use crate::evidence::Evidence;
 use crate::gate::Gate;
 use crate::transcode::Transcode;
-use gateway_answers::{Answer, AnswerBytes, Fault};
-use gateway_requests::Request;
+use gateway_requests::{Answer, AnswerBytes, Fault, Request};
 use std::alloc::{AllocError, Global};
 use std::sync::Wait;
 

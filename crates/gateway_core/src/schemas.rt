@@ -2,7 +2,7 @@
 
 ghost use Rattle.std.specs.Prelude.{◌≡◌};
 
-use gateway_answers::Fault;
+use gateway_requests::Fault;
 use schema_registry::{Receipt, SharedRegistry};
 use std::marker::Model;
 
@@ -17,7 +17,7 @@ pub struct NamedSchema<E: Drop> {
 pub trait Schemas {
     ghost use Rattle.std.specs.Prelude.{◌≡◌, ℕ, List, IfErr, IfOk};
     ghost use Rattle.schema_registry.specs.Shared.{Shown, IsReceiptOf};
-    ghost use Rattle.gateway_answers.specs.declared.fault.Fault.{Fault as Refusal};
+    ghost use Rattle.gateway_requests.specs.declared.fault.Fault.{Fault as Refusal};
 
     /// What shows that an id names a schema.
     type Seen: Drop;
@@ -55,7 +55,7 @@ impl<'a> Model for OwnSchemas<'a> {
 
 impl<'a> Schemas for OwnSchemas<'a> {
     ghost use Rattle.std.specs.Prelude.{◌≡◌};
-    ghost use Rattle.gateway_answers.specs.declared.fault.Fault.TheVariants as faults;
+    ghost use Rattle.gateway_requests.specs.declared.fault.Fault.TheVariants as faults;
 
     type Seen = ();
 

@@ -5,7 +5,7 @@ ghost use Rattle.gateway_core.specs.Serving.{error_of, without_evidence};
 ghost use Rattle.gateway_core.specs.declared.serve_error.TellError.TheVariants.{NoMemory};
 
 use crate::evidence::Evidence;
-use http_request::ReadError;
+use gateway_requests::ReadError;
 use std::alloc::AllocError;
 use thiserror::Error;
 

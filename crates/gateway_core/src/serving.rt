@@ -3,7 +3,7 @@
 ghost use Rattle.std.specs.Prelude.{◌≡◌, ◌⊎◌, ◌++◌, [], Err, IfErr, IfOk, IfSome, drop};
 ghost use Rattle.httparse.specs.Grammar.{RequestHead};
 ghost use Rattle.httparse.specs.Spans.{IsRequestAt, IsRequestWithin};
-ghost use Rattle.http_request.specs.declared.read_error.ReadError.TheVariants as reading;
+ghost use Rattle.gateway_requests.specs.declared.read_error.ReadError.TheVariants as reading;
 ghost use Rattle.gateway_requests.specs.Asking.{asked};
 ghost use Rattle.gateway_requests.specs.Request.{request_of};
 ghost use Rattle.gateway_requests.specs.Sizes.{IsWithin};
@@ -19,9 +19,10 @@ use crate::replying::{Reply, reply_to};
 use crate::serve_error::{ServeError, TellError};
 use crate::transcode::Transcode;
 use crate::writing::write_all;
-use gateway_answers::Fault;
-use gateway_requests::{Request, Routes, choose, path_of, request_of};
-use http_request::{Front, MOST_FIELDS, MOST_HEAD, ReadError, read_body, read_head};
+use gateway_requests::{
+    Fault, Front, MOST_FIELDS, MOST_HEAD, ReadError, Request, Routes, choose, path_of, read_body,
+    read_head, request_of,
+};
 use httparse::spans::{EMPTY_HEADER_SPAN, HeaderSpan, RequestSpans};
 use std::alloc::Global;
 use std::io::{Read, Write};

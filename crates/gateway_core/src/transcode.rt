@@ -1,7 +1,7 @@
 //! The interface through which messages are rewritten.
 
 use crate::gate::Gate;
-use outcome::Outcome;
+use avro_bytes::Outcome;
 use schema_registry::Receipt;
 use std::sync::Wait;
 use thiserror::Error;
@@ -24,7 +24,7 @@ pub enum TranscodeFault {
 /// A transcoder, which returns the outcome of payloads for pairs of receipts of one registry.
 pub trait Transcode {
     ghost use Rattle.std.specs.Prelude.{◌≡◌, ◌≤◌, ℕ, List, IfErr, IfOk, vec_len};
-    ghost use Rattle.outcome.specs.declared.limits.TheConstants.{MOST_PAYLOAD};
+    ghost use Rattle.avro_bytes.specs.declared.limits.TheConstants.{MOST_PAYLOAD};
     ghost use Rattle.schema_registry.specs.Shared.{IsReceiptOf, Shown};
     ghost use Rattle.gateway_core.specs.declared.transcode.TranscodeFault.{TranscodeFault};
     ghost use Rattle.gateway_core.specs.Gates.{SaidNo};

@@ -3,7 +3,7 @@
 ghost use Rattle.std.specs.Prelude.{◌≡◌, ◌++◌, ◌≤◌, IfErr, IfOk, OnOk, length, take};
 ghost use Rattle.std.specs.Io.KnownBytes.{Appends, Keeps, WriteAppends};
 
-use http_request::MOST_TRIES;
+use gateway_requests::MOST_TRIES;
 use std::io::{ErrorKind, Write};
 
 /// Why not all bytes were written.

@@ -9,11 +9,11 @@ use Rattle.httparse.specs.declared.spans.HeaderSpan.{HeaderSpan}
 use Rattle.httparse.specs.declared.spans.RequestSpans.{RequestSpans}
 use Rattle.httparse.specs.declared.spans.Span.{Span}
 use Rattle.httparse.proofs.GrammarLemmas.{ReadsRequest-append}
-use Rattle.http_request.specs.Front.{HasNoHead, IsAllowed}
-use Rattle.http_request.specs.declared.limits.TheConstants.{MOST_FIELDS, MOST_HEAD}
-use Rattle.http_request.proofs.Fronts.{head_in_front, is_allowed}
-use Rattle.gateway_answers.specs.declared.fault.Fault.{Fault}
-use Rattle.gateway_answers.specs.declared.fault.Fault.TheVariants.{BadRequest, NoMemory}
+use Rattle.gateway_requests.specs.Front.{HasNoHead, IsAllowed}
+use Rattle.gateway_requests.specs.declared.limits.TheConstants.{MOST_FIELDS, MOST_HEAD}
+use Rattle.gateway_requests.proofs.Fronts.{head_in_front, is_allowed}
+use Rattle.gateway_requests.specs.declared.fault.Fault.{Fault}
+use Rattle.gateway_requests.specs.declared.fault.Fault.TheVariants.{BadRequest, NoMemory}
 use Rattle.gateway_requests.specs.declared.choosing.Chosen.{Chosen}
 use Rattle.gateway_requests.specs.declared.limits.TheConstants.{MOST_BODY}
 use Rattle.gateway_requests.specs.declared.request.Request as rust

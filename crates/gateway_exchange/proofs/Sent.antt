@@ -4,7 +4,7 @@ use Rattle.std.proofs.lemmas.List.{append_assoc, append-nil, drop-append-le, len
 use Rattle.std.proofs.Math.Seq.{drop-append-add, drop-drop, take-add}
 use Rattle.std.proofs.KnownBytes.{Appends-kept, Appends-trans, Consumes-kept, Consumes-trans}
 use Rattle.std.specs.Io.KnownBytes.{Appends, Consumes, Keeps}
-use Rattle.byte_transfer.specs.Moving.{Receives}
+use Rattle.wire_frames.specs.Moving.{Receives}
 use Rattle.gateway_exchange.specs.Exchange.{Gains, Sends, Sent}
 
 -- a part of the first piece is a part of both

@@ -1,6 +1,6 @@
 -- What a request asks whose bytes come one part after another. This project's own, but for what bytes ask.
 use Rattle.std.specs.Prelude.{ℕ, Bool, List, ◌++◌, Result}
-use Rattle.gateway_answers.specs.declared.fault.Fault.{Fault}
+use Rattle.gateway_requests.specs.declared.fault.Fault.{Fault}
 use Rattle.gateway_requests.specs.Asking.{IsAsked}
 use Rattle.gateway_requests.specs.Request.{Request, request_of}
 use Rattle.gateway_requests.specs.Steps.{Tells}

@@ -2,8 +2,8 @@
 use Rattle.std.specs.Prelude.{◌≡◌, ◌<◌, ◌≤◌, ℕ, Bool, true, false, List, [], length, take, drop, nat_le, Ok, Err}
 use Rattle.httparse.specs.Grammar.{HasNoRequest, ReadsRequest, RequestHead}
 use Rattle.httparse.specs.Spans.{IsWithin, span_bytes}
-use Rattle.http_request.specs.Front.{IsAllowed}
-use Rattle.http_request.specs.declared.limits.TheConstants.{MOST_HEAD}
+use Rattle.gateway_requests.specs.Front.{IsAllowed}
+use Rattle.gateway_requests.specs.declared.limits.TheConstants.{MOST_HEAD}
 use Rattle.gateway_requests.specs.Asking.{chosen}
 use Rattle.gateway_requests.specs.declared.action.Action.TheVariants.{Transcode}
 use Rattle.gateway_requests.specs.declared.limits.TheConstants.{MOST_BODY}

@@ -1,4 +1,4 @@
-//! Edge: HTTP; used by `gateway_front`.
+//! Edge: HTTP.
 //!
 //! One request received and one answer sent, part by part, over any stream: what has come of the request, what it asks,
 //! and what is left of the answer.

@@ -2,7 +2,7 @@
 
 ghost use Rattle.std.specs.Prelude.{◌≡◌, ◌<◌, ◌++◌, [], List, ℕ, IfOk, OnErr, false, length, option_map, true};
 ghost use Rattle.std.specs.Io.KnownBytes.{Keeps};
-ghost use Rattle.byte_transfer.specs.Moving.{Receives};
+ghost use Rattle.wire_frames.specs.Moving.{Receives};
 ghost use Rattle.gateway_requests.specs.Asking.{body_in};
 ghost use Rattle.gateway_requests.specs.Request.{request_of};
 ghost use Rattle.gateway_requests.specs.Sizes.{IsWithin};
@@ -11,15 +11,12 @@ ghost use Rattle.gateway_exchange.specs.Reception.{TellsEach, TellsWhole};
 
 use crate::stage::Stage;
 use crate::staging::stage_of;
-use byte_transfer::read_more;
-use gateway_answers::Fault;
-use gateway_requests::{Request, Routes, path_of, request_of, transcoding_of};
-use http_request::MOST_HEAD;
+use gateway_requests::{Fault, MOST_HEAD, Request, Routes, path_of, request_of, transcoding_of};
 use std::alloc::Global;
 use std::io;
 use std::io::Read;
 use std::marker::Model;
-use wire_frames::Message;
+use wire_frames::{Message, read_more};
 
 /// A request that is received part by part. Callers see it as the bytes that have come, and whether no more are needed.
 #[derive(Drop)]

@@ -3,11 +3,11 @@
 ghost use Rattle.std.specs.Prelude.{◌≡◌, ◌+◌, ◌++◌, ◌↔◌, IfOk, OnErr, drop, length, true};
 ghost use Rattle.std.specs.Io.KnownBytes.{WriteAppends};
 
-use byte_transfer::write_more;
-use gateway_answers::AnswerBytes;
+use gateway_requests::AnswerBytes;
 use std::io;
 use std::io::Write;
 use std::marker::Model;
+use wire_frames::write_more;
 
 /// An answer that is sent part by part. Callers see it as its bytes, and how many of them were sent.
 #[derive(Drop)]

@@ -1,7 +1,6 @@
 //! What is known of a request while its bytes come.
 
-use gateway_answers::Fault;
-use gateway_requests::Chosen;
+use gateway_requests::{Chosen, Fault};
 use httparse::spans::Span;
 use wire_frames::Message;
 

@@ -3,13 +3,11 @@
 ghost use Rattle.std.specs.Prelude.{◌≡◌, ◌≤◌, ◌++◌, IfOk, drop, length, take, vec_len};
 ghost use Rattle.httparse.specs.Grammar.{RequestHead};
 ghost use Rattle.httparse.specs.Spans.{IsRequestAt, IsRequestWithin};
-ghost use Rattle.http_request.specs.declared.limits.TheConstants.{MOST_FIELDS, MOST_HEAD};
+ghost use Rattle.gateway_requests.specs.declared.limits.TheConstants.{MOST_FIELDS, MOST_HEAD};
 ghost use Rattle.gateway_exchange.specs.Stages.{IsAfterHead, IsBodyStage, Stands, follows};
 
 use crate::stage::{Headed, Stage};
-use gateway_answers::Fault;
-use gateway_requests::{Action, Routes, choose};
-use http_request::{MOST_FIELDS, MOST_HEAD};
+use gateway_requests::{Action, Fault, MOST_FIELDS, MOST_HEAD, Routes, choose};
 use httparse::Status;
 use httparse::spans::{EMPTY_HEADER_SPAN, HeaderSpan, RequestSpans, parse_request};
 use std::alloc::{AllocError, Global};

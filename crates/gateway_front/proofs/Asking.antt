@@ -1,6 +1,6 @@
 -- What is asked over a connection, by what was read of its request.
 use Rattle.std.proofs.Common.{◌≡◌, ℕ, ◌<◌, List, [], ◌∷◌, length, None, Some, Result, Ok, Err, refl, arith}
-use Rattle.gateway_answers.specs.declared.fault.Fault.{Fault}
+use Rattle.gateway_requests.specs.declared.fault.Fault.{Fault}
 use Rattle.gateway_exchange.specs.Reception.{TellsWhole}
 use Rattle.gateway_requests.specs.Asking.{asked_at}
 use Rattle.gateway_requests.specs.Request.{Request, request_of}

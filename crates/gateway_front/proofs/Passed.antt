@@ -3,7 +3,7 @@ use Rattle.std.proofs.Common.{OnOk, Option, Result, Ok, Err}
 use Rattle.std.specs.declared.alloc.AllocError.{AllocError}
 use Rattle.httpdate.specs.declared.date.HttpDate.{HttpDate}
 use Rattle.http_server.specs.History.{IsServed}
-use Rattle.gateway_answers.specs.declared.answer_bytes.AnswerBytes.{AnswerBytes}
+use Rattle.gateway_requests.specs.declared.answer_bytes.AnswerBytes.{AnswerBytes}
 use Rattle.persistent_exchange.specs.Answering.{AnswersNext, CallsFor, IsNext}
 use Rattle.persistent_exchange.specs.Persistent.{Persistent}
 use Rattle.persistent_exchange.specs.Preparing.{answer_of}

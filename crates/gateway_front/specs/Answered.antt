@@ -1,6 +1,6 @@
 -- An answer that is to be sent over the connection that asked. This project's own.
 use Rattle.std.specs.Prelude.{◌≡◌, ◌++◌, ℕ, Option, None, Some, IsSomeAnd}
-use Rattle.gateway_answers.specs.declared.answer_bytes.AnswerBytes.{AnswerBytes}
+use Rattle.gateway_requests.specs.declared.answer_bytes.AnswerBytes.{AnswerBytes}
 use Rattle.persistent_exchange.specs.Persistent.{Persistent}
 use Rattle.gateway_front.specs.Handing.{Handed}
 use Rattle.gateway_front.specs.Passing.{AnswersTheNext}

@@ -1,6 +1,6 @@
 -- A request that is handed out: what it asks, and over which connection. This project's own.
 use Rattle.std.specs.Prelude.{◌≡◌, ℕ, List, [], Option, None, Some, Result, Err}
-use Rattle.gateway_answers.specs.declared.fault.Fault.{Fault}
+use Rattle.gateway_requests.specs.declared.fault.Fault.{Fault}
 use Rattle.gateway_requests.specs.Asking.{IsAsked, asked_at}
 use Rattle.gateway_requests.specs.Request.{Request, request_of}
 use Rattle.gateway_requests.specs.Steps.{Tells}

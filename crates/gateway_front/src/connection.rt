@@ -5,8 +5,8 @@ ghost use Rattle.gateway_front.specs.Answered.{IsAnswered};
 
 use crate::pending::{Answered, pass_on};
 use boxcar::tag::Tag;
-use gateway_answers::AnswerBytes;
 use gateway_exchange::{Reception, Sending};
+use gateway_requests::AnswerBytes;
 use mio::Interest;
 use mio::net::TcpStream;
 use persistent_exchange::RequestStream;

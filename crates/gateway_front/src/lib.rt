@@ -1,4 +1,4 @@
-//! Edge: HTTP; used by `gateway_server`.
+//! Edge: HTTP.
 //!
 //! The connections of a thread, as an iterator of requests: a readiness loop, which accepts, reads, writes and closes
 //! within bounds of time, number and memory, and hands out a request once it is whole.

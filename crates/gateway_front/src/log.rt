@@ -1,7 +1,6 @@
 //! A line for each answer on standard error, which never waits for a reader of it.
 
-use gateway_requests::path_of;
-use http_request::MOST_FIELDS;
+use gateway_requests::{MOST_FIELDS, path_of};
 use httparse::Status;
 use httparse::spans::{EMPTY_HEADER_SPAN, HeaderSpan, parse_request};
 use libc::net::{EPOLL_CTL_ADD, EPOLLOUT};

@@ -10,9 +10,8 @@ ghost use Rattle.gateway_requests.specs.declared.limits.TheConstants.{MOST_BODY}
 use crate::connection::Connection;
 use crate::staying::date;
 use boxcar::tag::{Names, Tag};
-use gateway_answers::{AnswerBytes, Fault};
 use gateway_exchange::{Reception, Sending};
-use gateway_requests::{Request, Routes};
+use gateway_requests::{AnswerBytes, Fault, Request, Routes};
 use persistent_exchange::RequestStream;
 use std::alloc::AllocError;
 use std::marker::Model;

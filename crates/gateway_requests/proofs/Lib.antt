@@ -8,6 +8,9 @@ mod Keys
 mod Table
 mod Walks
 pub mod Bodies
-pub mod Laws
+pub mod RouteLaws
 pub mod Subjects
 pub mod Targets
+pub mod Fronts
+pub mod Numbers
+pub mod Floats

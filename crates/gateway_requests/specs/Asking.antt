@@ -4,12 +4,12 @@ use Rattle.std.specs.Prelude.{◌≡◌, ◌⊎◌, ℕ, List, length, take, nat
 use Rattle.std.specs.Option.{ok_or}
 use Rattle.httparse.specs.Grammar.{ReadsRequest, RequestHead}
 use Rattle.httparse.specs.Spans.{name_and_value}
-use Rattle.http_request.specs.ContentLength.{declared_length}
-use Rattle.http_request.specs.Digits.{number}
-use Rattle.http_request.specs.Front.{HasNoHead, IsAllowed}
+use Rattle.gateway_requests.specs.ContentLength.{declared_length}
+use Rattle.gateway_requests.specs.Digits.{number}
+use Rattle.gateway_requests.specs.Front.{HasNoHead, IsAllowed}
 use Rattle.schema_registry.specs.Command.{Command, SetLevelCommand, LookupCommand, CheckCommand, VersionsCommand, VersionCommand, SubjectsCommand, LevelCommand}
-use Rattle.gateway_answers.specs.declared.fault.Fault.{Fault}
-use Rattle.gateway_answers.specs.declared.fault.Fault.TheVariants as faults
+use Rattle.gateway_requests.specs.declared.fault.Fault.{Fault}
+use Rattle.gateway_requests.specs.declared.fault.Fault.TheVariants as faults
 use Rattle.gateway_requests.specs.declared.action.Action.{Action}
 use Rattle.gateway_requests.specs.declared.action.Action.TheVariants as actions
 use Rattle.gateway_requests.specs.declared.choosing.Chosen.{Chosen}

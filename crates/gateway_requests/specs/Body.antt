@@ -7,8 +7,8 @@ use Rattle.serde_json.specs.Find.{as_array, as_null, as_object, as_str, get}
 use Rattle.serde_json.specs.Read.{read}
 use Rattle.schema_registry.specs.declared.level.Level.{Level}
 use Rattle.schema_registry.specs.Level.{level_named}
-use Rattle.gateway_answers.specs.declared.fault.Fault.{Fault}
-use Rattle.gateway_answers.specs.declared.fault.Fault.TheVariants as faults
+use Rattle.gateway_requests.specs.declared.fault.Fault.{Fault}
+use Rattle.gateway_requests.specs.declared.fault.Fault.TheVariants as faults
 use Rattle.gateway_requests.specs.Steps.{◌>>=◌}
 
 -- ---- a JSON object

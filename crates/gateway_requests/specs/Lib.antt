@@ -8,3 +8,14 @@ pub mod Parameters
 pub mod Request
 pub mod Sizes
 pub mod Asking
+pub mod Front
+pub mod Digits
+pub mod ContentLength
+pub mod RequestBody
+pub mod Status
+pub mod ContentType
+pub mod Head
+pub mod UpstreamFault
+pub mod Fault
+pub mod Replies
+pub mod Answer

@@ -2,13 +2,13 @@
 -- that a text that spells no id is the id of no schema, is this project's own).
 use Rattle.std.specs.Prelude.{ℕ, ◌^◌, ◌&&◌, List, nat_le, nat_lt, Result, Ok, Err, codes, if◌then◌else◌}
 use Rattle.std.specs.Str.{bytes_eq}
-use Rattle.http_request.specs.Digits.{is_number, number}
+use Rattle.gateway_requests.specs.Digits.{is_number, number}
 use Rattle.schema_registry.specs.declared.command.Version.{Version}
 use Rattle.schema_registry.specs.declared.command.Version.TheVariants.{Latest, Number}
 use Rattle.schema_registry.specs.declared.limits.TheConstants.{MOST_VERSION}
 use Rattle.schema_registry.specs.Subject.{is_subject}
-use Rattle.gateway_answers.specs.declared.fault.Fault.{Fault}
-use Rattle.gateway_answers.specs.declared.fault.Fault.TheVariants.{BadSubject, BadVersion, NoSchema}
+use Rattle.gateway_requests.specs.declared.fault.Fault.{Fault}
+use Rattle.gateway_requests.specs.declared.fault.Fault.TheVariants.{BadSubject, BadVersion, NoSchema}
 
 abbrev pub subject_of : List ℕ → Result (List ℕ) Fault
 subject_of text = if is_subject text then Ok text else Err BadSubject

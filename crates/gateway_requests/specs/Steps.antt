@@ -1,7 +1,7 @@
 -- Steps in a row: what they give, or the first fault. This project's own.
 use Rattle.std.specs.Prelude.{◌≡◌, ◌≢◌, Result, Ok, Err}
-use Rattle.gateway_answers.specs.declared.fault.Fault.{Fault}
-use Rattle.gateway_answers.specs.declared.fault.Fault.TheVariants.{NoMemory}
+use Rattle.gateway_requests.specs.declared.fault.Fault.{Fault}
+use Rattle.gateway_requests.specs.declared.fault.Fault.TheVariants.{NoMemory}
 
 infixl 10 ◌>>=◌
 -- one step, and then another on what it gave; or the fault of the first

@@ -7,12 +7,12 @@ ghost use Rattle.gateway_requests.specs.Request.{request_of};
 ghost use Rattle.gateway_requests.specs.Sizes.{IsWithin, size_of};
 ghost use Rattle.gateway_requests.specs.Steps.{Tells};
 
+use crate::Fault;
 use crate::action::Action;
 use crate::json_body::{level_of, text_of, whole_body};
 use crate::parameters::{id_of, subject_of, version_of};
 use crate::path::segment;
 use crate::request::Request;
-use gateway_answers::Fault;
 use schema_registry::Command;
 use std::alloc::{AllocError, Global};
 use wire_frames::Message;

@@ -9,8 +9,7 @@ use crate::action::{Action, action_of};
 use crate::limits::MOST_BODY;
 use crate::path::path_of;
 use crate::route::Routes;
-use gateway_answers::Fault;
-use http_request::content_length;
+use crate::{Fault, content_length};
 use httparse::spans::{HeaderSpan, RequestSpans};
 
 /// What a head asks for, and how many bytes its body has.

@@ -8,7 +8,7 @@ ghost use Rattle.gateway_bodies.specs.Members.{AreMembersOf, data_of};
 ghost use Rattle.gateway_requests.specs.Body.{as_text, has_no_references, is_avro, known_level, level_in, level_of, object_of, text_in, text_of, whole_body};
 ghost use Rattle.gateway_requests.specs.Steps.{Tells};
 
-use gateway_answers::Fault;
+use crate::Fault;
 use gateway_bodies::{BodyError, Kept, Members, read_members};
 use schema_registry::Level;
 use std::alloc::Global;

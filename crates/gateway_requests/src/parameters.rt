@@ -4,8 +4,7 @@ ghost use Rattle.std.specs.Prelude.{◌≡◌, string_bytes};
 ghost use Rattle.gateway_requests.specs.Parameters.{id_of, subject_of, version_of};
 ghost use Rattle.gateway_requests.specs.Steps.{Tells};
 
-use gateway_answers::Fault;
-use http_request::{is_number, number_up_to};
+use crate::{Fault, is_number, number_up_to};
 use schema_registry::{MOST_VERSION, Version, is_subject};
 use std::alloc::Global;
 

@@ -1,8 +1,8 @@
 -- The reply to what is asked over a connection, given to it, unless memory ran out.
 use Rattle.std.proofs.Common.{◌≡◌, ◌++◌, ℕ, List, IfOk, Result, Ok, Err, subst}
 use Rattle.std.specs.declared.alloc.AllocError.{AllocError}
-use Rattle.gateway_answers.specs.declared.answer_bytes.AnswerBytes.{AnswerBytes}
-use Rattle.gateway_answers.specs.declared.fault.Fault.{Fault}
+use Rattle.gateway_requests.specs.declared.answer_bytes.AnswerBytes.{AnswerBytes}
+use Rattle.gateway_requests.specs.declared.fault.Fault.{Fault}
 use Rattle.gateway_requests.specs.Request.{Request, request_of}
 use Rattle.gateway_requests.specs.Steps.{Tells}
 use Rattle.gateway_requests.specs.declared.request.Request as rust

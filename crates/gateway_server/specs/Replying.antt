@@ -1,8 +1,8 @@
 -- The reply to what a connection asks, given to the connection that asks it. This project's own.
 use Rattle.std.specs.Prelude.{◌++◌, ℕ, List, Result}
 use Rattle.schema_registry.specs.Receipt.{Shown}
-use Rattle.gateway_answers.specs.declared.answer_bytes.AnswerBytes.{AnswerBytes}
-use Rattle.gateway_answers.specs.declared.fault.Fault.{Fault}
+use Rattle.gateway_requests.specs.declared.answer_bytes.AnswerBytes.{AnswerBytes}
+use Rattle.gateway_requests.specs.declared.fault.Fault.{Fault}
 use Rattle.gateway_requests.specs.Request.{Request}
 use Rattle.gateway_core.specs.NamedServing.{IsNamedReplyTo}
 use Rattle.gateway_core.specs.Serving.{IsReplyTo}

@@ -4,8 +4,8 @@ ghost use Rattle.std.specs.Prelude.{◌≡◌};
 ghost use Rattle.gateway_server.specs.Options.{IsWithin};
 
 use crate::options::ServeOptions;
-use gateway_answers::Fault;
 use gateway_front::Fetch;
+use gateway_requests::Fault;
 use mio::Waker;
 use schema_registry::{KeepFault, SharedRegistry};
 use std::alloc::Global;

@@ -3,9 +3,8 @@
 ghost use Rattle.std.specs.Prelude.{◌≡◌, IfSome};
 
 use crate::beside::Beside;
-use gateway_answers::{Fault, UpstreamFault};
 use gateway_front::{Fetch, PendingRequest};
-use gateway_requests::Request;
+use gateway_requests::{Fault, Request, UpstreamFault};
 use gateway_upstream::{Looked, needed_by};
 use std::alloc::Global;
 use std::collections::VecDeque;

@@ -1,4 +1,4 @@
-//! Edge: HTTP; used by `avrogate`.
+//! Edge: HTTP.
 //!
 //! The service on a listener: threads of clients, each with connections of its own, and workers beside them, over one
 //! pool of sessions. A connection carries one request, or one after another.

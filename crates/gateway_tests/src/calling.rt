@@ -18,9 +18,9 @@ use crate::schemas::{
 };
 use crate::seats::{last_client, last_worker};
 use crate::trials::{Question, Trial, succeeds};
+use avro_bytes::Outcome;
 use avro_schema::{Schema, SchemaError};
 use gateway::{App, Helping};
-use outcome::Outcome;
 use schema_registry::{Receipt, Refusal, SharedRegistry};
 use session_core::{Event, PairRow, World};
 use session_pool::{ClientSeat, SessionPool, WorkerSeat};

@@ -1,8 +1,8 @@
 -- What was looked up for a request. This project's own.
 use Rattle.std.specs.Prelude.{◌≡◌, ◌⊎◌, ℕ, nat_eq, if◌then◌else◌, List, [], ◌∷◌, Option, None, Some}
-use Rattle.gateway_answers.specs.declared.fault.Fault.{Fault}
-use Rattle.gateway_answers.specs.declared.fault.Fault.TheVariants as faults
-use Rattle.gateway_answers.specs.declared.upstream_fault.UpstreamFault.TheVariants.{Busy}
+use Rattle.gateway_requests.specs.declared.fault.Fault.{Fault}
+use Rattle.gateway_requests.specs.declared.fault.Fault.TheVariants as faults
+use Rattle.gateway_requests.specs.declared.upstream_fault.UpstreamFault.TheVariants.{Busy}
 use Rattle.upstream_schemas.specs.Asking.{IsWhyUnheld}
 use Rattle.upstream_schemas.specs.Naming.{Names}
 

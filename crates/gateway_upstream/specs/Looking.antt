@@ -1,6 +1,6 @@
 -- Which schemas are looked up for a request. This project's own.
 use Rattle.std.specs.Prelude.{◌≡◌, ℕ, None, Some, Result, Ok, Err}
-use Rattle.gateway_answers.specs.declared.fault.Fault.{Fault}
+use Rattle.gateway_requests.specs.declared.fault.Fault.{Fault}
 use Rattle.gateway_requests.specs.Request.{Request, Asks, Registers, AsksSchema, Transcodes, request_of}
 use Rattle.gateway_requests.specs.declared.request.Request as rust
 use Rattle.gateway_upstream.specs.declared.looking.Needed.{Needed}

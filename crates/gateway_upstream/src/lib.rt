@@ -1,4 +1,4 @@
-//! Edge: HTTP; used by `gateway_server`.
+//! Edge: HTTP.
 //!
 //! Requests answered by the ids of an upstream registry: the schemas of a request are looked up first, and once none of
 //! them is waited for, it is answered by these.

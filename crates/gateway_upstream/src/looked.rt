@@ -8,7 +8,7 @@ ghost use Rattle.upstream_schemas.specs.Asking.{IsWhyUnheld};
 ghost use Rattle.upstream_schemas.specs.Naming.{IsNamingOf};
 
 use gateway::{NamedSchema, Schemas};
-use gateway_answers::{Fault, UpstreamFault};
+use gateway_requests::{Fault, UpstreamFault};
 use std::marker::Model;
 use upstream_schemas::{FoundSchema, Named, Upstream, UpstreamSchemas};
 

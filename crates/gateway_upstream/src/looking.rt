@@ -3,8 +3,7 @@
 ghost use Rattle.gateway_requests.specs.Request.{request_of};
 ghost use Rattle.gateway_upstream.specs.Looking.{Needs, NeedsFor, NeedsNone};
 
-use gateway_answers::Fault;
-use gateway_requests::Request;
+use gateway_requests::{Fault, Request};
 
 /// The ids of the schemas that a request needs before it can be answered.
 #[derive(Clone, Copy, Debug, PartialEq, Eq)]

@@ -16,8 +16,7 @@ ghost use Rattle.upstream_schemas.specs.Naming.{IsNamingOf};
 
 use crate::looked::Looked;
 use gateway::{App, Gate, NamedReply, reply_named};
-use gateway_answers::Fault;
-use gateway_requests::Request;
+use gateway_requests::{Fault, Request};
 use session_pool::ClientSeat;
 use std::alloc::AllocError;
 use std::sync::Wait;

@@ -4,8 +4,8 @@ use denote.RattleType.{RattleType}
 use Rattle.std.proofs.Crossing.{crosses}
 use Rattle.once_cell.proofs.race.note.Note.TheSendSync as note
 use Rattle.once_cell.proofs.race.once_box.OnceBox.TheSendSync as cell
-use Rattle.kept_notes.proofs.kept_note.KeptNote.TheSendSync as kept
-use Rattle.id_cells.specs.contracts.kept_note.KeptIdNote as kept_note
+use Rattle.id_cells.proofs.kept_note.KeptNote.TheSendSync as kept
+use Rattle.id_cells.specs.contracts.kept_id_note.KeptIdNote as kept_note
 use Rattle.id_cells.specs.contracts.note.IdNote as id_note
 use Rattle.id_cells.specs.contracts.row.Row as row
 use Rattle.id_cells.specs.contracts.table.IdTable as table

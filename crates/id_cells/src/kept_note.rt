@@ -1,78 +1,62 @@
-//! What a note of an id says, kept where threads share it.
+//! What a note knows of a once cell, where threads can share it.
 
-ghost use Rattle.std.specs.Prelude.{◌≡◌};
-ghost use Rattle.id_cells.specs.Path.{IsPathOf};
+ghost use Rattle.std.specs.Prelude.{◌≡◌, ℕ, IfSome, Option};
+ghost use Rattle.std.specs.Coded.{coded_option};
+ghost use Rattle.once_cell.specs.Once.{Agrees, noted};
+ghost use denote.Sharing.{said};
 
-use crate::note::IdNote;
-use crate::row::Row;
-use crate::table::IdTable;
-use kept_notes::KeptNote;
-use std::marker::Model;
+use once_cell::race::Note;
+use std::marker::{Model, PhantomData};
 
-/// What a note of an id says, where threads can share it. It takes the four bytes of the id. Callers see it as a
-/// `Path`.
-#[derive(Drop)]
-pub struct KeptIdNote<T> {
-    id: u32,
-    second: KeptNote<Row<Row<Row<T>>>>,
-    third: KeptNote<Row<Row<T>>>,
-    fourth: KeptNote<Row<T>>,
-    last: KeptNote<T>,
+/// What a note knows of one once cell, which threads may share. It takes no bytes. A clause reads the cell's name as
+/// `cell`, and the value, where it was seen, as `known`.
+pub struct KeptNote<T> {
+    marker: PhantomData<T>,
+    pub ghost cell: { ℕ },
+    pub ghost known: { Option T } by { coded_option T.code },
 }
 
-impl<T> Model for KeptIdNote<T> {
-    ghost use Rattle.id_cells.specs.Path.{Path, path_code};
+impl<T> Model for KeptNote<T> {
+    ghost also_owns = { λ n. noted T.row n.cell n.known };
 
-    ghost Value = { Path T };
-
-    ghost coded = { path_code T.code };
-
-    ghost view = { λ n. record {
-      id = n.id;
-      second = (n.second.cell, n.second.known);
-      third = (n.third.cell, n.third.known);
-      fourth = (n.fourth.cell, n.fourth.known);
-      last = (n.last.cell, n.last.known);
-    } };
+    ghost also_shares = { λ n _ κ. said (noted T.row n.cell n.known) κ };
 }
 
-impl<T> IdNote<T> {
-    /// Keeps what the note says.
-    pub fn keep(&mut self) -> KeptIdNote<T>
-        ensures same { self.new ≡ self.old }
-        ensures kept { result ≡ self.old }
+impl<T> KeptNote<T> {
+    /// Keeps what a note knows.
+    pub fn of(note: &mut Note<T>) -> KeptNote<T>
+        ensures { (note.new ≡ note.old) × (result.cell ≡ note.old.cell) × (result.known ≡ note.old.known) }
     {
-        KeptIdNote {
-            id: self.id,
-            second: KeptNote::of(&mut self.second),
-            third: KeptNote::of(&mut self.third),
-            fourth: KeptNote::of(&mut self.fourth),
-            last: KeptNote::of(&mut self.last),
+        let _ = note;
+        KeptNote {
+            marker: PhantomData,
         }
     }
-}
 
-impl<T> KeptIdNote<T> {
-    /// Returns the id.
-    pub fn id(&self) -> u32
-        ensures { result ≡ self.now.id }
+    /// Returns what is kept a second time.
+    pub fn again(&self) -> KeptNote<T>
+        ensures { (result.cell ≡ self.now.cell) × (result.known ≡ self.now.known) }
     {
-        self.id
+        KeptNote {
+            marker: PhantomData,
+        }
+    }
+
+    /// The law that what is kept of a cell and a note of it that both know a value know the same one.
+    pub fn compare(note: &mut Note<T>, kept: KeptNote<T>)
+        requires { kept.cell ≡ note.old.cell }
+        ensures { (note.new ≡ note.old) × IfSome kept.known (Agrees note.old.known) }
+    {
+        let KeptNote { marker: _ } = kept;
     }
 }
 
-impl<T: Drop> IdTable<T> {
-    /// The law that a note and one that was kept, of one id, are of one value.
-    pub fn agree_with_kept(&self, note: &mut IdNote<T>, kept: &KeptIdNote<T>)
-        requires note { IsPathOf self.now note.old }
-        requires kept { IsPathOf self.now kept.now }
-        requires id { kept.now.id ≡ note.old.id }
-        ensures same { note.new ≡ note.old }
-        ensures agree { kept.now.last.1 ≡ note.old.last.1 }
-    {
-        KeptNote::compare(&mut note.second, kept.second.again());
-        KeptNote::compare(&mut note.third, kept.third.again());
-        KeptNote::compare(&mut note.fourth, kept.fourth.again());
-        KeptNote::compare(&mut note.last, kept.last.again());
+impl<T> Drop for KeptNote<T> {
+    fn drop(self) {
+        let KeptNote { marker: _ } = self;
     }
 }
+
+unsafe impl<T> Send for KeptNote<T> {}
+
+unsafe impl<T> Sync for KeptNote<T> {}

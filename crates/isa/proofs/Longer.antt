@@ -18,7 +18,7 @@ use Rattle.avro_bytes.specs.Laws.Booleans.{boolean_steady}
 use Rattle.avro_bytes.specs.Laws.Lengths.{length_steady}
 use Rattle.avro_bytes.specs.Laws.Numbers.{number_steady}
 use Rattle.avro_bytes.specs.Laws.Positions.{position_steady}
-use Rattle.outcome.specs.Outcome as outcomes
+use Rattle.avro_bytes.specs.Outcome as outcomes
 use Rattle.isa.specs.declared.entry.Entry.TheVariants as entries
 use Rattle.isa.specs.declared.instr.Instr.{Instr}
 use Rattle.isa.specs.declared.instr.Instr.TheVariants as op

@@ -21,7 +21,7 @@ use Rattle.avro_bytes.specs.Shortest.{shortest}
 use Rattle.avro_bytes.specs.Walk.{Walk, first_walk}
 use Rattle.avro_bytes.specs.Laws.Meters.{was_opened}
 use Rattle.avro_bytes.specs.Laws.Walks.{item_meter, end_meter}
-use Rattle.outcome.specs.Outcome as outcomes
+use Rattle.avro_bytes.specs.Outcome as outcomes
 use Rattle.isa.specs.declared.end.Trap.TheVariants.{BadSlot, NoBuffer, TooManyCalls}
 use Rattle.isa.specs.declared.entry.Entry.{Entry}
 use Rattle.isa.specs.declared.entry.Entry.TheVariants as entries

@@ -2,7 +2,7 @@
 -- project's own.
 use Rattle.std.specs.Prelude.{◌≤◌, ℕ, length}
 use Rattle.avro_bytes.specs.declared.limits.TheConstants.{MOST_DEPTH, MOST_UNITS}
-use Rattle.outcome.specs.declared.limits.TheConstants.{MOST_OUTPUT}
+use Rattle.avro_bytes.specs.declared.limits.TheConstants.{MOST_OUTPUT}
 use Rattle.isa.specs.declared.limits.TheConstants.{MOST_CALLS}
 use Rattle.isa.specs.State.{State, total}
 

@@ -1,6 +1,6 @@
 //! How a run ends.
 
-use outcome::Outcome;
+use avro_bytes::Outcome;
 
 /// What stops a program, though no program of two schemas.
 #[derive(Clone, Copy, Debug, PartialEq, Eq)]

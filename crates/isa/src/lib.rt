@@ -1,4 +1,4 @@
-//! Programs; used by `assembler_lexer`, `assembler`, `avro_loader_format` and others.
+//! Programs.
 //!
 //! The instruction table: what programs are, and what each row does to a state.
 #![tactic(auto)]

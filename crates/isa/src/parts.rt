@@ -3,7 +3,7 @@
 use crate::entry::Entry;
 use crate::instr::Instr;
 use crate::lists::Lists;
-use outcome::Mismatch;
+use avro_bytes::Mismatch;
 
 /// What a program is made of.
 #[derive(Debug, Drop)]

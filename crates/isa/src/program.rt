@@ -11,7 +11,7 @@ use crate::limits::{MOST_CONSTANT_BYTES, MOST_ENTRIES, MOST_INSTRS, MOST_TABLES}
 use crate::lists::Lists;
 use crate::parts::Parts;
 use crate::range::{Sizes, first_out, first_out_in};
-use outcome::Mismatch;
+use avro_bytes::Mismatch;
 use std::marker::Model;
 use thiserror::Error;
 

@@ -8,7 +8,7 @@ use crate::entry::Entry;
 use crate::instr::Instr;
 use crate::limits::{MOST_FIXED, MOST_NODES, MOST_SLOTS, MOST_SYMBOLS};
 use crate::lists::Lists;
-use outcome::Mismatch;
+use avro_bytes::Mismatch;
 
 /// How many things of each kind a program has.
 #[derive(Clone, Copy, Debug)]

@@ -1,4 +1,4 @@
-//! Registry; used by `registry_store`.
+//! Registry.
 //!
 //! A file of lines that outlives a crash. A line is on the disk before `append` answers `Ok`. After a crash the file
 //! reads as the lines that it had, with at most one more, of which nothing was answered.

@@ -3,3 +3,4 @@ mod Ending
 mod PairErrors
 mod PairRuns
 mod Carry
+pub mod Crossing

@@ -2,7 +2,7 @@
 use Rattle.std.proofs.Common.{ℕ, List, subst}
 use Rattle.std.specs.Prelude.{Err, Ok}
 use Rattle.avro_types.specs.Node.{Node}
-use Rattle.outcome.specs.declared.payload.Outcome as rust
+use Rattle.avro_bytes.specs.declared.payload.Outcome as rust
 use Rattle.resolver.specs.Outcome.{Transcodes}
 use Rattle.resolver.specs.declared.transcoding.TranscodeError.{TranscodeError}
 use Rattle.resolver.specs.declared.transcoding.TranscodeError.TheVariants as refusals

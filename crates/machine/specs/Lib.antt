@@ -3,3 +3,4 @@ pub mod Pair
 pub mod Ending
 pub mod Transcoding
 pub mod Laws
+pub mod ProgramPair

@@ -1,8 +1,10 @@
-//! Machine; used by `session_state`, `command_io`, `commands` and others.
+//! Machine.
 //!
-//! Runs of programs on bytes, and payloads transcoded by the program of their pair of schemas.
+//! The program of a pair of schemas beside them, runs of programs on bytes, and payloads transcoded by the program of
+//! their pair.
 #![tactic(auto)]
 
+mod pair;
 mod run;
 mod transcoder;
 mod transcoding;
@@ -12,6 +14,7 @@ pub use machine_stepper::{
     BufferAt, Content, EndView, FrameView, Machine, Slice, Step, Why,
     machines_go_on_with_more_input,
 };
+pub use pair::PairProgram;
 pub use resolver::{Outcome, TranscodeError};
 pub use run::Run;
 pub use transcoder::{Transcoder, TranscodingRoom};

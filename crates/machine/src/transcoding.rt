@@ -5,8 +5,8 @@ ghost use Rattle.avro_types.specs.Node.{Node};
 ghost use Rattle.machine.specs.Transcoding.{Makes, TranscodesPair, of_compiling, of_payload};
 
 use crate::transcoder::Transcoder;
+use avro_bytes::Outcome;
 use avro_types::Nodes;
-use outcome::Outcome;
 use program_compiler::CompileError;
 use resolver::TranscodeError;
 use std::alloc::Global;

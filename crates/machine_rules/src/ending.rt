@@ -7,9 +7,8 @@ ghost use Rattle.isa.specs.State.{State};
 ghost use Rattle.isa.specs.Table.{finished, halt};
 ghost use Rattle.machine_rules.specs.Ending.{IsAt, refused, told};
 
-use avro_bytes::{Fault, MalformedKind};
+use avro_bytes::{Fault, MalformedKind, Mismatch, MismatchKind};
 use isa::{Program, Trap};
-use outcome::{Mismatch, MismatchKind};
 
 /// How a run ends, or that it waits.
 #[derive(Clone, Copy)]

@@ -1,4 +1,4 @@
-//! Machine; used by `machine_store`, `machine_stepper`.
+//! Machine.
 //!
 //! Parts of what rows and slices do, which do not depend on a machine.
 #![tactic(auto)]

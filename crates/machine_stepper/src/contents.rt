@@ -15,10 +15,9 @@ ghost use Rattle.machine_stepper.specs.Running.{IsOn};
 
 use crate::machine::Machine;
 use crate::step::Step;
-use avro_bytes::{MalformedKind, read_length};
+use avro_bytes::{MalformedKind, Outcome, read_length};
 use isa::{End, MOST_CHUNK, Program, Trap};
 use machine_rules::{Chunk, Content, TextCheck, chunk_at};
-use outcome::Outcome;
 use std::alloc::AllocError;
 
 /// How a content moves.

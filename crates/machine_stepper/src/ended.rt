@@ -1,8 +1,7 @@
 //! How a run ended, and where its output lies.
 
-use avro_bytes::MalformedKind;
+use avro_bytes::{MalformedKind, Mismatch};
 use isa::{End, Trap};
-use outcome::Mismatch;
 
 /// How a run ended, as a machine keeps it.
 #[derive(Drop)]

@@ -1,4 +1,4 @@
-//! Machine; used by `machine`, `debugger`, `command_io`.
+//! Machine.
 //!
 //! The machine: rows of the instruction table, taken one by one or in slices.
 #![tactic(auto)]

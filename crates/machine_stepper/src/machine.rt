@@ -18,12 +18,11 @@ ghost use Rattle.machine_stepper.specs.Running.{end_of};
 use crate::ended::Ended;
 use crate::finding::Foresight;
 use crate::step::Step;
-use avro_bytes::{Fault, Meter, put_long};
+use avro_bytes::{Fault, Meter, Outcome, put_long};
 use isa::{End, Program, Trap};
-use machine_rows::is_tight;
 use machine_rules::{Content, Ending, RowCount, TextCheck, Verdict};
+use machine_scans::is_tight;
 use machine_store::Store;
-use outcome::Outcome;
 use std::alloc::{AllocError, Global};
 use std::marker::Model;
 

@@ -12,7 +12,7 @@ use crate::machine::Machine;
 use crate::step::Step;
 use avro_bytes::{read_boolean, read_int, read_long};
 use isa::{Program, Trap};
-use machine_rows::spelling;
+use machine_scans::spelling;
 
 impl Machine {
     /// Takes the row that moves a boolean.

@@ -4,9 +4,9 @@ ghost use Rattle.std.specs.Prelude.{◌≡◌, Some};
 ghost use Rattle.machine_stepper.specs.Running.{IsThere, end_of, end_view_of, ended_of};
 
 use crate::ended::{EndView, Ended};
+use avro_bytes::Outcome;
 use isa::End;
 use machine_store::Store;
-use outcome::Outcome;
 use std::alloc::Global;
 
 /// Returns a view of an end.

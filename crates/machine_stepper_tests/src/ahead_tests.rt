@@ -3,8 +3,8 @@
 
 use crate::programs::push_hex;
 use crate::rows::assert_questions;
+use avro_bytes::MOST_OUTPUT;
 use machine_plan::{PlannedProgram, Scratch};
-use outcome::MOST_OUTPUT;
 use std::alloc::{AllocError, Global};
 use std::test::Fail;
 

@@ -5,10 +5,10 @@ ghost use Rattle.machine_stepper.specs.Running.{start};
 
 use crate::programs::{push_done, push_end, run};
 use crate::rows::assert_questions;
+use avro_bytes::Outcome;
 use isa::End;
 use machine_plan::PlannedProgram;
 use machine_stepper::Machine;
-use outcome::Outcome;
 use std::alloc::{AllocError, Global};
 use std::test::Fail;
 

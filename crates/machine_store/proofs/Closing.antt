@@ -5,7 +5,7 @@ use Rattle.std.proofs.lemmas.List.{append-nil, drop_at, length-drop, length-map,
 use Rattle.avro_bytes.specs.Blocks.{joined}
 use Rattle.avro_bytes.specs.Shortest.{shortest, shortest_groups}
 use Rattle.avro_bytes.specs.Written.{block_count}
-use Rattle.outcome.specs.declared.limits.TheConstants.{MOST_OUTPUT}
+use Rattle.avro_bytes.specs.declared.limits.TheConstants.{MOST_OUTPUT}
 use Rattle.isa.specs.Lists.{total_length}
 use Rattle.isa.specs.State as state
 use Rattle.isa.specs.State.{Store, add, append, empty_buffers, emptied, frames_size, is_done, total}
@@ -16,7 +16,7 @@ use Rattle.machine_store.specs.declared.store.Frame.{Frame}
 use Rattle.machine_store.specs.declared.store.Frame.TheVariants as frames
 use Rattle.machine_store.specs.Buffers.{AreLaid, IsPlace, Laid, with_closed, with_fewer}
 use Rattle.machine_store.specs.Frames.{AreFrames, HoldsBuffers, first_of, frames_in, items_of, newest_place, walk_of}
-use Rattle.machine_ropes.specs.Segments.{bytes_of}
+use Rattle.machine_store.specs.Segments.{bytes_of}
 use Rattle.machine_store.specs.Store.{Held, IsKept, close_blocks, closed_between, held_of, leave, out_of, texts_of, with_frames}
 use Rattle.machine_store.proofs.Framing.{add-done, add-fits, add-over, appended, placed, sizes}
 use Rattle.machine_store.proofs.Keeping.{store_of, total-fits, total-is}

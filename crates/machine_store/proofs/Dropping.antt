@@ -4,18 +4,18 @@ use Rattle.std.proofs.Common.{◌≡◌, ◌≢◌, ◌≤◌, ◌<◌, ℕ, ◌
 use Rattle.std.specs.Prelude.{is_some}
 use Rattle.std.proofs.lemmas.List.{get_or-map, get_or-take, length-map}
 use Rattle.std.proofs.Math.Seq.{take-set-lt}
-use Rattle.outcome.specs.declared.limits.TheConstants.{MOST_OUTPUT}
+use Rattle.avro_bytes.specs.declared.limits.TheConstants.{MOST_OUTPUT}
 use Rattle.isa.specs.Lists.{total_length}
 use Rattle.isa.specs.State as state
 use Rattle.isa.specs.State.{Store, add, emptied, is_done, total}
 use Rattle.machine_store.specs.declared.buffers.TargetBuffer.{TargetBuffer}
 use Rattle.machine_store.specs.declared.buffers.TargetBuffer.TheVariants as places
-use Rattle.machine_ropes.specs.declared.segment.Segment.{Segment}
+use Rattle.machine_store.specs.declared.segment.Segment.{Segment}
 use Rattle.machine_store.specs.declared.store.Frame.{Frame}
 use Rattle.machine_store.specs.declared.store.Frame.TheVariants as frames
 use Rattle.machine_store.specs.Buffers.{AreLaid, IsPlace, Laid, segments_at, with_added, with_fewer}
 use Rattle.machine_store.specs.Frames.{AreFrames, first_of, frames_in, newest_place, walk_of}
-use Rattle.machine_ropes.specs.Segments.{bytes_of, with_bytes}
+use Rattle.machine_store.specs.Segments.{bytes_of, with_bytes}
 use Rattle.machine_store.specs.Store.{Held, IsKept, held_of, leave, out_of, texts_of, with_frames}
 use Rattle.machine_store.proofs.Closing.{fewer-texts, kept-dropped, rest-frames}
 use Rattle.machine_store.proofs.Framing.{one-total, placed}

@@ -9,3 +9,5 @@ pub mod Keeping
 pub mod Closing
 pub mod Dropping
 pub mod Viewing
+pub mod Roping
+pub mod Writing

@@ -5,13 +5,13 @@ use Rattle.machine_store.specs.declared.buffers.Buffer.{Buffer}
 use Rattle.machine_store.specs.declared.buffers.Buffer.TheVariants as buffers
 use Rattle.machine_store.specs.declared.buffers.TargetBuffer.{TargetBuffer}
 use Rattle.machine_store.specs.declared.buffers.TargetBuffer.TheVariants as places
-use Rattle.machine_ropes.specs.declared.segment.Segment.{Segment}
+use Rattle.machine_store.specs.declared.segment.Segment.{Segment}
 use Rattle.machine_store.specs.Buffers.{AllHeld, IsHeld, IsLaid, IsLater, IsPlace, Laid, buffer_at, laid_of, out_after, segments_at, segments_of, slots_after, with_added, with_closed}
-use Rattle.machine_ropes.specs.Ropes.{rope_at}
-use Rattle.machine_ropes.specs.Segments.{AreWithin, IsSegment, bytes_at, bytes_of, with_bytes, with_lists}
+use Rattle.machine_store.specs.Ropes.{rope_at}
+use Rattle.machine_store.specs.Segments.{AreWithin, IsSegment, bytes_at, bytes_of, with_bytes, with_lists}
 use Rattle.machine_store.proofs.Joining.{AllHeld-later, later-later}
 use Rattle.machine_store.proofs.Laying.{within-back, within-front}
-use Rattle.machine_ropes.proofs.Writing.{bytes_of-append}
+use Rattle.machine_store.proofs.Writing.{bytes_of-append}
 use Rattle.machine_store.proofs.Placing.{Became, added-became, closed-became, closing, fewer-laid, held-place, place-there, put-out, put-slot, segments-place, within-place, shows-added-out, shows-added-slot, shows-closed-out, shows-closed-slot}
 
 module _ (arena : List ℕ) (old : List (List Segment)) (out : Buffer) (slots : List Buffer) (laid : Laid) (is : laid_of arena old out slots ≡ laid) (keeps : IsLaid arena old out slots) where

@@ -9,7 +9,7 @@ use Rattle.isa.specs.Lists.{total_length}
 use Rattle.isa.specs.State as state
 use Rattle.machine_store.specs.declared.buffers.TargetBuffer.{TargetBuffer}
 use Rattle.machine_store.specs.declared.buffers.TargetBuffer.TheVariants as places
-use Rattle.machine_ropes.specs.declared.segment.Segment.{Segment}
+use Rattle.machine_store.specs.declared.segment.Segment.{Segment}
 use Rattle.machine_store.specs.declared.store.Frame.{Frame}
 use Rattle.machine_store.specs.declared.store.Frame.TheVariants as frames
 use Rattle.machine_store.specs.declared.views.BufferAt.{BufferAt}
@@ -18,7 +18,7 @@ use Rattle.machine_store.specs.declared.views.FrameView.{FrameView}
 use Rattle.machine_store.specs.declared.views.FrameView.TheVariants as views
 use Rattle.machine_store.specs.Buffers.{AreLaid, IsPlace, Laid, segments_at}
 use Rattle.machine_store.specs.Frames.{AreFrames, first_of, frames_in, segments_in, slot_of}
-use Rattle.machine_ropes.specs.Segments.{AreSegments, bytes_at, bytes_of}
+use Rattle.machine_store.specs.Segments.{AreSegments, bytes_at, bytes_of}
 use Rattle.machine_store.specs.Store.{Held, held_of, out_of, texts_of}
 use Rattle.machine_store.specs.Viewing.{buffer_of, end_below, end_over, frame_numbered, gathered_in, gathered_place, place_named, segments_of_buffer, slots_in, slot_place, view_at, view_in, view_of}
 use Rattle.machine_store.proofs.Placing.{all-at}

@@ -4,10 +4,10 @@ ghost use Rattle.std.specs.Prelude.{◌≡◌, ◌≢◌, ◌+◌, ◌-◌, ◌^
 ghost use Rattle.isa.specs.declared.limits.TheConstants.{MOST_SLOTS};
 ghost use Rattle.machine_store.specs.declared.buffers.Buffer.TheVariants.{Empty};
 ghost use Rattle.machine_store.specs.Buffers.{AreLaid, AreRopes, IsHeld, AllHeld, IsLater, IsPlace, buffer_at, is_front, out_after, segments_at, segments_of, slots_after, with_added, with_closed, with_fewer, with_none, with_opened};
-ghost use Rattle.machine_ropes.specs.Segments.{bytes_of, with_bytes, with_lists, with_segment, with_segments};
+ghost use Rattle.machine_store.specs.Segments.{bytes_of, with_bytes, with_lists, with_segment, with_segments};
 
 use crate::slots::Slots;
-use machine_ropes::{Ropes, Segment};
+use crate::{Ropes, Segment};
 use std::alloc::{AllocError, Global};
 use std::marker::Model;
 use std::mem;

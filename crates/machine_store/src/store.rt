@@ -2,16 +2,15 @@
 
 ghost use Rattle.std.specs.Prelude.{◌≡◌, ◌+◌, ◌-◌, ◌<◌, ◌≤◌, true, false, [], ◌∷◌, length, is_some, reverse, vec_len, Some, None, OnErr, OnOk, OnSome, IfNone, IfOk, IfSome};
 ghost use Rattle.avro_bytes.specs.declared.limits.TheConstants.{MOST_DEPTH};
-ghost use Rattle.outcome.specs.declared.limits.TheConstants.{MOST_OUTPUT};
+ghost use Rattle.avro_bytes.specs.declared.limits.TheConstants.{MOST_OUTPUT};
 ghost use Rattle.isa.specs.State.{add, emptied, has_current, is_done, total};
 ghost use Rattle.machine_store.specs.Buffers.{is_front};
 ghost use Rattle.machine_store.specs.Frames.{FewSlots, HasSlot, HoldsBuffers, first_of, frame_of, has_current_below, is_skip, is_skipped, items_of, newest_place, opened_at, place_of, skip_walk_of, slots_of, slots_opened, walk_of};
 ghost use Rattle.machine_store.specs.Store.{Appends, around_items, close_blocks, close_record, closed_between, leave, meter_of, next_item, next_skipped, select, with_frames};
 
 use crate::buffers::{Buffers, TargetBuffer};
-use avro_bytes::{BlockWalk, Meter};
+use avro_bytes::{BlockWalk, MOST_OUTPUT, Meter};
 use machine_rules::spell_around;
-use outcome::MOST_OUTPUT;
 use std::alloc::{AllocError, Global};
 use std::marker::Model;
 

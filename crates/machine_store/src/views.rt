@@ -1,14 +1,13 @@
 //! What a debugger reads from a store.
 
 ghost use Rattle.std.specs.Prelude.{◌≡◌, ◌++◌, ◌∷◌, length, Some, reverse, slice_get, option_map, is_some, true, OnErr, OnOk};
-ghost use Rattle.machine_ropes.specs.Segments.{AreSegments, bytes_of};
+ghost use Rattle.machine_store.specs.Segments.{AreSegments, bytes_of};
 ghost use Rattle.machine_store.specs.Viewing.{buffer_of, end_below, end_over, frame_numbered, place_named, segments_of_buffer, view_at, view_in, view_of};
 
+use crate::Segment;
 use crate::buffers::TargetBuffer;
 use crate::store::{Frame, Store};
-use avro_bytes::BlockWalk;
-use machine_ropes::Segment;
-use outcome::MOST_OUTPUT;
+use avro_bytes::{BlockWalk, MOST_OUTPUT};
 use std::alloc::{AllocError, Global};
 
 /// A view of a frame, without the bytes of its buffers.

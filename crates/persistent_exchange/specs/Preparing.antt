@@ -6,11 +6,11 @@ use Rattle.http_server.specs.Response.{IsResponse}
 use Rattle.http_server.specs.declared.response.Response.{Response}
 use Rattle.httpdate.specs.Date.{date_text}
 use Rattle.httpdate.specs.declared.date.HttpDate.{HttpDate}
-use Rattle.gateway_answers.specs.Answer.{content_of}
-use Rattle.gateway_answers.specs.ContentType.{type_name}
-use Rattle.gateway_answers.specs.Status.{number_of}
-use Rattle.gateway_answers.specs.declared.answer_bytes.AnswerBytes.{AnswerBytes}
-use Rattle.gateway_answers.specs.declared.content_type.ContentType.{ContentType}
+use Rattle.gateway_requests.specs.Answer.{content_of}
+use Rattle.gateway_requests.specs.ContentType.{type_name}
+use Rattle.gateway_requests.specs.Status.{number_of}
+use Rattle.gateway_requests.specs.declared.answer_bytes.AnswerBytes.{AnswerBytes}
+use Rattle.gateway_requests.specs.declared.content_type.ContentType.{ContentType}
 
 pub record Answer : Type 0 where
   pub status : ℕ

@@ -1,8 +1,8 @@
 -- Why a request that has come whole is refused before it is looked at what it asks. This project's own.
 use Rattle.std.specs.Prelude.{◌<◌, length, ⊤}
 use Rattle.std.specs.Str.{IsUtf8}
-use Rattle.gateway_answers.specs.declared.fault.Fault.{Fault}
-use Rattle.gateway_answers.specs.declared.fault.Fault.TheVariants as faults
+use Rattle.gateway_requests.specs.declared.fault.Fault.{Fault}
+use Rattle.gateway_requests.specs.declared.fault.Fault.TheVariants as faults
 use Rattle.gateway_requests.specs.declared.limits.TheConstants.{MOST_BODY}
 use Rattle.persistent_exchange.specs.Stream.{Asked}
 

@@ -3,7 +3,7 @@
 ghost use Rattle.std.specs.Prelude.{◌≡◌, ◌++◌, IfOk, OnOk};
 ghost use Rattle.persistent_exchange.specs.Closing.{IsClosing, closing_text, date_line};
 
-use gateway_answers::{Answer, AnswerBytes, Fault};
+use gateway_requests::{Answer, AnswerBytes, Fault};
 use httpdate::HttpDate;
 use std::alloc::{AllocError, Global};
 

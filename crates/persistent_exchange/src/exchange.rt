@@ -5,7 +5,7 @@ ghost use Rattle.std.specs.Io.KnownBytes.{Appends, Keeps};
 ghost use Rattle.http1.specs.Server.{new_server};
 ghost use Rattle.http_server.specs.Exchange.{Calls};
 ghost use Rattle.http_server.specs.History.{IsDone, IsServed, Rests, new_history};
-ghost use Rattle.byte_transfer.specs.Moving.{Receives};
+ghost use Rattle.wire_frames.specs.Moving.{Receives};
 ghost use Rattle.persistent_exchange.specs.Answering.{AnswersNext, CallsFor, IsNext};
 ghost use Rattle.persistent_exchange.specs.Persistent.{HandsOn, Sends, pending, received, sent};
 ghost use Rattle.persistent_exchange.specs.Scouting.{Finds, IsWhyNone};
@@ -14,7 +14,6 @@ ghost use Rattle.persistent_exchange.specs.Stream.{Asked, asked_of, taken};
 use crate::prepared::{NoAnswer, Prepared};
 use crate::scout::{Refusal, Scout, Sighting};
 use crate::standing::Standing;
-use byte_transfer::write_more;
 use bytes::BytesMut;
 use http_server::{Config, Connection, Service};
 use std::alloc::{AllocError, Global};
@@ -22,6 +21,7 @@ use std::hash::RandomState;
 use std::io;
 use std::io::{Read, Write};
 use std::marker::Model;
+use wire_frames::write_more;
 
 /// The number of bytes that a read asks for at least.
 const LEAST_READ: usize = 4_096;

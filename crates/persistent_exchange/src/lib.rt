@@ -1,4 +1,4 @@
-//! Edge: HTTP; used by `gateway_front`.
+//! Edge: HTTP.
 //!
 //! The bytes of a connection that stays: what comes next of the requests, before it is handed on to the connection's
 //! server, and what is sent in answer.

@@ -1,14 +1,14 @@
 //! An answer that is ready before the connection's server asks for it.
 
 ghost use Rattle.std.specs.Prelude.{◌≡◌, ◌++◌, false, IfOk, OnOk};
-ghost use Rattle.gateway_answers.specs.ContentType.{type_name};
-ghost use Rattle.gateway_answers.specs.Status.{number_of};
+ghost use Rattle.gateway_requests.specs.ContentType.{type_name};
+ghost use Rattle.gateway_requests.specs.Status.{number_of};
 ghost use Rattle.http_header.specs.FieldValue.{plain_value};
 ghost use Rattle.http_server.specs.Response.{IsBlank, fields_of};
 ghost use Rattle.persistent_exchange.specs.Preparing.{IsPrepared, answer_of, date_fields};
 
 use bytes::Bytes;
-use gateway_answers::{AnswerBytes, ContentType, Status};
+use gateway_requests::{AnswerBytes, ContentType, Status};
 use http::{HeaderName, HeaderValue, Request, StatusCode};
 use http_server::{Response, Service};
 use httpdate::HttpDate;

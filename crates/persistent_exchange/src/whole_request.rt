@@ -8,8 +8,7 @@ ghost use Rattle.gateway_requests.specs.Steps.{Tells};
 ghost use Rattle.gateway_requests.specs.declared.limits.TheConstants.{MOST_BODY};
 ghost use Rattle.persistent_exchange.specs.Refused.{IsRefused};
 
-use gateway_answers::Fault;
-use gateway_requests::{Action, MOST_BODY, Request, Routes, action_at, path_of, request_of};
+use gateway_requests::{Action, Fault, MOST_BODY, Request, Routes, action_at, path_of, request_of};
 use std::alloc::Global;
 use std::marker::Model;
 use std::str;

@@ -6,7 +6,7 @@ ghost use Rattle.session_pool.specs.Seats.{IsPassOf, Rests};
 
 use crate::message::{MESSAGE, OUTPUT};
 use crate::waiting::{end_when_free, send_when_free};
-use outcome::Outcome;
+use avro_bytes::Outcome;
 use schema_registry::Receipt;
 use session_pool::{ClientSeat, Pass, SessionEnd, SessionPool};
 use std::alloc::Global;

@@ -3,9 +3,9 @@
 use crate::error::BenchError;
 use crate::figures::{Measured, Stopwatch};
 use crate::message::{MESSAGE, OUTPUT, READER, WRITER};
+use avro_bytes::Outcome;
 use avro_schema::Schema;
 use machine::Transcoder;
-use outcome::Outcome;
 use std::alloc::Global;
 use std::time::Clock;
 

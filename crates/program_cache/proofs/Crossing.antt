@@ -8,7 +8,7 @@ use Rattle.std.proofs.Crossing.{crosses, sync}
 use Rattle.boxcar.proofs.slot.OnceSlot.TheSendSync as slot
 use Rattle.once_cell.proofs.race.once_box.OnceBox.TheSendSync as cell
 use Rattle.avro_schema.proofs.Crossing.{schema-send, schema-sync}
-use Rattle.pair_program.proofs.Crossing.{pair-send, pair-sync}
+use Rattle.machine.proofs.Crossing.{pair-send, pair-sync}
 use Rattle.schema_registry.proofs.Crossing.{kept-send, kept-sync, shared-sync}
 use Rattle.program_cache.specs.contracts.cache.ProgramCache as cache
 use Rattle.program_cache.specs.contracts.cache.ProgramCache.TheInside as inside

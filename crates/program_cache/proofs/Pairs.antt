@@ -3,7 +3,7 @@ use Rattle.std.proofs.Common.{◌≡◌, Option, Some, None, IfSome, subst}
 use Rattle.std.specs.Prelude.{Result}
 use Rattle.std.proofs.Common.{Bor}
 use Rattle.avro_schema.specs.Schema.{Declaration}
-use Rattle.pair_program.specs.Pair.{Pair}
+use Rattle.machine.specs.ProgramPair.{Pair}
 use Rattle.schema_registry.specs.Receipt.{Shown}
 use Rattle.program_cache.specs.declared.compiled.Compiled.{Compiled}
 use Rattle.program_cache.specs.declared.refusal.PairRefusal.{PairRefusal}

@@ -2,7 +2,7 @@
 use Rattle.std.specs.Prelude.{◌≡◌, Result, Ok, Err, None}
 use Rattle.std.proofs.Common.{Bor}
 use Rattle.avro_schema.specs.Schema.{Declaration}
-use Rattle.pair_program.specs.Pair.{IsProgramOf, Pair}
+use Rattle.machine.specs.ProgramPair.{IsProgramOf, Pair}
 use Rattle.program_definition.specs.Code.{code_of}
 use Rattle.session_core.specs.declared.publish_error.PublishError.{PublishError}
 use Rattle.session_core.specs.declared.publish_error.PublishError.TheVariants as errors

@@ -6,7 +6,7 @@ ghost use Rattle.program_definition.specs.Code.{code_of};
 
 use crate::refusal::PairRefusal;
 use avro_schema::Schema;
-use pair_program::PairProgram;
+use machine::PairProgram;
 use program_compiler::CompileError;
 use std::alloc::{AllocError, Global};
 

@@ -1,4 +1,4 @@
-//! Sessions; used by `session_pool`.
+//! Sessions.
 //!
 //! The programs of pairs of a registry's schemas, each compiled once for all threads, when it is first asked for.
 #![tactic(auto)]

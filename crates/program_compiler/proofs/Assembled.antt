@@ -11,15 +11,15 @@ use Rattle.isa.specs.declared.limits.TheConstants.{MOST_CONSTANT_BYTES, MOST_INS
 use Rattle.isa.specs.Lists.{total_length}
 use Rattle.isa.specs.Program.{Program}
 use Rattle.isa.specs.Range.{IsProgram}
-use Rattle.outcome.specs.declared.limits.TheConstants.{MOST_OUTPUT}
-use Rattle.outcome.specs.declared.mismatch.Mismatch.{Mismatch}
+use Rattle.avro_bytes.specs.declared.limits.TheConstants.{MOST_OUTPUT}
+use Rattle.avro_bytes.specs.declared.mismatch.Mismatch.{Mismatch}
 use Rattle.program_definition.specs.Code.{are_whole, is_lost}
 use Rattle.program_definition.specs.Statements.{Statement, Section}
 use Rattle.program_definition.specs.Numbering.{code_from, constants_in, constants_of, entry_of, has, jumps_from, maps_of, misses_in, named_in, numbered}
 use Rattle.program_definition.proofs.Numbers.{added, bytes_is, bytes_refl}
 use Rattle.program_definition.proofs.Ranges.{code_length}
-use Rattle.program_lowering.specs.declared.error.CompileError.{CompileError}
-use Rattle.program_lowering.specs.declared.error.CompileError.TheVariants.{ProgramTooLarge, NoMemory}
+use Rattle.program_compiler.specs.declared.error.CompileError.{CompileError}
+use Rattle.program_compiler.specs.declared.error.CompileError.TheVariants.{ProgramTooLarge, NoMemory}
 use Rattle.program_ir.specs.declared.statements.Statement as rust
 use Rattle.program_ir.specs.Statements.{statement_of, statements_in}
 use Rattle.program_compiler.specs.Parts.{AreWide, Assembles, FitNowhere, IsLong, LinksAll, LinksTables}

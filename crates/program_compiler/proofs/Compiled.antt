@@ -2,7 +2,7 @@
 use Rattle.std.proofs.Common.{◌≡◌, ℕ, ◌+◌, Bool, true, false, not, List, [], ◌∷◌, length, map, Option, Some, None, Result, Ok, Err, refl, sym, ap, subst, ◌∙◌}
 use Rattle.std.specs.Prelude.{◌==◌, ◌&&◌, if◌then◌else◌, is_ok}
 use Rattle.avro_types.specs.Node.{Node}
-use Rattle.outcome.specs.declared.mismatch.Mismatch.{Mismatch}
+use Rattle.avro_bytes.specs.declared.mismatch.Mismatch.{Mismatch}
 use Rattle.isa.specs.declared.instr.Instr.TheVariants as op
 use Rattle.isa.specs.declared.parts.Parts.{Parts}
 use Rattle.isa.specs.declared.program.ProgramError.{ProgramError}
@@ -16,9 +16,9 @@ use Rattle.program_definition.specs.Linking.{ProgramIsInRange}
 use Rattle.program_definition.specs.Numbering.{code_from, constants_in, entry_of, jumps_from, jumps_of, linked, maps_of, misses_in, named_in, numbered}
 use Rattle.program_definition.specs.Writing.{section}
 use Rattle.program_ir.specs.Statements.{statements_in}
-use Rattle.program_lowering.specs.declared.error.CompileError.{CompileError}
-use Rattle.program_lowering.specs.declared.error.CompileError.TheVariants as CompileErrors
-use Rattle.program_lowering.specs.Walking.{AreSectionStatements, SectionStatements, Walks, start_at}
+use Rattle.program_compiler.specs.declared.error.CompileError.{CompileError}
+use Rattle.program_compiler.specs.declared.error.CompileError.TheVariants as CompileErrors
+use Rattle.program_compiler.specs.Walking.{AreSectionStatements, SectionStatements, Walks, start_at}
 use Rattle.program_compiler.specs.Compiling.{Compiles}
 use Rattle.program_compiler.specs.Parts.{Assembles}
 

@@ -6,7 +6,7 @@ use Rattle.std.proofs.Math.Seq.{drop-cons}
 use Rattle.std.proofs.lemmas.List.{map-append}
 use Rattle.avro_types.specs.Node.{Node}
 use Rattle.isa.specs.declared.entry.Entry.{Entry}
-use Rattle.outcome.specs.declared.mismatch.Mismatch.{Mismatch}
+use Rattle.avro_bytes.specs.declared.mismatch.Mismatch.{Mismatch}
 use Rattle.program_definition.specs.Numbering.{entry_of, jumps_from, jumps_of, maps_of, named_in}
 use Rattle.program_definition.proofs.Numbering.{all_front, all_back}
 use Rattle.std.specs.Global.{Vec}

@@ -6,3 +6,14 @@ pub mod Noting
 pub mod Defaults
 pub mod Assembled
 pub mod Compiled
+pub mod FirstMember
+pub mod Kept
+pub mod Named
+pub mod NamedTypes
+pub mod NoBytes
+pub mod RoutineSteps
+pub mod SectionSteps
+pub mod Starts
+pub mod Steps
+pub mod Walked
+pub mod WriteSteps

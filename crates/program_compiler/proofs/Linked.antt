@@ -1,14 +1,14 @@
 -- Code, a statement at a time.
 use Rattle.std.proofs.Common.{◌≡◌, ℕ, zero, suc, ◌+◌, ◌<◌, ◌≤◌, drop, get_or, List, [], ◌∷◌, ◌++◌, length, Option, Some, Result, Err, sym, ap, subst, ◌∙◌, append_assoc}
 use Rattle.std.specs.Prelude.{MatchOption}
-use Rattle.program_lowering.specs.declared.error.CompileError.{CompileError}
-use Rattle.program_lowering.specs.declared.error.CompileError.TheVariants.{ProgramTooLarge, NoMemory}
+use Rattle.program_compiler.specs.declared.error.CompileError.{CompileError}
+use Rattle.program_compiler.specs.declared.error.CompileError.TheVariants.{ProgramTooLarge, NoMemory}
 use Rattle.std.specs.List.{AllByRecursion}
 use Rattle.avro_types.specs.Node.{Node}
 use Rattle.isa.specs.declared.instr.Instr.{Instr}
 use Rattle.isa.specs.Range.{InstrIsInRange, sizes_of}
-use Rattle.outcome.specs.declared.limits.TheConstants.{MOST_OUTPUT}
-use Rattle.outcome.specs.declared.mismatch.Mismatch.{Mismatch}
+use Rattle.avro_bytes.specs.declared.limits.TheConstants.{MOST_OUTPUT}
+use Rattle.avro_bytes.specs.declared.mismatch.Mismatch.{Mismatch}
 use Rattle.program_definition.specs.Statements.{Section}
 use Rattle.program_definition.specs.Numbering.{code_from, constants_of, jumps_of, linked, maps_of, named_in}
 use Rattle.program_definition.proofs.Numbering.{all_front, all_back}

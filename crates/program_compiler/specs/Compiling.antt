@@ -3,8 +3,8 @@ use Rattle.std.specs.Prelude.{◌≡◌, List, Some, None, Result, Ok, Err}
 use Rattle.avro_types.specs.Node.{Node}
 use Rattle.isa.specs.Program.{Program}
 use Rattle.program_definition.specs.Code.{code_of}
-use Rattle.program_lowering.specs.declared.error.CompileError.{CompileError}
-use Rattle.program_lowering.specs.declared.error.CompileError.TheVariants.{ProgramTooLarge, NoMemory}
+use Rattle.program_compiler.specs.declared.error.CompileError.{CompileError}
+use Rattle.program_compiler.specs.declared.error.CompileError.TheVariants.{ProgramTooLarge, NoMemory}
 
 -- the pair's program, and an error only where a limit is passed or memory ran out
 abbrev pub Compiles : List Node → List Node → Result Program CompileError → Type 0

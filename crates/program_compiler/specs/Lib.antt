@@ -2,3 +2,8 @@ pub mod Compiling
 pub mod Tables
 pub mod Parts
 pub mod Linking
+pub mod Fields
+pub mod Known
+pub mod Members
+pub mod NamedTypes
+pub mod Walking

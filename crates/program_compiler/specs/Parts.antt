@@ -4,7 +4,7 @@ use Rattle.std.specs.Prelude.{◌≡◌, ◌<◌, ◌≤◌, ◌^◌, ℕ, true,
 use Rattle.std.specs.Global.{Vec}
 use Rattle.std.specs.List.{AllByRecursion}
 use Rattle.std.specs.Str.{bytes_eq}
-use Rattle.outcome.specs.declared.limits.TheConstants.{MOST_OUTPUT}
+use Rattle.avro_bytes.specs.declared.limits.TheConstants.{MOST_OUTPUT}
 use Rattle.isa.specs.declared.entry.Entry.{Entry}
 use Rattle.isa.specs.declared.instr.Instr.{Instr}
 use Rattle.isa.specs.declared.parts.Parts.{Parts}
@@ -13,8 +13,8 @@ use Rattle.program_definition.specs.Code.{are_whole}
 use Rattle.isa.specs.Range.{InstrIsInRange, IsProgram, IsWithinLimits, sizes_of}
 use Rattle.program_definition.specs.Statements.{Statement}
 use Rattle.program_definition.specs.Numbering.{adding, constants_of, named_in}
-use Rattle.program_lowering.specs.declared.error.CompileError.{CompileError}
-use Rattle.program_lowering.specs.declared.error.CompileError.TheVariants.{ProgramTooLarge, NoMemory}
+use Rattle.program_compiler.specs.declared.error.CompileError.{CompileError}
+use Rattle.program_compiler.specs.declared.error.CompileError.TheVariants.{ProgramTooLarge, NoMemory}
 
 -- a number as an operand, or none where it takes more than 32 bits
 abbrev pub Narrows : Option ℕ → ℕ → Type 0

@@ -8,17 +8,17 @@ ghost use Rattle.program_definition.specs.Code.{is_lost as is_lost_statement};
 ghost use Rattle.program_compiler.specs.Parts.{Assembles, LinksTables};
 ghost use Rattle.program_compiler.specs.Tables.{AreDefaults};
 ghost use Rattle.program_ir.specs.Statements.{statement_of, statements_in};
-ghost use Rattle.program_lowering.specs.Walking.{start_at};
+ghost use Rattle.program_compiler.specs.Walking.{start_at};
 
 use crate::addresses::gather_jumps;
 use crate::constants::gather_constants;
 use crate::linking::{Tables, link};
 use crate::maps::gather_maps;
 use crate::misses::gather_misses;
+use crate::{CompileError, SectionStatements};
 use avro_types::Nodes;
 use isa::{Entry, Instr, Lists, MOST_INSTRS, MOST_TABLES, Parts};
 use program_ir::{Constants, Statement};
-use program_lowering::{CompileError, SectionStatements};
 use std::alloc::Global;
 use std::collections::BTreeMap;
 

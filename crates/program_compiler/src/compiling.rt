@@ -3,10 +3,10 @@
 ghost use Rattle.program_compiler.specs.Compiling.{Compiles};
 
 use crate::assembling::parts_of_statements;
+use crate::{CompileError, walk};
 use avro_types::Nodes;
 use isa::Program;
 use program_definition::program_is_in_range;
-use program_lowering::{CompileError, walk};
 use std::alloc::Global;
 
 /// Returns the program that reads what the writer's schema wrote and writes what the reader's makes of it.

@@ -4,7 +4,7 @@ ghost use Rattle.std.specs.Prelude.{◌≡◌, ◌<◌, ◌∷◌, [], List, Non
 ghost use Rattle.avro_datum.specs.Writing.{written};
 ghost use Rattle.avro_types.specs.Datum.{datum_of};
 ghost use Rattle.avro_types.specs.Node.{Node};
-ghost use Rattle.outcome.specs.declared.limits.TheConstants.{MOST_OUTPUT};
+ghost use Rattle.avro_bytes.specs.declared.limits.TheConstants.{MOST_OUTPUT};
 ghost use Rattle.program_definition.specs.Numbering.{constants_of, named_in};
 ghost use Rattle.program_compiler.specs.Parts.{Notes};
 ghost use Rattle.program_compiler.specs.Tables.{AreDefaults};

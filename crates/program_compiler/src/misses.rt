@@ -7,8 +7,8 @@ ghost use Rattle.program_ir.specs.Statements.{statement_of, statements_in, targe
 ghost use Rattle.program_compiler.specs.Tables.{AreNoted};
 
 use crate::maps::symbols;
+use avro_bytes::{Mismatch, MismatchKind};
 use avro_types::Nodes;
-use outcome::{Mismatch, MismatchKind};
 use program_ir::{Misses, Statement, position_for};
 use std::alloc::{AllocError, Global};
 use std::collections::BTreeSet;

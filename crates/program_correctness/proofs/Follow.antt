@@ -3,8 +3,8 @@ use Rattle.std.proofs.Common.{◌≡◌, ℕ, suc, ◌+◌, ◌*◌, ◌≤◌, 
 use Rattle.avro_bytes.specs.declared.fault.MalformedKind.TheVariants.{Truncated}
 use Rattle.avro_bytes.specs.declared.meter.Meter.{Meter}
 use Rattle.avro_bytes.specs.Decoding.{Decoding, Complete, Defect, Failed, Malformed, Need, ◌>>=◌, map_decoding}
-use Rattle.outcome.specs.Outcome.{Outcome}
-use Rattle.outcome.specs.Outcome as outcomes
+use Rattle.avro_bytes.specs.Outcome.{Outcome}
+use Rattle.avro_bytes.specs.Outcome as outcomes
 use Rattle.isa.specs.Program.{Program}
 use Rattle.isa.specs.State.{Out, State}
 use Rattle.isa.specs.Table.{reads, stop}

@@ -2,8 +2,8 @@
 -- far.
 use Rattle.std.proofs.Common.{◌≡◌, ℕ, ◌+◌, ◌≤◌, Bool, true, false, List, [], ◌∷◌, ◌++◌, length, Option, Some, None, Ok, Err, refl, sym, ap, ◌∙◌, subst, arith, slice_get}
 use Rattle.std.specs.Prelude.{nat_lt}
-use Rattle.outcome.specs.declared.limits.TheConstants.{MOST_OUTPUT}
-use Rattle.outcome.specs.declared.mismatch.Mismatch.{Mismatch}
+use Rattle.avro_bytes.specs.declared.limits.TheConstants.{MOST_OUTPUT}
+use Rattle.avro_bytes.specs.declared.mismatch.Mismatch.{Mismatch}
 use Rattle.resolver.specs.Resolution.{Resolved, ◌>>=◌}
 use Rattle.isa.specs.State.{Frame, Store, frames_size, size_of, empty_buffers, has_current, add}
 use Rattle.program_correctness.proofs.Buffers.{current_emptied, emptied_frames, emptied_length}

@@ -18,9 +18,9 @@ use Rattle.avro_bytes.specs.Laws.Numbers.{number_some, number_sound}
 use Rattle.avro_bytes.specs.Laws.Positions.{position_sound}
 use Rattle.avro_types.specs.Node.{Node}
 use Rattle.avro_datum.specs.ItemDecoding.{Reader}
-use Rattle.outcome.specs.declared.mismatch.Mismatch.{Mismatch}
-use Rattle.outcome.specs.declared.mismatch.MismatchKind.TheVariants as kinds
-use Rattle.resolver_matching.specs.Options.{given}
+use Rattle.avro_bytes.specs.declared.mismatch.Mismatch.{Mismatch}
+use Rattle.avro_bytes.specs.declared.mismatch.MismatchKind.TheVariants as kinds
+use Rattle.resolver.specs.Options.{given}
 use Rattle.resolver.specs.Resolution.{Resolved, ◌>>=◌, symbol_for}
 use Rattle.isa.specs.declared.entry.Entry.{Entry}
 use Rattle.isa.specs.declared.entry.Entry.TheVariants as entries

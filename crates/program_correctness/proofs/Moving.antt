@@ -10,7 +10,7 @@ use Rattle.avro_bytes.specs.Decoding.{Decoding, Complete, Failed, Malformed, Nee
 use Rattle.avro_bytes.specs.Length.{length_at}
 use Rattle.avro_bytes.specs.Shortest.{shortest}
 use Rattle.avro_bytes.specs.Written.{after_length}
-use Rattle.outcome.specs.Outcome as outcomes
+use Rattle.avro_bytes.specs.Outcome as outcomes
 use Rattle.isa.specs.declared.limits.TheConstants.{MOST_CHUNK}
 use Rattle.isa.specs.Program.{Program}
 use Rattle.isa.specs.State.{Out, Content, State, Store}

@@ -15,9 +15,9 @@ use Rattle.avro_datum.specs.Decoding.{Decoder, kind_at, member_at, node_at, plai
 use Rattle.avro_datum.specs.ItemDecoding.{Reader}
 use Rattle.avro_datum.specs.Laws.Decoders.{Deeper}
 use Rattle.avro_datum.specs.Laws.Kinds.{kind_is_plain, none_deeper, one_deeper}
-use Rattle.outcome.specs.declared.mismatch.MismatchKind.TheVariants as kinds
+use Rattle.avro_bytes.specs.declared.mismatch.MismatchKind.TheVariants as kinds
 use Rattle.resolver.specs.Laws.Placed.{by_place}
-use Rattle.resolver_matching.specs.Matching.{place}
+use Rattle.resolver.specs.Matching.{place}
 use Rattle.resolver.specs.Resolution.{Resolved, placed, ◌>>=◌, resolved}
 use Rattle.resolver.specs.Steps.{inside}
 use Rattle.isa.specs.declared.instr.Instr.TheVariants as op

@@ -2,7 +2,7 @@
 use Rattle.std.proofs.Common.{◌≡◌, ℕ, suc, ◌+◌, ◌-◌, ◌≤◌, List, length, Option, Some, None, Ok, refl, arith, ◌∙◌, slice_get}
 use Rattle.avro_types.specs.Node.{Node, FieldNode}
 use Rattle.avro_datum.specs.Writing.{written}
-use Rattle.resolver_matching.specs.Partners.{routes}
+use Rattle.resolver.specs.Partners.{routes}
 use Rattle.resolver.specs.Resolution.{Resolved, ◌>>=◌, Slots}
 use Rattle.isa.specs.declared.instr.Instr.TheVariants as op
 use Rattle.isa.specs.Lists.{total_length}

@@ -5,7 +5,7 @@ use Rattle.avro_bytes.specs.Decoding.{Complete, ◌>>=◌ as ◌>>◌}
 use Rattle.avro_types.specs.Datum.{Datum, Data, more, how_many}
 use Rattle.avro_types.specs.Node.{Node, FieldNode}
 use Rattle.avro_datum.specs.Decoding.{Decoder, fields_at}
-use Rattle.resolver_matching.specs.declared.pairing.Route.{Route}
+use Rattle.resolver.specs.declared.pairing.Route.{Route}
 use Rattle.resolver.specs.Laws.Fields.{GoTo}
 use Rattle.resolver.specs.Resolution.{Resolved, ◌>>=◌, Slots, resolved}
 use Rattle.isa.specs.Lists.{total_length}

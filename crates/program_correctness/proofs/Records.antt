@@ -11,7 +11,7 @@ use Rattle.avro_types.specs.WellFormed.{HaveDistinctNames}
 use Rattle.avro_datum.specs.Decoding.{Decoder, closed_record, fields_at, record_at}
 use Rattle.avro_datum.specs.Writing.{written}
 use Rattle.avro_datum.specs.Laws.Decoders.{Deeper}
-use Rattle.resolver_matching.specs.Partners.{routes}
+use Rattle.resolver.specs.Partners.{routes}
 use Rattle.resolver.specs.Resolution.{Resolved, ◌>>=◌, Slots, filled, no_slots, resolved_fields}
 use Rattle.isa.specs.declared.instr.Instr.TheVariants as op
 use Rattle.isa.specs.Lists.{total_length}

@@ -4,11 +4,11 @@ use Rattle.std.proofs.lemmas.Bool.Decides.{nat_tests}
 use Rattle.avro_types.specs.Datum.{Datum}
 use Rattle.avro_types.specs.Node.{FieldNode}
 use Rattle.avro_types.specs.WellFormed.{HaveDistinctNames}
-use Rattle.resolver_matching.specs.declared.pairing.Partner.{Partner}
-use Rattle.resolver_matching.specs.declared.pairing.Route.{Route}
-use Rattle.resolver_matching.specs.Options.{given}
-use Rattle.resolver_matching.specs.Partners.{has_partner, partners, routes, routes_to}
-use Rattle.resolver_matching.proofs.Apart.{partners_apart}
+use Rattle.resolver.specs.declared.pairing.Partner.{Partner}
+use Rattle.resolver.specs.declared.pairing.Route.{Route}
+use Rattle.resolver.specs.Options.{given}
+use Rattle.resolver.specs.Partners.{has_partner, partners, routes, routes_to}
+use Rattle.resolver.proofs.Apart.{partners_apart}
 use Rattle.resolver.specs.Laws.Fields.{GoTo, IsOneOf, length_partners, routes_go}
 use Rattle.resolver.specs.Resolution.{Slots, no_slots}
 

@@ -10,7 +10,7 @@ use Rattle.avro_bytes.specs.BlockDecoding.{next_item}
 use Rattle.avro_bytes.specs.Decoding.{Decoding, Complete, Failed, Malformed, Need, inside}
 use Rattle.avro_bytes.specs.Length.{length_at}
 use Rattle.avro_bytes.specs.Walk.{Walk}
-use Rattle.outcome.specs.Outcome as outcomes
+use Rattle.avro_bytes.specs.Outcome as outcomes
 use Rattle.isa.specs.declared.entry.Entry.{Entry}
 use Rattle.isa.specs.declared.entry.Entry.TheVariants as entries
 use Rattle.isa.specs.declared.end.Trap.TheVariants.{BadSlot, NoBuffer}

@@ -4,7 +4,7 @@ use Rattle.std.proofs.Math.Nat.{mul-le-mul_right}
 use Rattle.avro_bytes.specs.declared.limits.TheConstants.{MOST_UNITS}
 use Rattle.avro_types.specs.Node.{Node}
 use Rattle.avro_types.specs.WellFormed.{IsWellFormed}
-use Rattle.outcome.specs.declared.limits.TheConstants.{MOST_PAYLOAD}
+use Rattle.avro_bytes.specs.declared.limits.TheConstants.{MOST_PAYLOAD}
 use Rattle.isa.specs.declared.limits.TheConstants.{MOST_INSTRS}
 use Rattle.isa.specs.Bounds.{IsBounded}
 use Rattle.isa.specs.Program.{Program}

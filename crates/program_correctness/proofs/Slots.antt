@@ -5,10 +5,10 @@ use Rattle.avro_bytes.specs.Blocks.{joined}
 use Rattle.avro_types.specs.Datum.{Datum, Data, no_more, more, how_many}
 use Rattle.avro_types.specs.Node.{Node, FieldNode}
 use Rattle.avro_datum.specs.Writing.{written, written_data}
-use Rattle.resolver_matching.specs.declared.pairing.Partner.{Partner}
-use Rattle.resolver_matching.specs.declared.pairing.Route.{Route}
-use Rattle.resolver_matching.specs.Options.{given, or_else}
-use Rattle.resolver_matching.specs.Partners.{has_partner, routes}
+use Rattle.resolver.specs.declared.pairing.Partner.{Partner}
+use Rattle.resolver.specs.declared.pairing.Route.{Route}
+use Rattle.resolver.specs.Options.{given, or_else}
+use Rattle.resolver.specs.Partners.{has_partner, routes}
 use Rattle.resolver.specs.Laws.Fields.{filled_by_partners, is_filled, length_no_slots, one_put}
 use Rattle.resolver.specs.Resolution.{Resolved, ◌>>=◌, Slots, filled, no_slots, resolved, resolved_fields}
 use Rattle.isa.specs.State.{add_to_slot}

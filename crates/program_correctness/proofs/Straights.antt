@@ -18,9 +18,9 @@ use Rattle.avro_datum.specs.Decoding.{Decoder, array_of, map_of, pair_at, plain_
 use Rattle.avro_datum.specs.ItemDecoding.{Reader, blocks_at}
 use Rattle.avro_datum.specs.Writing.{written}
 use Rattle.avro_datum.specs.Laws.Decoders.{Deeper}
-use Rattle.outcome.specs.declared.mismatch.Mismatch.{Mismatch}
-use Rattle.outcome.specs.declared.mismatch.MismatchKind.TheVariants as kinds
-use Rattle.resolver_matching.specs.Options.{given}
+use Rattle.avro_bytes.specs.declared.mismatch.Mismatch.{Mismatch}
+use Rattle.avro_bytes.specs.declared.mismatch.MismatchKind.TheVariants as kinds
+use Rattle.resolver.specs.Options.{given}
 use Rattle.resolver.specs.Resolution.{Resolved, ◌>>=◌, bytes_for, lacking, symbol_for}
 use Rattle.resolver.specs.Steps.{inside}
 use Rattle.isa.specs.declared.instr.Instr.TheVariants as op

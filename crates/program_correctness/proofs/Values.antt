@@ -12,7 +12,7 @@ use Rattle.avro_types.specs.WellFormed.{is_union}
 use Rattle.avro_datum.specs.Decoding.{Decoder, closed_record, fields_at, plain_at, record_at}
 use Rattle.avro_datum.specs.Writing.{written}
 use Rattle.avro_datum.specs.Laws.Parts.{inside_complete, mapped}
-use Rattle.outcome.specs.declared.mismatch.MismatchKind.TheVariants as kinds
+use Rattle.avro_bytes.specs.declared.mismatch.MismatchKind.TheVariants as kinds
 use Rattle.resolver.specs.Laws.Placed.{is_union_datum}
 use Rattle.resolver.specs.Resolution.{Resolved, ◌>>=◌, bytes_for, int_for, lacking, mismatch, text_for}
 use Rattle.resolver.specs.Steps.{inside}

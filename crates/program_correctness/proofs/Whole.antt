@@ -15,10 +15,10 @@ use Rattle.avro_datum.specs.Spelling.{Spells}
 use Rattle.avro_datum.specs.Writing.{written}
 use Rattle.avro_datum.specs.Laws.Sound.{datum_sound}
 use Rattle.avro_datum.proofs.Payloads.{is_malformed, is_trailing, is_truncated, is_whole}
-use Rattle.outcome.specs.declared.limits.TheConstants.{MOST_OUTPUT}
-use Rattle.outcome.specs.declared.mismatch.Mismatch.{Mismatch}
-use Rattle.outcome.specs.Outcome.{Outcome, Done, Mismatched, OutputTooLarge}
-use Rattle.outcome.specs.Outcome as outcomes
+use Rattle.avro_bytes.specs.declared.limits.TheConstants.{MOST_OUTPUT}
+use Rattle.avro_bytes.specs.declared.mismatch.Mismatch.{Mismatch}
+use Rattle.avro_bytes.specs.Outcome.{Outcome, Done, Mismatched, OutputTooLarge}
+use Rattle.avro_bytes.specs.Outcome as outcomes
 use Rattle.resolver.specs.Outcome.{IsOutcome}
 use Rattle.resolver.specs.Resolution.{Resolved, resolved}
 use Rattle.isa.specs.declared.instr.Instr.TheVariants as op

@@ -3,7 +3,7 @@ use Rattle.std.proofs.Common.{◌≡◌, ℕ, ◌≤◌, List, length, Ok, Err, 
 use Rattle.avro_bytes.specs.declared.meter.Meter.{Meter}
 use Rattle.avro_bytes.specs.Decoding.{Complete, map_decoding}
 use Rattle.avro_datum.specs.ItemDecoding.{Reader}
-use Rattle.outcome.specs.declared.mismatch.Mismatch.{Mismatch}
+use Rattle.avro_bytes.specs.declared.mismatch.Mismatch.{Mismatch}
 use Rattle.resolver.specs.Resolution.{Resolved}
 use Rattle.isa.specs.Program.{Program}
 use Rattle.isa.specs.State.{State, Store, add, has_current}

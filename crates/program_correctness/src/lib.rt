@@ -1,4 +1,4 @@
-//! Programs; used by `machine`, `session_state`, `commands`.
+//! Programs.
 //!
 //! The simulation: the program of a pair of schemas, run alone, ends with the outcome of its payload.
 #![tactic(auto)]

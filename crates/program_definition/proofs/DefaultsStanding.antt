@@ -4,9 +4,9 @@ use Rattle.std.specs.Prelude.{slice_get}
 use Rattle.avro_datum.specs.Writing.{written}
 use Rattle.avro_types.specs.Datum.{Datum}
 use Rattle.avro_types.specs.Node.{Node, FieldNode}
-use Rattle.resolver_matching.specs.declared.pairing.Route.{Route}
-use Rattle.resolver_matching.specs.Options.{given}
-use Rattle.resolver_matching.specs.Partners.{has_partner}
+use Rattle.resolver.specs.declared.pairing.Route.{Route}
+use Rattle.resolver.specs.Options.{given}
+use Rattle.resolver.specs.Partners.{has_partner}
 use Rattle.isa.specs.Program.{Program}
 use Rattle.program_definition.specs.Statements.{Section, Statement}
 use Rattle.program_definition.specs.Stands.{Defaults, PutsNothing, no_default, none_put, one_put, partnered}

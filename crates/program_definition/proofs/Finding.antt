@@ -6,7 +6,7 @@ use Rattle.std.proofs.lemmas.Bool.{cases_lt}
 use Rattle.std.proofs.lemmas.Option.{slice_get_within}
 use Rattle.avro_types.specs.Node.{Node, FieldNode, RecordNode}
 use Rattle.avro_types.specs.WellFormed.{IsWellFormed}
-use Rattle.resolver_matching.specs.Options.{given}
+use Rattle.resolver.specs.Options.{given}
 use Rattle.resolver.specs.Resolution.{field_lists}
 use Rattle.program_definition.specs.Code.{reached}
 use Rattle.program_definition.specs.Limits.{AreAll, SectionsAreFound}

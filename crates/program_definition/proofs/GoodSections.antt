@@ -3,10 +3,10 @@ use Rattle.std.proofs.Common.{◌≡◌, ℕ, suc, ◌+◌, ◌<◌, ◌≤◌, 
 use Rattle.std.specs.Prelude.{slice_get}
 use Rattle.avro_types.specs.Node.{Node, FieldNode, RecordNode}
 use Rattle.avro_types.specs.WellFormed.{FieldsBelow, IsWellFormed}
-use Rattle.resolver_matching.specs.declared.pairing.Partner.{Partner}
-use Rattle.resolver_matching.specs.declared.pairing.Route.{Route}
-use Rattle.resolver_matching.specs.Options.{given}
-use Rattle.resolver_matching.specs.Partners.{AreRoutes, routes}
+use Rattle.resolver.specs.declared.pairing.Partner.{Partner}
+use Rattle.resolver.specs.declared.pairing.Route.{Route}
+use Rattle.resolver.specs.Options.{given}
+use Rattle.resolver.specs.Partners.{AreRoutes, routes}
 use Rattle.resolver.specs.Resolution.{field_lists}
 use Rattle.resolver.proofs.Within.{routes_within}
 use Rattle.isa.specs.declared.instr.Instr.TheVariants as op

@@ -8,16 +8,16 @@ use Rattle.avro_types.specs.Laws.Placed.{place-within}
 use Rattle.avro_types.specs.Node.{Node, FieldNode, NullNode, BooleanNode, IntNode, LongNode, BytesNode, TextNode, FixedNode, EnumNode, ArrayNode, MapNode, UnionNode, RecordNode}
 use Rattle.avro_types.specs.Symbols.{place_of}
 use Rattle.avro_types.specs.WellFormed.{FieldsBelow, IsMember, IsPartOf, IsWellFormed, is_named, is_union}
-use Rattle.outcome.specs.declared.mismatch.MismatchKind.{MismatchKind}
-use Rattle.outcome.specs.declared.mismatch.MismatchKind.TheVariants as kinds
-use Rattle.resolver_matching.proofs.Fitting.{is_a_union, node_fits}
-use Rattle.resolver_matching.proofs.Members.{found, member_in, never_else, no_union_at}
-use Rattle.resolver_matching.specs.declared.pairing.Route.{Route}
-use Rattle.resolver_matching.specs.declared.place.Destination.{Destination}
-use Rattle.resolver_matching.specs.declared.place.Destination.TheVariants.{Straight, IntoMember, Nowhere, Unmatched}
-use Rattle.resolver_matching.specs.Matching.{first_member, matches, place, place_at}
-use Rattle.resolver_matching.specs.Options.{given, or_else}
-use Rattle.resolver_matching.specs.Partners.{routes}
+use Rattle.avro_bytes.specs.declared.mismatch.MismatchKind.{MismatchKind}
+use Rattle.avro_bytes.specs.declared.mismatch.MismatchKind.TheVariants as kinds
+use Rattle.resolver.proofs.Fitting.{is_a_union, node_fits}
+use Rattle.resolver.proofs.Members.{found, member_in, never_else, no_union_at}
+use Rattle.resolver.specs.declared.pairing.Route.{Route}
+use Rattle.resolver.specs.declared.place.Destination.{Destination}
+use Rattle.resolver.specs.declared.place.Destination.TheVariants.{Straight, IntoMember, Nowhere, Unmatched}
+use Rattle.resolver.specs.Matching.{first_member, matches, place, place_at}
+use Rattle.resolver.specs.Options.{given, or_else}
+use Rattle.resolver.specs.Partners.{routes}
 use Rattle.resolver.specs.Resolution.{field_lists, lacking, lacking_from, lacks, symbol_for}
 use Rattle.isa.specs.declared.instr.Instr.TheVariants as op
 use Rattle.isa.specs.declared.limits.TheConstants.{MOST_SYMBOLS}

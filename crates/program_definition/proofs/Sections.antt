@@ -3,10 +3,10 @@ use Rattle.std.proofs.Common.{◌≡◌, ℕ, suc, ◌+◌, List, [], ◌∷◌,
 use Rattle.std.specs.Prelude.{slice_get}
 use Rattle.avro_types.specs.Node.{Node, FieldNode, RecordNode}
 use Rattle.avro_types.specs.WellFormed.{IsWellFormed}
-use Rattle.resolver_matching.specs.declared.pairing.Partner.{Partner}
-use Rattle.resolver_matching.specs.declared.pairing.Route.{Route}
-use Rattle.resolver_matching.specs.Options.{given}
-use Rattle.resolver_matching.specs.Partners.{routes}
+use Rattle.resolver.specs.declared.pairing.Partner.{Partner}
+use Rattle.resolver.specs.declared.pairing.Route.{Route}
+use Rattle.resolver.specs.Options.{given}
+use Rattle.resolver.specs.Partners.{routes}
 use Rattle.resolver.specs.Resolution.{field_lists}
 use Rattle.isa.specs.declared.instr.Instr.TheVariants as op
 use Rattle.isa.specs.Program.{Program}

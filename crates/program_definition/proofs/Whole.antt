@@ -4,7 +4,7 @@ use Rattle.std.specs.Prelude.{slice_get, if◌then◌else◌}
 use Rattle.std.specs.List.{AllByRecursion}
 use Rattle.avro_types.specs.Node.{Node, FieldNode, RecordNode}
 use Rattle.avro_types.specs.WellFormed.{IsWellFormed}
-use Rattle.resolver_matching.specs.Options.{given}
+use Rattle.resolver.specs.Options.{given}
 use Rattle.resolver.specs.Resolution.{field_lists}
 use Rattle.isa.specs.declared.instr.Instr.TheVariants as op
 use Rattle.program_definition.specs.Code.{are_whole, is_lost, statements_of}

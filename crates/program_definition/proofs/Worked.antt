@@ -2,7 +2,7 @@
 use Rattle.std.proofs.Common.{refl}
 use Rattle.avro_bytes.specs.Shortest as S
 use Rattle.avro_datum.specs.Writing.{written}
-use Rattle.resolver_matching.specs.Matching.{matches_within}
+use Rattle.resolver.specs.Matching.{matches_within}
 use Rattle.program_definition.specs.Code.{code_of}
 use Rattle.program_definition.specs.Skipping.{skip_within}
 use Rattle.program_definition.specs.Worked.{LongListHasItsProgram, PairHasItsProgram, ReaderHasItsProgram, RenamedHasItsProgram}

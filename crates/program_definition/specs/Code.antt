@@ -2,7 +2,7 @@
 -- for. This project's own.
 use Rattle.std.specs.Prelude.{ℕ, zero, suc, ◌+◌, Bool, true, false, ◌&&◌, List, [], ◌∷◌, ◌++◌, length, Option, Some, None, if◌then◌else◌, slice_get}
 use Rattle.avro_types.specs.Node.{Node}
-use Rattle.resolver_matching.specs.Options.{given}
+use Rattle.resolver.specs.Options.{given}
 use Rattle.isa.specs.declared.limits.TheConstants.{MOST_INSTRS}
 use Rattle.isa.specs.Judging.{is_within_limits}
 use Rattle.isa.specs.Program.{Program}

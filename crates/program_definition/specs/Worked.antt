@@ -2,7 +2,7 @@
 use Rattle.std.specs.Prelude.{◌≡◌, ℕ, pos, List, [], ◌∷◌, Some, None}
 use Rattle.avro_types.specs.Datum.{LongDatum}
 use Rattle.avro_types.specs.Node.{Node, Names, FieldNode, NullNode, LongNode, TextNode, BytesNode, UnionNode, ArrayNode, RecordNode, EnumNode}
-use Rattle.outcome.specs.declared.mismatch.MismatchKind.TheVariants as kinds
+use Rattle.avro_bytes.specs.declared.mismatch.MismatchKind.TheVariants as kinds
 use Rattle.isa.specs.declared.entry.Entry.TheVariants as entries
 use Rattle.isa.specs.declared.instr.Instr.TheVariants as op
 use Rattle.isa.specs.Program.{Program}

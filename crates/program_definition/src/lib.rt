@@ -1,4 +1,4 @@
-//! Programs; used by `program_correctness`, `program_lowering`, `program_compiler`.
+//! Programs.
 //!
 //! The program of a pair of schemas.
 #![tactic(auto)]

@@ -6,7 +6,7 @@ use Rattle.std.proofs.lemmas.List.{length-map, map-append}
 use Rattle.std.specs.declared.cmp.Ordering.{Ordering}
 use Rattle.std.specs.declared.cmp.Ordering.TheVariants.{Less, Equal, Greater}
 use Rattle.std.specs.Ordering.{is_eq, nat_cmp, ordering_then}
-use Rattle.resolver_matching.specs.Options.{or_else}
+use Rattle.resolver.specs.Options.{or_else}
 use Rattle.program_definition.specs.Statements.{Section, Write, Skip}
 use Rattle.program_definition.specs.Numbering.{adding, calls_of, has, named_in, same_section}
 use Rattle.avro_types.specs.Node.{Node}

@@ -7,9 +7,9 @@ use Rattle.avro_types.specs.declared.limits.TheConstants.{MOST_FIELDS}
 use Rattle.avro_datum.specs.Writing.{written}
 use Rattle.isa.specs.declared.instr.Instr.{Instr}
 use Rattle.isa.specs.declared.instr.Instr.TheVariants as op
-use Rattle.resolver_matching.specs.declared.pairing.Route.{Route}
-use Rattle.resolver_matching.specs.Options.{given}
-use Rattle.outcome.specs.declared.mismatch.MismatchKind.TheVariants as kinds
+use Rattle.resolver.specs.declared.pairing.Route.{Route}
+use Rattle.resolver.specs.Options.{given}
+use Rattle.avro_bytes.specs.declared.mismatch.MismatchKind.TheVariants as kinds
 use Rattle.program_ir.specs.declared.statements.Constant.{Constant}
 use Rattle.program_ir.specs.declared.statements.Constant.TheVariants as constants
 use Rattle.program_ir.specs.declared.statements.Go.{Go}

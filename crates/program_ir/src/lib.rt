@@ -1,4 +1,4 @@
-//! Programs; used by `program_lowering`, `program_compiler`.
+//! Programs.
 //!
 //! The statements of a pair's code, and what they refer to: routines, constants and misses, each once and with its
 //! number, and what the symbols of a pair of enums become.

@@ -5,7 +5,7 @@ ghost use Rattle.program_definition.specs.Numbering.{adding, number, same_miss};
 ghost use Rattle.program_ir.specs.Tables.{found};
 ghost use Rattle.program_ir.specs.Tables.{key_of as key_of_miss};
 
-use outcome::Mismatch;
+use avro_bytes::Mismatch;
 use std::alloc::{AllocError, Global};
 use std::collections::BTreeMap;
 use std::marker::Model;
@@ -26,7 +26,7 @@ pub struct Misses {
 
 impl Model for Misses {
     ghost use Rattle.std.specs.Prelude.{List};
-    ghost use Rattle.outcome.specs.declared.mismatch.Mismatch.{Mismatch};
+    ghost use Rattle.avro_bytes.specs.declared.mismatch.Mismatch.{Mismatch};
     ghost use Rattle.program_ir.specs.Tables.{AreMisses};
 
     ghost Value = { List Mismatch };

@@ -5,9 +5,9 @@ ghost use Rattle.avro_types.specs.Node.{Node};
 ghost use Rattle.program_definition.specs.Statements.{branched, looped, miss};
 ghost use Rattle.program_ir.specs.Statements.{HasSlot, go_of, jump_statements, statement_of, statements_in, parts_in, record_statement, routine_statements, slot_statements};
 
+use avro_bytes::{Mismatch, MismatchKind};
 use isa::Instr;
-use outcome::{Mismatch, MismatchKind};
-use resolver_matching::Route;
+use resolver::Route;
 use std::alloc::{AllocError, Global};
 
 /// A part of the code.

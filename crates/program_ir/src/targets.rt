@@ -7,9 +7,9 @@ ghost use Rattle.program_ir.specs.Tables.{entry_at};
 ghost use Rattle.resolver.specs.Resolution.{symbol_for as position_of_symbol};
 
 use crate::misses::Misses;
+use avro_bytes::{Mismatch, MismatchKind};
 use avro_types::Nodes;
 use isa::{Entry, MOST_TABLES};
-use outcome::{Mismatch, MismatchKind};
 use resolver::symbol_for;
 use std::alloc::{AllocError, Global};
 

@@ -5,3 +5,4 @@ pub mod Bodies
 pub mod Lengths
 pub mod Stores
 pub mod Causes
+pub mod Restarts

@@ -3,3 +3,4 @@ pub mod Line
 pub mod Reading
 pub mod Store
 pub mod Cause
+pub mod Schemas

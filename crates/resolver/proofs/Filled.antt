@@ -4,7 +4,7 @@ use Rattle.avro_types.specs.declared.datum.Datum as rust
 use Rattle.avro_types.specs.declared.kind.Field.{Field}
 use Rattle.avro_types.specs.Node.{FieldNode, field_of, fields_of}
 use Rattle.avro_types.specs.Datum.{Datum, Data, no_more, more, datum_of, data_of}
-use Rattle.resolver_matching.specs.Options.{given, or_else}
+use Rattle.resolver.specs.Options.{given, or_else}
 use Rattle.resolver.specs.Resolution.{filled}
 use Rattle.resolver.specs.Steps.{slots_of}
 use Rattle.resolver.proofs.Items.{joined, joined_end, joined_push, no_length}

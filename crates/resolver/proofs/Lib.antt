@@ -16,3 +16,13 @@ pub mod Marks
 pub mod Within
 pub mod OneOutcome
 pub mod Writable
+pub mod Apart
+pub mod ByRule
+pub mod Fitting
+pub mod Holding
+pub mod Members
+pub mod Names
+pub mod RouteLoop
+pub mod Partnering
+mod Passed
+mod Taken

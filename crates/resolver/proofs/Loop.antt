@@ -7,10 +7,10 @@ use Rattle.avro_types.specs.Node.{Node}
 use Rattle.avro_types.specs.Datum.{Datum, Data, no_more, more, datum_of, data_of}
 use Rattle.resolver.specs.declared.mismatch.ResolveError.{ResolveError}
 use Rattle.resolver.specs.declared.mismatch.ResolveError.TheVariants as errors
-use Rattle.resolver_matching.specs.declared.pairing.Partner.{Partner}
-use Rattle.resolver_matching.specs.declared.pairing.Route.{Route}
-use Rattle.resolver_matching.specs.Options.{given}
-use Rattle.resolver_matching.specs.Partners.{AreRoutes}
+use Rattle.resolver.specs.declared.pairing.Partner.{Partner}
+use Rattle.resolver.specs.declared.pairing.Route.{Route}
+use Rattle.resolver.specs.Options.{given}
+use Rattle.resolver.specs.Partners.{AreRoutes}
 use Rattle.resolver.specs.Resolution.{Resolved, ◌>>=◌, Resolves, Slots, resolved, resolved_fields}
 use Rattle.resolver.specs.Laws.Fields.{fields_on}
 use Rattle.resolver.specs.Steps.{slots_of, kept, one_field, placed_value}

@@ -8,8 +8,8 @@ use Rattle.avro_types.specs.Node.{Node}
 use Rattle.avro_datum.specs.Fault.{FirstFault}
 use Rattle.avro_datum.specs.Payload.{IsPayload}
 use Rattle.avro_datum.specs.Writing.{written}
-use Rattle.outcome.specs.declared.mismatch.Mismatch.{Mismatch}
-use Rattle.outcome.specs.Outcome.{Outcome, Done, Mismatched, Malformed, OutputTooLarge}
+use Rattle.avro_bytes.specs.declared.mismatch.Mismatch.{Mismatch}
+use Rattle.avro_bytes.specs.Outcome.{Outcome, Done, Mismatched, Malformed, OutputTooLarge}
 use Rattle.resolver.specs.Outcome.{IsOutcome}
 use Rattle.resolver.specs.Resolution.{Resolved, resolved}
 

@@ -4,12 +4,12 @@ use Rattle.avro_types.specs.Node.{Node, UnionNode}
 use Rattle.avro_types.specs.WellFormed.{IsMember, IsWellFormed, is_union}
 use Rattle.avro_types.specs.Datum.{Datum, UnionDatum}
 use Rattle.avro_types.specs.Conforming.{Conforms}
-use Rattle.resolver_matching.specs.declared.place.Destination.{Destination}
-use Rattle.resolver_matching.specs.declared.place.Destination.TheVariants.{Straight, IntoMember, Nowhere, Unmatched}
-use Rattle.resolver_matching.specs.Matching.{first_member, matches, place, place_at}
+use Rattle.resolver.specs.declared.place.Destination.{Destination}
+use Rattle.resolver.specs.declared.place.Destination.TheVariants.{Straight, IntoMember, Nowhere, Unmatched}
+use Rattle.resolver.specs.Matching.{first_member, matches, place, place_at}
 use Rattle.resolver.specs.Resolution.{Resolved, ◌>>=◌, placed}
-use Rattle.resolver_matching.proofs.Fitting.{is_a_union}
-use Rattle.resolver_matching.proofs.Members.{found, member_in, never_else, no_union_at}
+use Rattle.resolver.proofs.Fitting.{is_a_union}
+use Rattle.resolver.proofs.Members.{found, member_in, never_else, no_union_at}
 
 -- a value that was made, in the member that it was made for
 pub wrapped : (x : Resolved Datum) (position : ℕ) (e : Datum) → (x >>= λ d. Ok (UnionDatum position d)) ≡ Ok e → (d : Datum) × (x ≡ Ok d) × (UnionDatum position d ≡ e)

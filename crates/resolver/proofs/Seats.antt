@@ -4,10 +4,10 @@ use Rattle.std.specs.List.{AllByRecursion}
 use Rattle.avro_types.specs.Node.{Node, FieldNode}
 use Rattle.avro_types.specs.Datum.{Datum, Data, no_more, more, how_many}
 use Rattle.avro_types.specs.Conforming.{Conforms, ConformsEach}
-use Rattle.resolver_matching.specs.declared.pairing.Partner.{Partner}
-use Rattle.resolver_matching.specs.declared.pairing.Route.{Route}
-use Rattle.resolver_matching.specs.Options.{given}
-use Rattle.resolver_matching.specs.Partners.{has_partner, partners, routes, routes_to}
+use Rattle.resolver.specs.declared.pairing.Partner.{Partner}
+use Rattle.resolver.specs.declared.pairing.Route.{Route}
+use Rattle.resolver.specs.Options.{given}
+use Rattle.resolver.specs.Partners.{has_partner, partners, routes, routes_to}
 use Rattle.resolver.specs.Laws.Fields.{IsOneOf, IsThere, length_partners}
 use Rattle.resolver.specs.Resolution.{Slots, filled, lacking_from, lacks, no_slots, resolved}
 

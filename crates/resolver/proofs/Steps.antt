@@ -5,12 +5,12 @@ use Rattle.avro_types.specs.declared.datum.Datum as rust
 use Rattle.avro_types.specs.Node.{Node, FieldNode}
 use Rattle.avro_types.specs.Datum.{Data, Pairs, ArrayDatum, MapDatum, RecordDatum, datum_of, data_of, pairs_of}
 use Rattle.avro_types.specs.Laws.DatumOf.{datum_of-Array, datum_of-Map, datum_of-Record}
-use Rattle.outcome.specs.declared.mismatch.MismatchKind.TheVariants.{NoMatch}
+use Rattle.avro_bytes.specs.declared.mismatch.MismatchKind.TheVariants.{NoMatch}
 use Rattle.resolver.specs.declared.mismatch.ResolveError.{ResolveError}
 use Rattle.resolver.specs.declared.mismatch.ResolveError.TheVariants as errors
-use Rattle.resolver_matching.specs.Matching.{both_items, both_values, place}
-use Rattle.resolver_matching.specs.Options.{given}
-use Rattle.resolver_matching.specs.Partners.{routes}
+use Rattle.resolver.specs.Matching.{both_items, both_values, place}
+use Rattle.resolver.specs.Options.{given}
+use Rattle.resolver.specs.Partners.{routes}
 use Rattle.resolver.specs.Resolution.{Resolved, ◌>>=◌, Resolves, Slots, mismatch, placed, field_lists, filled, lacking, no_slots, unless_lacking, resolved, resolved_items, resolved_values, resolved_fields}
 use Rattle.resolver.specs.Laws.Placed.{by_place, is_union_datum}
 use Rattle.resolver.specs.Steps.{inside, slots_of}

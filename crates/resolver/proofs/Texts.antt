@@ -4,7 +4,7 @@ use Rattle.std.specs.Str.{IsUtf8, is_utf8}
 use Rattle.std.proofs.lemmas.Str.{IsUtf8-from_is_utf8, is_utf8-from_IsUtf8}
 use Rattle.avro_types.specs.Datum.{TextDatum}
 use Rattle.avro_types.specs.Node.{Node, TextNode}
-use Rattle.outcome.specs.declared.mismatch.MismatchKind.TheVariants.{BytesNotText}
+use Rattle.avro_bytes.specs.declared.mismatch.MismatchKind.TheVariants.{BytesNotText}
 use Rattle.resolver.specs.Resolution.{bytes_for, mismatch}
 
 pub is_text : (bytes : List ℕ) → IsUtf8 bytes → is_utf8 bytes ≡ true

@@ -7,12 +7,12 @@ use Rattle.std.specs.declared.alloc.AllocError.{AllocError}
 use Rattle.std.specs.List.{AllByRecursion}
 use Rattle.avro_types.specs.Node.{Node, FieldNode, fields_of}
 use Rattle.avro_types.specs.WellFormed.{FieldsBelow, IsMember}
-use Rattle.resolver_matching.specs.declared.pairing.Partner.{Partner}
-use Rattle.resolver_matching.specs.declared.pairing.Route.{Route}
+use Rattle.resolver.specs.declared.pairing.Partner.{Partner}
+use Rattle.resolver.specs.declared.pairing.Route.{Route}
 use Rattle.resolver.specs.NextPairs.{partner_pairs, unless}
-use Rattle.resolver_matching.specs.Options.{given}
+use Rattle.resolver.specs.Options.{given}
 use Rattle.resolver.specs.Pairs.{AreWithin}
-use Rattle.resolver_matching.specs.Partners.{AreRoutes, partner_at, partners, routes, routes_to}
+use Rattle.resolver.specs.Partners.{AreRoutes, partner_at, partners, routes, routes_to}
 use Rattle.resolver.specs.Safety.{Pair}
 
 partner_within : (readers j : ℕ) (rs : List FieldNode) → FieldsBelow readers rs → IfSome (slice_get rs j) (λ g. (j < length rs) × (g.node < readers))

@@ -7,16 +7,16 @@ use Rattle.avro_types.specs.Node.{Node, Names, FieldNode, LongNode, BytesNode, T
 use Rattle.avro_types.specs.Datum.{Datum, Data, Pairs, NullDatum, BooleanDatum, IntDatum, LongDatum, BytesDatum, TextDatum, FixedDatum, EnumDatum, ArrayDatum, MapDatum, UnionDatum, RecordDatum, no_more, more, no_pairs, pair, how_many, how_many_pairs}
 use Rattle.avro_types.specs.Sizes.{DefaultsHaveSizesWithin}
 use Rattle.avro_datum.specs.Conforming.{IsWritable, AreWritable, AreWritablePairs, most_items}
-use Rattle.outcome.specs.declared.mismatch.MismatchKind.{MismatchKind}
-use Rattle.resolver_matching.specs.declared.place.Destination.{Destination}
-use Rattle.resolver_matching.specs.declared.place.Destination.TheVariants.{Straight, IntoMember, Nowhere, Unmatched}
-use Rattle.resolver_matching.specs.Matching.{both_items, both_values, place}
-use Rattle.resolver_matching.specs.Options.{given}
+use Rattle.avro_bytes.specs.declared.mismatch.MismatchKind.{MismatchKind}
+use Rattle.resolver.specs.declared.place.Destination.{Destination}
+use Rattle.resolver.specs.declared.place.Destination.TheVariants.{Straight, IntoMember, Nowhere, Unmatched}
+use Rattle.resolver.specs.Matching.{both_items, both_values, place}
+use Rattle.resolver.specs.Options.{given}
 use Rattle.resolver.specs.Resolution.{Resolved, mismatch, placed, int_for, text_for, bytes_for, symbol_at, member_at, field_lists, lacking, resolved, resolved_items, resolved_values, resolved_fields, Slots, filled, no_slots}
-use Rattle.resolver_matching.specs.Options.{or_else}
-use Rattle.resolver_matching.specs.Partners.{routes}
-use Rattle.resolver_matching.specs.declared.pairing.Partner.{Partner}
-use Rattle.resolver_matching.specs.declared.pairing.Route.{Route}
+use Rattle.resolver.specs.Options.{or_else}
+use Rattle.resolver.specs.Partners.{routes}
+use Rattle.resolver.specs.declared.pairing.Partner.{Partner}
+use Rattle.resolver.specs.declared.pairing.Route.{Route}
 use Rattle.resolver.specs.Laws.Fields.{one_put}
 use Rattle.resolver.proofs.Places.{wrapped}
 use Rattle.resolver.proofs.Whole.{bound, enum_made, made_of, none_lacks, text_or_fault, two}

@@ -5,7 +5,7 @@ use Rattle.avro_types.specs.Datum.{Datum}
 use Rattle.avro_types.specs.Conforming.{Conforms}
 use Rattle.avro_datum.specs.Payload.{IsPayload}
 use Rattle.avro_datum.specs.Spelling.{Spells}
-use Rattle.outcome.specs.Outcome.{Done}
+use Rattle.avro_bytes.specs.Outcome.{Done}
 use Rattle.resolver.specs.Outcome.{IsOutcome}
 use Rattle.resolver.specs.Resolution.{resolved}
 

@@ -6,3 +6,7 @@ pub mod NextPairs
 pub mod Pairs
 pub mod Outcome
 pub mod Conforming
+pub mod Matches
+pub mod Matching
+pub mod Options
+pub mod Partners

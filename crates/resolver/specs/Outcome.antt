@@ -2,13 +2,13 @@
 use Rattle.std.specs.Prelude.{◌≡◌, ◌≤◌, ◌<◌, ℕ, List, length, Option, Some, None, Result, Ok, Err, nat_lt, if◌then◌else◌}
 use Rattle.avro_types.specs.Datum.{Datum}
 use Rattle.avro_types.specs.Node.{Node}
-use Rattle.outcome.specs.declared.limits.TheConstants.{MOST_OUTPUT, MOST_PAYLOAD}
+use Rattle.avro_bytes.specs.declared.limits.TheConstants.{MOST_OUTPUT, MOST_PAYLOAD}
 use Rattle.avro_datum.specs.Fault.{FirstFault}
 use Rattle.avro_datum.specs.Payload.{IsPayload}
 use Rattle.avro_datum.specs.Writing.{written}
-use Rattle.outcome.specs.Outcome.{Outcome, Done, Mismatched, Malformed, OutputTooLarge, outcome_of}
-use Rattle.outcome.specs.declared.payload.Outcome as rust
-use Rattle.outcome.specs.declared.payload.Outcome.TheVariants as variants
+use Rattle.avro_bytes.specs.Outcome.{Outcome, Done, Mismatched, Malformed, OutputTooLarge, outcome_of}
+use Rattle.avro_bytes.specs.declared.payload.Outcome as rust
+use Rattle.avro_bytes.specs.declared.payload.Outcome.TheVariants as variants
 use Rattle.resolver.specs.declared.transcoding.TranscodeError.{TranscodeError}
 use Rattle.resolver.specs.declared.transcoding.TranscodeError.TheVariants.{TooLarge, NoMemory}
 use Rattle.resolver.specs.Resolution.{resolved}

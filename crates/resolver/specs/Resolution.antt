@@ -4,17 +4,17 @@ use Rattle.std.specs.Str.{is_utf8}
 use Rattle.avro_types.specs.Node.{Node, FieldNode, LongNode, BytesNode, TextNode, EnumNode, UnionNode, RecordNode}
 use Rattle.avro_types.specs.Symbols.{place_of}
 use Rattle.avro_types.specs.Datum.{Datum, Data, Pairs, NullDatum, BooleanDatum, IntDatum, LongDatum, BytesDatum, TextDatum, FixedDatum, EnumDatum, ArrayDatum, MapDatum, UnionDatum, RecordDatum, no_more, more, no_pairs, pair}
-use Rattle.resolver_matching.specs.declared.place.Destination.{Destination}
-use Rattle.resolver_matching.specs.declared.place.Destination.TheVariants.{Straight, IntoMember, Nowhere, Unmatched}
-use Rattle.outcome.specs.declared.mismatch.Mismatch.{Mismatch}
-use Rattle.outcome.specs.declared.mismatch.MismatchKind.{MismatchKind}
-use Rattle.outcome.specs.declared.mismatch.MismatchKind.TheVariants.{NoMatch, NoBranch, NoSymbol, NoDefault, BytesNotText}
+use Rattle.resolver.specs.declared.place.Destination.{Destination}
+use Rattle.resolver.specs.declared.place.Destination.TheVariants.{Straight, IntoMember, Nowhere, Unmatched}
+use Rattle.avro_bytes.specs.declared.mismatch.Mismatch.{Mismatch}
+use Rattle.avro_bytes.specs.declared.mismatch.MismatchKind.{MismatchKind}
+use Rattle.avro_bytes.specs.declared.mismatch.MismatchKind.TheVariants.{NoMatch, NoBranch, NoSymbol, NoDefault, BytesNotText}
 use Rattle.resolver.specs.declared.mismatch.ResolveError.{ResolveError}
 use Rattle.resolver.specs.declared.mismatch.ResolveError.TheVariants as errors
-use Rattle.resolver_matching.specs.Matching.{both_items, both_values, place}
-use Rattle.resolver_matching.specs.Options.{given, or_else}
-use Rattle.resolver_matching.specs.Partners.{has_partner, routes}
-use Rattle.resolver_matching.specs.declared.pairing.Route.{Route}
+use Rattle.resolver.specs.Matching.{both_items, both_values, place}
+use Rattle.resolver.specs.Options.{given, or_else}
+use Rattle.resolver.specs.Partners.{has_partner, routes}
+use Rattle.resolver.specs.declared.pairing.Route.{Route}
 
 -- a value of the reader, or the first mismatch
 abbrev pub Resolved : Type 0 → Type 0

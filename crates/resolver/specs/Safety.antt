@@ -5,12 +5,12 @@ use Rattle.avro_types.specs.Node.{Node, FieldNode, EnumNode, UnionNode}
 use Rattle.avro_types.specs.WellFormed.{IsWellFormed, is_union}
 use Rattle.avro_types.specs.Datum.{Datum}
 use Rattle.avro_types.specs.Conforming.{Conforms}
-use Rattle.outcome.specs.declared.mismatch.MismatchKind.TheVariants.{BytesNotText}
-use Rattle.resolver_matching.specs.declared.place.Destination.TheVariants.{Straight, IntoMember, Nowhere, Unmatched}
-use Rattle.resolver_matching.specs.Matching.{both_items, both_values, place}
-use Rattle.resolver_matching.specs.Partners.{routes}
-use Rattle.resolver_matching.specs.declared.pairing.Partner.{Partner}
-use Rattle.resolver_matching.specs.declared.pairing.Route.{Route}
+use Rattle.avro_bytes.specs.declared.mismatch.MismatchKind.TheVariants.{BytesNotText}
+use Rattle.resolver.specs.declared.place.Destination.TheVariants.{Straight, IntoMember, Nowhere, Unmatched}
+use Rattle.resolver.specs.Matching.{both_items, both_values, place}
+use Rattle.resolver.specs.Partners.{routes}
+use Rattle.resolver.specs.declared.pairing.Partner.{Partner}
+use Rattle.resolver.specs.declared.pairing.Route.{Route}
 use Rattle.resolver.specs.Resolution.{Resolved, field_lists, lacking, resolved, symbol_at, symbol_for}
 
 -- a writer's node and a reader's

@@ -6,11 +6,11 @@ use Rattle.avro_types.specs.declared.datum.Datum as rust
 use Rattle.avro_types.specs.Node.{Node, FieldNode, fields_of}
 use Rattle.avro_types.specs.WellFormed.{FieldsBelow, HaveDistinctNames}
 use Rattle.avro_types.specs.Datum.{Datum, NullDatum, BooleanDatum, IntDatum, LongDatum, BytesDatum, TextDatum, FixedDatum, EnumDatum, ArrayDatum, MapDatum, UnionDatum, RecordDatum, datum_of}
-use Rattle.outcome.specs.declared.mismatch.MismatchKind.TheVariants.{NoMatch, NoSymbol}
-use Rattle.resolver_matching.specs.Matching.{both_items, both_values}
-use Rattle.resolver_matching.specs.Options.{given}
-use Rattle.resolver_matching.specs.Partners.{routes}
-use Rattle.resolver_matching.specs.declared.pairing.Route.{Route}
+use Rattle.avro_bytes.specs.declared.mismatch.MismatchKind.TheVariants.{NoMatch, NoSymbol}
+use Rattle.resolver.specs.Matching.{both_items, both_values}
+use Rattle.resolver.specs.Options.{given}
+use Rattle.resolver.specs.Partners.{routes}
+use Rattle.resolver.specs.declared.pairing.Route.{Route}
 use Rattle.resolver.specs.Resolution.{Resolved, ◌>>=◌, Slots, mismatch, int_for, text_for, bytes_for, symbol_at, symbol_for, field_lists, filled, lacking, no_slots, unless_lacking, resolved, resolved_items, resolved_values, resolved_fields}
 
 -- fields of one record in a schema of `len` nodes

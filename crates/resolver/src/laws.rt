@@ -2,7 +2,7 @@
 
 ghost use Rattle.std.specs.Prelude.{◌≡◌, ℕ, List};
 ghost use Rattle.avro_types.specs.Node.{Node};
-ghost use Rattle.outcome.specs.Outcome.{Outcome};
+ghost use Rattle.avro_bytes.specs.Outcome.{Outcome};
 ghost use Rattle.resolver.specs.Outcome.{IsOutcome};
 ghost use Rattle.resolver.specs.Safety.{SafeDataAreReadable};
 ghost use Rattle.resolver.specs.Conforming.{AnswersAreSpelled, ResolutionIsWhole};

@@ -7,8 +7,8 @@ ghost use Rattle.resolver.specs.Steps.{inside};
 
 use crate::mismatch::{ResolveError, mismatched};
 use crate::symbols::{symbol_at, symbol_for};
+use avro_bytes::MismatchKind;
 use avro_types::{Datum, Kind, Nodes};
-use outcome::MismatchKind;
 
 /// Returns an int as a datum of a reader's node: as a long where the node is one.
 pub(crate) fn int_for(reader: &Nodes, reader_node: usize, number: i32) -> Datum

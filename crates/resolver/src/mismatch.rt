@@ -2,7 +2,7 @@
 
 ghost use Rattle.std.specs.Prelude.{◌≡◌};
 
-use outcome::{Mismatch, MismatchKind};
+use avro_bytes::{Mismatch, MismatchKind};
 use std::alloc::{AllocError, AllocFailed};
 use thiserror::Error;
 

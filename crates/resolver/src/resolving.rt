@@ -2,8 +2,8 @@
 
 ghost use Rattle.std.specs.Prelude.{◌≡◌, ◌<◌, length, IfOk, IfSome, option_map};
 ghost use Rattle.avro_types.specs.Datum.{ArrayDatum, MapDatum, RecordDatum, data_of, datum_of, pairs_of};
-ghost use Rattle.resolver_matching.specs.Matching.{place};
-ghost use Rattle.resolver_matching.specs.Partners.{AreRoutes};
+ghost use Rattle.resolver.specs.Matching.{place};
+ghost use Rattle.resolver.specs.Partners.{AreRoutes};
 ghost use Rattle.resolver.specs.Steps.{inside, one_field, placed_value, slots_of};
 ghost use Rattle.resolver.specs.Resolution.{Resolves, placed, resolved, resolved_fields, resolved_items, resolved_values};
 
@@ -11,9 +11,9 @@ use crate::fields::{empty_slots, field_lists, fill, first_lacking, keep};
 use crate::leaves::{bytes_for, enum_for, int_for, text_for};
 use crate::mismatch::{ResolveError, mismatched};
 use crate::unions::member_of;
+use crate::{Destination, Route, both_items, both_values, place_of, routes};
+use avro_bytes::MismatchKind;
 use avro_types::{Datum, Nodes};
-use outcome::MismatchKind;
-use resolver_matching::{Destination, Route, both_items, both_values, place_of, routes};
 use std::alloc::Global;
 
 /// Resolves a datum of a writer's node for a reader's node. A writer's union is resolved first, by its branch.

@@ -3,7 +3,7 @@
 ghost use Rattle.std.specs.Prelude.{◌≡◌, ◌<◌, ◌↔◌, [], ◌∷◌, is_some, length, map, option_map, slice_get, IfOk, IfSome, IsTrue, OnOk};
 ghost use Rattle.avro_types.specs.Node.{fields_of};
 ghost use Rattle.resolver.specs.Pairs.{AddsAll, AreWithin};
-ghost use Rattle.resolver_matching.specs.Partners.{routes};
+ghost use Rattle.resolver.specs.Partners.{routes};
 ghost use Rattle.resolver.specs.NextPairs.{is_bad, next_pairs, part_steps, partner_pairs, unless};
 ghost use Rattle.resolver.specs.Resolution.{lacking};
 ghost use Rattle.resolver.specs.Safety.{IsSafe};
@@ -11,8 +11,8 @@ ghost use Rattle.resolver.specs.Safety.{IsSafe};
 use crate::fields::first_lacking;
 use crate::pairs::PairList;
 use crate::symbols::some_missing;
+use crate::{Destination, Route, place_of, routes};
 use avro_types::{Field, Kind, Nodes};
-use resolver_matching::{Destination, Route, place_of, routes};
 use std::alloc::{AllocError, Global};
 
 /// Returns each branch of a writer's union, paired with the reader's node.

@@ -5,9 +5,9 @@ ghost use Rattle.avro_types.specs.Datum.{datum_of};
 
 use crate::mismatch::ResolveError;
 use crate::resolving::resolve;
+use avro_bytes::{MOST_PAYLOAD, Outcome};
 use avro_datum::{PayloadError, WriteError, read_all, write};
 use avro_types::{Datum, Nodes};
-use outcome::{MOST_PAYLOAD, Outcome};
 use std::alloc::Global;
 use thiserror::Error;
 

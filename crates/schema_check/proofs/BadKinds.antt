@@ -2,12 +2,12 @@
 use Rattle.std.proofs.Common.{◌≡◌, ℕ, Bool, true, false, List, slice_get, Option, Some, None, refl, sym, ap, subst, ◌∙◌, inl, inr, ◌⊎◌}
 use Rattle.avro_types.specs.Node.{Node, EnumNode, UnionNode}
 use Rattle.avro_types.specs.WellFormed.{is_union}
-use Rattle.outcome.specs.declared.mismatch.MismatchKind.{MismatchKind}
-use Rattle.outcome.specs.declared.mismatch.MismatchKind.TheVariants.{NoMatch, NoBranch, NoSymbol, NoDefault}
-use Rattle.resolver_matching.specs.declared.place.Destination.{Destination}
-use Rattle.resolver_matching.specs.declared.place.Destination.TheVariants.{Straight, IntoMember, Nowhere, Unmatched}
-use Rattle.resolver_matching.specs.Matching.{place}
-use Rattle.resolver_matching.proofs.Fitting.{is_a_union}
+use Rattle.avro_bytes.specs.declared.mismatch.MismatchKind.{MismatchKind}
+use Rattle.avro_bytes.specs.declared.mismatch.MismatchKind.TheVariants.{NoMatch, NoBranch, NoSymbol, NoDefault}
+use Rattle.resolver.specs.declared.place.Destination.{Destination}
+use Rattle.resolver.specs.declared.place.Destination.TheVariants.{Straight, IntoMember, Nowhere, Unmatched}
+use Rattle.resolver.specs.Matching.{place}
+use Rattle.resolver.proofs.Fitting.{is_a_union}
 use Rattle.schema_check.specs.BadKinds.{BadPairsHaveKinds, IsBadBy, kind_from, kind_of, no_branch, no_default, no_match, no_symbol, placed_kind, straight_kind}
 use Rattle.resolver.specs.NextPairs.{lacks_field, lacks_symbol}
 use Rattle.resolver.specs.Resolution.{field_lists, symbol_at}

@@ -4,7 +4,7 @@ use Rattle.std.proofs.lemmas.List.{take-append-le, take_more, length-append, len
 use Rattle.std.proofs.Math.Seq.{take-length}
 use Rattle.std.specs.List.{AllByRecursion}
 use Rattle.avro_types.specs.Node.{Node}
-use Rattle.outcome.specs.declared.mismatch.MismatchKind.{MismatchKind}
+use Rattle.avro_bytes.specs.declared.mismatch.MismatchKind.{MismatchKind}
 use Rattle.resolver.specs.NextPairs.{Among, next_pairs}
 use Rattle.resolver.specs.Pairs as of_nodes
 use Rattle.resolver.specs.Safety.{IsSafe, Pair, Reached}

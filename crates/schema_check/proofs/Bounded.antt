@@ -6,13 +6,13 @@ use Rattle.std.proofs.lemmas.List.{get_or-set_other, length-replicate, length-se
 use Rattle.std.specs.List.{AllByRecursion}
 use Rattle.avro_types.specs.Node.{Node, FieldNode, Names, ArrayNode, MapNode, RecordNode, UnionNode}
 use Rattle.avro_types.specs.WellFormed.{IsMember, IsWellFormed, is_union}
-use Rattle.resolver_matching.specs.declared.pairing.Partner.{Partner}
-use Rattle.resolver_matching.specs.declared.pairing.Route.{Route}
-use Rattle.resolver_matching.specs.declared.place.Destination.TheVariants.{Straight, IntoMember, Unmatched}
-use Rattle.resolver_matching.specs.Matching.{both_items, both_values, matches, place, place_at}
-use Rattle.resolver_matching.specs.Partners.{AreRoutes, routes}
-use Rattle.resolver_matching.proofs.Fitting.{is_a_union}
-use Rattle.resolver_matching.proofs.Members.{found, member_in, no_union_at}
+use Rattle.resolver.specs.declared.pairing.Partner.{Partner}
+use Rattle.resolver.specs.declared.pairing.Route.{Route}
+use Rattle.resolver.specs.declared.place.Destination.TheVariants.{Straight, IntoMember, Unmatched}
+use Rattle.resolver.specs.Matching.{both_items, both_values, matches, place, place_at}
+use Rattle.resolver.specs.Partners.{AreRoutes, routes}
+use Rattle.resolver.proofs.Fitting.{is_a_union}
+use Rattle.resolver.proofs.Members.{found, member_in, no_union_at}
 use Rattle.resolver.specs.NextPairs.{Among}
 use Rattle.resolver.specs.Pairs.{AreWithin, marks}
 use Rattle.resolver.specs.Resolution.{field_lists}

@@ -2,11 +2,11 @@
 use Rattle.std.proofs.Common.{◌≡◌, ℕ, zero, suc, Bool, true, false, List, [], ◌∷◌, slice_get, Option, Some, None, is_none, refl, ap, subst, ◌∙◌}
 use Rattle.std.specs.Prelude.{if◌then◌else◌}
 use Rattle.avro_types.specs.Node.{Node, EnumNode, FieldNode}
-use Rattle.outcome.specs.declared.mismatch.MismatchKind.{MismatchKind}
-use Rattle.outcome.specs.declared.mismatch.MismatchKind.TheVariants.{NoDefault, NoSymbol}
-use Rattle.resolver_matching.specs.Options.{given}
-use Rattle.resolver_matching.specs.Partners.{routes}
-use Rattle.resolver_matching.specs.declared.pairing.Route.{Route}
+use Rattle.avro_bytes.specs.declared.mismatch.MismatchKind.{MismatchKind}
+use Rattle.avro_bytes.specs.declared.mismatch.MismatchKind.TheVariants.{NoDefault, NoSymbol}
+use Rattle.resolver.specs.Options.{given}
+use Rattle.resolver.specs.Partners.{routes}
+use Rattle.resolver.specs.declared.pairing.Route.{Route}
 use Rattle.resolver.specs.Resolution.{lacking_from, lacks, symbol_at, symbol_for, symbol_in}
 use Rattle.resolver.specs.Safety.{Pair, is_enum}
 use Rattle.schema_check.specs.BadKinds.{IsBadBy, no_branch, no_default, no_match, no_symbol}

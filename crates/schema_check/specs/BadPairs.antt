@@ -2,7 +2,7 @@
 use Rattle.std.specs.Prelude.{◌≡◌, ◌↔◌, ◌<◌, ℕ, suc, List, [], ◌∷◌, ◌++◌, length, Option, Some, None, slice_get}
 use Rattle.std.specs.List.{AllByRecursion}
 use Rattle.avro_types.specs.Node.{Node}
-use Rattle.outcome.specs.declared.mismatch.MismatchKind.{MismatchKind}
+use Rattle.avro_bytes.specs.declared.mismatch.MismatchKind.{MismatchKind}
 use Rattle.resolver.specs.Safety.{IsSafe, Pair, Reached}
 use Rattle.schema_check.specs.BadKinds.{IsBadBy, kind_of}
 use Rattle.schema_check.specs.Pairs.{AreBelow, AreOnce, pairs_at}

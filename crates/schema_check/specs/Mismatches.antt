@@ -4,8 +4,8 @@ use Rattle.avro_types.specs.Conforming.{Conforms}
 use Rattle.avro_types.specs.Datum.{Datum}
 use Rattle.avro_types.specs.Node.{Node, FieldNode}
 use Rattle.avro_types.specs.WellFormed.{IsWellFormed}
-use Rattle.outcome.specs.declared.mismatch.Mismatch.{Mismatch}
-use Rattle.outcome.specs.declared.mismatch.MismatchKind.TheVariants.{BytesNotText}
+use Rattle.avro_bytes.specs.declared.mismatch.Mismatch.{Mismatch}
+use Rattle.avro_bytes.specs.declared.mismatch.MismatchKind.TheVariants.{BytesNotText}
 use Rattle.resolver.specs.Resolution.{Resolved, field_lists, lacking, resolved}
 use Rattle.resolver.specs.Safety.{Pair, Reached}
 use Rattle.schema_check.specs.BadKinds.{IsBadBy}

@@ -5,8 +5,8 @@ ghost use Rattle.schema_check.specs.BadPairs.{AreWithin, IsCheck, entry};
 
 use crate::pairs::{NodePair, PairList};
 use crate::steps::step_of;
+use avro_bytes::MismatchKind;
 use avro_types::Nodes;
-use outcome::MismatchKind;
 use std::alloc::{AllocError, Global};
 
 /// A pair of nodes that is reached and bad, and the kind by which it is.

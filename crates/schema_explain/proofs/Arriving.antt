@@ -2,11 +2,11 @@
 use Rattle.std.proofs.Common.{◌≡◌, ℕ, Bool, true, false, cond, List, slice_get, Option, Some, refl, sym, ap, ◌∙◌}
 use Rattle.avro_types.specs.Node.{Node, UnionNode}
 use Rattle.avro_types.specs.WellFormed.{IsMember, IsWellFormed, is_union}
-use Rattle.resolver_matching.specs.Matching.{matches, place, place_at}
-use Rattle.resolver_matching.specs.declared.place.Destination.{Destination}
-use Rattle.resolver_matching.specs.declared.place.Destination.TheVariants.{Straight, IntoMember, Unmatched}
-use Rattle.resolver_matching.proofs.Fitting.{is_a_union}
-use Rattle.resolver_matching.proofs.Members.{found, member_in, no_union_at}
+use Rattle.resolver.specs.Matching.{matches, place, place_at}
+use Rattle.resolver.specs.declared.place.Destination.{Destination}
+use Rattle.resolver.specs.declared.place.Destination.TheVariants.{Straight, IntoMember, Unmatched}
+use Rattle.resolver.proofs.Fitting.{is_a_union}
+use Rattle.resolver.proofs.Members.{found, member_in, no_union_at}
 use Rattle.resolver.specs.Safety.{GoesStraight}
 use Rattle.schema_explain.specs.Arrivals.{arrival, arrival_at, fate_in, placed_at, straight}
 use Rattle.schema_explain.specs.declared.line.Fate.TheVariants.{Parts}

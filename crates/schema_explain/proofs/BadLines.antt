@@ -3,12 +3,12 @@ use Rattle.std.proofs.Common.{◌≡◌, ℕ, ◌+◌, Bool, true, false, cond, 
 use Rattle.std.specs.List.{AllByRecursion}
 use Rattle.avro_types.specs.Node.{Node, FieldNode}
 use Rattle.avro_types.specs.WellFormed.{IsWellFormed, is_union}
-use Rattle.outcome.specs.declared.mismatch.MismatchKind.{MismatchKind}
-use Rattle.outcome.specs.declared.mismatch.MismatchKind.TheVariants.{NoMatch, NoBranch, NoDefault, NoSymbol}
-use Rattle.resolver_matching.specs.Matching.{place}
-use Rattle.resolver_matching.specs.Options.{given}
-use Rattle.resolver_matching.specs.Partners.{PartnersAreApart, routes}
-use Rattle.resolver_matching.specs.declared.place.Destination.TheVariants.{Nowhere, Unmatched}
+use Rattle.avro_bytes.specs.declared.mismatch.MismatchKind.{MismatchKind}
+use Rattle.avro_bytes.specs.declared.mismatch.MismatchKind.TheVariants.{NoMatch, NoBranch, NoDefault, NoSymbol}
+use Rattle.resolver.specs.Matching.{place}
+use Rattle.resolver.specs.Options.{given}
+use Rattle.resolver.specs.Partners.{PartnersAreApart, routes}
+use Rattle.resolver.specs.declared.place.Destination.TheVariants.{Nowhere, Unmatched}
 use Rattle.resolver.specs.Resolution.{field_lists, lacking, lacks, symbol_at, symbol_for}
 use Rattle.resolver.specs.Safety.{GoesStraight, IsBad, Pair, Reached, is_enum, no_branch, no_default, no_match, no_symbol}
 use Rattle.schema_explain.specs.Arrivals.{fate_in, straight}

@@ -5,9 +5,9 @@ use Rattle.std.specs.declared.alloc.AllocError.{AllocError}
 use Rattle.std.specs.List.{AllByRecursion}
 use Rattle.avro_types.specs.Node.{Node, FieldNode}
 use Rattle.avro_types.specs.WellFormed.{FieldsBelow, IsMember}
-use Rattle.resolver_matching.specs.Options.{given}
-use Rattle.resolver_matching.specs.Partners.{AreRoutes, goes_to, routes}
-use Rattle.resolver_matching.specs.declared.pairing.Route.{Route}
+use Rattle.resolver.specs.Options.{given}
+use Rattle.resolver.specs.Partners.{AreRoutes, goes_to, routes}
+use Rattle.resolver.specs.declared.pairing.Route.{Route}
 use Rattle.resolver.proofs.Within.{routes_within}
 use Rattle.schema_explain.specs.Bounds.{AreBelow, HasNodesOf, IsBelow}
 use Rattle.schema_explain.specs.Parts.{absent_line, branch_entries, dropped, dropped_line, due, field_entries, record_entries, source, symbol_entries}

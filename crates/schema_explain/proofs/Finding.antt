@@ -2,11 +2,11 @@
 use Rattle.std.proofs.Common.{◌≡◌, ℕ, zero, suc, ◌+◌, ◌==◌, Bool, true, false, cond, List, [], ◌∷◌, ◌++◌, slice_get, Option, Some, None, option_map, refl, sym, ap, subst, ◌∙◌, arith}
 use Rattle.std.specs.List.{AllByRecursion}
 use Rattle.avro_types.specs.Node.{Node, FieldNode, ArrayNode, MapNode, RecordNode}
-use Rattle.resolver_matching.specs.Matching.{both_items, both_values}
-use Rattle.resolver_matching.specs.Options.{given}
-use Rattle.resolver_matching.specs.Partners.{PartnersAreApart, goes_to, partner_at, partners, routes, routes_to}
-use Rattle.resolver_matching.specs.declared.pairing.Partner.{Partner}
-use Rattle.resolver_matching.specs.declared.pairing.Route.{Route}
+use Rattle.resolver.specs.Matching.{both_items, both_values}
+use Rattle.resolver.specs.Options.{given}
+use Rattle.resolver.specs.Partners.{PartnersAreApart, goes_to, partner_at, partners, routes, routes_to}
+use Rattle.resolver.specs.declared.pairing.Partner.{Partner}
+use Rattle.resolver.specs.declared.pairing.Route.{Route}
 use Rattle.avro_types.specs.WellFormed.{HaveDistinctNames}
 use Rattle.resolver.specs.Resolution.{field_lists}
 use Rattle.resolver.specs.Safety.{Pair}

@@ -4,12 +4,12 @@ use Rattle.std.specs.List.{AllByRecursion}
 use Rattle.avro_types.specs.Node.{Node, Names, FieldNode, IntNode, LongNode, BytesNode, TextNode, EnumNode, ArrayNode, MapNode, UnionNode, RecordNode}
 use Rattle.avro_types.specs.Symbols.{place_of}
 use Rattle.avro_types.specs.WellFormed.{is_union}
-use Rattle.outcome.specs.declared.mismatch.MismatchKind.{MismatchKind}
-use Rattle.outcome.specs.declared.mismatch.MismatchKind.TheVariants.{NoDefault, NoSymbol}
-use Rattle.resolver_matching.specs.Matching.{both_items, both_values}
-use Rattle.resolver_matching.specs.Options.{given, or_else}
-use Rattle.resolver_matching.specs.Partners.{partners, routes}
-use Rattle.resolver_matching.specs.declared.pairing.Route.{Route}
+use Rattle.avro_bytes.specs.declared.mismatch.MismatchKind.{MismatchKind}
+use Rattle.avro_bytes.specs.declared.mismatch.MismatchKind.TheVariants.{NoDefault, NoSymbol}
+use Rattle.resolver.specs.Matching.{both_items, both_values}
+use Rattle.resolver.specs.Options.{given, or_else}
+use Rattle.resolver.specs.Partners.{partners, routes}
+use Rattle.resolver.specs.declared.pairing.Route.{Route}
 use Rattle.resolver.specs.Resolution.{field_lists, lacks, symbol_at, symbol_for, symbol_in}
 use Rattle.resolver.specs.Safety.{GoesStraight, Reached, is_enum, no_default, no_symbol, step, to_field, to_items, to_member, to_values}
 use Rattle.schema_explain.specs.Arrivals.{fate_in}

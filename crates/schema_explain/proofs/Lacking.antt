@@ -3,10 +3,10 @@ use Rattle.std.proofs.Common.{◌≡◌, ℕ, zero, suc, ◌+◌, Bool, true, fa
 use Rattle.std.specs.List.{AllByRecursion}
 use Rattle.avro_types.specs.Node.{Node, FieldNode, EnumNode}
 use Rattle.avro_types.specs.Symbols.{place_of}
-use Rattle.outcome.specs.declared.mismatch.MismatchKind.TheVariants.{NoSymbol}
-use Rattle.resolver_matching.specs.Options.{given, or_else}
-use Rattle.resolver_matching.specs.Partners.{goes_to, has_partner, routes}
-use Rattle.resolver_matching.specs.declared.pairing.Route.{Route}
+use Rattle.avro_bytes.specs.declared.mismatch.MismatchKind.TheVariants.{NoSymbol}
+use Rattle.resolver.specs.Options.{given, or_else}
+use Rattle.resolver.specs.Partners.{goes_to, has_partner, routes}
+use Rattle.resolver.specs.declared.pairing.Route.{Route}
 use Rattle.resolver.specs.Resolution.{lacking_from, lacks, symbol_at, symbol_for, symbol_in}
 use Rattle.resolver.specs.Safety.{is_enum}
 use Rattle.schema_explain.specs.Arrivals.{fate_in}

@@ -3,11 +3,11 @@ use Rattle.std.proofs.Common.{◌≡◌, ℕ, zero, suc, ◌+◌, Bool, true, fa
 use Rattle.std.specs.List.{AllByRecursion}
 use Rattle.avro_types.specs.Node.{Node}
 use Rattle.avro_types.specs.WellFormed.{IsWellFormed, is_union}
-use Rattle.outcome.specs.declared.mismatch.MismatchKind.{MismatchKind}
-use Rattle.outcome.specs.declared.mismatch.MismatchKind.TheVariants.{NoMatch, NoBranch}
-use Rattle.resolver_matching.specs.Matching.{place}
-use Rattle.resolver_matching.specs.declared.place.Destination.{Destination}
-use Rattle.resolver_matching.specs.declared.place.Destination.TheVariants.{Straight, IntoMember, Nowhere, Unmatched}
+use Rattle.avro_bytes.specs.declared.mismatch.MismatchKind.{MismatchKind}
+use Rattle.avro_bytes.specs.declared.mismatch.MismatchKind.TheVariants.{NoMatch, NoBranch}
+use Rattle.resolver.specs.Matching.{place}
+use Rattle.resolver.specs.declared.place.Destination.{Destination}
+use Rattle.resolver.specs.declared.place.Destination.TheVariants.{Straight, IntoMember, Nowhere, Unmatched}
 use Rattle.resolver.specs.Safety.{GoesStraight, Pair, Reached, no_branch, no_match, root, step, to_branch}
 use Rattle.schema_explain.specs.Arrivals.{arrival, placed_at, straight}
 use Rattle.schema_explain.specs.Explanation.{Explained, Step, alone, entry, has_parts, line_at, nothing, roots, whole_of}
@@ -23,7 +23,7 @@ use Rattle.schema_explain.specs.declared.entries.Task.{Task}
 use Rattle.schema_explain.specs.declared.line.Fate.TheVariants.{AsAbove, Mismatch, Parts}
 use Rattle.schema_explain.specs.declared.line.Line.{Line}
 use Rattle.schema_explain.proofs.Arriving.{arrival_at_place, arrival_of_union, branch_straight}
-use Rattle.resolver_matching.proofs.Fitting.{is_a_union}
+use Rattle.resolver.proofs.Fitting.{is_a_union}
 use Rattle.schema_explain.proofs.GoodParts.{Good, GoodLine, good_both, kind_same, never_mismatched, parts_good}
 
 module _ (W R : List Node) where

@@ -3,8 +3,8 @@ use Rattle.std.proofs.Common.{◌≡◌, ℕ, Bool, true, false, List, [], ◌�
 use Rattle.std.specs.List.{AllByRecursion}
 use Rattle.avro_types.specs.Node.{Node, FieldNode, RecordNode}
 use Rattle.avro_types.specs.WellFormed.{HaveDistinctNames, IsWellFormed}
-use Rattle.resolver_matching.specs.Partners.{PartnersAreApart}
-use Rattle.resolver_matching.specs.declared.place.Destination.TheVariants.{IntoMember}
+use Rattle.resolver.specs.Partners.{PartnersAreApart}
+use Rattle.resolver.specs.declared.place.Destination.TheVariants.{IntoMember}
 use Rattle.resolver.specs.Resolution.{field_lists}
 use Rattle.resolver.specs.Safety.{LeadsTo, Pair, Reached, root, step, to_branch, to_field, to_items, to_member, to_values}
 use Rattle.schema_explain.specs.Arrivals.{arrival, fate_in, straight}

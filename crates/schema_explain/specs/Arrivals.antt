@@ -2,10 +2,10 @@
 -- Resolution").
 use Rattle.std.specs.Prelude.{ℕ, List, Option, Some, None, slice_get}
 use Rattle.avro_types.specs.Node.{Node, IntNode, LongNode, BytesNode, TextNode, EnumNode, ArrayNode, MapNode, UnionNode, RecordNode}
-use Rattle.outcome.specs.declared.mismatch.MismatchKind.TheVariants.{NoMatch, NoBranch}
-use Rattle.resolver_matching.specs.Matching.{place}
-use Rattle.resolver_matching.specs.declared.place.Destination.{Destination}
-use Rattle.resolver_matching.specs.declared.place.Destination.TheVariants.{Straight, IntoMember, Nowhere, Unmatched}
+use Rattle.avro_bytes.specs.declared.mismatch.MismatchKind.TheVariants.{NoMatch, NoBranch}
+use Rattle.resolver.specs.Matching.{place}
+use Rattle.resolver.specs.declared.place.Destination.{Destination}
+use Rattle.resolver.specs.declared.place.Destination.TheVariants.{Straight, IntoMember, Nowhere, Unmatched}
 use Rattle.schema_explain.specs.declared.arrivals.Arrival.{Arrival}
 use Rattle.schema_explain.specs.declared.line.Fate.{Fate}
 use Rattle.schema_explain.specs.declared.line.Fate.TheVariants.{Copied, Promoted, PromotedIfText, Parts, Mismatch}

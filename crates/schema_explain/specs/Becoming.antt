@@ -4,8 +4,8 @@ use Rattle.std.specs.Str.{is_utf8}
 use Rattle.avro_types.specs.Conforming.{Conforms}
 use Rattle.avro_types.specs.Datum.{Datum, IntDatum, LongDatum, BytesDatum, TextDatum, UnionDatum}
 use Rattle.avro_types.specs.Node.{Node}
-use Rattle.outcome.specs.declared.mismatch.MismatchKind.{MismatchKind}
-use Rattle.outcome.specs.declared.mismatch.MismatchKind.TheVariants.{BytesNotText}
+use Rattle.avro_bytes.specs.declared.mismatch.MismatchKind.{MismatchKind}
+use Rattle.avro_bytes.specs.declared.mismatch.MismatchKind.TheVariants.{BytesNotText}
 use Rattle.resolver.specs.Resolution.{Resolved, mismatch, resolved}
 use Rattle.schema_explain.specs.Arrivals.{arrival}
 use Rattle.schema_explain.specs.declared.arrivals.Arrival.{Arrival}

@@ -4,10 +4,10 @@ use Rattle.std.specs.List.{AllByRecursion}
 use Rattle.avro_types.specs.Conforming.{Conforms}
 use Rattle.avro_types.specs.Datum.{Datum}
 use Rattle.avro_types.specs.Node.{Node, FieldNode}
-use Rattle.outcome.specs.declared.mismatch.Mismatch.{Mismatch}
-use Rattle.outcome.specs.declared.mismatch.MismatchKind.{MismatchKind}
-use Rattle.outcome.specs.declared.mismatch.MismatchKind.TheVariants.{NoMatch, NoBranch, NoSymbol, NoDefault, BytesNotText}
-use Rattle.resolver_matching.specs.Partners.{routes}
+use Rattle.avro_bytes.specs.declared.mismatch.Mismatch.{Mismatch}
+use Rattle.avro_bytes.specs.declared.mismatch.MismatchKind.{MismatchKind}
+use Rattle.avro_bytes.specs.declared.mismatch.MismatchKind.TheVariants.{NoMatch, NoBranch, NoSymbol, NoDefault, BytesNotText}
+use Rattle.resolver.specs.Partners.{routes}
 use Rattle.resolver.specs.Resolution.{Resolved, field_lists, lacks, resolved, symbol_at, symbol_for}
 use Rattle.resolver.specs.Safety.{IsBad, IsSafe, Pair, Reached}
 use Rattle.schema_explain.specs.Arrivals.{arrival}

@@ -5,9 +5,9 @@ ghost use Rattle.avro_types.specs.Node.{node_of};
 ghost use Rattle.schema_explain.specs.Arrivals.{arrival, fate_in};
 
 use crate::line::Fate;
+use avro_bytes::MismatchKind;
 use avro_types::{Kind, Nodes};
-use outcome::MismatchKind;
-use resolver_matching::{Destination, place_of};
+use resolver::{Destination, place_of};
 
 /// The reader's node that a writer's datum goes into, the position of its branch where it is one, and what becomes of
 /// the datum, as if nothing were explained yet.

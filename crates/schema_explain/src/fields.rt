@@ -2,14 +2,14 @@
 
 ghost use Rattle.std.specs.Prelude.{◌≡◌, ◌++◌, IfOk};
 ghost use Rattle.avro_types.specs.Node.{field_of, fields_of};
-ghost use Rattle.resolver_matching.specs.Partners.{routes};
+ghost use Rattle.resolver.specs.Partners.{routes};
 ghost use Rattle.schema_explain.specs.Parts.{absent_line, dropped, dropped_line, field_entries, field_entry, record_entries, source};
 
 use crate::entries::{Entry, Whole, due};
 use crate::line::{Fate, Line, Part};
+use avro_bytes::MismatchKind;
 use avro_types::Field;
-use outcome::MismatchKind;
-use resolver_matching::{Route, routes};
+use resolver::{Route, routes};
 use std::alloc::{AllocError, Global};
 
 /// Returns the position and the node of the writer's field whose partner is the reader's field at a position; `None`

@@ -4,7 +4,7 @@ ghost use Rattle.schema_explain.specs.Becoming.{FatesAreMet};
 ghost use Rattle.schema_explain.specs.Lines.{EachBadPairHasALine, EachMismatchHasALine, EachPairHasALine, MismatchesAreAtBadPairs, SafeWhereNoLineMismatches, ThereIsOneExplanation};
 
 use avro_types::Nodes;
-use resolver_matching::partners_by_rule;
+use resolver::partners_by_rule;
 
 /// The law that no part is missing: each pair of nodes that the roots lead to has a line.
 pub fn each_pair_has_a_line(writer: &Nodes, reader: &Nodes)

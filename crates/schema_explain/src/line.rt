@@ -1,6 +1,6 @@
 //! What becomes of a part of a message, as a line.
 
-use outcome::MismatchKind;
+use avro_bytes::MismatchKind;
 
 /// Which part of a message a line is of: of what the line above it, that is one less deep, is of.
 #[derive(Clone, Copy, Debug, PartialEq, Eq)]

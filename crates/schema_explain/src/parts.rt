@@ -7,8 +7,8 @@ ghost use Rattle.schema_explain.specs.Bounds.{AreBelow, MOST_PARTS};
 use crate::entries::{Entry, Whole, due, one_due};
 use crate::fields::record_entries;
 use crate::line::{Fate, Line, Part};
+use avro_bytes::MismatchKind;
 use avro_types::{Kind, Nodes, Symbols};
-use outcome::MismatchKind;
 use std::alloc::{AllocError, Global};
 
 /// Returns the entries of the branches of a writer's union, in order: each goes where the union goes.

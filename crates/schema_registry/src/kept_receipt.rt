@@ -5,7 +5,7 @@ ghost use Rattle.schema_registry.specs.Receipt.{IsReceiptOf};
 
 use crate::shared::{Receipt, SharedRegistry};
 use avro_schema::Schema;
-use kept_notes::KeptNote;
+use id_cells::KeptNote;
 use std::marker::Model;
 
 /// What a receipt says, where threads can share it. Callers see it as a `Shown`.

@@ -1,4 +1,4 @@
-//! Registry; used by `session_core`, `command_parser`, `gateway_core` and others.
+//! Registry.
 //!
 //! Schemas under ids, and the versions of subjects (Confluent Schema Registry API, "Subjects", "Compatibility").
 #![tactic(auto)]

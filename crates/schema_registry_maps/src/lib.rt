@@ -1,4 +1,4 @@
-//! Registry; used by `schema_registry`.
+//! Registry.
 //!
 //! Texts under ids, the versions of subjects, what is set for a subject, and which versions a new one is compared with.
 #![tactic(auto)]

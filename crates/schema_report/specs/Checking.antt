@@ -4,9 +4,9 @@ use Rattle.std.specs.Fmt.{decimal}
 use Rattle.std.specs.List.{AllByRecursion, flat_map}
 use Rattle.std.specs.declared.alloc.Global.{Global}
 use Rattle.avro_types.specs.Node.{Node, FieldNode, EnumNode, RecordNode}
-use Rattle.outcome.specs.declared.mismatch.MismatchKind.{MismatchKind}
-use Rattle.outcome.specs.declared.mismatch.MismatchKind.TheVariants.{NoMatch, NoBranch, NoSymbol, NoDefault, BytesNotText}
-use Rattle.outcome.specs.MismatchKind.{name_of}
+use Rattle.avro_bytes.specs.declared.mismatch.MismatchKind.{MismatchKind}
+use Rattle.avro_bytes.specs.declared.mismatch.MismatchKind.TheVariants.{NoMatch, NoBranch, NoSymbol, NoDefault, BytesNotText}
+use Rattle.avro_bytes.specs.MismatchKind.{name_of}
 use Rattle.avro_schema_paths.specs.declared.step.Step.{Step}
 use Rattle.schema_check.specs.Details.{all_lacking, all_missing}
 use Rattle.resolver.specs.Safety.{IsSafe}

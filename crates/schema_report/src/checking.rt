@@ -1,14 +1,14 @@
 //! Why a reader cannot read all that a writer writes, a line for each bad pair (Avro 1.11, "Schema Resolution").
 
 ghost use Rattle.std.specs.Prelude.{◌≡◌, ◌<◌, ◌++◌, codes, length, slice_get, string_bytes, IfOk, OnOk};
-ghost use Rattle.outcome.specs.declared.mismatch.MismatchKind.TheVariants.{NoMatch, NoBranch};
+ghost use Rattle.avro_bytes.specs.declared.mismatch.MismatchKind.TheVariants.{NoMatch, NoBranch};
 ghost use Rattle.schema_report.specs.Checking.{AreInside, IsChecked, IsInside, about, bad_line, bad_lines, field_words, lacking_words, missing_words, numbers, path_at, symbol_words};
 
 use crate::listing::push_path;
 use crate::types::{push_beside, push_type};
+use avro_bytes::MismatchKind;
 use avro_schema_paths::Step;
 use avro_types::{Kind, Nodes};
-use outcome::MismatchKind;
 use schema_check::{BadPair, all_lacking, all_missing, check_pair};
 use std::alloc::{AllocError, Global};
 use std::fmt::Write;

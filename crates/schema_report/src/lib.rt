@@ -1,4 +1,4 @@
-//! Resolution; used by `schema_commands`.
+//! Resolution.
 //!
 //! What a person asks of schemas, as text: where their nodes are, and why a reader cannot read all that a writer writes.
 #![tactic(auto)]

@@ -5,7 +5,7 @@ ghost use Rattle.avro_types.specs.Node.{node_of};
 ghost use Rattle.schema_report.specs.Types.{kind_word, name_text, type_text, type_at, type_beside};
 
 use avro_types::{Kind, Name, Nodes};
-use resolver_matching::{both_items, both_values};
+use resolver::{both_items, both_values};
 use std::alloc::AllocError;
 
 /// Returns the standard's word for what a node is.

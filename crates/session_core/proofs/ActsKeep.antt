@@ -2,12 +2,12 @@
 use Rattle.std.proofs.Common.{◌≡◌, ℕ, zero, suc, [], ◌∷◌, Bool, true, false, List, Option, Some, None, refl, sym, ap, ◌∙◌, subst, inl, inr}
 use Rattle.std.specs.Prelude.{if◌then◌else◌, is_some, slice_get, slice_set, Result, Ok, Err}
 use Rattle.std.specs.List.{AllByRecursion}
-use Rattle.session_state.specs.declared.refusal.BreakRefusal.TheVariants as breaks
-use Rattle.session_state.specs.declared.refusal.PieceRefusal.TheVariants as pieces
-use Rattle.session_state.specs.Changes.{Maybe, Surely, break_refusal, clear_refusal, cleared_at, finished, piece_refusal, refused, set_at, with_piece}
-use Rattle.session_state.specs.Ending.{SessionLeadsToOutcome}
-use Rattle.session_state.specs.Rows.{TakesRows, go_rows, slice_rows, walk_rows}
-use Rattle.session_state.specs.Session.{Session, end_in}
+use Rattle.session_core.specs.declared.session_refusal.BreakRefusal.TheVariants as breaks
+use Rattle.session_core.specs.declared.session_refusal.PieceRefusal.TheVariants as pieces
+use Rattle.session_core.specs.Changes.{Maybe, Surely, break_refusal, clear_refusal, cleared_at, finished, piece_refusal, refused, set_at, with_piece}
+use Rattle.session_core.specs.SessionEnding.{SessionLeadsToOutcome}
+use Rattle.session_core.specs.Rows.{TakesRows, go_rows, slice_rows, walk_rows}
+use Rattle.session_core.specs.Session.{Session, end_in}
 use Rattle.schema_registry.specs.Command.{Command}
 use Rattle.session_core.specs.declared.reply.EventReply.{EventReply}
 use Rattle.session_core.specs.declared.reply.EventReply.TheVariants.{Done, Refused, Rows}

@@ -5,10 +5,10 @@ use Rattle.isa.specs.Program.{Program}
 use Rattle.avro_schema.specs.Schema.{Declaration}
 use Rattle.schema_registry.specs.Command.{Command, RegisterCommand, SetLevelCommand}
 use Rattle.schema_registry.specs.Reply as replies
-use Rattle.session_state.specs.declared.refusal.BreakRefusal.TheVariants as breaks
-use Rattle.session_state.specs.declared.refusal.PieceRefusal.TheVariants as pieces
-use Rattle.session_state.specs.Changes.{Maybe, Surely, break_refusal, clear_refusal, cleared_at, piece_refusal, set_at, with_piece}
-use Rattle.session_state.specs.Session.{Session, begun}
+use Rattle.session_core.specs.declared.session_refusal.BreakRefusal.TheVariants as breaks
+use Rattle.session_core.specs.declared.session_refusal.PieceRefusal.TheVariants as pieces
+use Rattle.session_core.specs.Changes.{Maybe, Surely, break_refusal, clear_refusal, cleared_at, piece_refusal, set_at, with_piece}
+use Rattle.session_core.specs.Session.{Session, begun}
 use Rattle.session_core.specs.declared.publish_error.PublishError.TheVariants.{Clash, NoMemory, ProgramTooLarge}
 use Rattle.session_core.specs.declared.refusal.EventRefusal.{EventRefusal}
 use Rattle.session_core.specs.declared.refusal.EventRefusal.TheVariants as refusals

@@ -4,3 +4,9 @@ pub mod ActsKeep
 pub mod Histories
 pub mod Isolation
 pub mod Determined
+pub mod Slices
+pub mod Sessions
+pub mod Ends
+pub mod Breaks
+pub mod Made
+pub mod Crossing

@@ -10,7 +10,7 @@ use Rattle.schema_registry.specs.Accepting.{declaration_of, registered, registry
 use Rattle.schema_registry.specs.Command.{Command, RegisterCommand}
 use Rattle.schema_registry.specs.Lists.{Lists, id_of, no_lists, numbered, versions_of, with_text}
 use Rattle.program_definition.specs.Code.{code_of}
-use Rattle.session_state.specs.Ending.{SessionLeadsToOutcome}
+use Rattle.session_core.specs.SessionEnding.{SessionLeadsToOutcome}
 use Rattle.session_core.specs.Ending.{EndsWithOutcome}
 use Rattle.session_core.specs.Kept.{IsKept, IsPublication, IsSession}
 use Rattle.session_core.specs.World.{Held, IsCodeOf, Publication, World, is_of, program_at, schema_after}

@@ -1,14 +1,14 @@
 -- What happens to one session, and what is replied. All of this is this project's own.
 use Rattle.std.specs.Prelude.{◌≡◌, ◌≢◌, ◌<◌, ℕ, false, List, length, Option, Some, None, Result, Ok, Err, IfErr}
-use Rattle.session_state.specs.declared.refusal.BreakRefusal.{BreakRefusal}
-use Rattle.session_state.specs.declared.refusal.BreakRefusal.TheVariants as breaks
-use Rattle.session_state.specs.declared.refusal.ClearRefusal.{ClearRefusal}
-use Rattle.session_state.specs.declared.refusal.ClearRefusal.TheVariants as clears
-use Rattle.session_state.specs.declared.refusal.PieceRefusal.{PieceRefusal}
-use Rattle.session_state.specs.declared.refusal.PieceRefusal.TheVariants as pieces
-use Rattle.session_state.specs.Changes.{Maybe, Surely, break_refusal, clear_refusal, cleared_at, finished, piece_refusal, refused, set_at, with_piece}
-use Rattle.session_state.specs.Rows.{TakesRows, go_rows, slice_rows, walk_rows}
-use Rattle.session_state.specs.Session.{Session, has_break}
+use Rattle.session_core.specs.declared.session_refusal.BreakRefusal.{BreakRefusal}
+use Rattle.session_core.specs.declared.session_refusal.BreakRefusal.TheVariants as breaks
+use Rattle.session_core.specs.declared.session_refusal.ClearRefusal.{ClearRefusal}
+use Rattle.session_core.specs.declared.session_refusal.ClearRefusal.TheVariants as clears
+use Rattle.session_core.specs.declared.session_refusal.PieceRefusal.{PieceRefusal}
+use Rattle.session_core.specs.declared.session_refusal.PieceRefusal.TheVariants as pieces
+use Rattle.session_core.specs.Changes.{Maybe, Surely, break_refusal, clear_refusal, cleared_at, finished, piece_refusal, refused, set_at, with_piece}
+use Rattle.session_core.specs.Rows.{TakesRows, go_rows, slice_rows, walk_rows}
+use Rattle.session_core.specs.Session.{Session, has_break}
 use Rattle.session_core.specs.declared.reply.EventReply.{EventReply}
 use Rattle.session_core.specs.declared.reply.EventReply.TheVariants.{Done, Refused, Rows}
 use Rattle.session_core.specs.declared.refusal.EventRefusal.{EventRefusal}

@@ -1,6 +1,6 @@
 -- How the sessions of a world end. All of this is this project's own.
 use Rattle.std.specs.Prelude.{◌≡◌, ℕ, Some, slice_get}
-use Rattle.session_state.specs.Ending.{SessionLeadsToOutcome}
+use Rattle.session_core.specs.SessionEnding.{SessionLeadsToOutcome}
 use Rattle.session_core.specs.World.{Held, IsCodeOf, World}
 
 -- a session's program is that of its pair; its machine is that program run alone on the bytes that came, as many rows

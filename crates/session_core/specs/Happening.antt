@@ -11,7 +11,7 @@ use Rattle.schema_registry.specs.Answer.{IsAnswer}
 use Rattle.schema_registry.specs.Answers.{Grows, answer_to}
 use Rattle.schema_registry.specs.Command.{Command, RegisterCommand, SetLevelCommand}
 use Rattle.schema_registry.specs.Reply as replies
-use Rattle.session_state.specs.Session.{begun}
+use Rattle.session_core.specs.Session.{begun}
 use Rattle.session_core.specs.declared.publish_error.PublishError.TheVariants.{Clash, NoMemory, ProgramTooLarge}
 use Rattle.session_core.specs.declared.reply.EventReply.{EventReply}
 use Rattle.session_core.specs.declared.reply.EventReply.TheVariants.{Done, Id, Refused, SessionIs}

@@ -1,7 +1,7 @@
 -- A session is what its own accepted acts make of it, whatever else happens. All of this is this project's own.
 use Rattle.std.specs.Prelude.{◌≡◌, ◌⊎◌, ℕ, ◌==◌, List, [], ◌∷◌, ◌++◌, Some, if◌then◌else◌, slice_get}
 use Rattle.isa.specs.Program.{Program}
-use Rattle.session_state.specs.Session.{begun}
+use Rattle.session_core.specs.Session.{begun}
 use Rattle.session_core.specs.declared.reply.EventReply.{EventReply}
 use Rattle.session_core.specs.declared.reply.EventReply.TheVariants.{Refused, SessionIs}
 use Rattle.session_core.specs.Acts.{Acts}

@@ -7,3 +7,10 @@ pub mod Publishing
 pub mod Names
 pub mod Isolation
 pub mod Ending
+pub mod Session
+pub mod Rows
+pub mod Stopping
+pub mod Changes
+pub mod SessionKept
+pub mod SessionNames
+pub mod SessionEnding

@@ -7,7 +7,7 @@ use Rattle.program_definition.specs.Code.{code_of}
 use Rattle.schema_registry.specs.Accepting.{registry_after}
 use Rattle.schema_registry.specs.Command.{Command}
 use Rattle.schema_registry.specs.Lists.{numbered}
-use Rattle.session_state.specs.Session.{Session}
+use Rattle.session_core.specs.Session.{Session}
 
 -- a published pair, by the ids of its schemas, and its program
 pub record Publication : Type 0 where

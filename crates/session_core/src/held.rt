@@ -4,10 +4,10 @@ ghost use Rattle.std.specs.Prelude.{◌≡◌};
 ghost use Rattle.session_core.specs.Acts.{Acts};
 ghost use Rattle.session_core.specs.Event.{Break, Clear, Piece, Slice, act_of};
 
+use crate::Session;
 use crate::act::Act;
 use crate::refusal::EventRefusal;
 use crate::reply::EventReply;
-use session_state::Session;
 use std::marker::Model;
 
 /// A session, the worker that holds it, and the ids of its pair.

@@ -1,12 +1,15 @@
-//! Sessions; used by `command_parser`, `command_sessions`, `program_cache` and others.
+//! Sessions.
 //!
-//! Sessions beside a registry, and what happens to them, one event after another.
+//! Sessions: a program run on bytes that come in pieces, with breakpoints, until it ends or memory does; and sessions
+//! beside a registry, with what happens to them, one event after another.
 #![tactic(auto)]
 
 mod act;
+mod end;
 mod event;
 mod held;
 mod laws;
+mod limits;
 mod pair_row;
 mod programs;
 mod publish_error;
@@ -14,15 +17,23 @@ mod published;
 mod refusal;
 mod reply;
 mod running;
+mod session;
+mod session_refusal;
+mod slice;
+mod taking;
 mod world;
 
 pub use act::Act;
+pub use end::SessionEnd;
 pub use event::Event;
 pub use laws::{replies_tell_what_happened, sessions_are_their_own};
+pub use limits::{MOST_BREAKS, MOST_ROOM, limits_are_these};
 pub use pair_row::PairRow;
 pub use programs::Programs;
 pub use publish_error::PublishError;
 pub use refusal::EventRefusal;
 pub use reply::EventReply;
-pub use session_state::{Session, SessionEnd};
+pub use session::Session;
+pub use session_refusal::{BreakRefusal, ClearRefusal, PieceRefusal, RefusedPiece};
+pub use slice::{Slice, Stopped};
 pub use world::World;

@@ -1,8 +1,8 @@
 //! Why an event was refused.
 
 use crate::publish_error::PublishError;
+use crate::{BreakRefusal, ClearRefusal, PieceRefusal};
 use schema_registry::Refusal;
-use session_state::{BreakRefusal, ClearRefusal, PieceRefusal};
 use thiserror::Error;
 
 /// Why an event was refused, which changed nothing.

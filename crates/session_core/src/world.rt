@@ -11,6 +11,7 @@ ghost use Rattle.session_core.specs.Event.{Begin, On, Publish, Register, SetLeve
 ghost use Rattle.session_core.specs.Happening.{Adds, Happens, level_reply};
 ghost use Rattle.session_core.specs.World.{IsCodeOf, no_world, program_at};
 
+use crate::Session;
 use crate::act::Act;
 use crate::event::Event;
 use crate::held::Held;
@@ -23,7 +24,6 @@ use avro_schema::SchemaError;
 use avro_types::MOST_TEXT;
 use machine::PlannedProgram;
 use schema_registry::{Command, Level, Refusal, Registry, Reply, is_subject};
-use session_state::Session;
 use std::alloc::{AllocError, Global};
 use std::marker::Model;
 

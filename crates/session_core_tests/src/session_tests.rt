@@ -3,7 +3,7 @@
 use crate::again::{published_of, row_for};
 use crate::same::same;
 use machine::PlannedProgram;
-use session_state::{BreakRefusal, ClearRefusal, PieceRefusal, Session, Slice, Stopped};
+use session_core::{BreakRefusal, ClearRefusal, PieceRefusal, Session, Slice, Stopped};
 use std::alloc::Global;
 use std::process::Abort;
 use std::test::Fail;

@@ -7,12 +7,12 @@ use Rattle.avro_types.specs.Node.{Node}
 use Rattle.isa.specs.State as state
 use Rattle.isa.specs.State.{State}
 use Rattle.isa.specs.Program.{Program}
-use Rattle.outcome.specs.Outcome.{Outcome}
+use Rattle.avro_bytes.specs.Outcome.{Outcome}
 use Rattle.resolver.specs.Outcome.{IsOutcome}
 use Rattle.program_definition.specs.Code.{code_of}
 use Rattle.program_correctness.specs.Alone.{run_alone}
 use Rattle.program_correctness.specs.Simulation.{EachEndIsOutcome, EarlyEndIsOutcome, IsOutcomeOf}
-use Rattle.session_state.specs.Session.{Session, SessionEnd, Out, OutOfMemory, end_in, session_end, state_of}
+use Rattle.session_core.specs.Session.{Session, SessionEnd, Out, OutOfMemory, end_in, session_end, state_of}
 use Rattle.session_pool.specs.Finishing.{IsEnd}
 
 module _ (W R : List Node) (bytes : List ℕ) (s : State) where

@@ -3,8 +3,8 @@ use Rattle.std.proofs.Common.{◌≡◌, ℕ, List, Some, sym, ap, ◌∙◌, su
 use Rattle.avro_types.specs.Node.{Node}
 use Rattle.isa.specs.Program.{Program}
 use Rattle.program_correctness.specs.Alone.{run_alone}
-use Rattle.session_state.specs.Ending.{end_of}
-use Rattle.session_state.specs.Session.{Session}
+use Rattle.session_core.specs.SessionEnding.{end_of}
+use Rattle.session_core.specs.Session.{Session}
 use Rattle.session_pool_slots.specs.Account.{Account, At}
 use Rattle.session_pool.specs.declared.finishing.Finished.{Finished}
 use Rattle.session_pool.specs.Finishing.{EndsOf, Finishes, IsEnd}

@@ -3,7 +3,7 @@ use Rattle.std.proofs.Common.{◌≡◌, List, Some, subst, sym}
 use Rattle.avro_types.specs.Node.{Node}
 use Rattle.avro_schema.specs.Schema.{Declaration}
 use Rattle.isa.specs.Program.{Program}
-use Rattle.pair_program.specs.Pair.{Pair}
+use Rattle.machine.specs.ProgramPair.{Pair}
 use Rattle.program_correctness.specs.Simulation.{EachEndIsOutcome, EarlyEndIsOutcome}
 use Rattle.program_definition.specs.Code.{code_of}
 use Rattle.session_pool.specs.Pass.{LeadsToOutcomes}

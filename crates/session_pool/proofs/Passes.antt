@@ -1,16 +1,16 @@
 -- A pass after a call.
 use Rattle.std.proofs.Common.{◌≡◌, ◌<◌, ℕ, ◌+◌, List, [], ◌∷◌, ◌++◌, Some, refl, sym, ap, ◌∙◌, inl, subst, arith}
 use Rattle.isa.specs.Program.{Program}
-use Rattle.session_state.specs.Session.{Session}
-use Rattle.session_pool_rule.specs.Results.{Finds, GaveBack, HasIn, HasOut, Others, TookOut}
-use Rattle.session_pool_rule.specs.Steps.{handing, pass_in, pass_out}
-use Rattle.session_pool_rule.specs.Views.{Handed}
-use Rattle.session_pool_rule.specs.Words.{ready, slots}
+use Rattle.session_core.specs.Session.{Session}
+use Rattle.session_pool_slots.specs.Results.{Finds, GaveBack, HasIn, HasOut, Others, TookOut}
+use Rattle.session_pool_slots.specs.Steps.{handing, pass_in, pass_out}
+use Rattle.session_pool_slots.specs.Views.{Handed}
+use Rattle.session_pool_slots.specs.Words.{ready, slots}
 use Rattle.session_pool_slots.specs.Account.{Account, At, RowsOn, has_ended, kept, new_account, told_all, with_breaks, with_seen}
 use Rattle.session_pool_slots.specs.Known.{Known, PassData, pass_of}
 use Rattle.session_pool_slots.proofs.Accounts.{rows_keep}
 use Rattle.session_pool_slots.specs.declared.slots.SlotSeat.{SlotSeat}
-use Rattle.pair_program.specs.Pair.{Pair}
+use Rattle.machine.specs.ProgramPair.{Pair}
 use Rattle.session_pool_slots.specs.Opening.{HasBegun}
 use Rattle.session_pool_slots.specs.Seats.{knows}
 use Rattle.session_pool_slots.specs.Taking.{TakesOut}

@@ -1,9 +1,9 @@
 -- What the parts of a worker's search come to together.
 use Rattle.std.proofs.Common.{◌≡◌, ℕ, List, ◌∷◌, [], ◌++◌, Option, Some, None, ap, refl, sym, ◌∙◌, append_assoc, append-nil}
-use Rattle.session_pool_rule.specs.Results.{Finds, HasSame, found_of, words_of}
-use Rattle.session_pool_rule.specs.Steps.{handing}
-use Rattle.session_pool_rule.specs.Views.{FoundWord, found_word}
-use Rattle.session_pool_rule.specs.Words.{ready}
+use Rattle.session_pool_slots.specs.Results.{Finds, HasSame, found_of, words_of}
+use Rattle.session_pool_slots.specs.Steps.{handing}
+use Rattle.session_pool_slots.specs.Views.{FoundWord, found_word}
+use Rattle.session_pool_slots.specs.Words.{ready}
 use Rattle.session_pool_slots.specs.declared.slots.SlotSeat.{SlotSeat}
 use Rattle.session_pool_slots.specs.declared.working.RunSlice.{RunSlice}
 use Rattle.session_pool_slots.specs.Known.{Known}

@@ -1,12 +1,12 @@
 -- What a debugger's command does to a session, and what is answered. All of this is this project's own.
 use Rattle.std.specs.Prelude.{◌≡◌, false, Some, None, Result, Ok, Err, string_bytes}
 use Rattle.debugger.specs.Sessions.{Lists, Shows}
-use Rattle.session_state.specs.declared.refusal.BreakRefusal.TheVariants as breaks
-use Rattle.session_state.specs.declared.refusal.ClearRefusal.TheVariants as clears
-use Rattle.session_state.specs.Changes.{break_refusal, clear_refusal, cleared_at, set_at}
-use Rattle.session_state.specs.Rows.{TakesRows, go_rows, walk_rows}
-use Rattle.session_state.specs.Session.{Session, has_break, with_break, without_break}
-use Rattle.session_pool_rule.specs.Words.{with_worker}
+use Rattle.session_core.specs.declared.session_refusal.BreakRefusal.TheVariants as breaks
+use Rattle.session_core.specs.declared.session_refusal.ClearRefusal.TheVariants as clears
+use Rattle.session_core.specs.Changes.{break_refusal, clear_refusal, cleared_at, set_at}
+use Rattle.session_core.specs.Rows.{TakesRows, go_rows, walk_rows}
+use Rattle.session_core.specs.Session.{Session, has_break, with_break, without_break}
+use Rattle.session_pool_slots.specs.Words.{with_worker}
 use Rattle.session_pool_slots.specs.Account.{Account, with_breaks, with_seen}
 use Rattle.session_pool.specs.declared.debug_error.DebugError.{DebugError}
 use Rattle.session_pool.specs.declared.debug_error.DebugError.TheVariants.{BadAddress, Busy, NoMemory, TooManyBreaks}

@@ -1,8 +1,8 @@
 -- Why a piece is refused. All of this is this project's own.
 use Rattle.std.specs.Prelude.{◌≡◌, ◌<◌, ℕ, ◌+◌, List, length, true}
-use Rattle.outcome.specs.declared.limits.TheConstants.{MOST_PAYLOAD}
-use Rattle.session_state.specs.declared.refusal.PieceRefusal.{PieceRefusal}
-use Rattle.session_state.specs.declared.refusal.PieceRefusal.TheVariants as session
+use Rattle.avro_bytes.specs.declared.limits.TheConstants.{MOST_PAYLOAD}
+use Rattle.session_core.specs.declared.session_refusal.PieceRefusal.{PieceRefusal}
+use Rattle.session_core.specs.declared.session_refusal.PieceRefusal.TheVariants as session
 use Rattle.session_pool_slots.specs.Account.{Account}
 use Rattle.session_pool.specs.declared.refusals.PieceError.{PieceError}
 use Rattle.session_pool.specs.declared.refusals.PieceError.TheVariants.{Busy, Ended, NoMemory, TooLarge}

@@ -5,10 +5,10 @@ use Rattle.isa.specs.State as state
 use Rattle.isa.specs.State.{State}
 use Rattle.program_correctness.specs.Alone.{run_alone}
 use Rattle.resolver.specs.Outcome.{IsOutcome}
-use Rattle.session_state.specs.Ending.{end_of}
-use Rattle.session_state.specs.Kept.{IsSession}
-use Rattle.session_state.specs.Session.{OutOfMemory, Out, Session, SessionEnd, Trapped, end_in}
-use Rattle.session_pool_rule.specs.Words.{ready, waiting, with_worker}
+use Rattle.session_core.specs.SessionEnding.{end_of}
+use Rattle.session_core.specs.SessionKept.{IsSession}
+use Rattle.session_core.specs.Session.{OutOfMemory, Out, Session, SessionEnd, Trapped, end_in}
+use Rattle.session_pool_slots.specs.Words.{ready, waiting, with_worker}
 use Rattle.session_pool_slots.specs.Account.{Account}
 use Rattle.session_pool.specs.declared.finishing.Finished.{Finished}
 use Rattle.session_pool.specs.declared.pool.ClientSeat.{ClientSeat}

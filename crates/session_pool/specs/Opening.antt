@@ -7,8 +7,8 @@ use Rattle.program_cache.specs.Compiled.{IsOther}
 use Rattle.program_cache.specs.declared.compiled.Compiled.{Compiled}
 use Rattle.program_cache.specs.declared.refusal.PairRefusal.{PairRefusal}
 use Rattle.program_cache.specs.declared.refusal.PairRefusal.TheVariants as pairs
-use Rattle.session_pool_rule.specs.Results.{IsOccupied, Searched}
-use Rattle.session_pool_rule.specs.Words.{free, ready}
+use Rattle.session_pool_slots.specs.Results.{IsOccupied, Searched}
+use Rattle.session_pool_slots.specs.Words.{free, ready}
 use Rattle.session_pool_slots.specs.Account.{new_account}
 use Rattle.session_pool_slots.specs.Opening.{FindsNoneFree}
 use Rattle.session_pool_slots.specs.Seats.{knows}

@@ -7,8 +7,8 @@ use Rattle.std.specs.Prelude.{MatchOption}
 use Rattle.session_pool_jobs.specs.declared.seat.JobSeat.{JobSeat}
 use Rattle.session_pool_jobs.specs.Calls.{HasNoRoom, Puts, Stays, Steals, Takes}
 use Rattle.session_pool_jobs.specs.Seats.{number_of, workers_of}
-use Rattle.session_pool_rule.specs.Results.{HasNoted, HasSame, IsUnready, words_of}
-use Rattle.session_pool_rule.specs.Words.{ready, slots}
+use Rattle.session_pool_slots.specs.Results.{HasNoted, HasSame, IsUnready, words_of}
+use Rattle.session_pool_slots.specs.Words.{ready, slots}
 use Rattle.session_pool_slots.specs.declared.slots.SlotSeat.{SlotSeat}
 use Rattle.session_pool_slots.specs.declared.working.RunSlice.{RunSlice}
 use Rattle.session_pool_slots.specs.Account.{has_ended}

@@ -1,6 +1,6 @@
 -- A client's right to a session. All of this is this project's own.
 use Rattle.std.specs.Prelude.{◌≡◌, ℕ, Some}
-use Rattle.pair_program.specs.Pair.{Pair}
+use Rattle.machine.specs.ProgramPair.{Pair}
 use Rattle.program_correctness.specs.Simulation.{EachEndIsOutcome, EarlyEndIsOutcome}
 use Rattle.program_definition.specs.Code.{code_of}
 

@@ -1,8 +1,8 @@
 -- How a worker comes to a session that is ready. All of this is this project's own.
 use Rattle.std.specs.Prelude.{◌≡◌, ℕ, List, [], ◌++◌, Option, Some, None}
-use Rattle.session_pool_rule.specs.Results.{Finds, HasNoted, HasSame, IsUnready, Searched}
-use Rattle.session_pool_rule.specs.Views.{FoundWord}
-use Rattle.session_pool_rule.specs.Words.{ready, slots}
+use Rattle.session_pool_slots.specs.Results.{Finds, HasNoted, HasSame, IsUnready, Searched}
+use Rattle.session_pool_slots.specs.Views.{FoundWord}
+use Rattle.session_pool_slots.specs.Words.{ready, slots}
 use Rattle.session_pool_slots.specs.declared.slots.SlotSeat.{SlotSeat}
 use Rattle.session_pool_slots.specs.Account.{has_ended}
 use Rattle.session_pool_slots.specs.Known.{Known}

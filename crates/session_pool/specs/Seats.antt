@@ -1,12 +1,12 @@
 -- What contracts say of a pool's seats and passes. All of this is this project's own.
 use Rattle.std.specs.Prelude.{◌≡◌, ◌⊎◌, ℕ, [], ◌∷◌, ◌++◌, Option, Some, None}
 use Rattle.isa.specs.Program.{Program}
-use Rattle.session_state.specs.Session.{Session}
+use Rattle.session_core.specs.Session.{Session}
 use Rattle.session_pool_jobs.specs.Calls.{IsEmpty}
 use Rattle.session_pool_jobs.specs.Seats as jobs
-use Rattle.session_pool_rule.specs.Results as results
-use Rattle.session_pool_rule.specs.Steps.{handing}
-use Rattle.session_pool_rule.specs.Words.{ended, free, ready}
+use Rattle.session_pool_slots.specs.Results as results
+use Rattle.session_pool_slots.specs.Steps.{handing}
+use Rattle.session_pool_slots.specs.Words.{ended, free, ready}
 use Rattle.session_pool_slots.specs.Account.{Account, At, new_account}
 use Rattle.session_pool_slots.specs.Known.{PassData, blank, pass_of}
 use Rattle.session_pool_slots.specs.Seats as slots

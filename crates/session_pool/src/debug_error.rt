@@ -1,6 +1,6 @@
 //! Why a debugger's command was refused.
 
-use session_state::{BreakRefusal, ClearRefusal};
+use session_core::{BreakRefusal, ClearRefusal};
 use thiserror::Error;
 
 /// Why a debugger's command was refused.

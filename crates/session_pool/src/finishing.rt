@@ -1,17 +1,17 @@
 //! How a session ended, and how one is abandoned.
 
 ghost use Rattle.std.specs.Prelude.{◌≡◌, IfErr, IfOk, OnErr, OnOk, Some, true};
-ghost use Rattle.session_state.specs.Ending.{end_of};
-ghost use Rattle.session_state.specs.Session.{begun, end_in};
-ghost use Rattle.session_pool_rule.specs.Words.{with_worker};
+ghost use Rattle.session_core.specs.SessionEnding.{end_of};
+ghost use Rattle.session_core.specs.Session.{begun, end_in};
+ghost use Rattle.session_pool_slots.specs.Words.{with_worker};
 ghost use Rattle.session_pool_slots.specs.Account.{has_ended};
 ghost use Rattle.session_pool.specs.Finishing.{EndsOf};
 
 use crate::pass::Pass;
 use crate::pool::{ClientSeat, SessionPool};
 use crate::refusals::{NotYet, ReturnedPass};
+use session_core::{Session, SessionEnd};
 use session_pool_slots::Busy;
-use session_state::{Session, SessionEnd};
 
 /// How a session ended, and after how many rows.
 #[derive(Debug, Drop, PartialEq, Eq)]

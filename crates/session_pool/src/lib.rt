@@ -1,4 +1,4 @@
-//! Sessions; used by `gateway`.
+//! Sessions.
 //!
 //! A pool of sessions that threads share: clients feed them and ask for their outcomes, and whichever worker takes one
 //! runs it. No call of the pool waits for another thread.
@@ -23,7 +23,7 @@ pub use limits::{MOST_CLIENTS, limits_are_these};
 pub use pass::Pass;
 pub use pool::{ClientSeat, SessionPool, WorkerSeat};
 pub use refusals::{NotYet, OpenError, PieceError, ReturnedPass, ReturnedPiece};
+pub use session_core::SessionEnd;
 pub use session_pool_jobs::{JobSeat, Jobs, MOST_KEPT, MOST_WORKERS};
 pub use session_pool_slots::{Busy, SLOTS};
-pub use session_state::SessionEnd;
 pub use turning::Turn;

@@ -1,7 +1,7 @@
 //! Why a call of the pool was refused.
 
 use crate::pass::Pass;
-use session_state::PieceRefusal;
+use session_core::PieceRefusal;
 use thiserror::Error;
 
 /// Why no session was opened.

@@ -1,13 +1,12 @@
 //! How a worker comes to a session that is ready.
 
 ghost use Rattle.std.specs.Prelude.{◌≡◌, ◌<◌, ◌≤◌, MatchOption, Some};
-ghost use Rattle.session_pool_rule.specs.Words.{slots};
+ghost use Rattle.session_pool_slots.specs.Words.{slots};
 ghost use Rattle.session_pool_slots.specs.Seats.{IsSeatOf as IsSlotSeatOf, Rests as IsAtRest};
 ghost use Rattle.session_pool_jobs.specs.Seats.{IsSeatOf, workers_of};
 
 use crate::pool::{SessionPool, WorkerSeat};
-use session_pool_rule::READY;
-use session_pool_slots::{SLOTS, SlotSeat};
+use session_pool_slots::{READY, SLOTS, SlotSeat};
 
 impl<'p> SessionPool<'p> {
     ghost use Rattle.session_pool.specs.Seats.{RestsWorker};

@@ -1,8 +1,8 @@
 //! A worker's turn.
 
 ghost use Rattle.std.specs.Prelude.{◌≡◌, ◌<◌, ℕ};
-ghost use Rattle.session_pool_rule.specs.Results.{HasNoted};
-ghost use Rattle.session_pool_rule.specs.Words.{slots};
+ghost use Rattle.session_pool_slots.specs.Results.{HasNoted};
+ghost use Rattle.session_pool_slots.specs.Words.{slots};
 ghost use Rattle.session_pool_slots.specs.Account.{has_ended};
 ghost use Rattle.session_pool_slots.specs.Seats.{IsSeatOf as IsSlotSeatOf};
 ghost use Rattle.session_pool_slots.specs.Working.{Runs};
@@ -10,8 +10,7 @@ ghost use Rattle.session_pool_jobs.specs.Seats.{IsSeatOf};
 ghost use Rattle.session_pool.specs.Turning.{Calls};
 
 use crate::pool::{SessionPool, WorkerSeat};
-use session_pool_rule::READY;
-use session_pool_slots::RunSlice;
+use session_pool_slots::{READY, RunSlice};
 
 /// What a turn came to.
 #[derive(Clone, Copy, Debug, PartialEq, Eq)]

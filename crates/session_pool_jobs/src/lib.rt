@@ -1,4 +1,4 @@
-//! Sessions; used by `session_pool`.
+//! Sessions.
 //!
 //! Numbers of slots that workers keep for themselves and steal from one another.
 #![tactic(auto)]

@@ -1,7 +1,7 @@
 -- Accounts of sessions.
 use Rattle.std.proofs.Common.{◌≡◌, ◌≤◌, ℕ, refl, arith, ap, ◌∙◌, ⊎_elim}
-use Rattle.session_state.specs.Session.{Session}
-use Rattle.session_state.specs.Rows.{TakesRows}
+use Rattle.session_core.specs.Session.{Session}
+use Rattle.session_core.specs.Rows.{TakesRows}
 use Rattle.session_pool_slots.specs.Account.{Account, At, RowsOn, kept, told_all}
 
 -- the account that a client's call leaves is that of the session that it gives back

@@ -1,12 +1,12 @@
 -- A session that begins in the first slot that is free.
 use Rattle.std.proofs.Common.{◌≡◌, ◌<◌, ℕ, List, [], ◌∷◌, ◌++◌, Option, None, get_or, refl, sym, ap, ◌∙◌}
 use Rattle.isa.specs.Program.{Program}
-use Rattle.session_state.specs.Session.{Session, begun}
-use Rattle.session_pool_rule.specs.Words.{free, ready, slots}
-use Rattle.session_pool_rule.specs.Views.{Handed}
-use Rattle.session_pool_rule.specs.Steps.{handing, new_pass}
-use Rattle.session_pool_rule.specs.Results.{GaveBack, HasSame, IsOccupied, Searched, words_of}
-use Rattle.session_pool_rule.proofs.Calls.{searched_then}
+use Rattle.session_core.specs.Session.{Session, begun}
+use Rattle.session_pool_slots.specs.Words.{free, ready, slots}
+use Rattle.session_pool_slots.specs.Views.{Handed}
+use Rattle.session_pool_slots.specs.Steps.{handing, new_pass}
+use Rattle.session_pool_slots.specs.Results.{GaveBack, HasSame, IsOccupied, Searched, words_of}
+use Rattle.session_pool_slots.proofs.Calls.{searched_then}
 use Rattle.session_pool_slots.specs.declared.slots.SlotSeat.{SlotSeat}
 use Rattle.session_pool_slots.specs.Account.{kept, opened}
 use Rattle.session_pool_slots.specs.Known.{PassData, pass_of}

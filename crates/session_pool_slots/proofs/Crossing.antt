@@ -11,8 +11,8 @@ use Rattle.std.specs.contracts.option.Option as option
 use Rattle.std.proofs.option.Option.TheSendSync as options
 use Rattle.atomic_table.proofs.owned.Table.TheSendSync as tables
 use Rattle.atomic_table.proofs.shared.Seat.TheSendSync as table_seats
-use Rattle.session_state.specs.contracts.session.Session as session
-use Rattle.session_state.proofs.Crossing.{session-send}
+use Rattle.session_core.specs.contracts.session.Session as session
+use Rattle.session_core.proofs.Crossing.{session-send}
 use Rattle.session_pool_slots.specs.contracts.view.View as view
 use Rattle.session_pool_slots.specs.contracts.kinds.Order as order
 use Rattle.session_pool_slots.specs.contracts.kinds.OrderTableRuleOptionSessionViewUnit.TheImpl as order_ghosts

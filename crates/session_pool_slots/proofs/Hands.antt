@@ -1,9 +1,9 @@
 -- A client's session, from its slot into the client's hands.
 use Rattle.std.proofs.Common.{◌≡◌, ℕ, List, [], ◌∷◌, Option, Some, None, IsSome, subst, sym, refl, ap, ◌∙◌}
 use Rattle.atomic_table.specs.Table.{rest}
-use Rattle.session_state.specs.Session.{Session}
-use Rattle.session_pool_rule.specs.Results.{HasIn, TookOut}
-use Rattle.session_pool_rule.proofs.Calls.{Took, came_out, has_first, lifted, put_in}
+use Rattle.session_core.specs.Session.{Session}
+use Rattle.session_pool_slots.specs.Results.{HasIn, TookOut}
+use Rattle.session_pool_slots.proofs.Calls.{Took, came_out, has_first, lifted, put_in}
 use Rattle.session_pool_slots.specs.declared.slots.SlotSeat.{SlotSeat}
 use Rattle.session_pool_slots.specs.Account.{At, has_ended}
 use Rattle.session_pool_slots.specs.Kinds.{Seat}

@@ -2,8 +2,8 @@
 use Rattle.std.proofs.Common.{◌≡◌, ◌<◌, ℕ, Bool, true, false, refl, sym, ◌∙◌, arith, true≢false}
 use Rattle.isa.specs.Program.{Program}
 use Rattle.program_correctness.specs.Alone.{rows_from}
-use Rattle.session_state.specs.Session.{begun}
-use Rattle.session_pool_rule.specs.Words.{IsWordOf, ended, free}
+use Rattle.session_core.specs.Session.{begun}
+use Rattle.session_pool_slots.specs.Words.{IsWordOf, ended, free}
 use Rattle.session_pool_slots.specs.Account.{has_ended}
 
 pub is_ended : (over : Bool) → over ≡ true → IsWordOf over ended

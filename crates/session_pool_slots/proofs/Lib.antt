@@ -5,3 +5,6 @@ mod Hands
 mod Begun
 mod Searches
 pub mod Crossing
+pub mod Seats
+pub mod Keeping
+pub mod Calls

@@ -1,7 +1,7 @@
 -- A search by looks, each of which is followed by an exchange where it found the word that is wanted.
 use Rattle.std.proofs.Common.{◌≡◌, ℕ, List, [], ◌∷◌, ◌++◌, ap, ◌∙◌, append_assoc}
-use Rattle.session_pool_rule.specs.Views.{FoundWord}
-use Rattle.session_pool_rule.specs.Results.{words_of}
+use Rattle.session_pool_slots.specs.Views.{FoundWord}
+use Rattle.session_pool_slots.specs.Results.{words_of}
 use Rattle.session_pool_slots.specs.Known.{Known}
 
 -- a word was found, and then another one

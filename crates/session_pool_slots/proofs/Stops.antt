@@ -4,11 +4,11 @@ use Rattle.std.specs.Option.{option_and_then}
 use Rattle.isa.specs.State as states
 use Rattle.isa.specs.State.{State}
 use Rattle.machine_stepper.specs.Slice.{IsWhy}
-use Rattle.session_state.specs.declared.slice.Stopped.{Stopped}
-use Rattle.session_state.specs.declared.slice.Stopped.TheVariants.{Broke, Ended, Spent, Waits}
-use Rattle.session_state.specs.Session.{OutOfMemory, Session, machine_end, session_end, state_of}
-use Rattle.session_state.specs.Stopping.{IsStopped, IsStoppedAs, why_of}
-use Rattle.session_pool_rule.specs.Words.{IsWordOf, ready, waiting}
+use Rattle.session_core.specs.declared.slice.Stopped.{Stopped}
+use Rattle.session_core.specs.declared.slice.Stopped.TheVariants.{Broke, Ended, Spent, Waits}
+use Rattle.session_core.specs.Session.{OutOfMemory, Session, machine_end, session_end, state_of}
+use Rattle.session_core.specs.Stopping.{IsStopped, IsStoppedAs, why_of}
+use Rattle.session_pool_slots.specs.Words.{IsWordOf, ready, waiting}
 use Rattle.session_pool_slots.specs.Account.{has_ended}
 use Rattle.session_pool_slots.specs.Leaving.{word_after_slice}
 use Rattle.session_pool_slots.proofs.Leaving.{goes_on, is_ended}

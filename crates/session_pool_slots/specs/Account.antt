@@ -1,8 +1,8 @@
 -- What a client's calls have made of its session. All of this is this project's own.
 use Rattle.std.specs.Prelude.{◌≡◌, ◌≤◌, ℕ, Bool, true, false, List, [], ◌++◌, is_some}
 use Rattle.isa.specs.Program.{Program}
-use Rattle.session_state.specs.Rows.{TakesRows}
-use Rattle.session_state.specs.Session.{Session, end_in}
+use Rattle.session_core.specs.Rows.{TakesRows}
+use Rattle.session_core.specs.Session.{Session, end_in}
 
 -- the program that the client asked for, and what it knows of the session from its calls
 pub record Account : Type 0 where

@@ -1,6 +1,6 @@
 -- What each kind of step on this table says: the general definitions, for sessions and their accounts.
-use Rattle.session_state.specs.Session.{Session}
-use Rattle.session_pool_rule.specs.Steps as steps
+use Rattle.session_core.specs.Session.{Session}
+use Rattle.session_pool_slots.specs.Steps as steps
 use Rattle.session_pool_slots.specs.Account.{Account, At, NoRows, RowsOn, has_ended, kept, opened, told_all}
 
 -- what a kind of step says to its caller

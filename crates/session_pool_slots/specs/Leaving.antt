@@ -1,9 +1,9 @@
 -- The word that a session leaves. All of this is this project's own.
 use Rattle.std.specs.Prelude.{ℕ, if◌then◌else◌}
-use Rattle.session_state.specs.declared.slice.Stopped.{Stopped}
-use Rattle.session_state.specs.declared.slice.Stopped.TheVariants.{Broke, Ended, Spent, Waits}
-use Rattle.session_state.specs.Session.{Session}
-use Rattle.session_pool_rule.specs.Words.{ended, ready, waiting}
+use Rattle.session_core.specs.declared.slice.Stopped.{Stopped}
+use Rattle.session_core.specs.declared.slice.Stopped.TheVariants.{Broke, Ended, Spent, Waits}
+use Rattle.session_core.specs.Session.{Session}
+use Rattle.session_pool_slots.specs.Words.{ended, ready, waiting}
 use Rattle.session_pool_slots.specs.Account.{has_ended}
 
 -- after a client's call that lets it go on

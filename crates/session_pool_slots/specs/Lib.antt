@@ -6,3 +6,8 @@ pub mod Seats
 pub mod Opening
 pub mod Taking
 pub mod Working
+pub mod Words
+pub mod Views
+pub mod Rule
+pub mod Steps
+pub mod Results

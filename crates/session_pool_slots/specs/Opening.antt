@@ -1,10 +1,10 @@
 -- What the search for a free slot comes to.
 use Rattle.std.specs.Prelude.{◌≡◌, ◌<◌, ℕ, List, [], ◌∷◌, ◌++◌, Option, Some, None}
 use Rattle.isa.specs.Program.{Program}
-use Rattle.session_state.specs.Session.{Session, begun}
-use Rattle.session_pool_rule.specs.Words.{free, ready, slots}
-use Rattle.session_pool_rule.specs.Steps.{handing, new_pass, pass_in}
-use Rattle.session_pool_rule.specs.Results.{Claimed, HasSame, IsOccupied, Others, Searched, words_of}
+use Rattle.session_core.specs.Session.{Session, begun}
+use Rattle.session_pool_slots.specs.Words.{free, ready, slots}
+use Rattle.session_pool_slots.specs.Steps.{handing, new_pass, pass_in}
+use Rattle.session_pool_slots.specs.Results.{Claimed, HasSame, IsOccupied, Others, Searched, words_of}
 use Rattle.session_pool_slots.specs.declared.slots.SlotSeat.{SlotSeat}
 use Rattle.session_pool_slots.specs.Account.{new_account, opened}
 use Rattle.session_pool_slots.specs.Known.{Known, pass_of}

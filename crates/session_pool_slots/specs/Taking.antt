@@ -1,8 +1,8 @@
 -- What a client's steps come to.
 use Rattle.std.specs.Prelude.{◌≡◌, ◌⊎◌, ◌<◌, ℕ, [], ◌∷◌, Some, None}
-use Rattle.session_state.specs.Session.{Session}
-use Rattle.session_pool_rule.specs.Words.{free, ready, slots, with_client}
-use Rattle.session_pool_rule.specs.Results.{Missed, TookOut}
+use Rattle.session_core.specs.Session.{Session}
+use Rattle.session_pool_slots.specs.Words.{free, ready, slots, with_client}
+use Rattle.session_pool_slots.specs.Results.{Missed, TookOut}
 use Rattle.session_pool_slots.specs.declared.slots.SlotSeat.{SlotSeat}
 use Rattle.session_pool_slots.specs.Account.{At, has_ended}
 use Rattle.session_pool_slots.specs.Known.{Known, PassData, pass_of}

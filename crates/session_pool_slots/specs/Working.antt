@@ -1,13 +1,13 @@
 -- What a worker's steps come to.
 use Rattle.std.specs.Prelude.{◌≡◌, ◌≤◌, ℕ, List, [], ◌∷◌, ◌++◌}
-use Rattle.session_state.specs.declared.slice.Stopped.{Stopped}
-use Rattle.session_state.specs.Ending.{EndsInOneSlice}
-use Rattle.session_state.specs.Rows.{TakesRows, slice_rows}
-use Rattle.session_state.specs.Session.{Session}
-use Rattle.session_state.specs.Stopping.{IsStopped}
-use Rattle.session_pool_rule.specs.Words.{ready, slots}
-use Rattle.session_pool_rule.specs.Steps.{handing}
-use Rattle.session_pool_rule.specs.Results.{HasNoted, HasSame, IsUnready, Searched, words_of}
+use Rattle.session_core.specs.declared.slice.Stopped.{Stopped}
+use Rattle.session_core.specs.SessionEnding.{EndsInOneSlice}
+use Rattle.session_core.specs.Rows.{TakesRows, slice_rows}
+use Rattle.session_core.specs.Session.{Session}
+use Rattle.session_core.specs.Stopping.{IsStopped}
+use Rattle.session_pool_slots.specs.Words.{ready, slots}
+use Rattle.session_pool_slots.specs.Steps.{handing}
+use Rattle.session_pool_slots.specs.Results.{HasNoted, HasSame, IsUnready, Searched, words_of}
 use Rattle.session_pool_slots.specs.declared.slots.SlotSeat.{SlotSeat}
 use Rattle.session_pool_slots.specs.declared.working.RunSlice.{RunSlice}
 use Rattle.session_pool_slots.specs.Account.{has_ended}

@@ -5,7 +5,7 @@ ghost use Rattle.session_pool_slots.specs.Kinds.{claimed, freed, given, looked, 
 
 use crate::view::View;
 use atomic_table::{Play, Split, TableRule};
-use session_state::Session;
+use session_core::Session;
 
 /// The rule: what is at each slot, by its word.
 pub struct Order;

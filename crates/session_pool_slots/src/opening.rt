@@ -1,16 +1,16 @@
 //! How a client comes to a slot of its own.
 
 ghost use Rattle.std.specs.Prelude.{◌≡◌, ◌≢◌, ◌<◌, ◌∷◌, ◌++◌, [], MatchOption, Some};
-ghost use Rattle.session_state.specs.Session.{Session, begun};
-ghost use Rattle.session_pool_rule.specs.Words.{free, ready, slots};
-ghost use Rattle.session_pool_rule.specs.Results.{GaveBack, HasSame, words_of};
+ghost use Rattle.session_core.specs.Session.{Session, begun};
+ghost use Rattle.session_pool_slots.specs.Words.{free, ready, slots};
+ghost use Rattle.session_pool_slots.specs.Results.{GaveBack, HasSame, words_of};
 ghost use Rattle.session_pool_slots.specs.Account.{kept};
 
 use crate::kinds::Claim;
 use crate::slots::{SessionSlots, SlotSeat};
+use crate::{FREE, READY, SLOTS, WITH_CLIENT};
 use machine::PlannedProgram;
-use session_pool_rule::{FREE, READY, SLOTS, WITH_CLIENT};
-use session_state::Session;
+use session_core::Session;
 
 /// Returns a session of a program that has just begun: the one that a free slot kept, set back, or else the one that
 /// was offered.

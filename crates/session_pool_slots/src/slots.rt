@@ -1,14 +1,14 @@
 //! The table of slots, and its seats.
 
 ghost use Rattle.std.specs.Prelude.{◌≡◌, ◌<◌, IfOk};
-ghost use Rattle.session_pool_rule.specs.Words.{slots};
+ghost use Rattle.session_pool_slots.specs.Words.{slots};
 ghost use Rattle.session_pool_slots.specs.Known.{blank};
 
 use crate::kinds::{Newcomer, Order};
 use crate::view::View;
+use crate::{FREE, SLOTS};
 use atomic_table::{Seat, Table};
-use session_pool_rule::{FREE, SLOTS};
-use session_state::Session;
+use session_core::Session;
 use std::alloc::{AllocError, Global};
 
 /// A table of `SLOTS` slots, each with a word and room for a session, which clients and workers share.

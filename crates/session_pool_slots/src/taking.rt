@@ -3,16 +3,16 @@
 ghost use Rattle.std.specs.Prelude.{◌≡◌, ◌≢◌, ◌≤◌, MatchResult, Some};
 ghost use mathlib.Core.Option.{none};
 ghost use Rattle.atomic_table.specs.Table.{step};
-ghost use Rattle.session_pool_rule.specs.Words.{IsWordOf, slots, with_client, with_worker};
-ghost use Rattle.session_pool_rule.specs.Results.{Freed, GaveBack, HasIn, HasOut, IsOut};
+ghost use Rattle.session_pool_slots.specs.Words.{IsWordOf, slots, with_client, with_worker};
+ghost use Rattle.session_pool_slots.specs.Results.{Freed, GaveBack, HasIn, HasOut, IsOut};
 ghost use Rattle.session_pool_slots.specs.Account.{NoRows, RowsOn, has_ended, kept, told_all};
 ghost use Rattle.session_pool_slots.specs.Known.{PassData, pass_of};
 ghost use Rattle.session_pool_slots.specs.Kinds.{taken};
 
 use crate::kinds::{Free, Give, Take, Tell};
 use crate::slots::{SessionSlots, SlotSeat};
-use session_pool_rule::{FREE, READY, WITH_CLIENT, WITH_WORKER};
-use session_state::Session;
+use crate::{FREE, READY, WITH_CLIENT, WITH_WORKER};
+use session_core::Session;
 use thiserror::Error;
 
 /// A worker has the session.

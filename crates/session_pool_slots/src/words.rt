@@ -1,12 +1,12 @@
 //! The word that a session leaves.
 
 ghost use Rattle.std.specs.Prelude.{◌≡◌};
-ghost use Rattle.session_pool_rule.specs.Words.{IsWordOf};
+ghost use Rattle.session_pool_slots.specs.Words.{IsWordOf};
 ghost use Rattle.session_pool_slots.specs.Account.{has_ended};
 ghost use Rattle.session_pool_slots.specs.Leaving.{word_after, word_after_slice};
 
-use session_pool_rule::{ENDED, READY, WAITING};
-use session_state::{Session, Stopped};
+use crate::{ENDED, READY, WAITING};
+use session_core::{Session, Stopped};
 
 /// Returns the word of a session after a client's call that lets it go on: ended where it has, else ready.
 pub fn word_after(session: &Session) -> u64

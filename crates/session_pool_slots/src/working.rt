@@ -1,14 +1,14 @@
 //! The steps of a worker: it takes a session that is ready, runs it, and gives it back.
 
 ghost use Rattle.std.specs.Prelude.{◌≡◌, ◌≢◌, ◌<◌, ◌∷◌, ◌++◌, [], MatchOption};
-ghost use Rattle.session_pool_rule.specs.Words.{ready, slots};
-ghost use Rattle.session_pool_rule.specs.Results.{HasNoted, HasSame, words_of};
+ghost use Rattle.session_pool_slots.specs.Words.{ready, slots};
+ghost use Rattle.session_pool_slots.specs.Results.{HasNoted, HasSame, words_of};
 ghost use Rattle.session_pool_slots.specs.Account.{has_ended};
 
 use crate::kinds::{Look, Return, Steal};
 use crate::slots::{SessionSlots, SlotSeat};
 use crate::words::word_after_slice;
-use session_pool_rule::{READY, SLOTS, WITH_WORKER};
+use crate::{READY, SLOTS, WITH_WORKER};
 
 /// What a worker's slice of a session came to.
 #[derive(Clone, Copy, Debug, PartialEq, Eq)]

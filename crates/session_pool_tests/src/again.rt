@@ -10,8 +10,8 @@ use crate::courses::finished;
 use crate::same::same;
 use crate::schemas::{RECORD, RECORD_BYTES, RECORD_LISTING, SWAPPED, SWAPPED_BYTES, registered};
 use crate::seats::{Seated, last_client, last_worker, new_pool};
+use avro_bytes::Outcome;
 use avro_schema::{Schema, SchemaError};
-use outcome::Outcome;
 use program_cache::{ProgramCache, PublishError};
 use schema_registry::{Receipt, Refusal, SharedRegistry};
 use session_pool::{

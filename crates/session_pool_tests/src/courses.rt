@@ -5,7 +5,7 @@ ghost use Rattle.schema_registry.specs.Receipt.{IsReceiptOf};
 ghost use Rattle.session_pool.specs.Seats.{IsPassOf, Rests, RestsWorker};
 
 use crate::same::same;
-use outcome::Outcome;
+use avro_bytes::Outcome;
 use schema_registry::Receipt;
 use session_pool::{
     ClientSeat, Finished, NotYet, Pass, PieceError, ReturnedPass, SessionEnd, SessionPool, Turn,

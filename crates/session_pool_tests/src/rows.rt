@@ -11,7 +11,7 @@ use crate::replies::answers;
 use crate::same::same;
 use crate::schemas::{RECORD, RECORD_BYTES, SWAPPED, SWAPPED_BYTES, longs, registered};
 use crate::trials::{Trial, try_in_new_pool};
-use outcome::MOST_PAYLOAD;
+use avro_bytes::MOST_PAYLOAD;
 use schema_registry::Receipt;
 use session_pool::{
     ClientSeat, DebugCommand, DebugError, Pass, PieceError, SessionPool, Turn, WorkerSeat,

@@ -1,7 +1,7 @@
 -- What lines of `replay` say that make a registry. This project's own.
 use Rattle.std.specs.Prelude.{◌≡◌, ◌==◌, ◌++◌, ◌∷◌, [], ℕ, ◌+◌, length, Bool, true, if◌then◌else◌, List, Option, Some, None, option_map}
-use Rattle.command_parser.specs.Reading.{replay_line}
-use Rattle.command_parser.specs.Request.{Happen, Request}
+use Rattle.command_io.specs.Reading.{replay_line}
+use Rattle.command_io.specs.Request.{Happen, Request}
 use Rattle.schema_registry.specs.Command.{Command, RegisterCommand, SetLevelCommand}
 use Rattle.session_core.specs.Event.{Register, SetLevel}
 

@@ -2,12 +2,11 @@
 
 ghost use Rattle.std.specs.Prelude.{◌≡◌, ◌≤◌, ◌++◌, List, IfErr, IfOk, OnErr, Some, length};
 ghost use Rattle.command_io.specs.Lines.{lines};
-ghost use Rattle.command_parser.specs.Reading.{replay_line};
+ghost use Rattle.command_io.specs.Reading.{replay_line};
 ghost use Rattle.schema_registry.specs.Command.{Command as Asked, command_of};
 ghost use Rattle.store_commands.specs.Import.{AreBefore, Say, command_in, is_silent, said_in};
 
-use command_io::split_line;
-use command_parser::{Request, read_replay_line};
+use command_io::{Request, read_replay_line, split_line};
 use schema_registry::{Command, Keeper, KeptRegistry, Refusal};
 use session_core::Event;
 use std::alloc::{AllocError, Global};

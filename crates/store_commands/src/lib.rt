@@ -1,4 +1,4 @@
-//! Edge: lines and commands; used by `avrogate`.
+//! Edge: lines and commands.
 //!
 //! The registry of a file: it is opened for a service, its commands are printed as lines of `replay`, and it is made of
 //! such lines. And the schemas of an upstream registry in a file, for a service beside it.

@@ -3,10 +3,9 @@
 use crate::progress::TimedProgress;
 use crate::refusal::{StoreRefusal, open_refusal, schemas_refusal, start_refusal};
 use journal_file::{FileError, JournalFile, Unknown, make, open};
-use registry_store::CommandStore;
+use registry_store::{CommandStore, UpstreamStore};
 use schema_registry::{KeptRegistry, SharedRegistry};
 use std::alloc::Global;
-use upstream_store::UpstreamStore;
 
 /// A registry whose commands are kept in a file.
 pub(crate) type FileRegistry = KeptRegistry<CommandStore<JournalFile>>;

@@ -1,13 +1,12 @@
 //! Why a store is not opened or not made.
 
 use journal_file::FileError;
-use registry_store::OpenFault;
+use registry_store::{OpenFault, UpstreamStoreFault};
 use schema_registry::{Refusal, ReplayFault, StartFault};
 use std::alloc::AllocError;
 use std::io;
 use std::io::ErrorKind;
 use thiserror::Error;
-use upstream_store::UpstreamStoreFault;
 
 /// Why the file of a store is not opened or not made.
 #[derive(Clone, Copy, Debug, Error)]

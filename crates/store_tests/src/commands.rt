@@ -3,7 +3,7 @@
 use crate::disks::{is_begun, is_removed};
 use crate::same::same;
 use journal_file::JournalFile;
-use registry_store::CommandStore;
+use registry_store::{CommandStore, KeptSchema, UpstreamStore};
 use schema_registry::{KeptRegistry, Registry, SharedRegistry};
 use sqlite_disk::Disk;
 use std::alloc::{AllocError, Global};
@@ -12,7 +12,6 @@ use std::io::Write;
 use store_commands::{
     StoreRefusal, UntakenLine, export, import, import_lines, open_registry, open_schemas,
 };
-use upstream_store::{KeptSchema, UpstreamStore};
 
 /// A store of two commands, with what a torn write left after its gate.
 const STORE: &str =

@@ -2,9 +2,9 @@
 
 use crate::disks::file_of;
 use crate::same::same;
+use registry_store::{KeptSchema, UpstreamStore};
 use sqlite_disk::Disk;
 use std::alloc::{AllocError, Global};
-use upstream_store::{KeptSchema, UpstreamStore};
 
 /// Returns schemas as a text, each as a line.
 fn text_of(alloc: Global, schemas: &[KeptSchema]) -> Result<String, AllocError> {

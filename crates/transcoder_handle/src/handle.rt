@@ -6,8 +6,8 @@ ghost use Rattle.embedding.specs.Batch.{ReportsBatch, range_of};
 ghost use Rattle.embedding.specs.Opening.{TellsOpening};
 ghost use Rattle.embedding.specs.Report.{ReportsMessage, ReportsPayload, Tells};
 
+use crate::BoxPointer;
 use crate::held::Held;
-use box_pointer::BoxPointer;
 use embedding::{BatchItem, Ids, OpenError, OwningTranscoder, Report, ReportNumbers, Status, open};
 use std::alloc::Global;
 

@@ -6,7 +6,7 @@ ghost use Rattle.avro_types.specs.DatumCode.{datum_coded};
 ghost use Rattle.embedding.specs.Pair.{Pair};
 ghost use Rattle.transcoder_handle.specs.Held.{held_owns};
 
-use box_pointer::BoxPointer;
+use crate::BoxPointer;
 use embedding::OwningTranscoder;
 use std::alloc::Global;
 use std::marker::Model;

@@ -1,4 +1,4 @@
-//! Edge: HTTP; used by `upstream_schemas`, `upstream_fetching`.
+//! Edge: HTTP.
 //!
 //! Asking the registry beside this service for the schema of an id: the text of the question, the answer that the bytes
 //! received begin with, and what its content says.

@@ -2,7 +2,7 @@
 
 ghost use Rattle.std.specs.Prelude.{◌≡◌, ◌<◌, ◌≤◌, Err, IfErr, IfOk, IfSome, [], length, vec_len};
 ghost use Rattle.std.specs.Io.KnownBytes.{Consumes, IsAtEnd};
-ghost use Rattle.byte_transfer.specs.Moving.{Receives};
+ghost use Rattle.wire_frames.specs.Moving.{Receives};
 ghost use Rattle.upstream_answers.specs.Stages.{IsOfOther};
 
 use crate::fault::ReceiveFault;

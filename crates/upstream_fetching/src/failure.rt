@@ -4,7 +4,7 @@ ghost use Rattle.std.specs.Prelude.{◌≡◌, ◌==◌, IfSome};
 ghost use Rattle.upstream_schemas.specs.Asking.{IsWhyUnheld};
 
 use crate::limits::FAILURE_TIME;
-use gateway_answers::Fault;
+use gateway_requests::Fault;
 use std::marker::{Model, PhantomData};
 use std::time::{Duration, Instant};
 use upstream_schemas::Upstream;
@@ -21,7 +21,7 @@ pub(crate) struct Failure<U: Upstream> {
 
 impl<U: Upstream> Model for Failure<U> {
     ghost use Rattle.std.specs.Prelude.{ℕ};
-    ghost use Rattle.gateway_answers.specs.declared.fault.Fault.{Fault};
+    ghost use Rattle.gateway_requests.specs.declared.fault.Fault.{Fault};
     ghost use Rattle.upstream_schemas.specs.Asking.{IsWhyUnheld};
 
     ghost Value = { ℕ × Fault };

@@ -8,7 +8,7 @@ ghost use Rattle.upstream_fetching.specs.declared.limits.TheConstants.{MOST_ASKE
 
 use crate::failure::Failure;
 use crate::limits::{MOST_ASKED, MOST_FAILURES};
-use gateway_answers::Fault;
+use gateway_requests::Fault;
 use std::alloc::{AllocError, Global};
 use std::time::Instant;
 use upstream_schemas::Upstream;

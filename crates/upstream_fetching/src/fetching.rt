@@ -4,7 +4,7 @@ ghost use Rattle.std.specs.Prelude.{IfSome};
 ghost use Rattle.upstream_schemas.specs.Asking.{IsWhyUnheld};
 
 use crate::queue::FetchQueue;
-use gateway_answers::Fault;
+use gateway_requests::Fault;
 use std::sync::Wait;
 use std::time::{Clock, Duration, Instant};
 use upstream_schemas::{Upstream, UpstreamSchemas};

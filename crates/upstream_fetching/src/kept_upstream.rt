@@ -4,11 +4,11 @@ ghost use Rattle.std.specs.Prelude.{◌≡◌, ◌++◌, [], ◌∷◌, List, tr
 ghost use Rattle.std.specs.Option.{option_map_or};
 ghost use Rattle.schema_registry.specs.Keeping.{KeepsIfSome, KeptCommand, KeptRegistration};
 
+use registry_store::KeptSchema;
 use schema_registry::{KeepFault, Keeper};
 use std::marker::PhantomData;
 use std::sync::{Mutex, Wait};
 use upstream_schemas::{ExchangeFault, Upstream};
-use upstream_store::KeptSchema;
 
 /// The schemas that the store of an upstream registry had when this process opened it. What its lines said then is the
 /// world's record, which contracts alone can name.

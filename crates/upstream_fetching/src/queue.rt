@@ -5,7 +5,7 @@ ghost use Rattle.upstream_schemas.specs.Asking.{IsWhyUnheld};
 ghost use Rattle.upstream_fetching.specs.Asked.{IfFailed};
 
 use crate::fetch_list::{Asked, FetchList};
-use gateway_answers::Fault;
+use gateway_requests::Fault;
 use std::alloc::Global;
 use std::sync::{Condvar, Mutex, Wait};
 use std::time::{Clock, Instant};

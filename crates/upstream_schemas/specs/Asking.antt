@@ -1,8 +1,8 @@
 -- Why the schema of an id of an upstream registry is not held. This project's own.
 use Rattle.std.specs.Prelude.{◌≡◌, ℕ, List, true, Err, ⊤}
 use Rattle.avro_schema_names.specs.declared.error.SchemaError.{SchemaError}
-use Rattle.gateway_answers.specs.declared.fault.Fault.{Fault}
-use Rattle.gateway_answers.specs.declared.fault.Fault.TheVariants as faults
+use Rattle.gateway_requests.specs.declared.fault.Fault.{Fault}
+use Rattle.gateway_requests.specs.declared.fault.Fault.TheVariants as faults
 use Rattle.schema_registry.specs.Accepting.{declaration_of}
 use Rattle.upstream_answers.specs.Content.{is_unknown, schema_text}
 use Rattle.upstream_answers.specs.declared.fault.ContentFault.{ContentFault}

@@ -6,7 +6,7 @@ ghost use Rattle.upstream_schemas.specs.Asking.{IsWhyUnheld};
 ghost use Rattle.upstream_schemas.specs.Naming.{IsTextOf, WasAnswered};
 
 use crate::upstream::{ExchangeFault, Upstream};
-use gateway_answers::{Fault, UpstreamFault};
+use gateway_requests::{Fault, UpstreamFault};
 use std::alloc::{AllocError, Global};
 use upstream_answers::{
     AnswerFault, ContentFault, Place, UpstreamAnswer, is_unknown, parse_answer, question_of,

@@ -1,4 +1,4 @@
-//! Registry; used by `gateway_upstream`.
+//! Registry.
 //!
 //! The schemas that the ids of an upstream registry name: each is asked of that registry once, and then held for good,
 //! under an id of this process's own registry, by which programs and sessions go.

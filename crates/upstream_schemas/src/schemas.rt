@@ -15,7 +15,7 @@ use crate::known::KnownNamings;
 use crate::limits::MOST_IDS;
 use crate::upstream::Upstream;
 use avro_schema::{Schema, SchemaError};
-use gateway_answers::Fault;
+use gateway_requests::Fault;
 use id_cells::{HeldValue, IdTable};
 use schema_registry::{Command, KeepFault, Level, Receipt, Refusal, SharedRegistry};
 use std::alloc::{AllocError, Global};

@@ -4,7 +4,7 @@ mod faults;
 mod findings;
 
 use crate::listed_upstream::ListedUpstream;
-use gateway_answers::Fault;
+use gateway_requests::Fault;
 use schema_registry::SharedRegistry;
 use std::alloc::AllocError;
 use upstream_schemas::FoundSchema;

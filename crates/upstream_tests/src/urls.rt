@@ -2,7 +2,7 @@
 
 use crate::texts::same;
 use std::alloc::{AllocError, Global};
-use upstream_url::{credentials_of, target_of};
+use upstream_fetching::{credentials_of, target_of};
 
 /// A URL, and what it says: the host, the port, the Host field and, in parentheses, the prefix.
 const TARGETS: &str = "\

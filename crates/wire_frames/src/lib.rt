@@ -1,12 +1,15 @@
-//! Edge: HTTP; used by `gateway_answers`, `gateway_requests`, `gateway_core`.
+//! Edge: HTTP.
 //!
-//! Messages in the wire format of the registry: a magic byte, the id of the schema that wrote the payload, the payload.
+//! Bytes moved once, from a reader into memory and from memory to a writer; and messages in the wire format of the
+//! registry: a magic byte, the id of the schema that wrote the payload, the payload.
 #![tactic(auto)]
 
 mod envelope;
 mod laws;
 mod message;
+mod moving;
 
 pub use envelope::{EnvelopeError, PREFIX_LENGTH, open_envelope, put_envelope};
 pub use laws::envelopes_have_one_id_and_payload;
 pub use message::Message;
+pub use moving::{read_more, write_more};

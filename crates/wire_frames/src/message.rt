@@ -2,12 +2,12 @@
 
 ghost use Rattle.std.specs.Prelude.{◌≡◌, ◌<◌, ◌≤◌, ◌++◌, List, ℕ, [], IfErr, IfOk, OnErr, OnOk, length, take};
 ghost use Rattle.std.specs.Io.KnownBytes.{Keeps};
-ghost use Rattle.byte_transfer.specs.Moving.{Receives};
+ghost use Rattle.wire_frames.specs.Moving.{Receives};
 ghost use Rattle.wire_frames.specs.declared.envelope.TheConstants.{PREFIX_LENGTH};
 ghost use Rattle.wire_frames.specs.Envelope.{IsNoMessage, IsWriterOf, envelope};
 
 use crate::envelope::{EnvelopeError, PREFIX_LENGTH, open_envelope};
-use byte_transfer::read_more;
+use crate::read_more;
 use std::alloc::{AllocError, Global};
 use std::io;
 use std::io::Read;

@@ -1,7 +1,7 @@
 //! A caller of `machine`.
 
 ghost use Rattle.std.specs.Prelude.{IfOk, IfSome};
-ghost use Rattle.outcome.specs.Outcome.{Done};
+ghost use Rattle.avro_bytes.specs.Outcome.{Done};
 ghost use Rattle.resolver.specs.Outcome.{IsOutcome};
 
 use avro_schema::Schema;

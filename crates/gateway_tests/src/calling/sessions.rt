@@ -1,12 +1,12 @@
 //! A caller of `session_pool`.
 
 ghost use Rattle.std.specs.Prelude.{◌≡◌, ◌≤◌, IfSome, vec_len};
-ghost use Rattle.outcome.specs.Outcome.{outcome_of};
+ghost use Rattle.avro_bytes.specs.Outcome.{outcome_of};
 ghost use Rattle.resolver.specs.Outcome.{IsOutcome};
 ghost use Rattle.schema_registry.specs.Receipt.{IsReceiptOf};
 ghost use Rattle.session_pool.specs.Seats.{Rests, RestsWorker};
 
-use outcome::Outcome;
+use avro_bytes::Outcome;
 use schema_registry::Receipt;
 use session_pool::{ClientSeat, Finished, Pass, SessionEnd, SessionPool, WorkerSeat};
 

@@ -1,8 +1,7 @@
 //! Requests that are refused by their head, contents that are too long, and bytes that are no request.
 
 use crate::staying::devices::{Seen, Sender, go_on};
-use gateway_answers::Fault;
-use gateway_requests::Routes;
+use gateway_requests::{Fault, Routes};
 use http_server::Config;
 use persistent_exchange::{Course, PersistentExchange, Refusal, RequestStream, Sighting};
 use std::alloc::{AllocError, Global};

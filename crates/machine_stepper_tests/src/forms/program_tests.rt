@@ -2,8 +2,8 @@
 
 use crate::again::again;
 use crate::forms::rows::{Tried, assert_rows, is_answer};
+use avro_bytes::{Mismatch, MismatchKind};
 use isa::{Entry, Instr, Lists, Parts, Program};
-use outcome::{Mismatch, MismatchKind};
 use std::alloc::{AllocError, Global};
 use std::test::Fail;
 

@@ -5,10 +5,10 @@ use Rattle.std.proofs.lemmas.List.{length-map, length-set}
 use Rattle.std.proofs.lemmas.Bool.Decides.{nat_tests}
 use Rattle.avro_types.specs.Node.{Node, FieldNode}
 use Rattle.avro_types.specs.Datum.{Datum, Data, no_more, more, how_many}
-use Rattle.resolver_matching.specs.declared.pairing.Partner.{Partner}
-use Rattle.resolver_matching.specs.declared.pairing.Route.{Route}
-use Rattle.resolver_matching.specs.Options.{given}
-use Rattle.resolver_matching.specs.Partners.{by_alias, by_name, field_names, has_partner, partner_at, partners, routes, routes_to, taken_by, with_aliases}
+use Rattle.resolver.specs.declared.pairing.Partner.{Partner}
+use Rattle.resolver.specs.declared.pairing.Route.{Route}
+use Rattle.resolver.specs.Options.{given}
+use Rattle.resolver.specs.Partners.{by_alias, by_name, field_names, has_partner, partner_at, partners, routes, routes_to, taken_by, with_aliases}
 use Rattle.resolver.specs.Steps.{kept, one_field}
 use Rattle.resolver.specs.Resolution.{Resolved, ◌>>=◌, Slots, no_slots, resolved, resolved_fields}
 

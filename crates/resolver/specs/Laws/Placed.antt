@@ -2,7 +2,7 @@
 use Rattle.std.proofs.Common.{◌≡◌, ℕ, Bool, true, false, List, refl}
 use Rattle.avro_types.specs.Node.{Node}
 use Rattle.avro_types.specs.Datum.{Datum, NullDatum, BooleanDatum, IntDatum, LongDatum, BytesDatum, TextDatum, FixedDatum, EnumDatum, ArrayDatum, MapDatum, UnionDatum, RecordDatum}
-use Rattle.resolver_matching.specs.Matching.{place}
+use Rattle.resolver.specs.Matching.{place}
 use Rattle.resolver.specs.Resolution.{placed, resolved}
 use Rattle.resolver.specs.Steps.{inside}
 

@@ -2,7 +2,7 @@
 
 use crate::listed_upstream::{ListedUpstream, place};
 use crate::texts::same;
-use gateway_answers::Fault;
+use gateway_requests::Fault;
 use schema_registry::SharedRegistry;
 use std::alloc::{AllocError, Global};
 use std::sync::atomic::{AtomicU64, Ordering};

@@ -4,7 +4,7 @@
 
 use crate::listed_upstream::ListedUpstream;
 use crate::texts::{number, same};
-use gateway_answers::{Fault, UpstreamFault};
+use gateway_requests::{Fault, UpstreamFault};
 use std::alloc::{AllocError, Global};
 use std::sync::Wait;
 use std::test::Fail;

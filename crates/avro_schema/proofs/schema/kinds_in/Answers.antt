@@ -3,7 +3,7 @@ use Rattle.std.proofs.lemmas.Result.{err_from_is_err_and}
 use Rattle.serde_json.specs.View.{view}
 use Rattle.avro_schema.proofs.Declared.{declared-is, finished-ok, finished-err, some-defaults}
 use Rattle.avro_schema.proofs.DraftsConform.{walked-conform}
-use Rattle.avro_schema_walk.proofs.NamespaceKept.{null-enclosing}
+use Rattle.avro_schema.proofs.NamespaceKept.{null-enclosing}
 use Rattle.avro_schema.proofs.WholeNodes.{walked_few}
 use Rattle.avro_schema.proofs.schema.kinds_in.Goals as goal
 

@@ -1,5 +1,5 @@
 use Rattle.std.proofs.Common.{◌∙◌, arith, sym}
-use Rattle.avro_schema_drafts.specs.Draft.{draft_field_of, drafts_of}
+use Rattle.avro_schema_names.specs.Draft.{draft_field_of, drafts_of}
 use Rattle.avro_schema_faults.specs.DefaultPlaces.{is_bad}
 use Rattle.avro_schema_faults.proofs.FirstOfRest.{position-end, position-hit, position-miss}
 use Rattle.avro_schema_faults.proofs.bad_defaults.bad_among.Goals as goal

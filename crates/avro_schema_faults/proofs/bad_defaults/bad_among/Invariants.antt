@@ -1,6 +1,6 @@
 use Rattle.std.proofs.Common.{◌≡◌, drop, map}
 use Rattle.std.specs.List.{position_from}
-use Rattle.avro_schema_drafts.specs.Draft.{draft_field_of, drafts_of}
+use Rattle.avro_schema_names.specs.Draft.{draft_field_of, drafts_of}
 use Rattle.avro_schema_faults.specs.DefaultPlaces.{is_bad}
 use Rattle.avro_schema_faults.proofs.bad_defaults.bad_among.Given as goal
 

@@ -1,5 +1,5 @@
 use Rattle.std.proofs.Common.{◌∙◌, arith, sym}
-use Rattle.avro_schema_drafts.specs.Draft.{drafts_of}
+use Rattle.avro_schema_names.specs.Draft.{drafts_of}
 use Rattle.avro_schema_faults.proofs.FirstOfRest.{first-end, first-hit, first-miss}
 use Rattle.avro_schema_faults.proofs.bad_defaults.first_bad.Goals as goal
 

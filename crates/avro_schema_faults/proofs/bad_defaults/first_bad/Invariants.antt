@@ -1,5 +1,5 @@
 use Rattle.std.proofs.Common.{◌≡◌, drop}
-use Rattle.avro_schema_drafts.specs.Draft.{drafts_of}
+use Rattle.avro_schema_names.specs.Draft.{drafts_of}
 use Rattle.avro_schema_faults.specs.DefaultPlaces.{first_bad}
 use Rattle.avro_schema_faults.proofs.bad_defaults.first_bad.Given as goal
 

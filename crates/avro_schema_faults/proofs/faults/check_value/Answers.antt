@@ -2,7 +2,7 @@ use Rattle.std.proofs.Common.{◌∙◌, sym}
 use Rattle.std.proofs.lemmas.Result.{err_from_is_err_and}
 use Rattle.serde_json.specs.View.{view}
 use Rattle.avro_schema.proofs.WholeNodes.{walked_few}
-use Rattle.avro_schema_walk.proofs.NamespaceKept.{null-enclosing}
+use Rattle.avro_schema.proofs.NamespaceKept.{null-enclosing}
 use Rattle.avro_schema_faults.proofs.Found.{all-read, default-failed, walk-failed}
 use Rattle.avro_schema_faults.proofs.faults.check_value.Goals as goal
 

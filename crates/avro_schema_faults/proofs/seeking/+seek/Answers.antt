@@ -4,12 +4,12 @@ use Rattle.std.specs.declared.alloc.AllocError.{AllocError}
 use Rattle.serde_json.specs.Data.{Items, array, string, depth, items_depth}
 use Rattle.serde_json.specs.View.{view, items_view}
 use Rattle.serde_json.specs.declared.value.Value.{the_lemmas}
-use Rattle.avro_schema_drafts.proofs.Depths.{item-depth}
+use Rattle.avro_schema_names.proofs.Depths.{item-depth}
 use Rattle.avro_schema_names.specs.Word.{form_of}
 use Rattle.avro_schema_names.specs.declared.word.Form.TheVariants as forms
 use Rattle.avro_schema_paths.specs.Places.{Path}
 use Rattle.avro_schema_paths.specs.declared.step.Step.TheVariants as steps
-use Rattle.avro_schema_walk.proofs.Members.{walk-scalar}
+use Rattle.avro_schema.proofs.Members.{walk-scalar}
 use Rattle.avro_schema_faults.specs.Faults.{IsOfForm}
 use Rattle.avro_schema_faults.specs.Searching.{Behind, Searches, SoughtIn, SoughtInField, SoughtInFields, SoughtInList, SoughtInMembers}
 use Rattle.avro_schema_faults.proofs.Ending.{popped}

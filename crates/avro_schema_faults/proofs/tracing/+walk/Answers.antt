@@ -10,22 +10,22 @@ use Rattle.serde_json.proofs.Views.{view-Array, view-Object}
 use Rattle.avro_types.specs.Aliases.{full_names}
 use Rattle.avro_types.specs.Node.{ArrayNode, MapNode, UnionNode, names_of}
 use Rattle.avro_types.specs.declared.limits.TheConstants.{MOST_FIELDS, MOST_NODES}
-use Rattle.avro_schema_drafts.specs.Draft.{RecordDraft, Whole, draft_field_of, field_names}
-use Rattle.avro_schema_drafts.specs.Head.{heads_of}
-use Rattle.avro_schema_drafts.proofs.Depths.{item-depth}
-use Rattle.avro_schema_drafts.proofs.DraftLists.{map-push}
+use Rattle.avro_schema_names.specs.Draft.{RecordDraft, Whole, draft_field_of, field_names}
+use Rattle.avro_schema_names.specs.Head.{heads_of}
+use Rattle.avro_schema_names.proofs.Depths.{item-depth}
+use Rattle.avro_schema_names.proofs.DraftLists.{map-push}
 use Rattle.avro_schema_names.specs.Word.{form_of}
 use Rattle.avro_schema_names.specs.declared.error.SchemaError.TheVariants.{BadUnion, OutOfProfile, TooLarge, Unknown}
 use Rattle.avro_schema_names.specs.declared.word.Form.TheVariants as forms
 use Rattle.avro_schema_paths.specs.declared.step.Step.TheVariants as steps
-use Rattle.avro_schema_walk.specs.Contract.{object_walk, run}
-use Rattle.avro_schema_walk.specs.Walk.{field, fields, walk}
-use Rattle.avro_schema_walk.proofs.FieldList.{fields-on, fields-fail, fields-end, run-field, run-many}
-use Rattle.avro_schema_walk.proofs.MemberList.{members-on, members-fail, members-end, union-failed, union-bad, union-done, pushed_union}
-use Rattle.avro_schema_walk.proofs.Members.{walk-scalar, walk-object, field-other, fields-none, fields-some}
-use Rattle.avro_schema_walk.proofs.NamespaceKept.{enclosing-pushed, enclosing-walked}
-use Rattle.avro_schema_walk.proofs.Records.{pushed-record, run-record}
-use Rattle.avro_schema_walk.proofs.Runs.{run-no_room, run-keeps, run-fault}
+use Rattle.avro_schema.specs.Contract.{object_walk, run}
+use Rattle.avro_schema.specs.Walk.{field, fields, walk}
+use Rattle.avro_schema.proofs.FieldList.{fields-on, fields-fail, fields-end, run-field, run-many}
+use Rattle.avro_schema.proofs.MemberList.{members-on, members-fail, members-end, union-failed, union-bad, union-done, pushed_union}
+use Rattle.avro_schema.proofs.Members.{walk-scalar, walk-object, field-other, fields-none, fields-some}
+use Rattle.avro_schema.proofs.NamespaceKept.{enclosing-pushed, enclosing-walked}
+use Rattle.avro_schema.proofs.Records.{pushed-record, run-record}
+use Rattle.avro_schema.proofs.Runs.{run-no_room, run-keeps, run-fault}
 use Rattle.avro_schema_faults.specs.Faults.{IsOfForm, field_after, listing, schema, to_type, to_wrapped}
 use Rattle.avro_schema_faults.proofs.Bounds.{fails-after}
 use Rattle.avro_schema_faults.proofs.Ending.{ends-here, ends-within, popped}

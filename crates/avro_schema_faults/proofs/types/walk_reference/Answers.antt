@@ -1,6 +1,6 @@
 use Rattle.std.proofs.Common.{sym, ◌∙◌}
 use Rattle.std.specs.Arc.{arc_str_bytes}
-use Rattle.avro_schema_walk.proofs.References.{refers, refers_not}
+use Rattle.avro_schema.proofs.References.{refers, refers_not}
 use Rattle.avro_schema_faults.proofs.types.walk_reference.Goals as goal
 
 pub returns-in-Some : goal.returns-in-Some

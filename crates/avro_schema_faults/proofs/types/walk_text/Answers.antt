@@ -1,8 +1,8 @@
 use Rattle.std.proofs.Common.{◌∙◌, ap, sym, option_map, refl}
 use Rattle.std.specs.Arc.{arc_str_bytes}
-use Rattle.avro_schema_walk.specs.Contract.{run}
+use Rattle.avro_schema.specs.Contract.{run}
 use Rattle.avro_types.specs.Node.{node_of}
-use Rattle.avro_schema_walk.specs.Walk.{named}
+use Rattle.avro_schema.specs.Walk.{named}
 use Rattle.avro_schema_faults.proofs.types.walk_text.Goals as goal
 
 pub returns-then-is_left_out : goal.returns-then-is_left_out

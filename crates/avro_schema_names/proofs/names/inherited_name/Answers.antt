@@ -1,9 +1,9 @@
 use Rattle.std.proofs.Common.{sym, ◌∙◌}
 use Rattle.std.specs.Arc.{arc_str_bytes}
-use Rattle.avro_schema_drafts.specs.Head.{heads_of}
+use Rattle.avro_schema_names.specs.Head.{heads_of}
 use Rattle.avro_types.specs.Laws.Booleans.{is_nowhere}
 use Rattle.avro_types.specs.Laws.Dots.{namespace-inside}
-use Rattle.avro_schema_drafts.proofs.Namespaces.{namespaces-numbered}
+use Rattle.avro_schema_names.proofs.Namespaces.{namespaces-numbered}
 use Rattle.avro_schema_names.proofs.NameSteps.{new-bad_last, new-used, new-fine}
 use Rattle.avro_schema_names.proofs.names.inherited_name.Goals as goal
 

@@ -2,7 +2,7 @@ use Rattle.std.proofs.Common.{sym, ap, ◌∙◌}
 use Rattle.std.proofs.lemmas.Result.{err_from_is_err_and}
 use Rattle.std.specs.Arc.{arc_str_bytes}
 use Rattle.serde_json.specs.View.{view}
-use Rattle.avro_schema_drafts.specs.Draft.{data_at}
+use Rattle.avro_schema_names.specs.Draft.{data_at}
 use Rattle.avro_types.specs.Laws.Dots.{back-undotted, none-undotted, split-parts}
 use Rattle.avro_schema_names.proofs.NameSteps.{begins-bad, dotted-empty, dotted-some, name-dotted, name-inherited, name-no_space, name-own}
 use Rattle.avro_schema_names.proofs.names.new_name.Goals as goal

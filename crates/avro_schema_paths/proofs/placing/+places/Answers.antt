@@ -2,9 +2,9 @@ use Rattle.std.proofs.Common.{◌≡◌, ◌≤◌, ◌∙◌, ◌++◌, ◌∷�
 use Rattle.serde_json.specs.Data.{array, depth, items_depth}
 use Rattle.serde_json.specs.View.{view, items_view}
 use Rattle.serde_json.proofs.Views.{view-Object}
-use Rattle.avro_schema_drafts.proofs.Depths.{found-depth, item-depth}
+use Rattle.avro_schema_names.proofs.Depths.{found-depth, item-depth}
 use Rattle.avro_types.specs.Node.{fields_of}
-use Rattle.avro_schema_drafts.specs.Draft.{data_at}
+use Rattle.avro_schema_names.specs.Draft.{data_at}
 use Rattle.serde_json.specs.declared.value.Value.{Value}
 use Rattle.avro_schema_paths.specs.Parts.{InForm, InHeld, field_steps, member_steps, type_in}
 use Rattle.avro_schema_paths.specs.Places.{Path, types_at, item_at, value_at}

@@ -3,8 +3,8 @@ use Rattle.std.proofs.Common.{◌+◌, ◌*◌, map}
 use Rattle.serde_json.specs.Data.{depth, items_depth}
 use Rattle.serde_json.specs.View.{view, items_view}
 use Rattle.avro_types.specs.Node.{fields_of}
-use Rattle.avro_schema_drafts.specs.Draft.{data_at}
-use Rattle.avro_schema_drafts.proofs.Depths.{option_depth}
+use Rattle.avro_schema_names.specs.Draft.{data_at}
+use Rattle.avro_schema_names.proofs.Depths.{option_depth}
 use Rattle.avro_schema_paths.specs.Parts.{InField, InMember}
 use Rattle.avro_schema_paths.specs.Adds.{Adds}
 use Rattle.avro_schema_paths.proofs.placing.+places.Given as goal

@@ -1,7 +1,7 @@
 -- The first bar, or the last piece.
 use Rattle.std.proofs.Common.{◌<◌, ◌+◌, length, arith}
 use Rattle.std.proofs.lemmas.List.{take_rest, length-drop}
-use Rattle.assembler_lexer.proofs.Parts.{parts_split, parts_whole}
+use Rattle.assembler.proofs.Parts.{parts_split, parts_whole}
 use Rattle.commands.proofs.pieces.split_bar.Goals as goal
 
 pub returns-in-Some : goal.returns-in-Some

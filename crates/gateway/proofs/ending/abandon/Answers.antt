@@ -1,7 +1,7 @@
 -- Each try is one more that found a worker with the session.
 use Rattle.std.proofs.Common.{◌≡◌, ℕ, ◌∙◌, sym, inr, subst, arith, rules}
 use Rattle.gateway_core.specs.Gates.{Asked, never, once_more}
-use Rattle.session_pool_rule.specs.Words.{with_worker}
+use Rattle.session_pool_slots.specs.Words.{with_worker}
 use Rattle.session_pool.specs.Seats.{Finds, IsPassOf, KeepsOthers}
 use Rattle.session_pool.specs.Pass.{Pass}
 use Rattle.gateway.specs.declared.ending.TheConstants.{MOST_ABANDONS}

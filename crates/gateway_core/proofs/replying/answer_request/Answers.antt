@@ -1,6 +1,6 @@
 -- The answer to a fault of the request.
 use Rattle.std.proofs.Common.{None}
-use Rattle.gateway_answers.specs.Answer.{answer_of}
+use Rattle.gateway_requests.specs.Answer.{answer_of}
 use Rattle.gateway_core.proofs.Answered.{fault_answered, fault_told}
 use Rattle.gateway_core.proofs.replying.answer_request.Goals as goal
 

@@ -1,6 +1,6 @@
 -- The bytes and the status of the answer.
 use Rattle.std.proofs.Common.{◌++◌, None}
-use Rattle.gateway_answers.specs.Answer.{answer_of}
+use Rattle.gateway_requests.specs.Answer.{answer_of}
 use Rattle.gateway_core.proofs.Answered.{replied, reply_told}
 use Rattle.gateway_core.proofs.replying.reply_to.Goals as goal
 

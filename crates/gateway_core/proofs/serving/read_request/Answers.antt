@@ -1,6 +1,6 @@
 -- The head that was found is that of all bytes, or there is none in them.
-use Rattle.http_request.specs.Front.{IsFrontOf}
-use Rattle.http_request.specs.declared.head.Front.TheVariants.{Head}
+use Rattle.gateway_requests.specs.Front.{IsFrontOf}
+use Rattle.gateway_requests.specs.declared.head.Front.TheVariants.{Head}
 use Rattle.gateway_core.proofs.Asked.{if_asks, no_head_asks}
 use Rattle.gateway_core.proofs.serving.read_request.Goals as goal
 

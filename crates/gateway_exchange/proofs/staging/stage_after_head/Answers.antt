@@ -1,8 +1,8 @@
 -- What a head says that was found.
 use Rattle.std.proofs.Common.{◌≡◌, ◌∙◌, Ok, Err}
 use Rattle.std.proofs.lemmas.List.{take_rest}
-use Rattle.http_request.proofs.Fronts.{is_allowed}
-use Rattle.http_request.specs.Front.{IsAllowed}
+use Rattle.gateway_requests.proofs.Fronts.{is_allowed}
+use Rattle.gateway_requests.specs.Front.{IsAllowed}
 use Rattle.gateway_requests.specs.Asking.{chosen}
 use Rattle.gateway_exchange.proofs.Receiving.{after_head, fault_each, is_head, memory_each}
 use Rattle.gateway_exchange.proofs.staging.stage_after_head.Goals as goal

@@ -1,5 +1,5 @@
 use Rattle.std.proofs.Common.{◌∷◌, sym}
-use Rattle.machine_ropes.specs.Ropes.{rope_at}
+use Rattle.machine_store.specs.Ropes.{rope_at}
 use Rattle.machine_store.proofs.Joining.{after-last, goes_on}
 use Rattle.machine_store.proofs.buffers.joined_segment.Goals as goal
 

@@ -2,7 +2,7 @@
 use Rattle.std.proofs.Common.{sym, ap, ◌∙◌}
 use Rattle.program_definition.specs.Numbering.{constants_in, misses_in}
 use Rattle.program_ir.specs.Statements.{statements_in}
-use Rattle.program_lowering.specs.Walking.{start_at}
+use Rattle.program_compiler.specs.Walking.{start_at}
 use Rattle.program_compiler.proofs.Assembled.{code_is, jumps_are, many_misses, maps_are, none_assembled, wide_statements}
 use Rattle.program_compiler.proofs.Jumps.{at_none}
 use Rattle.program_compiler.proofs.Linked.{at_some}

@@ -2,7 +2,7 @@
 use Rattle.std.proofs.Common.{ap, ◌∙◌}
 use Rattle.program_definition.specs.Numbering.{constants_in}
 use Rattle.program_ir.specs.Statements.{statements_in}
-use Rattle.program_lowering.specs.Walking.{start_at}
+use Rattle.program_compiler.specs.Walking.{start_at}
 use Rattle.program_compiler.proofs.Assembled.{long_statements, many_statements, not_whole, whole_of}
 use Rattle.program_compiler.proofs.Jumps.{at_none}
 use Rattle.program_compiler.proofs.Linked.{at_some}

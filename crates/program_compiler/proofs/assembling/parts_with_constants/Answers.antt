@@ -2,7 +2,7 @@
 use Rattle.std.proofs.Common.{◌∙◌}
 use Rattle.program_definition.specs.Numbering.{numbered}
 use Rattle.program_ir.specs.Statements.{statements_in}
-use Rattle.program_lowering.specs.Walking.{start_at}
+use Rattle.program_compiler.specs.Walking.{start_at}
 use Rattle.program_compiler.proofs.Assembled.{linked_parts, misses_are, none_linked}
 use Rattle.program_compiler.proofs.assembling.parts_with_constants.Goals as goal
 

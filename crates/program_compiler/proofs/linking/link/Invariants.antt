@@ -3,7 +3,7 @@ use Rattle.std.proofs.Common.{◌≡◌, ◌≤◌, ◌++◌, drop, List}
 use Rattle.avro_types.specs.Node.{Node}
 use Rattle.program_definition.specs.Numbering.{code_from}
 use Rattle.program_ir.specs.Statements.{statements_in}
-use Rattle.program_lowering.specs.Walking.{start_at}
+use Rattle.program_compiler.specs.Walking.{start_at}
 use Rattle.program_compiler.proofs.linking.link.Given as goal
 
 abbrev pub invariant-loop-pc : goal.invariant-loop-pc

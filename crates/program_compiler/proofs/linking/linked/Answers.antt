@@ -1,7 +1,7 @@
 -- Each statement with its number.
 use Rattle.std.proofs.Common.{◌≡◌, ◌-◌, [], subst, rules}
 use Rattle.program_ir.specs.declared.statements.Statement.TheVariants as statements
-use Rattle.program_lowering.specs.Walking.{start_at}
+use Rattle.program_compiler.specs.Walking.{start_at}
 use Rattle.program_compiler.specs.Parts.{Narrows}
 use Rattle.program_compiler.proofs.Linked.{statement_linked}
 use Rattle.program_compiler.proofs.linking.linked.Goals as goal

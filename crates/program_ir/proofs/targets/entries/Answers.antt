@@ -2,7 +2,7 @@
 use Rattle.std.proofs.Common.{◌≤◌, ◌∙◌, ◌++◌, sym, ap, subst, map, append-nil, length, arith}
 use Rattle.std.specs.Prelude.{slice_get, string_bytes}
 use Rattle.std.proofs.Math.ListN.{drop_of_length-le}
-use Rattle.outcome.specs.declared.mismatch.MismatchKind.TheVariants as kinds
+use Rattle.avro_bytes.specs.declared.mismatch.MismatchKind.TheVariants as kinds
 use Rattle.program_definition.specs.Statements.{miss}
 use Rattle.program_definition.specs.Numbering.{entry_of, same_miss}
 use Rattle.program_definition.specs.Writing.{target}

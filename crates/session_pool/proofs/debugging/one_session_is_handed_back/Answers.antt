@@ -1,8 +1,8 @@
 use Rattle.std.proofs.Common.{◌≡◌, [], ◌∷◌, List, get_or, sym, ap, ◌∙◌}
 use Rattle.std.proofs.lemmas.List.{append_cancel_left}
-use Rattle.session_state.specs.Session.{Session}
-use Rattle.session_pool_rule.specs.Steps.{handing}
-use Rattle.session_pool_rule.specs.Views.{Handed}
+use Rattle.session_core.specs.Session.{Session}
+use Rattle.session_pool_slots.specs.Steps.{handing}
+use Rattle.session_pool_slots.specs.Views.{Handed}
 use Rattle.session_pool_slots.specs.Seats.{knows}
 use Rattle.session_pool.specs.Seats.{left}
 use Rattle.session_pool.proofs.debugging.one_session_is_handed_back.Goals as goal

@@ -1,6 +1,6 @@
 -- What the rows say of the path, in words of its segments.
 use Rattle.std.proofs.Common.{◌∙◌, arith}
-use Rattle.gateway_requests.proofs.Laws.{found, each}
+use Rattle.gateway_requests.proofs.RouteLaws.{found, each}
 use Rattle.gateway_requests.proofs.route.Routes.find.Goals as goal
 
 pub returns-clause-found : goal.returns-clause-found

@@ -1,8 +1,8 @@
 use Rattle.std.proofs.Common.{◌≡◌, ◌∙◌, ◌++◌, ℕ, List, length, ap, arith}
 use Rattle.machine_store.specs.declared.buffers.Buffer.TheVariants.{One}
 use Rattle.machine_store.specs.Buffers.{buffer_at}
-use Rattle.machine_ropes.specs.Ropes.{rope_at}
-use Rattle.machine_ropes.specs.Segments.{bytes_at, bytes_of}
+use Rattle.machine_store.specs.Ropes.{rope_at}
+use Rattle.machine_store.specs.Segments.{bytes_at, bytes_of}
 use Rattle.machine_store.proofs.Placing.{place-there, within-place, wrote}
 use Rattle.machine_store.proofs.Putting.{wide}
 use Rattle.machine_store.proofs.buffers.Buffers.write.Goals as goal

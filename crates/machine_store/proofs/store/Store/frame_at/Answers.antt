@@ -2,7 +2,7 @@ use Rattle.std.proofs.Common.{◌∙◌, ◌∷◌, ℕ, List, ap, length, rever
 use Rattle.std.specs.Prelude.{option_map}
 use Rattle.std.proofs.lemmas.List.{length-map}
 use Rattle.machine_store.specs.declared.store.Frame.{Frame}
-use Rattle.machine_ropes.specs.Segments.{bytes_of}
+use Rattle.machine_store.specs.Segments.{bytes_of}
 use Rattle.machine_store.specs.Store.{Held, texts_of}
 use Rattle.machine_store.specs.Viewing.{frame_numbered, view_in, view_of}
 use Rattle.machine_store.proofs.Viewing.{frame-seen}

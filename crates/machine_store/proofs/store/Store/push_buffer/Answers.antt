@@ -1,6 +1,6 @@
 use Rattle.std.proofs.Common.{◌≡◌, ◌∙◌, ◌∷◌, ◌++◌, List, ℕ, ap, reverse}
 use Rattle.std.proofs.lemmas.Result.{on_ok_weaker}
-use Rattle.machine_ropes.specs.Segments.{bytes_of}
+use Rattle.machine_store.specs.Segments.{bytes_of}
 use Rattle.machine_store.specs.Buffers.{segments_at}
 use Rattle.machine_store.proofs.Viewing.{buffer-shown, grown-on-ok, is-placed, none-named, none-placed, pushed-buffer, same-on-err}
 use Rattle.machine_store.proofs.store.Store.push_buffer.Goals as goal

@@ -1,5 +1,5 @@
 use Rattle.std.proofs.Common.{sym, ap, subst}
-use Rattle.session_state.specs.Session.{Session}
+use Rattle.session_core.specs.Session.{Session}
 use Rattle.session_core.specs.World.{IsCodeOf, World, program_at}
 use Rattle.std.proofs.Common.{◌≡◌, Some}
 use Rattle.session_core.proofs.Worlds.{found-here, kept-by-push}

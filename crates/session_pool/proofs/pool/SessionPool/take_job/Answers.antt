@@ -1,5 +1,5 @@
 use Rattle.std.proofs.Common.{refl, inr}
-use Rattle.session_pool_rule.specs.Words.{ready}
+use Rattle.session_pool_slots.specs.Words.{ready}
 use Rattle.session_pool_slots.specs.Seats.{knows}
 use Rattle.session_pool.proofs.Searches.{finds_twice, looks_at}
 use Rattle.session_pool.proofs.pool.SessionPool.take_job.Goals as goal

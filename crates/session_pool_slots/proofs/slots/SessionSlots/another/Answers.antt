@@ -1,5 +1,5 @@
 use Rattle.std.proofs.Common.{rules}
-use Rattle.session_pool_rule.proofs.Keeping.{splits}
+use Rattle.session_pool_slots.proofs.Keeping.{splits}
 use Rattle.session_pool_slots.specs.Account.{At, has_ended}
 use Rattle.session_pool_slots.proofs.slots.SessionSlots.another.Goals as goal
 

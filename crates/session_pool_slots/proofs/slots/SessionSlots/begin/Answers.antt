@@ -1,6 +1,6 @@
 use Rattle.std.proofs.Common.{rules}
-use Rattle.session_pool_rule.specs.Results.{IsOccupied}
-use Rattle.session_pool_rule.proofs.Calls.{searched_more, same_on}
+use Rattle.session_pool_slots.specs.Results.{IsOccupied}
+use Rattle.session_pool_slots.proofs.Calls.{searched_more, same_on}
 use Rattle.session_pool_slots.proofs.Begun.{has_begun}
 use Rattle.session_pool_slots.proofs.slots.SessionSlots.begin.Goals as goal
 

@@ -1,5 +1,5 @@
 use Rattle.std.proofs.Common.{◌≡◌, []}
-use Rattle.session_pool_rule.specs.Results.{HasSame, IsOccupied, Searched}
+use Rattle.session_pool_slots.specs.Results.{HasSame, IsOccupied, Searched}
 use Rattle.session_pool_slots.specs.Seats.{Rests, knows}
 use Rattle.session_pool_slots.proofs.slots.SessionSlots.begin.Given as goal
 

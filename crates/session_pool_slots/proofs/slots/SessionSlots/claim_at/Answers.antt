@@ -1,5 +1,5 @@
 use Rattle.std.proofs.Common.{◌∷◌, [], ◌∙◌}
-use Rattle.session_pool_rule.proofs.Calls.{same_on}
+use Rattle.session_pool_slots.proofs.Calls.{same_on}
 use Rattle.session_pool_slots.specs.Seats.{knows}
 use Rattle.session_pool_slots.proofs.Begun.{claimed_later}
 use Rattle.session_pool_slots.proofs.Searches.{found_twice}

@@ -1,7 +1,7 @@
 use Rattle.std.proofs.Common.{arith, refl, ap, sym, subst, ◌∙◌}
-use Rattle.session_state.specs.Session.{Session, begun}
-use Rattle.session_pool_rule.specs.Words.{IsWordOf, ready}
-use Rattle.session_pool_rule.specs.Steps.{new_pass}
+use Rattle.session_core.specs.Session.{Session, begun}
+use Rattle.session_pool_slots.specs.Words.{IsWordOf, ready}
+use Rattle.session_pool_slots.specs.Steps.{new_pass}
 use Rattle.session_pool_slots.specs.Account.{has_ended, opened}
 use Rattle.session_pool_slots.specs.Kinds.{Seat}
 use Rattle.session_pool_slots.specs.Known.{pass_of}

@@ -1,6 +1,6 @@
 use Rattle.std.proofs.Common.{rules, [], Some}
-use Rattle.session_pool_rule.proofs.Calls.{freed_now, put_in}
-use Rattle.session_pool_rule.proofs.Keeping.{frees_at}
+use Rattle.session_pool_slots.proofs.Calls.{freed_now, put_in}
+use Rattle.session_pool_slots.proofs.Keeping.{frees_at}
 use Rattle.session_pool_slots.specs.Account.{At, has_ended}
 use Rattle.session_pool_slots.proofs.slots.SessionSlots.free.Goals as goal
 

@@ -1,6 +1,6 @@
 use Rattle.std.proofs.Common.{rules, []}
-use Rattle.session_pool_rule.proofs.Calls.{gave_now, put_in}
-use Rattle.session_pool_rule.proofs.Keeping.{gives_back_at}
+use Rattle.session_pool_slots.proofs.Calls.{gave_now, put_in}
+use Rattle.session_pool_slots.proofs.Keeping.{gives_back_at}
 use Rattle.session_pool_slots.specs.Account.{At, NoRows, has_ended, kept}
 use Rattle.session_pool_slots.proofs.Accounts.{kept_fits}
 use Rattle.session_pool_slots.proofs.slots.SessionSlots.give_back.Goals as goal

@@ -1,5 +1,5 @@
 use Rattle.std.proofs.Common.{rules}
-use Rattle.session_pool_rule.proofs.Keeping.{looks_at}
+use Rattle.session_pool_slots.proofs.Keeping.{looks_at}
 use Rattle.session_pool_slots.specs.Account.{At, has_ended}
 use Rattle.session_pool_slots.proofs.slots.SessionSlots.look.Goals as goal
 

@@ -1,6 +1,6 @@
 use Rattle.std.proofs.Common.{refl}
 use Rattle.std.proofs.lemmas.List.{get_or-replicate}
-use Rattle.session_pool_rule.proofs.Keeping.{opens}
+use Rattle.session_pool_slots.proofs.Keeping.{opens}
 use Rattle.session_pool_slots.specs.Account.{At, has_ended}
 use Rattle.session_pool_slots.proofs.slots.SessionSlots.new.Goals as goal
 

@@ -1,11 +1,11 @@
 use Rattle.std.proofs.Common.{rules, ◌≡◌, ℕ, [], None, subst, sym, ap}
-use Rattle.session_state.specs.Session.{Session}
-use Rattle.session_state.specs.Ending.{EndsInOneSlice}
-use Rattle.session_state.specs.Rows.{TakesRows, slice_rows}
-use Rattle.session_state.specs.Stopping.{IsStopped}
-use Rattle.session_pool_rule.specs.Words.{IsWordOf}
-use Rattle.session_pool_rule.proofs.Calls.{has_first, lifted, put_in, put_twice, returned_now}
-use Rattle.session_pool_rule.proofs.Keeping.{returns_it_at}
+use Rattle.session_core.specs.Session.{Session}
+use Rattle.session_core.specs.SessionEnding.{EndsInOneSlice}
+use Rattle.session_core.specs.Rows.{TakesRows, slice_rows}
+use Rattle.session_core.specs.Stopping.{IsStopped}
+use Rattle.session_pool_slots.specs.Words.{IsWordOf}
+use Rattle.session_pool_slots.proofs.Calls.{has_first, lifted, put_in, put_twice, returned_now}
+use Rattle.session_pool_slots.proofs.Keeping.{returns_it_at}
 use Rattle.session_pool_slots.specs.Account.{At, RowsOn, has_ended}
 use Rattle.session_pool_slots.specs.Kinds.{Seat}
 use Rattle.session_pool_slots.proofs.Accounts.{rows_fit}

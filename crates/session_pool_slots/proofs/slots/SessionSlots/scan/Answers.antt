@@ -1,5 +1,5 @@
-use Rattle.session_pool_rule.specs.Results.{IsUnready}
-use Rattle.session_pool_rule.proofs.Calls.{searched_more, same_on}
+use Rattle.session_pool_slots.specs.Results.{IsUnready}
+use Rattle.session_pool_slots.proofs.Calls.{searched_more, same_on}
 use Rattle.session_pool_slots.proofs.slots.SessionSlots.scan.Goals as goal
 
 pub loop-slot-preserved : goal.loop-slot-preserved

@@ -1,5 +1,5 @@
 use Rattle.std.proofs.Common.{[]}
-use Rattle.session_pool_rule.specs.Results.{HasSame, IsUnready, Searched}
+use Rattle.session_pool_slots.specs.Results.{HasSame, IsUnready, Searched}
 use Rattle.session_pool_slots.specs.Seats.{Rests, knows}
 use Rattle.session_pool_slots.proofs.slots.SessionSlots.scan.Given as goal
 

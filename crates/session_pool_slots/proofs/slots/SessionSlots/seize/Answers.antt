@@ -1,7 +1,7 @@
 use Rattle.std.proofs.Common.{◌∙◌, refl, inr}
-use Rattle.session_pool_rule.specs.Words.{ready}
-use Rattle.session_pool_rule.specs.Steps.{pass_stood}
-use Rattle.session_pool_rule.proofs.Calls.{stood_now, stood_pass, took_expected, took_nothing, took_stood}
+use Rattle.session_pool_slots.specs.Words.{ready}
+use Rattle.session_pool_slots.specs.Steps.{pass_stood}
+use Rattle.session_pool_slots.proofs.Calls.{stood_now, stood_pass, took_expected, took_nothing, took_stood}
 use Rattle.session_pool_slots.specs.Account.{At, has_ended}
 use Rattle.session_pool_slots.proofs.Hands.{has_taken}
 use Rattle.session_pool_slots.proofs.slots.SessionSlots.seize.Goals as goal

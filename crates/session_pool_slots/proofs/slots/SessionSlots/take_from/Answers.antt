@@ -1,6 +1,6 @@
 use Rattle.std.proofs.Common.{rules}
 use mathlib.Core.Option.{none}
-use Rattle.session_pool_rule.proofs.Keeping.{takes_own}
+use Rattle.session_pool_slots.proofs.Keeping.{takes_own}
 use Rattle.session_pool_slots.specs.Account.{At, has_ended}
 use Rattle.session_pool_slots.proofs.slots.SessionSlots.take_from.Goals as goal
 

@@ -1,6 +1,6 @@
 use Rattle.std.proofs.Common.{rules}
 use mathlib.Core.Option.{none}
-use Rattle.session_pool_rule.proofs.Keeping.{steals}
+use Rattle.session_pool_slots.proofs.Keeping.{steals}
 use Rattle.session_pool_slots.specs.Account.{At, has_ended}
 use Rattle.session_pool_slots.proofs.slots.SessionSlots.take_ready.Goals as goal
 

@@ -25,7 +25,7 @@ use Rattle.std.specs.contracts.impls.GlobalAllocator.TheImpl.{ghosts}
 use Rattle.std.proofs.alloc.Calls.{Al, handle_tells, Goes-blank}
 use Rattle.std.proofs.alloc.Global.TheLaws as heap_laws
 use Rattle.std.proofs.raw_atomic.Walks.{proved_at, leaves}
-use Rattle.box_pointer.proofs.Values.{both, good, put_together}
+use Rattle.transcoder_handle.proofs.PointerValues.{both, good, put_together}
 use Rattle.transcoder_handle.specs.contracts.held.Held as held
 use Rattle.transcoder_handle.proofs.Values.{R, word, held_out, held_box}
 use Rattle.transcoder_handle.specs.contracts.held.Held.into_pointer.{ended, clauses}

@@ -22,7 +22,7 @@ use Rattle.std.specs.contracts.impls.GlobalAllocator.TheImpl.{ghosts}
 use Rattle.std.proofs.alloc.Calls.{Goes-blank}
 use Rattle.std.proofs.alloc.Global.TheLaws as heap_laws
 use Rattle.std.proofs.raw_atomic.Walks.{proved_at, leaves}
-use Rattle.box_pointer.proofs.Values.{both, BoxPointer, good, taken_apart}
+use Rattle.transcoder_handle.proofs.PointerValues.{both, BoxPointer, good, taken_apart}
 use Rattle.transcoder_handle.specs.Held.{held_owns}
 use Rattle.transcoder_handle.proofs.Values.{R, word, held_in}
 use Rattle.transcoder_handle.specs.contracts.held.Held.of_pointer.{ended, clauses}

@@ -1,6 +1,0 @@
-use Rattle.std.proofs.Common.{◌≡◌, take}
-use Rattle.assembler_lexer.specs.Words.{value_of}
-use Rattle.assembler_lexer.proofs.words.value_of.Given as goal
-
-abbrev pub invariant-loop-digit : goal.invariant-loop-digit
-invariant-loop-digit l = l.value ≡ value_of (take l.digit-index l.digits)

@@ -1,4 +1,0 @@
-pub mod Steps
-pub mod Taking
-pub mod Spelled
-pub mod Opened

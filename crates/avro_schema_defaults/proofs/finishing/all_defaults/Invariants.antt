@@ -1,9 +1,0 @@
-use Rattle.std.proofs.Common.{◌≡◌, drop, option_map}
-use Rattle.avro_schema_drafts.specs.Draft.{drafts_of}
-use Rattle.avro_schema_defaults.proofs.Finished.{first_as, nodes_read, row_of}
-use Rattle.avro_schema_defaults.proofs.OneByOne.{before}
-use Rattle.avro_schema_defaults.proofs.finishing.all_defaults.Given as goal
-
-abbrev pub invariant-loop-draft : goal.invariant-loop-draft
-invariant-loop-draft l =
-    option_map (before (first_as row_of) l.all.items) (nodes_read (drafts_of l.drafts) (drop l.draft-index l.drafts)) ≡ nodes_read (drafts_of l.drafts) l.drafts

@@ -1,2 +1,0 @@
-pub mod DefaultData
-pub mod Defaults

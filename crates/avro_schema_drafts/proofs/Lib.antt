@@ -1,6 +1,0 @@
-pub mod Depths
-pub mod DraftLists
-pub mod Index
-pub mod IndexSteps
-pub mod Namespaces
-pub mod NewIndex

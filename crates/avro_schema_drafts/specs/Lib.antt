@@ -1,4 +1,0 @@
-pub mod Draft
-pub mod Head
-pub mod Index
-pub mod JsonCode

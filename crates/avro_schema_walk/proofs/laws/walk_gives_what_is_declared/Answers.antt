@@ -1,5 +1,0 @@
-use Rattle.avro_schema_walk.proofs.DeclaringBothWays.{declares, gives}
-use Rattle.avro_schema_walk.proofs.laws.walk_gives_what_is_declared.Goals as goal
-
-pub returns : goal.returns
-returns c = record { sound = declares; complete = gives }

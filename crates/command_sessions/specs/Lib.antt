@@ -1,4 +1,0 @@
-pub mod Debugging
-pub mod Folding
-pub mod Replaying
-pub mod Telling

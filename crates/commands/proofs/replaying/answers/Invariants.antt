@@ -1,0 +1,13 @@
+-- What is answered so far goes before the answers of the lines that are left.
+use Rattle.std.proofs.Common.{string_bytes, length}
+use Rattle.command_io.specs.Lines.{lines}
+use Rattle.session_core.specs.World.{no_world}
+use Rattle.commands.specs.Replaying.{AnswersLine}
+use Rattle.commands.proofs.Folding.{Continues}
+use Rattle.commands.proofs.replaying.answers.Given as goal
+
+abbrev pub invariant-loop-line : goal.invariant-loop-line
+invariant-loop-line l = Continues AnswersLine (lines l.input) (lines l.rest) (string_bytes l.output) no_world l.world
+
+abbrev pub decreases-loop-line : goal.decreases-loop-line
+decreases-loop-line l = length l.rest

@@ -1,4 +1,0 @@
-pub mod Front
-pub mod Digits
-pub mod ContentLength
-pub mod Body

@@ -1,2 +1,0 @@
-pub mod Roping
-pub mod Writing

@@ -1,2 +1,0 @@
-pub mod MismatchKind
-pub mod Outcome

@@ -1,0 +1,10 @@
+-- A mark for each field that a route so far goes to.
+use Rattle.std.proofs.Common.{◌≡◌, ◌<◌, ℕ, false, length, take, slice_index_or}
+use Rattle.resolver.specs.Partners.{has_partner}
+use Rattle.program_compiler.proofs.routines.have_partners.Given as goal
+
+abbrev pub invariant-loop-route : goal.invariant-loop-route
+invariant-loop-route l = record {
+  len : length l.marks.items ≡ l.many;
+  mark : (j : ℕ) → j < l.many → slice_index_or l.marks.items j false ≡ has_partner j (take l.route-index l.routes);
+}

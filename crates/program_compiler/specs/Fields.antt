@@ -1,0 +1,11 @@
+-- What reads a field of the writer's, after its slot. This project's own.
+use Rattle.std.specs.Prelude.{List}
+use Rattle.avro_types.specs.Node.{Node}
+use Rattle.resolver.specs.declared.pairing.Route.{Route}
+use Rattle.resolver.specs.Options.{given}
+use Rattle.program_definition.specs.Statements.{Statement}
+use Rattle.program_definition.specs.Skipping.{K}
+use Rattle.program_definition.specs.Writing.{X}
+
+abbrev pub read_code : List Node → List Node → Route → List Statement
+read_code W R route = given route.partner (K W route.node) (λ p. X W R route.node p.node)

@@ -1,9 +1,0 @@
--- The nodes so far.
-use Rattle.std.proofs.Common.{◌≡◌, ℕ, List, take}
-use Rattle.std.specs.Prelude.{slice_get}
-use Rattle.avro_types.specs.Symbols.{is_used}
-use Rattle.program_lowering.specs.NamedTypes.{stands_under, unqualified_names}
-use Rattle.program_lowering.proofs.named_types.NamedTypes.of_nodes.Given as goal
-
-abbrev pub invariant-loop-node : goal.invariant-loop-node
-invariant-loop-node l = (last : List ℕ) (n : ℕ) → stands_under l.nodes last n ≡ is_used last (unqualified_names (slice_get (take l.node l.schema) n))

@@ -1,9 +1,0 @@
--- The statements so far, before those of the fields that are left, are all of them.
-use Rattle.std.proofs.Common.{◌≡◌, ◌++◌, List, drop}
-use Rattle.avro_types.specs.Node.{Node, fields_of}
-use Rattle.program_definition.specs.Writing.{defaults_code}
-use Rattle.program_ir.specs.Statements.{statements_in}
-use Rattle.program_lowering.proofs.schema_pair.SchemaPair.put_defaults.Given as goal
-
-abbrev pub invariant-loop-position : goal.invariant-loop-position
-invariant-loop-position l = (W : List Node) → statements_in W l.self.reader.now l.statements.items ++ defaults_code l.routes l.position (fields_of (drop l.position l.rs)) ≡ statements_in W l.self.reader.now l.fn.statements.items ++ defaults_code l.routes 0 (fields_of l.rs)

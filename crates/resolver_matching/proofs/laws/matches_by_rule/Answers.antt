@@ -1,9 +1,0 @@
-use Rattle.resolver_matching.proofs.ByRule.{matches_by_rule}
-use Rattle.resolver_matching.proofs.Holding.{matches_where_it_holds}
-use Rattle.resolver_matching.proofs.laws.matches_by_rule.Goals as goal
-
-pub returns-clause-rule : goal.returns-clause-rule
-returns-clause-rule c = matches_by_rule
-
-pub returns-clause-relation : goal.returns-clause-relation
-returns-clause-relation c = matches_where_it_holds

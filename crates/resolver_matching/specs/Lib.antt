@@ -1,4 +1,0 @@
-pub mod Matches
-pub mod Matching
-pub mod Options
-pub mod Partners

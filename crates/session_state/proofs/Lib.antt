@@ -1,6 +1,0 @@
-pub mod Slices
-pub mod Sessions
-pub mod Ends
-pub mod Breaks
-pub mod Made
-pub mod Crossing
