@@ -12,8 +12,7 @@ ghost use Rattle.gateway.specs.Stopping.{IsGivenUp, IsWhyStopped};
 use crate::ending::{abandon, finish};
 use crate::sending::feed;
 use avro_bytes::Outcome;
-use gateway_core::{Gate, Transcode, TranscodeFault};
-use schema_registry::Receipt;
+use gateway_core::{Gate, ReceiptPair, Transcode, TranscodeFault};
 use session_pool::{ClientSeat, OpenError, Pass, SessionPool};
 use std::sync::Wait;
 
@@ -76,11 +75,10 @@ impl<'a, 'p> Transcode for Pooled<'a, 'p> {
         rt: &R,
         seat: &mut ClientSeat<'p>,
         gate: &mut G,
-        writer: &mut Receipt,
-        reader: &mut Receipt,
+        pair: &mut ReceiptPair,
         payload: Vec<u8>,
     ) -> Result<Outcome, TranscodeFault> {
-        match self.pool.open(seat, writer, reader) {
+        match self.pool.open(seat, &mut pair.writer, &mut pair.reader) {
             Ok(pass) => outcome_by(rt, self, seat, gate, pass, payload),
             Err(error) => Err(fault_of(error)),
         }

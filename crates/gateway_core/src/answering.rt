@@ -17,7 +17,7 @@ ghost use Rattle.gateway_core.specs.Transcoding.{IsWhyNone};
 use crate::app::App;
 use crate::evidence::Evidence;
 use crate::gate::Gate;
-use crate::messages::tell_message;
+use crate::messages::{MessageFor, tell_message};
 use crate::replies::{fault_of, reply_text};
 use crate::transcode::Transcode;
 use gateway_requests::{Answer, Fault, Request, id_text, schema_text};
@@ -175,7 +175,8 @@ pub(crate) fn answer<R: Wait, T: Transcode, G: Gate>(
         Request::Registration { subject, text } => tell_id(rt, alloc, app.registry, subject, text),
         Request::Schema { id } => tell_text(alloc, app.registry, id),
         Request::Transcoding { reader, message } => {
-            Ok(tell_message(rt, app, seat, gate, reader, message))
+            let asked = MessageFor { reader, message };
+            Ok(tell_message(rt, app, seat, gate, asked))
         }
     }
 }

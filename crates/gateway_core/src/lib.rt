@@ -27,4 +27,4 @@ pub use replying::{Reply, reply_to};
 pub use schemas::{NamedSchema, Schemas};
 pub use serve_error::{ServeError, TellError};
 pub use serving::{serve_and_tell, serve_one};
-pub use transcode::{Transcode, TranscodeFault};
+pub use transcode::{ReceiptPair, Transcode, TranscodeFault};

@@ -17,10 +17,9 @@ use crate::app::App;
 use crate::evidence::Evidence;
 use crate::gate::Gate;
 use crate::schemas::{NamedSchema, OwnSchemas, Schemas};
-use crate::transcode::{Transcode, TranscodeFault};
+use crate::transcode::{ReceiptPair, Transcode, TranscodeFault};
 use avro_bytes::Outcome;
 use gateway_requests::{Answer, Fault};
-use schema_registry::Receipt;
 use std::sync::Wait;
 use wire_frames::Message;
 
@@ -69,45 +68,79 @@ pub struct Unpaired<E: Drop> {
     pub reader: Option<NamedSchema<E>>,
 }
 
-/// Returns what becomes of a payload between the schemas of a pair, as the answer to the reader of an id.
-fn answer_to<R: Wait, T: Transcode, G: Gate, E: Drop>(
+/// A message, and the id of the schema that it is to be rewritten for.
+#[derive(Drop)]
+pub(crate) struct MessageFor {
+    pub(crate) reader: u32,
+    pub(crate) message: Message,
+}
+
+/// The two schemas of a message, and its payload, in the memory that it was received in.
+#[derive(Drop)]
+struct Opened<E: Drop> {
+    pair: NamedPair<E>,
+    payload: Vec<u8>,
+}
+
+/// Returns what becomes of a payload between the schemas of a pair, as the answer to the reader of an id, and the
+/// pair.
+fn rewrite_opened<R: Wait, T: Transcode, G: Gate, E: Drop>(
     rt: &R,
     transcoder: &T,
     seat: &mut T::Seat,
     gate: &mut G,
-    pair: &mut NamedPair<E>,
     id: u32,
-    payload: Vec<u8>,
-) -> Answer
+    opened: Opened<E>,
+) -> Rewritten<E>
     requires seat { T.rests transcoder.now seat.old }
-    requires writer { IsReceiptOf (T.cells transcoder.now) pair.old.writer.receipt }
-    requires reader { IsReceiptOf (T.cells transcoder.now) pair.old.reader.receipt }
-    requires payload { vec_len payload ≤ MOST_PAYLOAD }
+    requires writer { IsReceiptOf (T.cells transcoder.now) opened.pair.writer.receipt }
+    requires reader { IsReceiptOf (T.cells transcoder.now) opened.pair.reader.receipt }
+    requires payload { vec_len opened.payload ≤ MOST_PAYLOAD }
     ensures seat { T.rests transcoder.now seat.new }
-    ensures pair { pair.new ≡ pair.old }
+    ensures pair { result.pair ≡ opened.pair }
     ensures answer { TellsOutcome (IsWhyNone (T.refuses transcoder.now seat.old seat.new)
-        (SaidNo G.says gate.old gate.new)) pair.old.writer.receipt pair.old.reader.receipt id payload.items
-        (answer_of result) }
+        (SaidNo G.says gate.old gate.new)) opened.pair.writer.receipt opened.pair.reader.receipt id
+        opened.payload.items (answer_of result.answer) }
 {
-    let (writer, reader) = (&mut pair.writer.receipt, &mut pair.reader.receipt);
-    match transcoder.transcode(rt, seat, gate, writer, reader, payload) {
+    let Opened { pair, payload } = opened;
+    let NamedPair { writer, reader } = pair;
+    let NamedSchema { receipt, seen } = writer;
+    let (writer, writer_seen) = (receipt, seen);
+    let NamedSchema { receipt, seen } = reader;
+    let mut receipts = ReceiptPair {
+        writer,
+        reader: receipt,
+    };
+    let answer = match transcoder.transcode(rt, seat, gate, &mut receipts, payload) {
         Ok(outcome) => answer_of_outcome(id, outcome),
         Err(fault) => Answer::Fault(fault_of_transcoding(fault)),
+    };
+    let ReceiptPair { writer, reader } = receipts;
+    let writer = NamedSchema {
+        receipt: writer,
+        seen: writer_seen,
+    };
+    let reader = NamedSchema {
+        receipt: reader,
+        seen,
+    };
+    Rewritten {
+        answer,
+        pair: NamedPair { writer, reader },
     }
 }
 
-/// Finds the two schemas of a message for the reader of an id, and returns them with the payload, in the memory that
-/// it was received in.
+/// Opens a message for the reader of an id: finds its two schemas, and its payload.
 ///
 /// First the reader is looked up, then the message is opened, then its writer is looked up.
-fn pair_of<S: Schemas>(
+fn open<S: Schemas>(
     schemas: &mut S,
     id: u32,
     message: Message,
-) -> Result<(NamedPair<S::Seen>, Vec<u8>), Unpaired<S::Seen>>
+) -> Result<Opened<S::Seen>, Unpaired<S::Seen>>
     ensures same { schemas.new ≡ schemas.old }
-    ensures found { IfOk result (λ r. IsPaired (S.cells schemas.old) (S.names schemas.old) id message
-        r.0.writer r.0.reader r.1.items) }
+    ensures found { IfOk result (λ opened. IsPaired (S.cells schemas.old) (S.names schemas.old) id message
+        opened.pair.writer opened.pair.reader opened.payload.items) }
     ensures no_reader { IfErr result (λ u. IfNone u.reader (S.refuses schemas.old id u.fault)) }
     ensures reader { IfErr result (λ u. IfSome u.reader (λ n. IsReceiptOf (S.cells schemas.old) n.receipt
         × S.names schemas.old id n.receipt n.seen × HasNoWriter (S.refuses schemas.old) message u.fault)) }
@@ -130,7 +163,10 @@ fn pair_of<S: Schemas>(
         }
     };
     match schemas.schema_of(writer_id) {
-        Ok(writer) => Ok((NamedPair { writer, reader }, payload)),
+        Ok(writer) => {
+            let pair = NamedPair { writer, reader };
+            Ok(Opened { pair, payload })
+        }
         Err(fault) => Err(Unpaired {
             fault,
             reader: Some(reader),
@@ -146,24 +182,24 @@ pub(crate) fn rewrite<R: Wait, S: Schemas, T: Transcode, G: Gate>(
     transcoder: &T,
     seat: &mut T::Seat,
     gate: &mut G,
-    id: u32,
-    message: Message,
+    asked: MessageFor,
 ) -> Result<Rewritten<S::Seen>, Unpaired<S::Seen>>
     requires cells { T.cells transcoder.now ≡ S.cells schemas.old }
     requires seat { T.rests transcoder.now seat.old }
-    requires message { length message ≤ MOST_BODY }
+    requires message { length asked.message ≤ MOST_BODY }
     ensures same { schemas.new ≡ schemas.old }
     ensures seat { T.rests transcoder.now seat.new }
     ensures told { IfOk result (λ r. TellsNamed (IsWhyNone (T.refuses transcoder.now seat.old seat.new)
-        (SaidNo G.says gate.old gate.new)) (S.cells schemas.old) (S.names schemas.old) id message
+        (SaidNo G.says gate.old gate.new)) (S.cells schemas.old) (S.names schemas.old) asked.reader asked.message
         r.pair.writer r.pair.reader (answer_of r.answer)) }
-    ensures no_reader { IfErr result (λ u. IfNone u.reader (S.refuses schemas.old id u.fault)) }
+    ensures no_reader { IfErr result (λ u. IfNone u.reader (S.refuses schemas.old asked.reader u.fault)) }
     ensures reader { IfErr result (λ u. IfSome u.reader (λ n. IsReceiptOf (S.cells schemas.old) n.receipt
-        × S.names schemas.old id n.receipt n.seen × HasNoWriter (S.refuses schemas.old) message u.fault)) }
+        × S.names schemas.old asked.reader n.receipt n.seen
+        × HasNoWriter (S.refuses schemas.old) asked.message u.fault)) }
 {
-    let (mut pair, payload) = pair_of(schemas, id, message)?;
-    let answer = answer_to(rt, transcoder, seat, gate, &mut pair, id, payload);
-    Ok(Rewritten { answer, pair })
+    let MessageFor { reader, message } = asked;
+    let opened = open(schemas, reader, message)?;
+    Ok(rewrite_opened(rt, transcoder, seat, gate, reader, opened))
 }
 
 /// Rewrites a message for the reader of an id of this service's registry, and returns the answer.
@@ -172,23 +208,23 @@ pub(crate) fn tell_message<R: Wait, T: Transcode, G: Gate>(
     app: &App<'_, T>,
     seat: &mut T::Seat,
     gate: &mut G,
-    id: u32,
-    message: Message,
+    asked: MessageFor,
 ) -> Told
     requires cells { T.cells app.now.transcoder.now ≡ app.now.registry.now }
     requires seat { T.rests app.now.transcoder.now seat.old }
-    requires message { length message ≤ MOST_BODY }
+    requires message { length asked.message ≤ MOST_BODY }
     ensures seat { T.rests app.now.transcoder.now seat.new }
     ensures told { TellsNoReader result.evidence (answer_of result.answer)
-        ⊎ TellsNoWriter app.now.registry.now id message result.evidence (answer_of result.answer)
+        ⊎ TellsNoWriter app.now.registry.now asked.reader asked.message result.evidence
+        (answer_of result.answer)
         ⊎ TellsMessage (IsWhyNone (T.refuses app.now.transcoder.now seat.old seat.new)
-        (SaidNo G.says gate.old gate.new)) app.now.registry.now id message result.evidence
+        (SaidNo G.says gate.old gate.new)) app.now.registry.now asked.reader asked.message result.evidence
         (answer_of result.answer) }
 {
     let mut schemas = OwnSchemas {
         registry: app.registry,
     };
-    match rewrite(rt, &mut schemas, app.transcoder, seat, gate, id, message) {
+    match rewrite(rt, &mut schemas, app.transcoder, seat, gate, asked) {
         Ok(Rewritten { answer, pair }) => {
             let NamedPair { writer, reader } = pair;
             let evidence = Evidence::Pair {

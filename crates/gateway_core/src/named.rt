@@ -14,7 +14,7 @@ ghost use Rattle.gateway_core.specs.Transcoding.{IsWhyNone};
 
 use crate::app::App;
 use crate::gate::Gate;
-use crate::messages::{NamedPair, Rewritten, Unpaired, rewrite};
+use crate::messages::{MessageFor, NamedPair, Rewritten, Unpaired, rewrite};
 use crate::replying::bytes_of;
 use crate::schemas::{NamedSchema, Schemas};
 use crate::transcode::Transcode;
@@ -22,7 +22,6 @@ use gateway_requests::{Answer, AnswerBytes, Fault, Request, schema_text};
 use schema_registry::SharedRegistry;
 use std::alloc::{AllocError, Global};
 use std::sync::Wait;
-use wire_frames::Message;
 
 /// The schemas that an answer rests on: the one of the reader, or of the id that is asked for, and the writer's.
 #[derive(Drop)]
@@ -93,18 +92,17 @@ fn tell_message<R: Wait, S: Schemas, T: Transcode, G: Gate>(
     transcoder: &T,
     seat: &mut T::Seat,
     gate: &mut G,
-    id: u32,
-    message: Message,
+    asked: MessageFor,
 ) -> NamedTold<S::Seen>
     requires cells { T.cells transcoder.now ≡ S.cells schemas.old }
     requires seat { T.rests transcoder.now seat.old }
-    requires message { length message ≤ MOST_BODY }
+    requires message { length asked.message ≤ MOST_BODY }
     ensures seat { T.rests transcoder.now seat.new }
     ensures told { FulfilsNamed (IsWhyNone (T.refuses transcoder.now seat.old seat.new)
         (SaidNo G.says gate.old gate.new)) (S.cells schemas.old) (S.names schemas.old) (S.refuses schemas.old)
-        (Transcodes id message) result.sight (answer_of result.answer) }
+        (Transcodes asked.reader asked.message) result.sight (answer_of result.answer) }
 {
-    match rewrite(rt, schemas, transcoder, seat, gate, id, message) {
+    match rewrite(rt, schemas, transcoder, seat, gate, asked) {
         Ok(Rewritten { answer, pair }) => {
             let NamedPair { writer, reader } = pair;
             let sight = Sight {
@@ -150,7 +148,8 @@ fn answer<R: Wait, S: Schemas, T: Transcode, G: Gate>(
         Request::Schema { id } => tell_text(app.alloc, app.registry, schemas, id),
         Request::Transcoding { reader, message } => {
             let transcoder = app.transcoder;
-            Ok(tell_message(rt, schemas, transcoder, seat, gate, reader, message))
+            let asked = MessageFor { reader, message };
+            Ok(tell_message(rt, schemas, transcoder, seat, gate, asked))
         }
     }
 }

@@ -21,6 +21,13 @@ pub enum TranscodeFault {
     NoMemory,
 }
 
+/// The receipts of a writer's schema and of a reader's.
+#[derive(Drop)]
+pub struct ReceiptPair {
+    pub writer: Receipt,
+    pub reader: Receipt,
+}
+
 /// A transcoder, which returns the outcome of payloads for pairs of receipts of one registry.
 pub trait Transcode {
     ghost use Rattle.std.specs.Prelude.{◌≡◌, ◌≤◌, ℕ, List, IfErr, IfOk, vec_len};
@@ -49,18 +56,16 @@ pub trait Transcode {
         rt: &R,
         seat: &mut Self::Seat,
         gate: &mut G,
-        writer: &mut Receipt,
-        reader: &mut Receipt,
+        pair: &mut ReceiptPair,
         payload: Vec<u8>,
     ) -> Result<Outcome, TranscodeFault>
         requires seat { rests self.now seat.old }
-        requires writer { IsReceiptOf (cells self.now) writer.old }
-        requires reader { IsReceiptOf (cells self.now) reader.old }
+        requires writer { IsReceiptOf (cells self.now) pair.old.writer }
+        requires reader { IsReceiptOf (cells self.now) pair.old.reader }
         requires payload { vec_len payload ≤ MOST_PAYLOAD }
         ensures seat { rests self.now seat.new }
-        ensures writer { writer.new ≡ writer.old }
-        ensures reader { reader.new ≡ reader.old }
-        ensures outcome { IfOk result (HasOutcome writer.old reader.old payload.items) }
+        ensures pair { pair.new ≡ pair.old }
+        ensures outcome { IfOk result (HasOutcome pair.old.writer pair.old.reader payload.items) }
         ensures why { IfErr result (IsWhyNone (refuses self.now seat.old seat.new) (SaidNo G.says gate.old gate.new)
-            writer.old reader.old) };
+            pair.old.writer pair.old.reader) };
 }

@@ -62,7 +62,8 @@ Stands bytes (stages.Refused fault) = TellsEach bytes (Err fault)
 abbrev pub IsAfterHead : ℕ → List ℕ → Stage → Type 0
 IsAfterHead len bytes stages.Head = ⊥
 IsAfterHead len bytes (stages.Text headed body) = IsHead (take len bytes) headed × (body.items ≡ drop len bytes)
-IsAfterHead len bytes (stages.Message headed message) = IsMessageHead (take len bytes) headed × (message ≡ drop len bytes)
+IsAfterHead len bytes (stages.Message headed message) =
+    IsMessageHead (take len bytes) headed × (message ≡ drop len bytes)
 IsAfterHead len bytes (stages.Refused fault) = TellsEach bytes (Err fault)
 
 -- the stage with a body of these bytes

@@ -8,8 +8,8 @@ use Rattle.persistent_exchange.specs.Persistent.{Persistent}
 use Rattle.persistent_exchange.specs.Preparing.{answer_of}
 use Rattle.persistent_exchange.specs.Stream.{Asked}
 
--- Over a connection that stays the server has made one call at most since, which the answer answers, and which is for the
--- next request, unless memory ran out for it.
+-- Over a connection that stays the server has made one call at most since, which the answer answers, and which is for
+-- the next request, unless memory ran out for it.
 pub record AnswersTheNext (bytes : AnswerBytes) (old new : Persistent) : Type 0 where
   pub date : Option HttpDate
   pub answers : AnswersNext (answer_of bytes date) old.history.calls new.history.calls

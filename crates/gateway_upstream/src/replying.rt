@@ -38,8 +38,9 @@ pub fn reply_upstream<'p, R: Wait, U: Upstream, G: Gate>(
     requires size { IfOk request (λ r. IsWithin MOST_BODY (request_of r)) }
     ensures seat { Rests app.now.pool.now seat.new }
     ensures replied { IfOk result (λ reply. (input : Option (List ℕ)) → TellsRequest input request
-        → IsNamedReply (IsWhyNone (Refuses seat.old seat.new) (SaidNo G.says gate.old gate.new)) looked.old.names.registry
-        (IsNamingOf U.heard U.kept looked.old.names) (IsWhyNotShown U.heard U.kept looked.old.looks) input
+        → IsNamedReply (IsWhyNone (Refuses seat.old seat.new) (SaidNo G.says gate.old gate.new))
+        looked.old.names.registry (IsNamingOf U.heard U.kept looked.old.names)
+        (IsWhyNotShown U.heard U.kept looked.old.looks) input
         (reply.bytes.front.items ++ reply.bytes.rest.items) reply.status reply.sight) }
     ensures told { IfOk result (λ reply. (asked : Result Asked Fault) → Tells request_of request asked
         → IsNamedReplyTo (IsWhyNone (Refuses seat.old seat.new) (SaidNo G.says gate.old gate.new))

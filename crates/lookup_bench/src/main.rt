@@ -1,8 +1,8 @@
 //! Tests and bench; a program.
 //!
-//! Measures how long a thread takes to find the schema that an id of an upstream registry names (`bench/lookup.sh`). Its
-//! argument is the number of finds among schemas of each length, 1,000,000 where there is none. It prints the times on
-//! standard error, and ends with status 1 where a schema is not found.
+//! Measures how long a thread takes to find the schema that an id of an upstream registry names (`bench/lookup.sh`).
+//! Its argument is the number of finds among schemas of each length, 1,000,000 where there is none. It prints the times
+//! on standard error, and ends with status 1 where a schema is not found.
 #![tactic(auto)]
 
 mod error;

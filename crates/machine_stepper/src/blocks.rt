@@ -8,109 +8,100 @@ ghost use Rattle.isa.specs.declared.limits.TheConstants.{MOST_INSTRS};
 ghost use Rattle.isa.specs.Row.{row};
 ghost use Rattle.machine_stepper.specs.Contract.{AppendsThese, OnlyAppends, Takes, closing_bytes};
 
+use crate::feed::Feed;
 use crate::machine::Machine;
 use crate::step::Step;
 use avro_bytes::BlockWalk;
-use isa::{Program, Trap};
+use isa::Trap;
 use machine_store::Opening;
 
 impl Machine {
     /// Takes the row that opens an array or a map.
-    pub(crate) fn blocks(&mut self, program: &Program, input: &[u8], ended: bool) -> Step
+    pub(crate) fn blocks(&mut self, feed: &Feed<'_>) -> Step
         requires runs { self.old.state.end ≡ None }
         requires pc { self.old.state.pc < MOST_INSTRS }
-        requires within { self.old.state.pos ≤ length input.now }
+        requires within { self.old.state.pos ≤ length feed.now.input.now }
         requires whole { self.old.state.content ≡ None }
-        ensures takes { Takes (row program.now input.now ended op.Blocks self.old.state) result self.old self.new }
+        ensures takes { Takes (row feed.now.program.now feed.now.input.now feed.now.ended op.Blocks self.old.state)
+            result self.old self.new }
         ensures appends { OnlyAppends self.old self.new }
-        ensures within { self.new.state.pos ≤ length input.now }
+        ensures within { self.new.state.pos ≤ length feed.now.input.now }
         ensures whole { self.new.state.content ≡ None }
     {
         match BlockWalk::begin(self.pos(), self.meter()) {
             Ok((walk, inside)) => self.open(Opening::Blocks(walk), inside),
-            Err(fault) => self.refuse(fault, program, input, ended),
+            Err(fault) => self.refuse(fault, feed),
         }
     }
 
     /// Takes the row that opens an array or a map that is skipped.
-    pub(crate) fn skip_blocks(&mut self, program: &Program, input: &[u8], ended: bool) -> Step
+    pub(crate) fn skip_blocks(&mut self, feed: &Feed<'_>) -> Step
         requires runs { self.old.state.end ≡ None }
         requires pc { self.old.state.pc < MOST_INSTRS }
-        requires within { self.old.state.pos ≤ length input.now }
+        requires within { self.old.state.pos ≤ length feed.now.input.now }
         requires whole { self.old.state.content ≡ None }
-        ensures takes { Takes (row program.now input.now ended op.SkipBlocks self.old.state) result self.old self.new }
+        ensures takes { Takes (row feed.now.program.now feed.now.input.now feed.now.ended op.SkipBlocks self.old.state)
+            result self.old self.new }
         ensures appends { OnlyAppends self.old self.new }
-        ensures within { self.new.state.pos ≤ length input.now }
+        ensures within { self.new.state.pos ≤ length feed.now.input.now }
         ensures whole { self.new.state.content ≡ None }
     {
         match BlockWalk::begin(self.pos(), self.meter()) {
             Ok((walk, inside)) => self.open(Opening::SkipBlocks(walk), inside),
-            Err(fault) => self.refuse(fault, program, input, ended),
+            Err(fault) => self.refuse(fault, feed),
         }
     }
 
     /// Takes the row before an item: it begins the next item, or closes the array or map and goes on at
     /// address `after`.
-    pub(crate) fn next_item(
-        &mut self,
-        after: u32,
-        program: &Program,
-        input: &[u8],
-        ended: bool,
-    ) -> Step
+    pub(crate) fn next_item(&mut self, after: u32, feed: &Feed<'_>) -> Step
         requires runs { self.old.state.end ≡ None }
         requires pc { self.old.state.pc < MOST_INSTRS }
-        requires within { self.old.state.pos ≤ length input.now }
+        requires within { self.old.state.pos ≤ length feed.now.input.now }
         requires whole { self.old.state.content ≡ None }
-        ensures takes { Takes (row program.now input.now ended (op.Next after) self.old.state) result self.old
-            self.new }
+        ensures takes { Takes (row feed.now.program.now feed.now.input.now feed.now.ended (op.Next after)
+            self.old.state) result self.old self.new }
         ensures appends { OnlyAppends self.old self.new }
         ensures joins { AppendsThese (closing_bytes self.old.state.store.frames self.new.state.store.frames)
             self.old self.new }
-        ensures within { self.new.state.pos ≤ length input.now }
+        ensures within { self.new.state.pos ≤ length feed.now.input.now }
         ensures whole { self.new.state.content ≡ None }
     {
         let Some(mut walk) = self.walk() else {
             return self.trap(Trap::NoFrame);
         };
-        match walk.next(input, self.pos(), self.meter()) {
+        match walk.next(feed.input, self.pos(), self.meter()) {
             Ok((true, to, inside)) => self.gather(walk, to, inside),
             Ok((false, _, _)) if !self.has_current_below() => self.trap(Trap::NoBuffer),
             Ok((false, to, _)) => self.close_blocks(after as usize, to),
-            Err(fault) => self.refuse(fault, program, input, ended),
+            Err(fault) => self.refuse(fault, feed),
         }
     }
 
     /// Takes the row before an item that is skipped: it begins the next item, or leaves the array or map and goes on
     /// at address `after`.
-    pub(crate) fn skip_next(
-        &mut self,
-        after: u32,
-        program: &Program,
-        input: &[u8],
-        ended: bool,
-    ) -> Step
+    pub(crate) fn skip_next(&mut self, after: u32, feed: &Feed<'_>) -> Step
         requires runs { self.old.state.end ≡ None }
         requires pc { self.old.state.pc < MOST_INSTRS }
-        requires within { self.old.state.pos ≤ length input.now }
+        requires within { self.old.state.pos ≤ length feed.now.input.now }
         requires whole { self.old.state.content ≡ None }
-        ensures takes { Takes (row program.now input.now ended (op.SkipNext after) self.old.state) result self.old
-            self.new }
+        ensures takes { Takes (row feed.now.program.now feed.now.input.now feed.now.ended (op.SkipNext after)
+            self.old.state) result self.old self.new }
         ensures appends { OnlyAppends self.old self.new }
-        ensures within { self.new.state.pos ≤ length input.now }
+        ensures within { self.new.state.pos ≤ length feed.now.input.now }
         ensures whole { self.new.state.content ≡ None }
         ensures memory { result ≢ Step.NoMemory }
     {
         let Some(mut walk) = self.skip_walk() else {
             return self.trap(Trap::NoFrame);
         };
-        match walk.next(input, self.pos(), self.meter()) {
+        match walk.next(feed.input, self.pos(), self.meter()) {
             Ok((true, to, inside)) => self.pass(walk, to, inside),
             Ok((false, to, _)) => {
                 self.leave();
                 self.jump(after as usize, to)
             }
-            Err(fault) => self.refuse(fault, program, input, ended),
+            Err(fault) => self.refuse(fault, feed),
         }
     }
 }

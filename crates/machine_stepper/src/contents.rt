@@ -13,10 +13,11 @@ ghost use Rattle.machine_rules.specs.Chunks.{HasMoved, content_of};
 ghost use Rattle.machine_rules.specs.Text.{IsCheck, Unasked, check_of, is_asked};
 ghost use Rattle.machine_stepper.specs.Running.{IsOn};
 
+use crate::feed::Feed;
 use crate::machine::Machine;
 use crate::step::Step;
 use avro_bytes::{MalformedKind, Outcome, read_length};
-use isa::{End, MOST_CHUNK, Program, Trap};
+use isa::{End, MOST_CHUNK, Trap};
 use machine_rules::{Chunk, Content, TextCheck, chunk_at};
 use std::alloc::AllocError;
 
@@ -153,28 +154,29 @@ impl Machine {
         moving: Moving,
         content: Content,
         check: TextCheck,
-        program: &Program,
-        input: &[u8],
-        ended: bool,
+        feed: &Feed<'_>,
     ) -> Step
         requires runs { self.old.state.end ≡ None }
         requires room { HasRoom moving self.old.state }
-        requires there { self.old.state.pos + MOST_CHUNK ≤ length input.now }
+        requires there { self.old.state.pos + MOST_CHUNK ≤ length feed.now.input.now }
         requires left { MOST_CHUNK < content.left }
-        requires on { IsOn input.now self.old }
-        requires content { HasMoved input.now (self.old.state.pos + MOST_CHUNK) (check_of check) (content_of content) }
+        requires on { IsOn feed.now.input.now self.old }
+        requires content { HasMoved feed.now.input.now (self.old.state.pos + MOST_CHUNK) (check_of check) (content_of
+            content) }
         requires asked { is_asked (check_of check) ≡ asks moving }
         requires stood { AsksOf moving self.old.check self.old.state.content }
-        ensures takes { Takes (Some (moved program.now input.now ended (move_of moving) (content_of content) MOST_CHUNK
+        ensures takes { Takes (Some (moved feed.now.program.now feed.now.input.now feed.now.ended (move_of moving)
+            (content_of
+            content) MOST_CHUNK
             self.old.state)) result self.old self.new }
         ensures appends { OnlyAppends self.old self.new }
-        ensures on { IsOn input.now self.new }
+        ensures on { IsOn feed.now.input.now self.new }
         ensures stays { Stays moving self.old.state self.new }
         ensures memory { result ≡ Step.NoMemory → MayAdd moving }
     {
         let pos = self.pos();
         let to = pos + MOST_CHUNK;
-        if self.put(moving, &input[pos..to]).is_err() {
+        if self.put(moving, &feed.input[pos..to]).is_err() {
             return Step::NoMemory;
         }
         let left = Content {
@@ -190,29 +192,27 @@ impl Machine {
         moving: Moving,
         content: Content,
         check: TextCheck,
-        program: &Program,
-        input: &[u8],
-        ended: bool,
+        feed: &Feed<'_>,
     ) -> Step
         requires runs { self.old.state.end ≡ None }
         requires pc { self.old.state.pc < MOST_INSTRS }
         requires room { HasRoom moving self.old.state }
-        requires there { self.old.state.pos + content.left ≤ length input.now }
-        requires on { IsOn input.now self.old }
-        requires content { HasMoved input.now self.old.state.pos (check_of check) (content_of content) }
+        requires there { self.old.state.pos + content.left ≤ length feed.now.input.now }
+        requires on { IsOn feed.now.input.now self.old }
+        requires content { HasMoved feed.now.input.now self.old.state.pos (check_of check) (content_of content) }
         requires asked { is_asked (check_of check) ≡ asks moving }
         requires stood { AsksOf moving self.old.check self.old.state.content }
         ensures takes { Takes
-            (ends_content program.now input.now ended (move_of moving) (content_of content) self.old.state)
-            result self.old self.new }
+            (ends_content feed.now.program.now feed.now.input.now feed.now.ended (move_of moving) (content_of content)
+            self.old.state) result self.old self.new }
         ensures appends { OnlyAppends self.old self.new }
-        ensures on { IsOn input.now self.new }
+        ensures on { IsOn feed.now.input.now self.new }
         ensures stays { Stays moving self.old.state self.new }
         ensures memory { result ≡ Step.NoMemory → MayAdd moving }
     {
         let pos = self.pos();
         let to = pos + content.left;
-        let bytes = &input[pos..to];
+        let bytes = &feed.input[pos..to];
         match moving {
             Moving::Bytes | Moving::SkipBytes => {
                 if self.put(moving, bytes).is_err() {
@@ -221,7 +221,7 @@ impl Machine {
                 self.pass_whole(to)
             }
             Moving::Text | Moving::SkipText => {
-                if !check.is_text(input, content.from, pos, to) {
+                if !check.is_text(feed.input, content.from, pos, to) {
                     return self.stop(End::Out(Outcome::Malformed {
                         kind: MalformedKind::BadText,
                         at: content.from,
@@ -236,7 +236,7 @@ impl Machine {
                 if self.put(moving, bytes).is_err() {
                     return Step::NoMemory;
                 }
-                if !check.is_text(input, content.from, pos, to) {
+                if !check.is_text(feed.input, content.from, pos, to) {
                     self.miss(miss);
                 }
                 self.pass_whole(to)
@@ -250,145 +250,120 @@ impl Machine {
         moving: Moving,
         content: Content,
         check: TextCheck,
-        program: &Program,
-        input: &[u8],
-        ended: bool,
+        feed: &Feed<'_>,
     ) -> Step
         requires runs { self.old.state.end ≡ None }
         requires pc { self.old.state.pc < MOST_INSTRS }
         requires room { HasRoom moving self.old.state }
-        requires on { IsOn input.now self.old }
-        requires content { HasMoved input.now self.old.state.pos (check_of check) (content_of content) }
+        requires on { IsOn feed.now.input.now self.old }
+        requires content { HasMoved feed.now.input.now self.old.state.pos (check_of check) (content_of content) }
         requires asked { is_asked (check_of check) ≡ asks moving }
         requires stood { AsksOf moving self.old.check self.old.state.content }
-        ensures takes { Takes (moves program.now input.now ended (move_of moving) (content_of content) self.old.state)
-            result
-            self.old self.new }
+        ensures takes { Takes (moves feed.now.program.now feed.now.input.now feed.now.ended (move_of moving) (content_of
+            content)
+            self.old.state) result self.old self.new }
         ensures appends { OnlyAppends self.old self.new }
-        ensures on { IsOn input.now self.new }
+        ensures on { IsOn feed.now.input.now self.new }
         ensures stays { Stays moving self.old.state self.new }
         ensures memory { result ≡ Step.NoMemory → MayAdd moving }
     {
-        match chunk_at(content, check, input, self.pos()) {
-            Ok(Chunk::Full(check)) => self.move_chunk(
-                moving, content, check, program, input, ended,
-            ),
-            Ok(Chunk::Rest) => self.end_content(moving, content, check, program, input, ended),
-            Err(fault) => self.refuse(fault, program, input, ended),
+        match chunk_at(content, check, feed.input, self.pos()) {
+            Ok(Chunk::Full(check)) => self.move_chunk(moving, content, check, feed),
+            Ok(Chunk::Rest) => self.end_content(moving, content, check, feed),
+            Err(fault) => self.refuse(fault, feed),
         }
     }
 
     /// Takes a row of a content that has its length before it.
-    pub(crate) fn content(
-        &mut self,
-        moving: Moving,
-        program: &Program,
-        input: &[u8],
-        ended: bool,
-    ) -> Step
+    pub(crate) fn content(&mut self, moving: Moving, feed: &Feed<'_>) -> Step
         requires runs { self.old.state.end ≡ None }
         requires pc { self.old.state.pc < MOST_INSTRS }
         requires room { HasRoom moving self.old.state }
-        requires on { IsOn input.now self.old }
+        requires on { IsOn feed.now.input.now self.old }
         requires asked { AsksOf moving self.old.check self.old.state.content }
         ensures takes { Takes
-            (prefixed program.now input.now ended (move_of moving) self.old.state self.old.state.content)
+            (prefixed feed.now.program.now feed.now.input.now feed.now.ended (move_of moving) self.old.state
+            self.old.state.content)
             result self.old self.new }
         ensures appends { OnlyAppends self.old self.new }
-        ensures on { IsOn input.now self.new }
+        ensures on { IsOn feed.now.input.now self.new }
         ensures stays { Stays moving self.old.state self.new }
         ensures memory { result ≡ Step.NoMemory → MayAdd moving }
     {
         match self.moving() {
-            Some(content) => self.move_part(moving, content, self.check(), program, input, ended),
-            None => match read_length(input, self.pos(), self.meter()) {
-                Ok((len, to, _)) => self.begin(moving, len, to, input),
-                Err(fault) => self.refuse(fault, program, input, ended),
+            Some(content) => self.move_part(moving, content, self.check(), feed),
+            None => match read_length(feed.input, self.pos(), self.meter()) {
+                Ok((len, to, _)) => self.begin(moving, len, to, feed.input),
+                Err(fault) => self.refuse(fault, feed),
             },
         }
     }
 
     /// Takes a row of a content of `size` bytes, without a length.
-    pub(crate) fn fixed(
-        &mut self,
-        moving: Moving,
-        size: usize,
-        program: &Program,
-        input: &[u8],
-        ended: bool,
-    ) -> Step
+    pub(crate) fn fixed(&mut self, moving: Moving, size: usize, feed: &Feed<'_>) -> Step
         requires runs { self.old.state.end ≡ None }
         requires pc { self.old.state.pc < MOST_INSTRS }
         requires room { HasRoom moving self.old.state }
-        requires on { IsOn input.now self.old }
+        requires on { IsOn feed.now.input.now self.old }
         requires asked { AsksOf moving self.old.check self.old.state.content }
         requires plain { asks moving ≡ false }
-        ensures takes { Takes (fixed program.now input.now ended (move_of moving) size self.old.state
+        ensures takes { Takes (fixed feed.now.program.now feed.now.input.now feed.now.ended (move_of moving) size
+            self.old.state
             self.old.state.content) result self.old self.new }
         ensures appends { OnlyAppends self.old self.new }
-        ensures on { IsOn input.now self.new }
+        ensures on { IsOn feed.now.input.now self.new }
         ensures stays { Stays moving self.old.state self.new }
         ensures memory { result ≡ Step.NoMemory → MayAdd moving }
     {
         match self.moving() {
-            Some(content) => self.move_part(moving, content, self.check(), program, input, ended),
+            Some(content) => self.move_part(moving, content, self.check(), feed),
             None if size == 0 => self.next(self.pos()),
             None => {
                 let content = Content {
                     left: size,
                     from: self.pos(),
                 };
-                self.move_part(moving, content, TextCheck::Unasked, program, input, ended)
+                self.move_part(moving, content, TextCheck::Unasked, feed)
             }
         }
     }
 
     /// Takes a row of a content that has its length before it, and that is added. A trap where there is
     /// no current buffer.
-    pub(crate) fn kept_content(
-        &mut self,
-        moving: Moving,
-        program: &Program,
-        input: &[u8],
-        ended: bool,
-    ) -> Step
+    pub(crate) fn kept_content(&mut self, moving: Moving, feed: &Feed<'_>) -> Step
         requires runs { self.old.state.end ≡ None }
         requires pc { self.old.state.pc < MOST_INSTRS }
-        requires on { IsOn input.now self.old }
+        requires on { IsOn feed.now.input.now self.old }
         requires asked { AsksOf moving self.old.check self.old.state.content }
-        ensures takes { Takes (if_current self.old.state.store.frames self.old.state (prefixed program.now input.now
-            ended (move_of moving) self.old.state self.old.state.content)) result self.old self.new }
+        ensures takes { Takes (if_current self.old.state.store.frames self.old.state (prefixed feed.now.program.now
+            feed.now.input.now feed.now.ended (move_of moving) self.old.state self.old.state.content)) result self.old
+            self.new }
         ensures appends { OnlyAppends self.old self.new }
-        ensures on { IsOn input.now self.new }
+        ensures on { IsOn feed.now.input.now self.new }
         ensures stays { Stays moving self.old.state self.new }
     {
         if !self.has_current() {
             return self.trap(Trap::NoBuffer);
         }
-        self.content(moving, program, input, ended)
+        self.content(moving, feed)
     }
 
     /// Takes a row of a content of `size` bytes that is added. A trap where there is no current buffer.
-    pub(crate) fn kept_fixed(
-        &mut self,
-        size: usize,
-        program: &Program,
-        input: &[u8],
-        ended: bool,
-    ) -> Step
+    pub(crate) fn kept_fixed(&mut self, size: usize, feed: &Feed<'_>) -> Step
         requires runs { self.old.state.end ≡ None }
         requires pc { self.old.state.pc < MOST_INSTRS }
-        requires on { IsOn input.now self.old }
+        requires on { IsOn feed.now.input.now self.old }
         requires asked { AsksOf Moving.Bytes self.old.check self.old.state.content }
-        ensures takes { Takes (if_current self.old.state.store.frames self.old.state (fixed program.now input.now ended
+        ensures takes { Takes (if_current self.old.state.store.frames self.old.state (fixed feed.now.program.now
+            feed.now.input.now feed.now.ended
             (move_of Moving.Bytes) size self.old.state self.old.state.content)) result self.old self.new }
         ensures appends { OnlyAppends self.old self.new }
-        ensures on { IsOn input.now self.new }
+        ensures on { IsOn feed.now.input.now self.new }
         ensures stays { Stays Moving.Bytes self.old.state self.new }
     {
         if !self.has_current() {
             return self.trap(Trap::NoBuffer);
         }
-        self.fixed(Moving::Bytes, size, program, input, ended)
+        self.fixed(Moving::Bytes, size, feed)
     }
 }

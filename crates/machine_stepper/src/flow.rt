@@ -8,26 +8,22 @@ ghost use Rattle.isa.specs.declared.limits.TheConstants.{MOST_INSTRS};
 ghost use Rattle.isa.specs.Row.{row};
 ghost use Rattle.machine_stepper.specs.Contract.{OnlyAppends, Takes};
 
+use crate::feed::Feed;
 use crate::machine::Machine;
 use crate::step::Step;
-use isa::{MOST_CALLS, Program, Trap};
+use isa::{MOST_CALLS, Trap};
 
 impl Machine {
     /// Takes the row of a miss: marks it if it is the first.
-    pub(crate) fn tell_miss(
-        &mut self,
-        miss: u32,
-        program: &Program,
-        input: &[u8],
-        ended: bool,
-    ) -> Step
+    pub(crate) fn tell_miss(&mut self, miss: u32, feed: &Feed<'_>) -> Step
         requires runs { self.old.state.end ≡ None }
         requires pc { self.old.state.pc < MOST_INSTRS }
-        requires within { self.old.state.pos ≤ length input.now }
+        requires within { self.old.state.pos ≤ length feed.now.input.now }
         requires whole { self.old.state.content ≡ None }
-        ensures takes { Takes (row program.now input.now ended (op.Miss miss) self.old.state) result self.old self.new }
+        ensures takes { Takes (row feed.now.program.now feed.now.input.now feed.now.ended (op.Miss miss) self.old.state)
+            result self.old self.new }
         ensures appends { OnlyAppends self.old self.new }
-        ensures within { self.new.state.pos ≤ length input.now }
+        ensures within { self.new.state.pos ≤ length feed.now.input.now }
         ensures whole { self.new.state.content ≡ None }
         ensures memory { result ≢ Step.NoMemory }
     {
@@ -36,20 +32,14 @@ impl Machine {
     }
 
     /// Takes the row of a call, which goes on at the routine's address. A trap where there are too many calls.
-    pub(crate) fn call(
-        &mut self,
-        address: u32,
-        program: &Program,
-        input: &[u8],
-        ended: bool,
-    ) -> Step
+    pub(crate) fn call(&mut self, address: u32, feed: &Feed<'_>) -> Step
         requires pc { self.old.state.pc < MOST_INSTRS }
-        requires within { self.old.state.pos ≤ length input.now }
+        requires within { self.old.state.pos ≤ length feed.now.input.now }
         requires whole { self.old.state.content ≡ None }
-        ensures takes { Takes (row program.now input.now ended (op.Call address) self.old.state) result self.old
-            self.new }
+        ensures takes { Takes (row feed.now.program.now feed.now.input.now feed.now.ended (op.Call address)
+            self.old.state) result self.old self.new }
         ensures appends { OnlyAppends self.old self.new }
-        ensures within { self.new.state.pos ≤ length input.now }
+        ensures within { self.new.state.pos ≤ length feed.now.input.now }
         ensures whole { self.new.state.content ≡ None }
     {
         if self.calls() >= MOST_CALLS {
@@ -59,13 +49,14 @@ impl Machine {
     }
 
     /// Takes the row of a return from a call. A trap where no call is open.
-    pub(crate) fn return_from_call(&mut self, program: &Program, input: &[u8], ended: bool) -> Step
+    pub(crate) fn return_from_call(&mut self, feed: &Feed<'_>) -> Step
         requires pc { self.old.state.pc < MOST_INSTRS }
-        requires within { self.old.state.pos ≤ length input.now }
+        requires within { self.old.state.pos ≤ length feed.now.input.now }
         requires whole { self.old.state.content ≡ None }
-        ensures takes { Takes (row program.now input.now ended op.Return self.old.state) result self.old self.new }
+        ensures takes { Takes (row feed.now.program.now feed.now.input.now feed.now.ended op.Return self.old.state)
+            result self.old self.new }
         ensures appends { OnlyAppends self.old self.new }
-        ensures within { self.new.state.pos ≤ length input.now }
+        ensures within { self.new.state.pos ≤ length feed.now.input.now }
         ensures whole { self.new.state.content ≡ None }
         ensures memory { result ≢ Step.NoMemory }
     {
@@ -76,20 +67,14 @@ impl Machine {
     }
 
     /// Takes the row of a jump to an address.
-    pub(crate) fn jump_to(
-        &mut self,
-        address: u32,
-        program: &Program,
-        input: &[u8],
-        ended: bool,
-    ) -> Step
+    pub(crate) fn jump_to(&mut self, address: u32, feed: &Feed<'_>) -> Step
         requires pc { self.old.state.pc < MOST_INSTRS }
-        requires within { self.old.state.pos ≤ length input.now }
+        requires within { self.old.state.pos ≤ length feed.now.input.now }
         requires whole { self.old.state.content ≡ None }
-        ensures takes { Takes (row program.now input.now ended (op.Jump address) self.old.state) result self.old
-            self.new }
+        ensures takes { Takes (row feed.now.program.now feed.now.input.now feed.now.ended (op.Jump address)
+            self.old.state) result self.old self.new }
         ensures appends { OnlyAppends self.old self.new }
-        ensures within { self.new.state.pos ≤ length input.now }
+        ensures within { self.new.state.pos ≤ length feed.now.input.now }
         ensures whole { self.new.state.content ≡ None }
         ensures memory { result ≢ Step.NoMemory }
     {
@@ -97,17 +82,18 @@ impl Machine {
     }
 
     /// Takes the row of the halt: ends the run, or waits where more bytes may come.
-    pub(crate) fn halt(&mut self, program: &Program, input: &[u8], ended: bool) -> Step
+    pub(crate) fn halt(&mut self, feed: &Feed<'_>) -> Step
         requires pc { self.old.state.pc < MOST_INSTRS }
-        requires within { self.old.state.pos ≤ length input.now }
+        requires within { self.old.state.pos ≤ length feed.now.input.now }
         requires whole { self.old.state.content ≡ None }
-        ensures takes { Takes (row program.now input.now ended op.Halt self.old.state) result self.old self.new }
+        ensures takes { Takes (row feed.now.program.now feed.now.input.now feed.now.ended op.Halt self.old.state) result
+            self.old self.new }
         ensures appends { OnlyAppends self.old self.new }
-        ensures within { self.new.state.pos ≤ length input.now }
+        ensures within { self.new.state.pos ≤ length feed.now.input.now }
         ensures whole { self.new.state.content ≡ None }
     {
         let verdict = self
-            .ending(program, input, ended)
+            .ending(feed)
             .halted(self.meter().depth, self.calls(), self.pos());
         self.conclude(verdict)
     }

@@ -7,6 +7,7 @@ mod ahead;
 mod blocks;
 mod contents;
 mod ended;
+mod feed;
 mod finding;
 mod flow;
 mod laws;

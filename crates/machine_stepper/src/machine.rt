@@ -16,10 +16,11 @@ ghost use Rattle.machine_stepper.specs.Contract.{OnlyAppends, Takes};
 ghost use Rattle.machine_stepper.specs.Running.{end_of};
 
 use crate::ended::Ended;
+use crate::feed::Feed;
 use crate::finding::Foresight;
 use crate::step::Step;
 use avro_bytes::{Fault, Meter, Outcome, put_long};
-use isa::{End, Program, Trap};
+use isa::{End, Trap};
 use machine_rules::{Content, Ending, RowCount, TextCheck, Verdict};
 use machine_scans::is_tight;
 use machine_store::Store;
@@ -167,22 +168,17 @@ impl Machine {
     }
 
     /// Returns what decides how the run ends, where it does.
-    pub(crate) fn ending<'a>(
-        &self,
-        program: &'a Program,
-        input: &'a [u8],
-        ended: bool,
-    ) -> Ending<'a>
-        ensures program { result.program.now ≡ program.now }
-        ensures input { result.input.now ≡ input.now }
-        ensures ended { result.ended ≡ ended }
+    pub(crate) fn ending<'a>(&self, feed: &Feed<'a>) -> Ending<'a>
+        ensures program { result.program.now ≡ feed.now.program.now }
+        ensures input { result.input.now ≡ feed.now.input.now }
+        ensures ended { result.ended ≡ feed.now.ended }
         ensures mark { result.mark ≡ self.now.state.store.mark }
         ensures over { result.over ≡ self.now.state.store.over }
     {
         Ending {
-            program,
-            input,
-            ended,
+            program: feed.program,
+            input: feed.input,
+            ended: feed.ended,
             mark: self.mark(),
             over: self.is_over(),
         }
@@ -232,15 +228,10 @@ impl Machine {
     }
 
     /// Ends the run with a fault of the input, or waits for bytes where some are missing and more may come.
-    pub(crate) fn refuse(
-        &mut self,
-        fault: Fault,
-        program: &Program,
-        input: &[u8],
-        ended: bool,
-    ) -> Step
+    pub(crate) fn refuse(&mut self, fault: Fault, feed: &Feed<'_>) -> Step
         requires { fault ≢ NoMemory }
-        ensures takes { Takes (refused program.now input.now ended fault self.old.state) result self.old self.new }
+        ensures takes { Takes (refused feed.now.program.now feed.now.input.now feed.now.ended fault self.old.state)
+            result self.old self.new }
         ensures layout { self.new.layout ≡ self.old.layout }
         ensures pos { self.new.state.pos ≡ self.old.state.pos }
         ensures content { self.new.state.content ≡ self.old.state.content }
@@ -248,7 +239,7 @@ impl Machine {
         ensures memory { result ≢ Step.NoMemory }
         ensures store { self.new.state.store ≡ self.old.state.store }
     {
-        let verdict = self.ending(program, input, ended).refused(fault);
+        let verdict = self.ending(feed).refused(fault);
         self.conclude(verdict)
     }
 

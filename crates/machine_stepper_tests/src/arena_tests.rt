@@ -77,20 +77,26 @@ fn push_buffer(
     push_hex(alloc, output, &bytes)
 }
 
-/// Appends a buffer, or else the arena, after `limit` rows, with nothing looked for ahead.
+/// After how many rows a machine is asked, and for which buffer; `None` asks for its arena.
+#[derive(Clone, Copy)]
+pub(crate) struct After {
+    pub(crate) rows: u64,
+    pub(crate) buffer: Option<BufferAt>,
+}
+
+/// Appends a buffer, or else the arena, after some rows, with nothing looked for ahead.
 pub(crate) fn push_after(
     alloc: Global,
     output: &mut String,
     machine: &mut Machine,
     program: &PlannedProgram,
     input: &[u8],
-    limit: u64,
-    at: Option<BufferAt>,
+    after: After,
 ) -> Result<(), AllocError>
     requires { machine.old ≡ start }
 {
-    let _rows = machine.slice(program, input, true, &[NOWHERE], limit);
-    match at {
+    let _rows = machine.slice(program, input, true, &[NOWHERE], after.rows);
+    match after.buffer {
         Some(at) => push_buffer(alloc, output, machine, at),
         None => push_hex(alloc, output, machine.arena()),
     }

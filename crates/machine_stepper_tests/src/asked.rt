@@ -4,8 +4,8 @@ ghost use Rattle.std.specs.Prelude.{◌≡◌};
 ghost use Rattle.machine_stepper.specs.Running.{start};
 
 use crate::ahead_tests::push_found;
-use crate::arena_tests::{push_after, push_carry, push_steps};
-use crate::output_tests::push_outputs;
+use crate::arena_tests::{After, push_after, push_carry, push_steps};
+use crate::output_tests::{Cuts, push_outputs};
 use crate::programs::{push_words, run};
 use crate::show_tests::{push_listing, push_shown, push_shown_after};
 use crate::slice_tests::{TURNS, WAITING, push_messages, push_turns};
@@ -36,31 +36,48 @@ fn push_answer(
     let asked = words.next().unwrap_or("");
     let k = number(words.next());
     let other = number(words.next());
-    let at = match asked {
-        "out" => BufferAt::Out,
-        "gathered" => BufferAt::Gathered { frame: 0 },
-        _ => BufferAt::Slot {
+    let buffer = match asked {
+        "arena" => None,
+        "out" => Some(BufferAt::Out),
+        "gathered" => Some(BufferAt::Gathered { frame: 0 }),
+        _ => Some(BufferAt::Slot {
             frame: 0,
             slot: other as usize,
-        },
+        }),
     };
     match asked {
         "end" => {
             run(machine, program, input, k as usize, other);
             push_words(alloc, output, machine)
         }
-        "turns" => push_turns(alloc, output, machine, program, input, true, &TURNS),
-        "waiting" => push_turns(alloc, output, machine, program, input, false, &WAITING),
+        "turns" => push_turns(alloc, output, machine, program, input, &TURNS),
+        "waiting" => push_turns(alloc, output, machine, program, input, &WAITING),
         "messages" => push_messages(output, machine, program, input),
         "shown" => push_shown_after(alloc, output, machine, program, input, k),
         "no-memory" => push_shown(alloc, output, machine, true),
-        "outputs" => push_outputs(alloc, output, machine, program, input, k, other),
+        "outputs" => {
+            let (first, piece) = (k as usize, other as usize);
+            push_outputs(
+                alloc,
+                output,
+                machine,
+                program,
+                input,
+                Cuts { first, piece },
+            )
+        }
         "listing" => push_listing(alloc, output, program.program()),
         "ahead" => push_found(alloc, output, program, input, k),
         "steps" => push_steps(alloc, output, machine, program.program(), input, k),
         "carry" => push_carry(alloc, output, machine, program, input, k),
-        "arena" => push_after(alloc, output, machine, program, input, k, None),
-        _ => push_after(alloc, output, machine, program, input, k, Some(at)),
+        _ => push_after(
+            alloc,
+            output,
+            machine,
+            program,
+            input,
+            After { rows: k, buffer },
+        ),
     }
 }
 

@@ -56,24 +56,28 @@ fn push_output(
     output.push_str("\n")
 }
 
-/// Appends the outputs of a message, of another one, and of the first one again. The first has `len` bytes of the
-/// input, the other one the rest.
+/// How many bytes of an input the first message has, and how many bytes a piece.
+#[derive(Clone, Copy)]
+pub(crate) struct Cuts {
+    pub(crate) first: usize,
+    pub(crate) piece: usize,
+}
+
+/// Appends the outputs of a message, of another one, which has the rest of the input, and of the first one again.
 pub(crate) fn push_outputs(
     alloc: Global,
     output: &mut String,
     machine: &mut Machine,
     program: &PlannedProgram,
     input: &[u8],
-    len: u64,
-    piece: u64,
+    cuts: Cuts,
 ) -> Result<(), AllocError>
     requires { machine.old ≡ start }
 {
-    let (len, piece) = (len as usize, piece as usize);
-    let (first, second) = input.split_at(len.min(input.len()));
-    push_output(alloc, output, machine, program, first, piece)?;
-    push_output(alloc, output, machine, program, second, piece)?;
-    push_output(alloc, output, machine, program, first, piece)
+    let (first, second) = input.split_at(cuts.first.min(input.len()));
+    push_output(alloc, output, machine, program, first, cuts.piece)?;
+    push_output(alloc, output, machine, program, second, cuts.piece)?;
+    push_output(alloc, output, machine, program, first, cuts.piece)
 }
 
 #[test]

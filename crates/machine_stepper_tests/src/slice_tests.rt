@@ -23,6 +23,8 @@ messages|record|3606666f6f|10 ended taken;10 ended taken;10 ended taken;
 pub(crate) struct Turn {
     breaks: &'static [u32],
     rows: u64,
+    /// Whether all bytes of the input are there.
+    ended: bool,
 }
 
 /// Breakpoints and rows of slices one after another.
@@ -30,28 +32,34 @@ pub(crate) const TURNS: [Turn; 5] = [
     Turn {
         breaks: &[5],
         rows: 100,
+        ended: true,
     },
     Turn {
         breaks: &[5],
         rows: 100,
+        ended: true,
     },
     Turn {
         breaks: &[],
         rows: 2,
+        ended: true,
     },
     Turn {
         breaks: &[6],
         rows: 100,
+        ended: true,
     },
     Turn {
         breaks: &[],
         rows: 100,
+        ended: true,
     },
 ];
 
 pub(crate) const WAITING: [Turn; 1] = [Turn {
     breaks: &[],
     rows: 100,
+    ended: false,
 }];
 
 fn why_name(why: Why) -> &'static str {
@@ -70,7 +78,6 @@ fn push_slice(
     machine: &mut Machine,
     program: &PlannedProgram,
     input: &[u8],
-    ended: bool,
     turn: &Turn,
 ) -> Result<(), AllocError>
     requires under { IsUnder program.now machine.old }
@@ -78,7 +85,7 @@ fn push_slice(
     ensures under { IsUnder program.now machine.new }
     ensures on { IsOn input.now machine.new }
 {
-    let slice = machine.slice(program, input, ended, turn.breaks, turn.rows);
+    let slice = machine.slice(program, input, turn.ended, turn.breaks, turn.rows);
     let why = why_name(slice.why);
     write!(output, "{} {why}", slice.rows)
 }
@@ -90,14 +97,13 @@ pub(crate) fn push_turns(
     machine: &mut Machine,
     program: &PlannedProgram,
     input: &[u8],
-    ended: bool,
     turns: &[Turn],
 ) -> Result<(), AllocError>
     requires under { IsUnder program.now machine.old }
     requires on { IsOn input.now machine.old }
 {
     'each: for turn in turns {
-        push_slice(output, machine, program, input, ended, turn)?;
+        push_slice(output, machine, program, input, turn)?;
         output.push_str("\n")?;
     }
     push_words(alloc, output, machine)
@@ -113,10 +119,11 @@ pub(crate) fn push_messages(
     let turn = Turn {
         breaks: &[],
         rows: 100,
+        ended: true,
     };
     'messages: for _message in 0..3 {
         machine.reset();
-        push_slice(output, machine, program, input, true, &turn)?;
+        push_slice(output, machine, program, input, &turn)?;
         output.push_str(if machine.end_and_reset().is_some() {
             " taken\n"
         } else {

@@ -20,7 +20,8 @@ content_for false content = content
 -- the lines of the head, the date, the empty line and the content
 abbrev pub closing_text : AnswerBytes → Option HttpDate → Bool → List ℕ
 closing_text answer date is_head =
-    take (answer.head - 2) answer.front.items ++ date_line date ++ codes "\r\n" ++ content_for is_head (content_of answer)
+    take (answer.head - 2) answer.front.items ++ date_line date ++ codes "\r\n"
+    ++ content_for is_head (content_of answer)
 
 -- the bytes are those of the fault's answer
 pub record IsClosing (fault : Fault) (date : Option HttpDate) (is_head : Bool) (bytes : List ℕ) : Type 0 where

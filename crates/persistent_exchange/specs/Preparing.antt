@@ -43,7 +43,8 @@ pub record AnswerOnce : Type 0 where
   pub is_used : Bool
 
 -- the answer was given to a request, for the first time
-pub record AnswersOnce (old : AnswerOnce) (request : Request (List ℕ)) (response : Response) (new : AnswerOnce) : Type 0 where
+pub record AnswersOnce (old : AnswerOnce) (request : Request (List ℕ)) (response : Response) (new : AnswerOnce)
+    : Type 0 where
   pub was_unused : old.is_used ≡ false
   pub is_prepared : IsPrepared old.answer response
   pub new_is : new ≡ record old { is_used = true }

@@ -10,7 +10,8 @@ use Rattle.persistent_exchange.specs.declared.standing.Standing.TheVariants.{Due
 -- called for
 pub record Saw (p : Persistent) (more : ℕ) : Type 0 where
   pub asked : List Asked
-  pub looks : Looks (new_scouted p.config.limits p.config.max_body_len) (received p) asked p.scouted (drop p.seen p.held)
+  pub looks : Looks (new_scouted p.config.limits p.config.max_body_len) (received p) asked p.scouted
+      (drop p.seen p.held)
   pub count : length asked ≡ more + length p.history.calls
 
 abbrev pub Holds : Standing → Persistent → Type 0

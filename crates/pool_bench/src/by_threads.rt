@@ -212,17 +212,32 @@ fn run_all<'a, 'p, R: Threads + Sync>(
     Ok(all)
 }
 
-/// Measures `sessions` sessions of a pool by `threads` workers and as many clients.
+/// How many sessions are measured, and by how many workers and as many clients.
+#[derive(Clone, Copy)]
+pub(crate) struct Load {
+    pub(crate) sessions: u64,
+    pub(crate) threads: usize,
+}
+
+impl Load {
+    /// Returns the load of `sessions` sessions by `threads` threads.
+    pub(crate) fn of(sessions: u64, threads: usize) -> Load
+        ensures { result.threads ≡ threads }
+    {
+        Load { sessions, threads }
+    }
+}
+
+/// Measures sessions of a pool.
 pub(crate) fn measure<R: Threads + Clock + Sync>(
     rt: &R,
     alloc: Global,
     cache: &ProgramCache<'_>,
     writer: &mut Receipt,
     reader: &mut Receipt,
-    sessions: u64,
-    threads: usize,
+    load: Load,
 ) -> Result<Measured, BenchError>
-    requires threads { (1 ≤ threads) × (threads ≤ 4) }
+    requires threads { (1 ≤ load.threads) × (load.threads ≤ 4) }
     requires writer { IsReceiptOf cache.now writer.old }
     requires reader { IsReceiptOf cache.now reader.old }
     ensures receipts { (writer.new ≡ writer.old) × (reader.new ≡ reader.old) }
@@ -231,10 +246,10 @@ pub(crate) fn measure<R: Threads + Clock + Sync>(
         pool,
         clients,
         workers,
-    } = new_pool(alloc, cache, threads)?;
+    } = new_pool(alloc, cache, load.threads)?;
     let is_over = AtomicBool::new(false);
     let workers = all_working(alloc, &pool, &is_over, workers)?;
-    let clients = all_asking(alloc, &pool, clients, writer, reader, sessions)?;
+    let clients = all_asking(alloc, &pool, clients, writer, reader, load.sessions)?;
     let watch = Stopwatch::start(rt);
     let right = run_all(rt, &is_over, workers, clients)?;
     watch.measured(rt, right)

@@ -19,6 +19,7 @@ mod words;
 ghost use Rattle.std.specs.Prelude.{◌≡◌};
 ghost use Rattle.schema_registry.specs.Receipt.{IsReceiptOf};
 
+use by_threads::Load;
 use error::BenchError;
 use figures::{Measured, tell, tell_share};
 use message::{READER, WRITER, registered};
@@ -45,11 +46,11 @@ fn measure_pools<R: Threads + Clock + Sync + Eprint>(
 {
     let alone = on_one_thread::measure(rt, alloc, cache, writer, reader, sessions)?;
     tell(rt, "pool, one thread", sessions, alone)?;
-    let one = by_threads::measure(rt, alloc, cache, writer, reader, sessions, 1)?;
+    let one = by_threads::measure(rt, alloc, cache, writer, reader, Load::of(sessions, 1))?;
     tell(rt, "pool, 1 worker", sessions, one)?;
-    let two = by_threads::measure(rt, alloc, cache, writer, reader, sessions, 2)?;
+    let two = by_threads::measure(rt, alloc, cache, writer, reader, Load::of(sessions, 2))?;
     tell(rt, "pool, 2 workers", sessions, two)?;
-    let four = by_threads::measure(rt, alloc, cache, writer, reader, sessions, 4)?;
+    let four = by_threads::measure(rt, alloc, cache, writer, reader, Load::of(sessions, 4))?;
     tell(rt, "pool, 4 workers", sessions, four)?;
     Ok(alone)
 }

@@ -15,6 +15,13 @@ use session_pool::{ClientSeat, ReturnedPass, SessionPool, WorkerSeat};
 use std::alloc::Global;
 use std::time::Clock;
 
+/// The seats of a client and of a worker.
+#[derive(Drop)]
+struct BothSeats<'p> {
+    client: ClientSeat<'p>,
+    worker: WorkerSeat<'p>,
+}
+
 /// Returns whether a session comes to the output of the message, by turns that are taken until it has ended.
 fn is_answered<'p>(
     alloc: Global,
@@ -49,20 +56,20 @@ fn is_answered<'p>(
 fn run_all<'p>(
     alloc: Global,
     pool: &SessionPool<'p>,
-    client: &mut ClientSeat<'p>,
-    worker: &mut WorkerSeat<'p>,
+    seats: &mut BothSeats<'p>,
     writer: &mut Receipt,
     reader: &mut Receipt,
     sessions: u64,
 ) -> u64
-    requires client { Rests pool.now client.old }
-    requires worker { RestsWorker pool.now worker.old }
+    requires client { Rests pool.now seats.old.client }
+    requires worker { RestsWorker pool.now seats.old.worker }
     requires writer { IsReceiptOf pool.now.cache.now writer.old }
     requires reader { IsReceiptOf pool.now.cache.now reader.old }
     ensures receipts { (writer.new ≡ writer.old) × (reader.new ≡ reader.old) }
 {
     let mut right = 0_u64;
     for _ in 0..sessions {
+        let BothSeats { client, worker } = seats;
         if is_answered(alloc, pool, client, worker, writer, reader) {
             right = right.wrapping_add(1);
         }
@@ -88,21 +95,14 @@ pub(crate) fn measure<R: Clock>(
         mut clients,
         mut workers,
     } = new_pool(alloc, cache, 1)?;
-    let Some(mut client) = pop_client(&pool, &mut clients) else {
+    let Some(client) = pop_client(&pool, &mut clients) else {
         return Err(BenchError::NoMemory);
     };
-    let Some(mut worker) = pop_worker(&pool, &mut workers) else {
+    let Some(worker) = pop_worker(&pool, &mut workers) else {
         return Err(BenchError::NoMemory);
     };
+    let mut seats = BothSeats { client, worker };
     let watch = Stopwatch::start(rt);
-    let right = run_all(
-        alloc,
-        &pool,
-        &mut client,
-        &mut worker,
-        writer,
-        reader,
-        sessions,
-    );
+    let right = run_all(alloc, &pool, &mut seats, writer, reader, sessions);
     watch.measured(rt, right)
 }

@@ -5,6 +5,7 @@ ghost use Rattle.program_definition.specs.Numbering.{entry_of, maps_of, named_in
 ghost use Rattle.program_ir.specs.Statements.{statement_of, statements_in, symbols_of, targets_of};
 ghost use Rattle.program_compiler.specs.Tables.{AreShared};
 
+use crate::schema_pair::SchemaPair;
 use avro_types::{Kind, Nodes};
 use isa::{Entry, Lists, MOST_TABLES};
 use program_ir::{Misses, Statement, entries};
@@ -24,54 +25,70 @@ pub(crate) fn symbols(nodes: &Nodes, node: usize) -> &[String]
     }
 }
 
-/// Appends the map of a pair of enums. A pair that came before shares its entries.
-fn push_entries(
-    alloc: Global,
-    maps: &mut Lists<Entry>,
-    numbers: &mut BTreeMap<(usize, usize), usize>,
-    w: &Nodes,
-    r: &Nodes,
-    misses: &Misses,
-    writer: usize,
-    reader: usize,
-) -> Result<(), AllocError>
-    requires few { length misses.now ≤ MOST_TABLES }
-    requires shared { AreShared w.now r.now misses.now numbers.old maps.old }
-    ensures pushed { OnOk result
-        (maps.new ≡ maps.old ++ map (entry_of misses.now) (targets_of w.now r.now writer reader) ∷ []) }
-    ensures shared { OnOk result (AreShared w.now r.now misses.now numbers.new maps.new) }
-{
-    if let Some(number) = numbers.get(&(writer, reader)).copied() {
-        return maps.push_again(number);
-    }
-    let number = maps.len();
-    let entries = entries(alloc, r, misses, writer, reader, symbols(w, writer))?;
-    maps.push(entries.as_slice())?;
-    numbers.insert((writer, reader), number)?;
-    Ok(())
+/// The maps of a program as they are gathered, and under each pair of enums the number of its map.
+#[derive(Drop)]
+struct MapRow {
+    maps: Lists<Entry>,
+    numbers: BTreeMap<(usize, usize), usize>,
 }
 
-/// Appends the map that a statement refers to, if it refers to one.
-fn push_map(
-    alloc: Global,
-    maps: &mut Lists<Entry>,
-    numbers: &mut BTreeMap<(usize, usize), usize>,
-    w: &Nodes,
-    r: &Nodes,
-    misses: &Misses,
-    statement: &Statement,
-) -> Result<(), AllocError>
-    requires few { length misses.now ≤ MOST_TABLES }
-    requires shared { AreShared w.now r.now misses.now numbers.old maps.old }
-    ensures pushed { OnOk result
-        (maps.new ≡ maps.old ++ map (map (entry_of misses.now)) (maps_of (statement_of w.now r.now statement.now))) }
-    ensures shared { OnOk result (AreShared w.now r.now misses.now numbers.new maps.new) }
-{
-    match statement {
-        Statement::Enum { writer, reader } => {
-            push_entries(alloc, maps, numbers, w, r, misses, *writer, *reader)
+impl MapRow {
+    /// Appends the map of a pair of enums, by their nodes. A pair that came before shares its entries.
+    fn push_enums(
+        &mut self,
+        schemas: &SchemaPair<'_>,
+        misses: &Misses,
+        writer: usize,
+        reader: usize,
+    ) -> Result<(), AllocError>
+        requires few { length misses.now ≤ MOST_TABLES }
+        requires shared { AreShared schemas.now.writer.now schemas.now.reader.now misses.now self.old.numbers
+            self.old.maps }
+        ensures pushed { OnOk result (self.new.maps ≡ self.old.maps
+            ++ map (entry_of misses.now)
+            (targets_of schemas.now.writer.now schemas.now.reader.now writer reader) ∷ []) }
+        ensures shared { OnOk result (AreShared schemas.now.writer.now schemas.now.reader.now misses.now
+            self.new.numbers self.new.maps) }
+    {
+        if let Some(number) = self.numbers.get(&(writer, reader)).copied() {
+            return self.maps.push_again(number);
         }
-        _ => Ok(()),
+        let number = self.maps.len();
+        let symbols = symbols(schemas.writer, writer);
+        let entries = entries(
+            schemas.alloc,
+            schemas.reader,
+            misses,
+            writer,
+            reader,
+            symbols,
+        )?;
+        self.maps.push(entries.as_slice())?;
+        self.numbers.insert((writer, reader), number)?;
+        Ok(())
+    }
+
+    /// Appends the map that a statement refers to, if it refers to one.
+    fn push_named(
+        &mut self,
+        schemas: &SchemaPair<'_>,
+        misses: &Misses,
+        statement: &Statement,
+    ) -> Result<(), AllocError>
+        requires few { length misses.now ≤ MOST_TABLES }
+        requires shared { AreShared schemas.now.writer.now schemas.now.reader.now misses.now self.old.numbers
+            self.old.maps }
+        ensures pushed { OnOk result (self.new.maps ≡ self.old.maps ++ map (map (entry_of misses.now))
+            (maps_of (statement_of schemas.now.writer.now schemas.now.reader.now statement.now))) }
+        ensures shared { OnOk result (AreShared schemas.now.writer.now schemas.now.reader.now misses.now
+            self.new.numbers self.new.maps) }
+    {
+        match statement {
+            Statement::Enum { writer, reader } => {
+                self.push_enums(schemas, misses, *writer, *reader)
+            }
+            _ => Ok(()),
+        }
     }
 }
 
@@ -88,18 +105,17 @@ pub(crate) fn gather_maps(
         (λ maps. maps ≡ map (map (entry_of misses.now))
         (named_in maps_of (statements_in writer.now reader.now statements.now))) }
 {
-    let mut maps = Lists::new(alloc);
-    let mut numbers = BTreeMap::new(alloc);
+    let schemas = SchemaPair {
+        alloc,
+        writer,
+        reader,
+    };
+    let mut row = MapRow {
+        maps: Lists::new(alloc),
+        numbers: BTreeMap::new(alloc),
+    };
     for statement in statements {
-        push_map(
-            alloc,
-            &mut maps,
-            &mut numbers,
-            writer,
-            reader,
-            misses,
-            statement,
-        )?;
+        row.push_named(&schemas, misses, statement)?;
     }
-    Ok(maps)
+    Ok(row.maps)
 }

@@ -334,33 +334,72 @@ fn fed_to_end<'p>(
     pool.end(seat, pass).expect(rt, "the end of a payload");
 }
 
-/// Returns what two sessions that are open at once come to, each on a payload in two pieces. A debugger asks of the
-/// first.
-fn both_ended<'p>(
+/// The passes of two sessions that are open at once.
+#[derive(Drop)]
+struct Passes {
+    first: Pass,
+    second: Pass,
+}
+
+/// What two sessions came to that were open at once.
+#[derive(Clone, Copy)]
+struct Ends {
+    first: Ended,
+    second: Ended,
+}
+
+/// Opens two sessions, from the record to itself and to its swapped form.
+fn both_opened<'p>(
     rt: &impl Abort,
-    alloc: Global,
     pool: &SessionPool<'p>,
     first: &mut ClientSeat<'p>,
     second: &mut ClientSeat<'p>,
-    worker: &mut WorkerSeat<'p>,
     unswapped: &mut Receipt,
     swapped: &mut Receipt,
-) -> (Ended, Ended)
+) -> Passes
     requires first { Rests pool.now first.old }
     requires second { Rests pool.now second.old }
-    requires worker { RestsWorker pool.now worker.old }
     requires unswapped { IsReceiptOf pool.now.cache.now unswapped.old }
     requires swapped { IsReceiptOf pool.now.cache.now swapped.old }
     ensures first { Rests pool.now first.new }
     ensures second { Rests pool.now second.new }
-    ensures worker { RestsWorker pool.now worker.new }
     ensures receipts { (unswapped.new ≡ unswapped.old) × (swapped.new ≡ swapped.old) }
+    ensures passes { IsPassOf first.new result.first × IsPassOf second.new result.second }
 {
     let mut again = unswapped.again();
-    let (begin, rest) = RECORD_BYTES.split_at(2);
     let one = opened_again(pool, first, unswapped, &mut again).expect(rt, "a first session");
     let two = opened_again(pool, second, unswapped, swapped).expect(rt, "a second session");
     same(rt, (one.slot(), two.slot()), (0, 1));
+    Passes {
+        first: one,
+        second: two,
+    }
+}
+
+/// Returns what two sessions that are open at once come to, each on a payload in two pieces. A debugger asks of the
+/// first.
+fn both_ended<'p>(
+    rt: &(impl Abort + AllocGlobal),
+    pool: &SessionPool<'p>,
+    first: &mut ClientSeat<'p>,
+    second: &mut ClientSeat<'p>,
+    worker: &mut WorkerSeat<'p>,
+    passes: Passes,
+) -> Ends
+    requires first { Rests pool.now first.old }
+    requires second { Rests pool.now second.old }
+    requires worker { RestsWorker pool.now worker.old }
+    requires passes { IsPassOf first.old passes.first × IsPassOf second.old passes.second }
+    ensures first { Rests pool.now first.new }
+    ensures second { Rests pool.now second.new }
+    ensures worker { RestsWorker pool.now worker.new }
+{
+    let alloc = rt.alloc();
+    let (begin, rest) = RECORD_BYTES.split_at(2);
+    let Passes {
+        first: one,
+        second: two,
+    } = passes;
     sent_again(alloc, pool, first, &one, begin).expect(rt, "a piece");
     sent_again(alloc, pool, second, &two, begin).expect(rt, "a piece");
     let answered = answered_again(pool, first, &one, ASKED).expect(rt, "answers");
@@ -370,39 +409,28 @@ fn both_ended<'p>(
     let more = taken_until_idle(rt, pool, worker);
     let of_first = finished(pool, first, one).expect(rt, "the first end");
     let of_second = finished(pool, second, two).expect(rt, "the second end");
-    (
-        came_to_as_asked(
-            &of_first,
-            RECORD_BYTES,
-            taken.first.wrapping_add(more.first),
-            answered,
-        ),
-        came_to(
-            &of_second,
-            SWAPPED_BYTES,
-            taken.second.wrapping_add(more.second),
-        ),
-    )
+    let rows = taken.first.wrapping_add(more.first);
+    let other_rows = taken.second.wrapping_add(more.second);
+    Ends {
+        first: came_to_as_asked(&of_first, RECORD_BYTES, rows, answered),
+        second: came_to(&of_second, SWAPPED_BYTES, other_rows),
+    }
 }
 
-/// Runs a session anew that ended because memory ran out: now it comes to this output.
+/// Runs a session that was opened anew, since it had ended because memory ran out: now it comes to this output.
 fn assert_anew<'p>(
-    rt: &impl Abort,
-    alloc: Global,
+    rt: &(impl Abort + AllocGlobal),
     pool: &SessionPool<'p>,
     client: &mut ClientSeat<'p>,
     worker: &mut WorkerSeat<'p>,
-    writer: &mut Receipt,
-    reader: &mut Receipt,
+    pass: Pass,
     output: &[u8],
 )
     requires client { Rests pool.now client.old }
     requires worker { RestsWorker pool.now worker.old }
-    requires writer { IsReceiptOf pool.now.cache.now writer.old }
-    requires reader { IsReceiptOf pool.now.cache.now reader.old }
+    requires pass { IsPassOf client.old pass }
 {
-    let pass = opened_again(pool, client, writer, reader).expect(rt, "a session anew");
-    fed_to_end(rt, alloc, pool, client, &pass, RECORD_BYTES);
+    fed_to_end(rt, rt.alloc(), pool, client, &pass, RECORD_BYTES);
     let taken = taken_until_idle(rt, pool, worker);
     let finished = finished(pool, client, pass).expect(rt, "its end");
     same(rt, came_to(&finished, output, taken.first), Ended::AsWanted);
@@ -417,9 +445,8 @@ fn assert_published(rt: &impl Abort, alloc: Global, cache: &ProgramCache<'_>) {
 
 /// Asserts that of two sessions that are open at once at most one ends because memory ran out, and that this one runs
 /// anew.
-fn assert_one_at_most<'p, R: Wait + Abort>(
+fn assert_one_at_most<'p, R: Wait + Abort + AllocGlobal>(
     rt: &R,
-    alloc: Global,
     pool: &SessionPool<'p>,
     first: &mut ClientSeat<'p>,
     second: &mut ClientSeat<'p>,
@@ -429,28 +456,25 @@ fn assert_one_at_most<'p, R: Wait + Abort>(
     requires second { Rests pool.now second.old }
     requires worker { RestsWorker pool.now worker.old }
 {
+    let alloc = rt.alloc();
     let mut unswapped = registered_again(rt, alloc, pool, "s", RECORD).expect(rt, "a first schema");
     let mut swapped = registered_again(rt, alloc, pool, "t", SWAPPED).expect(rt, "a second schema");
     same(rt, (unswapped.id(), swapped.id()), (1, 2));
     assert_published(rt, alloc, pool.cache());
     let (writer, reader) = (&mut unswapped, &mut swapped);
-    let ends = both_ended(rt, alloc, pool, first, second, worker, writer, reader);
+    let passes = both_opened(rt, pool, first, second, writer, reader);
+    let ends = both_ended(rt, pool, first, second, worker, passes);
     let again = &mut writer.again();
-    match ends {
+    match (ends.first, ends.second) {
         (Ended::AsWanted, Ended::AsWanted) => (),
         (Ended::NoMemory, Ended::AsWanted) => {
-            assert_anew(rt, alloc, pool, first, worker, writer, again, RECORD_BYTES)
+            let pass = opened_again(pool, first, writer, again).expect(rt, "a session anew");
+            assert_anew(rt, pool, first, worker, pass, RECORD_BYTES)
         }
-        (Ended::AsWanted, Ended::NoMemory) => assert_anew(
-            rt,
-            alloc,
-            pool,
-            second,
-            worker,
-            writer,
-            reader,
-            SWAPPED_BYTES,
-        ),
+        (Ended::AsWanted, Ended::NoMemory) => {
+            let pass = opened_again(pool, second, writer, reader).expect(rt, "a session anew");
+            assert_anew(rt, pool, second, worker, pass, SWAPPED_BYTES)
+        }
         other => panic!(rt; "what both came to: {other:?}"),
     }
 }
@@ -468,6 +492,6 @@ fn a_refused_growth_ends_one_session_at_most(rt: HostRuntime) -> Result<(), Fail
     let mut first = last_client(&rt, &pool, &mut clients);
     let mut second = last_client(&rt, &pool, &mut clients);
     let mut worker = last_worker(&rt, &pool, &mut workers);
-    assert_one_at_most(&rt, alloc, &pool, &mut first, &mut second, &mut worker);
+    assert_one_at_most(&rt, &pool, &mut first, &mut second, &mut worker);
     Ok(())
 }

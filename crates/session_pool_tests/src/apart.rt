@@ -149,9 +149,8 @@ fn run_all<'a, 'p, R: Threads + Sync>(
 }
 
 /// Asserts that two sessions are answered, the second while a worker is inside of the first.
-fn assert_at_once<'a, 'p, R: Threads + Wait + Abort + Sync>(
+fn assert_at_once<'a, 'p, R: Threads + Wait + Abort + AllocGlobal + Sync>(
     rt: &R,
-    alloc: Global,
     pool: &'a SessionPool<'p>,
     flags: &'a Flags,
     mut first: ClientSeat<'p>,
@@ -162,7 +161,7 @@ fn assert_at_once<'a, 'p, R: Threads + Wait + Abort + Sync>(
     requires second { Rests pool.now second }
     requires workers { All (IsNewWorker pool.now) workers.items }
 {
-    let payload = RECORD_BYTES;
+    let (alloc, payload) = (rt.alloc(), RECORD_BYTES);
     let mut receipt = registered(rt, alloc, pool, "s", RECORD)?;
     let mut again = receipt.again();
     let first_pass = fed(alloc, pool, &mut first, &mut receipt, &mut again, payload)?;
@@ -199,5 +198,5 @@ fn two_workers_run_at_once(rt: HostRuntime) -> Result<(), Fail> {
         is_late: AtomicBool::new(false),
         is_over: AtomicBool::new(false),
     };
-    assert_at_once(&rt, alloc, &pool, &flags, first, second, workers)
+    assert_at_once(&rt, &pool, &flags, first, second, workers)
 }

@@ -183,25 +183,19 @@ pub(crate) fn assert_course(rt: &impl Abort, course: &Course, output: &[u8], row
     same(rt, course.rows, rows);
 }
 
-/// Runs a session on a whole payload, to its end in one turn.
+/// Runs a session that has its whole payload to its end, in one turn.
 pub(crate) fn run_through<'p>(
-    alloc: Global,
     pool: &SessionPool<'p>,
     client: &mut ClientSeat<'p>,
     worker: &mut WorkerSeat<'p>,
-    writer: &mut Receipt,
-    reader: &mut Receipt,
-    payload: &[u8],
+    pass: Pass,
 ) -> Result<Course, Fail>
     requires client { Rests pool.now client.old }
     requires worker { RestsWorker pool.now worker.old }
-    requires writer { IsReceiptOf pool.now.cache.now writer.old }
-    requires reader { IsReceiptOf pool.now.cache.now reader.old }
+    requires pass { IsPassOf client.old pass }
     ensures client { Rests pool.now client.new }
     ensures worker { RestsWorker pool.now worker.new }
-    ensures receipts { (writer.new ≡ writer.old) × (reader.new ≡ reader.old) }
 {
-    let pass = fed(alloc, pool, client, writer, reader, payload)?;
     let _turn = pool.turn(worker, 1_000_000);
     course_of(pool, client, pass)
 }

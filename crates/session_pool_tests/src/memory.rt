@@ -2,7 +2,7 @@
 
 ghost use Rattle.session_pool.specs.Seats.{Rests, RestsWorker};
 
-use crate::courses::{Course, run_through};
+use crate::courses::{Course, fed, run_through};
 use crate::same::same;
 use crate::schemas::{
     LIST_BYTES, LONG_LIST, RECORD, RECORD_BYTES, SWAPPED, SWAPPED_BYTES, registered,
@@ -48,11 +48,12 @@ fn run_three<'p, R: Wait>(
     let mut list = registered(rt, alloc, pool, "u", LONG_LIST)?;
     let mut again = list.again();
     let (writer, reader) = (&mut unswapped, &mut swapped);
-    let first = run_through(alloc, pool, client, worker, writer, reader, payload)?;
-    let second = run_through(
-        alloc, pool, client, worker, &mut list, &mut again, LIST_BYTES,
-    )?;
-    let third = run_through(alloc, pool, client, worker, reader, writer, SWAPPED_BYTES)?;
+    let pass = fed(alloc, pool, client, writer, reader, payload)?;
+    let first = run_through(pool, client, worker, pass)?;
+    let pass = fed(alloc, pool, client, &mut list, &mut again, LIST_BYTES)?;
+    let second = run_through(pool, client, worker, pass)?;
+    let pass = fed(alloc, pool, client, reader, writer, SWAPPED_BYTES)?;
+    let third = run_through(pool, client, worker, pass)?;
     Ok(Courses {
         first,
         second,

@@ -154,7 +154,8 @@ pub(crate) fn assert_fed<'p, R: Wait + Abort>(
     open_and_feed(rt, alloc, pool, client, worker, &mut receipt)?;
     debug_before_end(rt, alloc, pool, client, worker, &mut receipt)?;
     let (writer, reader) = (&mut receipt, &mut swapped);
-    let next = run_through(alloc, pool, client, worker, writer, reader, RECORD_BYTES)?;
+    let pass = fed(alloc, pool, client, writer, reader, RECORD_BYTES)?;
+    let next = run_through(pool, client, worker, pass)?;
     assert_course(rt, &next, SWAPPED_BYTES, 10);
     Ok(())
 }

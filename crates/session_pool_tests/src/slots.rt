@@ -158,7 +158,8 @@ fn assert_full<'p, R: Wait + Abort>(
     same(rt, open_all(pool, other, &mut receipt, SLOTS), full);
     assert!(rt; pool.abandon(client, pass).is_ok());
     let (writer, reader) = (&mut receipt, &mut again);
-    let found = run_through(alloc, pool, client, worker, writer, reader, RECORD_BYTES)?;
+    let pass = fed(alloc, pool, client, writer, reader, RECORD_BYTES)?;
+    let found = run_through(pool, client, worker, pass)?;
     same(rt, found.slot, 0);
     same(rt, found.output.as_slice(), RECORD_BYTES);
     Ok(())

@@ -56,6 +56,13 @@ fn is_right(served: &Served, at_once: &Served) -> bool {
     served.status == at_once.status && served.bytes.as_slice() == at_once.bytes.as_slice()
 }
 
+/// A request, and how it is answered at once.
+#[derive(Clone, Copy)]
+struct Expected<'a> {
+    row: &'a Row,
+    at_once: &'a Served,
+}
+
 /// Serves a request in a manner, as a whole and in parts, and appends a line where the answer differs. Returns
 /// whether a device of the first failed.
 fn try_manner<R: Wait>(
@@ -63,10 +70,10 @@ fn try_manner<R: Wait>(
     alloc: Global,
     output: &mut Vec<u8>,
     service: &mut Service<'_, '_>,
-    row: &Row,
-    at_once: &Served,
+    expected: Expected<'_>,
     manner: &Manner,
 ) -> Result<bool, RunError> {
+    let Expected { row, at_once } = expected;
     let served = service.serve(rt, alloc, row, manner.reading, manner.writing);
     if !is_right(&served, at_once) {
         push_difference(alloc, output, &manner.name, &served)?;
@@ -143,14 +150,13 @@ fn try_failing<R: Wait>(
     alloc: Global,
     output: &mut Vec<u8>,
     service: &mut Service<'_, '_>,
-    row: &Row,
-    at_once: &Served,
+    expected: Expected<'_>,
     device: Failing,
 ) -> Result<(), RunError> {
     for call in 1..=MOST_CALLS {
-        let (request, answer) = (row.request.len(), at_once.bytes.len());
+        let (request, answer) = (expected.row.request.len(), expected.at_once.bytes.len());
         let manner = failing_manner(alloc, device, call, request, answer)?;
-        if !try_manner(rt, alloc, output, service, row, at_once, &manner)? {
+        if !try_manner(rt, alloc, output, service, expected, &manner)? {
             return Ok(());
         }
     }
@@ -187,11 +193,15 @@ pub(crate) fn push_row<R: Wait>(
             &parts,
         )?;
     }
+    let expected = Expected {
+        row,
+        at_once: &at_once,
+    };
     for manner in &steady_manners(alloc)? {
-        try_manner(rt, alloc, output, service, row, &at_once, manner)?;
+        try_manner(rt, alloc, output, service, expected, manner)?;
     }
     for device in [Failing::Reader, Failing::Writer, Failing::FullWriter] {
-        try_failing(rt, alloc, output, service, row, &at_once, device)?;
+        try_failing(rt, alloc, output, service, expected, device)?;
     }
     Ok(at_once.bytes)
 }

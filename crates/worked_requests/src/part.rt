@@ -65,17 +65,14 @@ fn push_rows<R: Wait>(
     Ok(answers)
 }
 
-/// Appends the lines of rows that are answered by sessions of a pool, which run while their answers are waited for.
-/// Returns the answers.
-fn push_by_pool<'p, R: Wait>(
-    rt: &R,
+/// Returns a service that answers by sessions of a pool, which run while their answers are waited for. The error is
+/// that memory ran out, or that no seat is left.
+fn service_of<'a, 'p>(
     alloc: Global,
-    output: &mut Vec<u8>,
-    rows: &[Row],
-    app: App<'_, 'p>,
+    app: App<'a, 'p>,
     seats: &mut Vec<ClientSeat<'p>>,
     helpers: &mut Vec<WorkerSeat<'p>>,
-) -> Result<Vec<Vec<u8>>, RunError>
+) -> Result<Service<'a, 'p>, RunError>
     requires seats { All (IsNewClient app.pool.now) seats.old.items }
     requires helpers { All (IsNewWorker app.pool.now) helpers.old.items }
 {
@@ -88,8 +85,7 @@ fn push_by_pool<'p, R: Wait>(
     };
     let gate = Helping::new(pool, helper);
     let routes = Routes::new(alloc)?;
-    let mut service = Service::new(app, routes, seat, gate);
-    push_rows(rt, alloc, output, rows, &mut service)
+    Ok(Service::new(app, routes, seat, gate))
 }
 
 /// Appends the lines of rows that are answered in memory, over a new registry. Returns the answers.
@@ -103,7 +99,8 @@ fn push_in_memory<R: Wait>(
     let cache = ProgramCache::new(alloc, &registry)?;
     let (pool, mut seats, mut helpers) = SessionPool::new(alloc, &cache, 1, 1)?;
     let app = App::new(alloc, &registry, &cache, &pool)?;
-    push_by_pool(rt, alloc, output, rows, app, &mut seats, &mut helpers)
+    let mut service = service_of(alloc, app, &mut seats, &mut helpers)?;
+    push_rows(rt, alloc, output, rows, &mut service)
 }
 
 /// Appends the title of a part, the lines of its answers, and how many requests were answered over connections.

@@ -7,6 +7,6 @@ use Rattle.program_compiler.proofs.maps.gather_maps.Given as goal
 
 abbrev pub invariant-loop-statement : goal.invariant-loop-statement
 invariant-loop-statement l = record {
-  shared : AreShared l.writer l.reader l.misses l.numbers l.maps;
-  so_far : l.maps ++ map (map (entry_of l.misses)) (named_in maps_of (statements_in l.writer l.reader (drop l.statement-index l.statements))) ≡ map (map (entry_of l.misses)) (named_in maps_of (statements_in l.writer l.reader l.statements));
+  shared : AreShared l.writer l.reader l.misses l.row.numbers l.row.maps;
+  so_far : l.row.maps ++ map (map (entry_of l.misses)) (named_in maps_of (statements_in l.writer l.reader (drop l.statement-index l.statements))) ≡ map (map (entry_of l.misses)) (named_in maps_of (statements_in l.writer l.reader l.statements));
 }
